@@ -1,0 +1,3 @@
+-- Generic facts: nothing here knows of boards, channels or programs.
+pub mod Tests
+pub mod Lists
