@@ -1,0 +1,164 @@
+-- The cabinet's state, and what is read off it: outboxes, back-pressure, protection, quiescence (document 01, "The cabinet's moves").
+-- Assumes nothing.
+use mathlib.Core.Bool.{Bool, true, false, not, cond, _&&_, _||_}
+use mathlib.Core.Option.{Option, none, some}
+use mathlib.Core.List.{List, [], _∷_, _++_, map}
+use Prim.Native.Nat.{ℕ, zero, suc, _+_}
+use lib.Dec.{eqb, ltb, leb}
+use lib.ListN.{length, getD, set, replicate}
+use Rattle.facts.specs.Tests.{allOf, allBelow}
+use Rattle.backup.specs.Replica.{Replica, Checkpoint, initial}
+use Rattle.rules.specs.Table.{Table, Placement, environment, channelAt, codeOf}
+use Rattle.rules.specs.Machine.{Mail, Machine, booted, Outcome, halted, noMail, moved, localStep}
+
+-- ---- sizes, each named once
+
+-- "each board has one queue, at most 32 entries"
+abbrev pub outboxMost : ℕ
+outboxMost = 32
+
+-- "37 if backed and acts are 8"
+abbrev pub eventsMost : ℕ
+eventsMost = 8
+
+-- "A channel is held when its unread words and those in the queues are 8 or more together."
+abbrev pub occupancyMost : ℕ
+occupancyMost = 8
+
+-- ---- the state
+
+-- the other half of a process: its backup, and the board that holds it
+pub record Standby : Type 0 where
+  pub board : ℕ
+  pub replica : Replica
+
+pub record Process : Type 0 where
+  pub machine : Machine
+  -- the board it runs on
+  pub board : ℕ
+  -- sends still to be suppressed while the process rolls forward (document 01: hold-back)
+  pub suppress : ℕ
+  -- receives and sends since the last checkpoint was issued (acts)
+  pub events : ℕ
+  -- the receives among them, for each port (takes per slot)
+  pub taken : List ℕ
+  pub standby : Option Standby
+
+-- "An entry of an outgoing queue is a word or a sync". A word names its channel and so, by the table, its sender.
+pub data Item : Type 0 where
+  message : Mail → Item
+  checkpoint : ℕ → Checkpoint → Item
+
+pub record Cabinet : Type 0 where
+  pub processes : List Process
+  -- one FIFO send queue for each board, oldest entry first (outgoing queues)
+  pub outboxes : List (List Item)
+  pub dead : List Bool
+
+-- no receive on any port
+abbrev pub noTakes : List ℕ
+noTakes = 0 ∷ 0 ∷ 0 ∷ 0 ∷ []
+
+-- "each process on its primary board, [..] each backup record as it starts, all else 0"
+unfoldable pub placed : Placement → Process
+unfolding booted
+placed x = record {
+  machine = booted;
+  board = x .primary;
+  suppress = 0;
+  events = 0;
+  taken = noTakes;
+  standby = some (record { board = x .standby; replica = initial });
+}
+
+-- "every board live, [..] inboxes and queues empty"
+unfoldable pub started : Table → Cabinet
+unfolding placed
+started t = record {
+  processes = map placed (t .processes);
+  outboxes = replicate (t .boards) [];
+  dead = replicate (t .boards) false;
+}
+
+-- ---- reading it
+
+-- stands for a process that the table doesn't have
+unfoldable pub nobody : Process
+unfolding booted
+nobody = record { machine = booted; board = 0; suppress = 0; events = 0; taken = noTakes; standby = none }
+
+abbrev pub processAt : Cabinet → ℕ → Process
+processAt c p = getD (c .processes) p nobody
+
+abbrev pub outboxAt : Cabinet → ℕ → List Item
+outboxAt c b = getD (c .outboxes) b []
+
+abbrev pub deadAt : Cabinet → ℕ → Bool
+deadAt c b = getD (c .dead) b false
+
+abbrev pub isSome : {A : Type 0} → Option A → Bool
+isSome none = false
+isSome (some a) = true
+
+-- has a live backup (backed)
+abbrev pub protected : Process → Bool
+protected x = isSome (x .standby)
+
+-- "if backed and acts are 8"
+unfoldable pub exhausted : Process → Bool
+exhausted x = protected x && leb eventsMost (x .events)
+
+-- how many unread words of a mailbox are of channel k
+abbrev pub unreadOn : ℕ → List Mail → ℕ
+unreadOn k [] = 0
+unreadOn k (x ∷ l) = cond (eqb k (x .channel)) (suc (unreadOn k l)) (unreadOn k l)
+
+abbrev pub isOn : ℕ → Item → Bool
+isOn k (message x) = eqb k (x .channel)
+isOn k (checkpoint p s) = false
+
+-- how many words of channel k wait in an outbox, and in all of them
+abbrev pub queuedOn : ℕ → List Item → ℕ
+queuedOn k [] = 0
+queuedOn k (x ∷ l) = cond (isOn k x) (suc (queuedOn k l)) (queuedOn k l)
+
+abbrev pub inFlight : ℕ → List (List Item) → ℕ
+inFlight k [] = 0
+inFlight k (q ∷ qs) = queuedOn k q + inFlight k qs
+
+-- unread and in flight on a channel
+unfoldable pub occupancy : Table → Cabinet → ℕ → ℕ
+unfolding nobody
+occupancy t c k = unreadOn k (processAt c (channelAt t k .reader) .machine .mailbox) + inFlight k (c .outboxes)
+
+-- A channel's back-pressure (held). "A channel read by the outside is never held."
+unfoldable pub full : Table → Cabinet → ℕ → Bool
+unfolding occupancy
+full t c k = not (eqb (channelAt t k .reader) environment) && leb occupancyMost (occupancy t c k)
+
+-- a checkpoint of process p waits in an outbox
+abbrev pub isCheckpointOf : ℕ → Item → Bool
+isCheckpointOf p (message x) = false
+isCheckpointOf p (checkpoint q s) = eqb p q
+
+abbrev pub waiting : ℕ → List Item → Bool
+waiting p [] = false
+waiting p (x ∷ l) = isCheckpointOf p x || waiting p l
+
+-- ---- quiet
+
+-- halted, or waits for a word
+abbrev pub idle : Outcome → Bool
+idle halted = true
+idle noMail = true
+idle (moved m a) = false
+
+abbrev pub isEmpty : {A : Type 0} → List A → Bool
+isEmpty [] = true
+isEmpty (x ∷ l) = false
+
+-- "Quiet: each process is halted or would answer 36, and no queue has an entry."
+unfoldable pub quiescent : Table → Cabinet → Bool
+unfolding localStep nobody
+quiescent t c =
+    allBelow (λ p. idle (localStep (codeOf t p) (processAt c p .machine))) (length (c .processes)) && allOf isEmpty (c .outboxes)

@@ -1,0 +1,315 @@
+-- The five moves, every refusal in its order, and what each replies (document 01, "The cabinet's moves", "What each move replies").
+-- Assumes nothing.
+use mathlib.Core.Bool.{Bool, true, false, not, cond, _&&_, _||_}
+use mathlib.Core.Option.{Option, none, some}
+use mathlib.Core.List.{List, [], _∷_, _++_, map}
+use Prim.Native.Nat.{ℕ, zero, suc, _+_}
+use lib.Dec.{eqb, ltb, leb}
+use lib.ListN.{length, getD, set}
+use Rattle.facts.specs.Tests.{anyBelow}
+use Rattle.backup.specs.Replica.{Message, Replica, Checkpoint, Reply, FailOver, arrive, count, sync, failOver}
+use Rattle.rules.specs.Table.{Table, environment, channelAt, codeOf, portOf, channelOn}
+use Rattle.rules.specs.Machine.{Mail, Machine, Act, internal, took, sent, Outcome, halted, noMail, moved, localStep, delivered}
+use Rattle.rules.specs.Cabinet.{outboxMost, Standby, Process, Item, message, checkpoint, Cabinet, noTakes, nobody, processAt, outboxAt, deadAt, protected, exhausted, full, waiting}
+
+-- a schedule's record, one command (document 01: "records of six bytes: move, a, word")
+pub record Command : Type 0 where
+  pub move : ℕ
+  pub a : ℕ
+  pub word : ℕ
+
+-- ---- answers
+
+pub data Refusal : Type 0 where
+  badRecord notInTable boardDead isHalted noSuchWord eventsFull outboxFull channelFull noBackup syncWaits outboxEmpty notOutside otherCrashed : Refusal
+
+unfoldable pub refusalNumber : Refusal → ℕ
+refusalNumber badRecord = 32
+refusalNumber notInTable = 33
+refusalNumber boardDead = 34
+refusalNumber isHalted = 35
+refusalNumber noSuchWord = 36
+refusalNumber eventsFull = 37
+refusalNumber outboxFull = 38
+refusalNumber channelFull = 39
+refusalNumber noBackup = 40
+refusalNumber syncWaits = 41
+refusalNumber outboxEmpty = 42
+refusalNumber notOutside = 43
+refusalNumber otherCrashed = 44
+
+pub data Answer : Type 0 where
+  done : Answer
+  received queued suppressed transmitted : Mail → Answer
+  syncKept syncLost : ℕ → Answer
+  refused : Refusal → ℕ → Answer
+
+-- "One six-byte answer a record: code, a, word."
+pub record Numbers : Type 0 where
+  pub code : ℕ
+  pub a : ℕ
+  pub word : ℕ
+
+abbrev pub numbered : ℕ → ℕ → ℕ → Numbers
+numbered code a word = record { code = code; a = a; word = word }
+
+-- "0 done (0, 0). 1 took, 2 queued, 3 held back, 4 word on the bus (channel, word) [..]. 5 sync carried, 6 sync with no backup left
+-- (process, 0). Refusals repeat a with word 0"
+unfoldable pub numbers : Answer → Numbers
+unfolding refusalNumber
+numbers done = numbered 0 0 0
+numbers (received x) = numbered 1 (x .channel) (x .word)
+numbers (queued x) = numbered 2 (x .channel) (x .word)
+numbers (suppressed x) = numbered 3 (x .channel) (x .word)
+numbers (transmitted x) = numbered 4 (x .channel) (x .word)
+numbers (syncKept p) = numbered 5 p 0
+numbers (syncLost p) = numbered 6 p 0
+numbers (refused why a) = numbered (refusalNumber why) a 0
+
+-- what a move comes to: a refusal, or the cabinet afterwards and the answer
+pub data Result : Type 0 where
+  refuse : Refusal → Result
+  accept : Cabinet → Answer → Result
+
+-- a check: where it applies the move is refused, otherwise the next one is looked at
+unfoldable pub guard : Bool → Refusal → Result → Result
+guard true why rest = refuse why
+guard false why rest = rest
+
+-- ---- writing the state
+
+abbrev pub withProcess : ℕ → Process → Cabinet → Cabinet
+withProcess p x c = record { processes = set (c .processes) p x; outboxes = c .outboxes; dead = c .dead }
+
+abbrev pub withOutbox : ℕ → List Item → Cabinet → Cabinet
+withOutbox b q c = record { processes = c .processes; outboxes = set (c .outboxes) b q; dead = c .dead }
+
+abbrev pub enqueue : ℕ → Item → Cabinet → Cabinet
+enqueue b item c = withOutbox b (outboxAt c b ++ (item ∷ [])) c
+
+abbrev pub onReplica : (Replica → Reply) → Option Standby → Option Standby
+onReplica call none = none
+onReplica call (some s) = some (record { board = s .board; replica = call (s .replica) .replica })
+
+-- a process after an instruction: its machine, its receives, its events and its suppression
+unfoldable pub advanced : Machine → List ℕ → ℕ → ℕ → Process → Process
+advanced m taken events suppress x =
+    record { machine = m; board = x .board; suppress = suppress; events = events; taken = taken; standby = x .standby }
+
+-- ---- 1 step
+
+-- "A SEND with hold-back above 0 lowers it by one and sends nothing. Otherwise the word joins its board's queue."
+-- "For a SEND not held back: 37 likewise, 38 queue full, 39 held."
+unfoldable pub send : Table → Cabinet → ℕ → Process → Machine → Mail → ℕ → Result
+unfolding exhausted full advanced
+send t c p x m mail (suc h) = accept (withProcess p (advanced m (x .taken) (x .events) h x) c) (suppressed mail)
+send t c p x m mail zero =
+    guard (exhausted x) eventsFull
+    (guard (leb outboxMost (length (outboxAt c (x .board)))) outboxFull
+    (guard (full t c (mail .channel)) channelFull
+    (accept (withProcess p (advanced m (x .taken) (suc (x .events)) 0 x) (enqueue (x .board) (message mail) c)) (queued mail))))
+
+-- one receive more on the port of a channel
+abbrev pub oneMore : Table → ℕ → Mail → List ℕ → List ℕ
+oneMore t p mail taken = set taken (portOf t p (mail .channel)) (suc (getD taken (portOf t p (mail .channel)) 0))
+
+-- "Step: 35 halted. For TAKE and FIRST: 36 no such word, then 37 if backed and acts are 8. [..] SET, ADD and JUMP always succeed."
+unfoldable pub stepFrom : Table → Cabinet → ℕ → Process → Outcome → Result
+unfolding send advanced exhausted
+stepFrom t c p x halted = refuse isHalted
+stepFrom t c p x noMail = refuse noSuchWord
+stepFrom t c p x (moved m internal) = accept (withProcess p (advanced m (x .taken) (x .events) (x .suppress) x) c) done
+stepFrom t c p x (moved m (took mail)) =
+    guard (exhausted x) eventsFull
+    (accept (withProcess p (advanced m (oneMore t p mail (x .taken)) (suc (x .events)) (x .suppress) x) c) (received mail))
+stepFrom t c p x (moved m (sent mail)) = send t c p x m mail (x .suppress)
+
+unfoldable pub step : Table → Cabinet → ℕ → Result
+unfolding stepFrom localStep nobody
+step t c p = stepFrom t c p (processAt c p) (localStep (codeOf t p) (processAt c p .machine))
+
+-- ---- 2 sync
+
+unfoldable pub issued : Process → Process
+issued x = record { machine = x .machine; board = x .board; suppress = x .suppress; events = 0; taken = noTakes; standby = x .standby }
+
+-- "a snapshot (registers, place, takes per slot since the last issue)"
+abbrev pub snapshot : Process → Checkpoint
+snapshot x = record { pc = x .machine .pc; registers = x .machine .registers; taken = x .taken }
+
+-- "joins the queue; acts become 0. One sync a process may be waiting there." "Sync: 40 no backup, 41 one waiting, 38 queue full."
+unfoldable pub issue : Table → Cabinet → ℕ → Result
+unfolding issued nobody
+issue t c p =
+    let x = processAt c p in
+    guard (not (protected x)) noBackup
+    (guard (waiting p (outboxAt c (x .board))) syncWaits
+    (guard (leb outboxMost (length (outboxAt c (x .board)))) outboxFull
+    (accept (withProcess p (issued x) (enqueue (x .board) (checkpoint p (snapshot x)) c)) done)))
+
+-- ---- 3 carry, 4 feed
+
+-- the reader's half of a delivery: "to the reader's inbox, the reader's backup record"
+unfoldable pub receive : Table → ℕ → Mail → Process → Process
+unfolding delivered arrive
+receive t p mail x = record {
+  machine = delivered mail (x .machine);
+  board = x .board;
+  suppress = x .suppress;
+  events = x .events;
+  taken = x .taken;
+  standby = onReplica (λ r. arrive r (portOf t p (mail .channel)) (mail .word)) (x .standby);
+}
+
+-- a word reaches its reader; one that the environment reads goes to no process
+unfoldable pub deliver : Table → Mail → Cabinet → Cabinet
+unfolding receive nobody
+deliver t mail c =
+    let reader = channelAt t (mail .channel) .reader in
+    withProcess reader (receive t reader mail (processAt c reader)) c
+
+-- the sender's half: "the sender's backup record, which counts it and keeps no copy"
+unfoldable pub counts : Process → Process
+unfolding count
+counts x = record {
+  machine = x .machine;
+  board = x .board;
+  suppress = x .suppress;
+  events = x .events;
+  taken = x .taken;
+  standby = onReplica count (x .standby);
+}
+
+-- "A sync replaces the state in the process's backup record"
+unfoldable pub keeps : Checkpoint → Process → Process
+unfolding sync
+keeps s x = record {
+  machine = x .machine;
+  board = x .board;
+  suppress = x .suppress;
+  events = x .events;
+  taken = x .taken;
+  standby = onReplica (λ r. sync r s) (x .standby);
+}
+
+-- "A word goes, in one move, to the reader's inbox, the reader's backup record, and the sender's backup record."
+unfoldable pub transmitItem : Table → Cabinet → Item → Result
+unfolding deliver counts keeps nobody
+transmitItem t c (message mail) =
+    let sender = channelAt t (mail .channel) .sender in
+    accept (deliver t mail (withProcess sender (counts (processAt c sender)) c)) (transmitted mail)
+transmitItem t c (checkpoint p s) =
+    accept (withProcess p (keeps s (processAt c p)) c) (cond (protected (processAt c p)) (syncKept p) (syncLost p))
+
+-- "Carry looks at the oldest entry; with none the answer is 42."
+unfoldable pub transmitOldest : Table → Cabinet → ℕ → List Item → Result
+unfolding transmitItem
+transmitOldest t c b [] = refuse outboxEmpty
+transmitOldest t c b (item ∷ rest) = transmitItem t (withOutbox b rest c) item
+
+-- "Carry: 34 board dead, 42 queue empty."
+unfoldable pub transmit : Table → Cabinet → ℕ → Result
+unfolding transmitOldest
+transmit t c b = guard (deadAt c b) boardDead (transmitOldest t c b (outboxAt c b))
+
+-- "Feed: 43 sender not outside, 39 held."
+unfoldable pub inject : Table → Cabinet → Mail → Result
+unfolding full deliver
+inject t c mail =
+    guard (not (eqb (channelAt t (mail .channel) .sender) environment)) notOutside
+    (guard (full t c (mail .channel)) channelFull
+    (accept (deliver t mail c) (transmitted mail)))
+
+-- ---- 5 crash
+
+-- the machine that a promoted backup goes on as: "the record's state, the saved words as inbox"
+unfoldable pub recovered : Table → ℕ → FailOver → Machine
+recovered t p f = record {
+  registers = f .registers;
+  pc = f .pc;
+  mailbox = map (λ (m : Message). record { channel = channelOn t p (m .port); word = m .word }) (f .log);
+}
+
+-- "goes on at its backup board with the record's state, the saved words as inbox and the count as hold-back"
+unfoldable pub promoted : Table → ℕ → Standby → Process
+unfolding recovered failOver
+promoted t p s =
+    let f = failOver (s .replica) in
+    record { machine = recovered t p f; board = s .board; suppress = f .sent; events = 0; taken = noTakes; standby = none }
+
+unfoldable pub unprotected : Process → Process
+unprotected x =
+    record { machine = x .machine; board = x .board; suppress = x .suppress; events = x .events; taken = x .taken; standby = none }
+
+-- what the crash of board b makes of process p: "All processes that had either half there have no backup from then on."
+unfoldable pub afterCrash : Table → ℕ → ℕ → Process → Option Standby → Process
+unfolding promoted unprotected
+afterCrash t b p x none = x
+afterCrash t b p x (some s) = cond (eqb b (x .board)) (promoted t p s) (cond (eqb b (s .board)) (unprotected x) x)
+
+-- the same for a list of processes, of which the first is process p
+unfoldable pub allAfterCrash : Table → ℕ → ℕ → List Process → List Process
+unfolding afterCrash
+allAfterCrash t b p [] = []
+allAfterCrash t b p (x ∷ l) = afterCrash t b p x (x .standby) ∷ allAfterCrash t b (suc p) l
+
+-- a board other than b is dead
+abbrev pub otherDead : Cabinet → ℕ → Bool
+otherDead c b = anyBelow (λ k. not (eqb k b) && deadAt c k) (length (c .dead))
+
+-- "Crash: 34 already dead, 44 another board has crashed." "its queue is lost"
+unfoldable pub crash : Table → Cabinet → ℕ → Result
+unfolding allAfterCrash
+crash t c b =
+    guard (deadAt c b) boardDead
+    (guard (otherDead c b) otherCrashed
+    (accept (record {
+      processes = allAfterCrash t b 0 (c .processes);
+      outboxes = set (c .outboxes) b [];
+      dead = set (c .dead) b true;
+    }) done))
+
+-- ---- one command
+
+-- "33 if a is no process, board or channel of this table", by the move
+unfoldable pub perform : Table → Cabinet → Command → ℕ → Result
+unfolding step issue transmit inject crash
+perform t c r (suc zero) = guard (leb (length (t .processes)) (r .a)) notInTable (step t c (r .a))
+perform t c r (suc (suc zero)) = guard (leb (length (t .processes)) (r .a)) notInTable (issue t c (r .a))
+perform t c r (suc (suc (suc zero))) = guard (leb (t .boards) (r .a)) notInTable (transmit t c (r .a))
+perform t c r (suc (suc (suc (suc zero)))) =
+    guard (leb (length (t .channels)) (r .a)) notInTable (inject t c (record { channel = r .a; word = r .word }))
+perform t c r (suc (suc (suc (suc (suc zero))))) = guard (leb (t .boards) (r .a)) notInTable (crash t c (r .a))
+perform t c r zero = refuse badRecord
+perform t c r (suc (suc (suc (suc (suc (suc n)))))) = refuse badRecord
+
+-- "Any record: 32 for an unknown move or a word that should be 0". "The word is 0 except in a feed."
+unfoldable pub judged : Table → Cabinet → Command → Result
+unfolding perform
+judged t c r = guard (not (eqb (r .move) 4) && not (eqb (r .word) 0)) badRecord (perform t c r (r .move))
+
+pub record Turn : Type 0 where
+  pub cabinet : Cabinet
+  pub answer : Answer
+
+-- a refused record leaves the cabinet as it was
+abbrev pub settle : Cabinet → Command → Result → Turn
+settle c r (refuse why) = record { cabinet = c; answer = refused why (r .a) }
+settle c r (accept d x) = record { cabinet = d; answer = x }
+
+unfoldable pub turn : Table → Cabinet → Command → Turn
+unfolding judged
+turn t c r = settle c r (judged t c r)
+
+-- a list of commands, each given the cabinet that the last one left
+pub record Outcomes : Type 0 where
+  pub cabinet : Cabinet
+  pub answers : List Answer
+
+unfoldable pub runFrom : Table → Cabinet → List Command → Outcomes
+unfolding turn
+runFrom t c [] = record { cabinet = c; answers = [] }
+runFrom t c (r ∷ rs) =
+    let now = turn t c r in
+    let rest = runFrom t (now .cabinet) rs in
+    record { cabinet = rest .cabinet; answers = now .answer ∷ rest .answers }

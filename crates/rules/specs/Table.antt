@@ -1,0 +1,62 @@
+-- What a table says: boards, channel ends, and for each process its two boards and its program (document 01, "The table").
+-- Assumes nothing.
+use mathlib.Core.Bool.{Bool, true, false, cond}
+use mathlib.Core.List.{List, [], _∷_}
+use Prim.Native.Nat.{ℕ, zero, suc}
+use lib.Dec.{eqb}
+use lib.ListN.{length, getD}
+
+-- "a process number, or 255 for the outside"
+abbrev pub environment : ℕ
+environment = 255
+
+pub record Channel : Type 0 where
+  pub sender : ℕ
+  pub reader : ℕ
+
+-- code, then `a` and the operand
+pub data Instruction : Type 0 where
+  SET ADD TAKE FIRST SEND JUMP : ℕ → ℕ → Instruction
+
+-- "one record for each process: primary board, backup board, n, and n instructions"
+pub record Placement : Type 0 where
+  pub primary : ℕ
+  pub standby : ℕ
+  pub code : List Instruction
+
+pub record Table : Type 0 where
+  pub boards : ℕ
+  pub channels : List Channel
+  pub processes : List Placement
+
+-- channel k; one that the table doesn't have joins the environment to itself
+abbrev pub channelAt : Table → ℕ → Channel
+channelAt t k = getD (t .channels) k (record { sender = environment; reader = environment })
+
+abbrev pub placementAt : Table → ℕ → Placement
+placementAt t p = getD (t .processes) p (record { primary = 0; standby = 0; code = [] })
+
+abbrev pub codeOf : Table → ℕ → List Instruction
+codeOf t p = placementAt t p .code
+
+-- the channels of a list that process p reads, where the list's first is channel k
+abbrev pub readFrom : ℕ → List Channel → ℕ → List ℕ
+readFrom k [] p = []
+readFrom k (c ∷ cs) p = cond (eqb (c .reader) p) (k ∷ readFrom (suc k) cs p) (readFrom (suc k) cs p)
+
+-- "Its slots 0 to 3 are those channels, ascending."
+unfoldable pub inputs : Table → ℕ → List ℕ
+inputs t p = readFrom 0 (t .channels) p
+
+-- where a number stands in a list; the list's length if it isn't there
+abbrev pub position : ℕ → List ℕ → ℕ
+position k [] = 0
+position k (x ∷ l) = cond (eqb k x) 0 (suc (position k l))
+
+-- index of an input channel within its reader (document 01: slot)
+abbrev pub portOf : Table → ℕ → ℕ → ℕ
+portOf t p k = position k (inputs t p)
+
+-- the channel of a port of process p
+abbrev pub channelOn : Table → ℕ → ℕ → ℕ
+channelOn t p port = getD (inputs t p) port 0
