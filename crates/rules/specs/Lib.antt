@@ -4,3 +4,4 @@ pub mod Machine
 pub mod Reference
 pub mod Cabinet
 pub mod Moves
+pub mod Judge
