@@ -5,3 +5,4 @@ pub mod Reference
 pub mod Cabinet
 pub mod Moves
 pub mod Judge
+pub mod Transparent
