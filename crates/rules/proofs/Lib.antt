@@ -1,0 +1,4 @@
+-- What is proved of document 01's definitions.
+pub mod Valid
+pub mod ReadBack
+pub mod AcceptedRun
