@@ -1,7 +1,12 @@
--- Demand 3 over any list of commands. Read Steps, Runs, Ahead, Good and Invariant in this order.
+-- What is proved of document 01's definitions.
+-- Demand 3 over any list of commands: read Steps, Runs, Tables, Ahead, Good and Invariant in this order.
 pub mod Steps
 pub mod Runs
 pub mod Tables
 pub mod Ahead
 pub mod Good
 pub mod Invariant
+-- Tables and runs in bytes.
+pub mod Valid
+pub mod ReadBack
+pub mod AcceptedRun
