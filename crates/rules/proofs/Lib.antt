@@ -1,0 +1,3 @@
+-- What is proved of the rules.
+pub mod Counting
+pub mod Room
