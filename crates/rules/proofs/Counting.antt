@@ -145,3 +145,11 @@ module _ (w : Mail → ℕ) where
       → total w (m .mailbox) ≡ total w (m1 .mailbox) + taking a
   unfolding localStep
   step-less code m m1 a e = subst (Less m) e (local-less (ltb (m .pc) (length code)) (getD code (m .pc) (SET 0 0)) m)
+
+pub unread-less : (k : ℕ) (code : List Instruction) (m m1 : Machine) (a : Act) → localStep code m ≡ moved m1 a
+    → unreadOn k (m1 .mailbox) ≤ unreadOn k (m .mailbox)
+unread-less k code m m1 a e =
+    let h = step-less (onChannel k) code m m1 a e in
+    let x = unread-total k (m .mailbox) in
+    let y = unread-total k (m1 .mailbox) in
+    omega arith

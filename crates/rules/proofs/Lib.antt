@@ -1,3 +1,5 @@
 -- What is proved of the rules.
 pub mod Counting
 pub mod Room
+pub mod Guards
+pub mod Keep
