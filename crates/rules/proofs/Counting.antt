@@ -10,17 +10,16 @@ use lib.ListN.{length, getD, set, replicate, List·getD-eq-default}
 use lib.Seq.{set-out}
 use Rattle.facts.specs.Tests.{no-way, by-lt}
 use Rattle.facts.specs.Counts.{total, total-append, total-set, total-set-less, total-replicate, same, occurs, cond-more}
-use Rattle.rules.specs.Table.{Instruction, SET, ADD, TAKE, FIRST, SEND, JUMP}
-use Rattle.rules.specs.Machine.{Mail, Machine, Act, internal, took, sent, Outcome, halted, noMail, moved, Pull, nothing, found, behind, pull, bit, take1, first1, execute, localStep}
+use Rattle.rules.specs.Table.{Instruction}
+use Rattle.rules.specs.Machine.{Mail, Machine, Act, internal, took, sent, Pull, nothing, found, behind, pull}
 use Rattle.rules.specs.Cabinet.{Item, message, checkpoint, unreadOn, isOn, queuedOn, inFlight}
+use Rattle.rules.proofs.Steps.{Steps, step-left}
+use Rattle.rules.proofs.Runs.{Run, here, more, takes1, takes}
 
 -- ---- unread words
 
 abbrev onChannel : ℕ → Mail → ℕ
 onChannel k x = same k (x .channel)
-
-abbrev channels : List Mail → List ℕ
-channels l = map (λ (x : Mail). x .channel) l
 
 unread-total : (k : ℕ) (l : List Mail) → unreadOn k l ≡ total (onChannel k) l
 unread-total k [] = refl
@@ -107,49 +106,22 @@ module _ (w : Mail → ℕ) where
           let h = ih v vs refl in
           omega arith
 
-  -- what an act takes out of the mailbox
-  abbrev pub taking : Act → ℕ
-  taking internal = 0
-  taking (took x) = w x
-  taking (sent x) = 0
+pub step-unread : {code : List Instruction} {m m1 : Machine} (k : ℕ) (a : Act) → Steps code m a m1
+    → unreadOn k (m .mailbox) ≡ unreadOn k (m1 .mailbox) + occurs k (takes1 a)
+step-unread k internal e = let h = ap (unreadOn k) (step-left e) in omega arith
+step-unread {m = m} {m1 = m1} k (took x) e =
+    let l = step-left e in
+    let h = pull-total (onChannel k) (l .wanted) (m .mailbox) x (m1 .mailbox) (l .is) in
+    let a = unread-total k (m .mailbox) in
+    let b = unread-total k (m1 .mailbox) in
+    omega arith
+step-unread k (sent x) e = let h = ap (unreadOn k) (step-left e) in omega arith
 
-  abbrev Less : Machine → Outcome → Type 0
-  Less m halted = Unit {0}
-  Less m noMail = Unit {0}
-  Less m (moved m1 a) = total w (m .mailbox) ≡ total w (m1 .mailbox) + taking a
-
-  take1-less : (a : ℕ) (m : Machine) (p : Pull) → ((y : Mail) (ys : List Mail) → p ≡ found y ys → total w (m .mailbox) ≡ total w ys + w y)
-      → Less m (take1 a m p)
-  take1-less a m nothing h = tt
-  take1-less a m (found y ys) h = h y ys refl
-
-  first1-less : (a : ℕ) (m : Machine) (p : Pull) → ((y : Mail) (ys : List Mail) → p ≡ found y ys → total w (m .mailbox) ≡ total w ys + w y)
-      → Less m (first1 a m p)
-  first1-less a m nothing h = tt
-  first1-less a m (found y ys) h = h y ys refl
-
-  execute-less : (i : Instruction) (m : Machine) → Less m (execute i m)
-  unfolding execute
-  execute-less (SET a v) m = omega arith
-  execute-less (ADD a b) m = omega arith
-  execute-less (TAKE a k) m = take1-less a m (pull (eqb k) (m .mailbox)) (λ y ys. pull-total (eqb k) (m .mailbox) y ys)
-  execute-less (FIRST a mask) m = first1-less a m (pull (bit mask) (m .mailbox)) (λ y ys. pull-total (bit mask) (m .mailbox) y ys)
-  execute-less (SEND a k) m = omega arith
-  execute-less (JUMP a n) m = omega arith
-
-  local-less : (b : Bool) (i : Instruction) (m : Machine) → Less m (cond b (execute i m) halted)
-  local-less true i m = execute-less i m
-  local-less false i m = tt
-
-  pub step-less : (code : List Instruction) (m m1 : Machine) (a : Act) → localStep code m ≡ moved m1 a
-      → total w (m .mailbox) ≡ total w (m1 .mailbox) + taking a
-  unfolding localStep
-  step-less code m m1 a e = subst (Less m) e (local-less (ltb (m .pc) (length code)) (getD code (m .pc) (SET 0 0)) m)
-
-pub unread-less : (k : ℕ) (code : List Instruction) (m m1 : Machine) (a : Act) → localStep code m ≡ moved m1 a
-    → unreadOn k (m1 .mailbox) ≤ unreadOn k (m .mailbox)
-unread-less k code m m1 a e =
-    let h = step-less (onChannel k) code m m1 a e in
-    let x = unread-total k (m .mailbox) in
-    let y = unread-total k (m1 .mailbox) in
+pub run-unread : {code : List Instruction} {m m1 : Machine} {acts : List Act} (k : ℕ) → Run code m acts m1
+    → unreadOn k (m .mailbox) ≡ unreadOn k (m1 .mailbox) + occurs k (takes acts)
+run-unread k here = omega arith
+run-unread k (more {k = a} {ks = acts} e r) =
+    let h = step-unread k a e in
+    let n = run-unread k r in
+    let d = total-append (same k) (takes1 a) (takes acts) in
     omega arith

@@ -5,7 +5,7 @@ use mathlib.Core.Path.{_≡_, refl, ap, sym, _∙_, subst}
 use mathlib.Core.Bool.{Bool, true, false, not, cond, _&&_}
 use mathlib.Core.Option.{Option, none, some}
 use mathlib.Core.List.{List, [], _∷_, _++_}
-use Prim.Native.Nat.{ℕ, zero, suc, _+_, _≤_, _<_}
+use Prim.Native.Nat.{ℕ, zero, suc, _+_, _*_, _≤_, _<_}
 use native.Mathlib.Omega.{arith}
 use lib.Dec.{eqb, leb}
 use lib.ListN.{length, getD, set, length-set}
@@ -26,7 +26,7 @@ use Rattle.rules.proofs.Counting.{unread-append}
 pub record Roomed (t : Table) (pending : List ℕ) (c : Cabinet) (p : ℕ) : Type 0 where
   -- the channels of words that it had received before a crash and then had again; none while it is protected
   pub again : List ℕ
-  pub few : length again ≤ eventsMost + eventsMost
+  pub few : length again ≤ 2 * eventsMost
   pub none-yet : protected (processAt c p) ≡ true → again ≡ []
   pub room : (k : ℕ) → channelAt t k .reader ≡ p
       → unreadOn k (processAt c p .machine .mailbox) + inFlight k (c .outboxes) + occurs k pending ≤ occupancyMost + occurs k again
