@@ -6,6 +6,12 @@ pub mod Tables
 pub mod Ahead
 pub mod Good
 pub mod Invariant
+-- The bounds: read Counting, Room, Keep in this order.
+pub mod Guards
+pub mod Counting
+pub mod Room
+pub mod Crashed
+pub mod Keep
 -- Tables and runs in bytes.
 pub mod Valid
 pub mod ReadBack
