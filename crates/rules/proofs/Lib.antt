@@ -5,6 +5,7 @@ pub mod Runs
 pub mod Tables
 pub mod Ahead
 pub mod Good
+pub mod Tally
 pub mod Invariant
 -- The bounds: read Counting, Room, Keep in this order.
 pub mod Guards
