@@ -10,6 +10,8 @@ pub mod Replays
 pub mod Backups
 pub mod GoodMoves
 pub mod Invariant
+pub mod Frame
+pub mod References
 -- The bounds: read Counting, Room, Keep in this order.
 pub mod Guards
 pub mod Counting
