@@ -2,3 +2,6 @@
 pub mod Valid
 pub mod ReadBack
 pub mod AcceptedRun
+pub mod Cases
+pub mod Marked
+pub mod MoveCases
