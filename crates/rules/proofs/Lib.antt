@@ -5,3 +5,4 @@ pub mod AcceptedRun
 pub mod Cases
 pub mod Marked
 pub mod MoveCases
+pub mod FormatCases
