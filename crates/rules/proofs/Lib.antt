@@ -22,3 +22,7 @@ pub mod Keep
 pub mod Valid
 pub mod ReadBack
 pub mod AcceptedRun
+pub mod Cases
+pub mod Marked
+pub mod MoveCases
+pub mod FormatCases
