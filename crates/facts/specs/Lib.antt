@@ -1,4 +1,5 @@
 -- Generic facts: nothing here knows of boards, channels or programs.
 pub mod Tests
 pub mod Lists
+pub mod Indexing
 pub mod Counts

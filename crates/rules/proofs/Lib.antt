@@ -1,12 +1,18 @@
--- What is proved of the rules. Demand 3 over any list of commands: read Steps, Runs, Ahead, Good and Invariant in this order.
--- The bounds: read Counting, Room, Keep in this order.
+-- What is proved of document 01's definitions.
+-- Demand 3 over any list of commands: read Steps, Runs, Tables, Ahead, Good and Invariant in this order.
 pub mod Steps
 pub mod Runs
+pub mod Tables
 pub mod Ahead
 pub mod Good
 pub mod Invariant
+-- The bounds: read Counting, Room and Keep in this order.
 pub mod Guards
 pub mod Counting
 pub mod Room
 pub mod Crashed
 pub mod Keep
+-- Tables and runs in bytes.
+pub mod Valid
+pub mod ReadBack
+pub mod AcceptedRun

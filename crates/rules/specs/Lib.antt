@@ -1,7 +1,14 @@
--- Document 01 as definitions: read Table, Machine, Reference, Cabinet and Moves in this order.
+-- Document 01 as definitions: read Table, Machine, Reference, Cabinet and Moves in this order, then Transparent; for the bytes
+-- Bytes, Format, Schedule, Run and Transparency.
 pub mod Table
 pub mod Machine
 pub mod Reference
 pub mod Cabinet
 pub mod Moves
 pub mod Judge
+pub mod Transparent
+pub mod Bytes
+pub mod Format
+pub mod Schedule
+pub mod Run
+pub mod Transparency

@@ -1,0 +1,105 @@
+-- An accepted run: its table is valid, what it returns and writes, and how failure transparency of its commands becomes that of its bytes.
+-- Assumes nothing.
+use mathlib.Core.Path.{_≡_, refl, ap, sym, _∙_}
+use mathlib.Core.Bool.{Bool, true, false, cond}
+use mathlib.Core.List.{List, [], _∷_, _++_, map}
+use Prim.Native.Nat.{ℕ, zero, suc, _+_, _*_}
+use native.Mathlib.Omega.{arith}
+use lib.Dec.{eqb, leb}
+use lib.ListN.{length, drop, length-map}
+use borrow.Author.Tests.{eqb-true, eqb-false}
+use Rattle.rules.specs.Table.{Table}
+use Rattle.rules.specs.Cabinet.{Cabinet, started, quiescent}
+use Rattle.rules.specs.Moves.{Command, Numbers, numbers, Answer, turn, runFrom}
+use Rattle.rules.specs.Judge.{Accepted}
+use Rattle.rules.specs.Transparent.{answered, finished, traceOf, fedOf, Transparent}
+use Rattle.rules.specs.Bytes.{allBytes}
+use Rattle.rules.specs.Format.{orNumber, processesIn, decodeTable, validateTable}
+use Rattle.rules.specs.Schedule.{commandsIn, decodeSchedule, validateSchedule}
+use Rattle.rules.specs.Run.{Ran, answerBytes, validateRun, ranFrom, refusedWith, run, accepted}
+use Rattle.rules.specs.Transparency.{answersIn, FailureTransparency}
+use Rattle.rules.proofs.Valid.{decoded-accepted}
+use Rattle.rules.proofs.ReadBack.{answers-back}
+
+-- ---- accepted is the number 0, of all twelve
+
+number-zero : (number : ℕ) (t : Table) (commands : List Command) (answers report : List ℕ)
+    → eqb (cond (eqb number 0) (ranFrom t commands answers report) (refusedWith number answers report) .number) 0 ≡ true
+    → number ≡ 0
+unfolding refusedWith
+number-zero number t commands answers report h = go (eqb number 0) refl h
+  where
+    go : (b : Bool) → eqb number 0 ≡ b → eqb (cond b (ranFrom t commands answers report) (refusedWith number answers report) .number) 0 ≡ true → number ≡ 0
+    go true e k = eqb-true number 0 e
+    go false e k = eqb-true number 0 k
+
+-- a number that is handed on unless it is 0
+number-passed : (n further : ℕ) → orNumber (eqb n 0) n further ≡ 0 → (n ≡ 0) × (further ≡ 0)
+number-passed n further h = go (eqb n 0) refl h
+  where
+    go : (b : Bool) → eqb n 0 ≡ b → orNumber b n further ≡ 0 → (n ≡ 0) × (further ≡ 0)
+    go true e k = (eqb-true n 0 e, k)
+    go false e k = absurd (eqb-false n 0 e k)
+
+-- every command has its answer
+pub one-answer-each : (t : Table) (c : Cabinet) (commands : List Command) → length (runFrom t c commands .answers) ≡ length commands
+unfolding runFrom
+one-answer-each t c [] = refl
+one-answer-each t c (r ∷ rs) = ap suc (one-answer-each t (turn t c r .cabinet) rs)
+
+answered-length : (t : Table) (commands : List Command) → length (answered t commands) ≡ length commands
+answered-length t commands = length-map (runFrom t (started t) commands .answers) numbers ∙ one-answer-each t (started t) commands
+
+module _ (table schedule answers report : List ℕ) (h : accepted table schedule answers report ≡ true) where
+  pub run-valid : validateRun table schedule answers report ≡ 0
+  unfolding accepted
+  run-valid = number-zero (validateRun table schedule answers report) (decodeTable table) (decodeSchedule schedule) answers report h
+
+  pub run-is : run table schedule answers report ≡ ranFrom (decodeTable table) (decodeSchedule schedule) answers report
+  unfolding run
+  run-is = rw run-valid
+
+  pub table-valid : validateTable table ≡ 0
+  unfolding validateRun
+  table-valid = number-passed (validateTable table) _ run-valid .0
+
+  pub table-accepted : Accepted (decodeTable table)
+  table-accepted = decoded-accepted table table-valid
+
+  pub schedule-valid : validateSchedule schedule ≡ 0
+  unfolding validateRun
+  schedule-valid = number-passed (validateSchedule schedule) _ (number-passed (validateTable table) _ run-valid .1) .0
+
+  -- ---- the answers, read out of the buffer
+
+  pub answers-read : answersIn (run table schedule answers report) ≡ answered (decodeTable table) (decodeSchedule schedule)
+  unfolding ranFrom
+  answers-read =
+      let t = decodeTable table in
+      let commands = decodeSchedule schedule in
+      rw (run-is, ← answered-length t commands) (answers-back (answered t commands) _)
+
+  pub quiet-is : run table schedule answers report .quiet ≡ quiescent (decodeTable table) (finished (decodeTable table) (decodeSchedule schedule))
+  unfolding ranFrom
+  quiet-is = rw run-is
+
+  -- ---- from commands to bytes
+
+  pub of-bytes : Transparent (decodeTable table) (decodeSchedule schedule) → FailureTransparency table schedule answers report
+  of-bytes x = record {
+    actions = x .actions;
+    end = x .end;
+    ran = x .ran;
+    injected = rw answers-read (x .injected);
+    same-trace = rw answers-read (x .same-trace);
+    same-end = λ q. x .same-end (sym quiet-is ∙ q);
+    no-step = λ q. x .no-step (sym quiet-is ∙ q);
+  }
+
+-- Demand 3 of every accepted run, once it is proved of every accepted table and every list of commands.
+pub transparent-runs : ((t : Table) → Accepted t → (commands : List Command) → Transparent t commands)
+    → (table schedule answers report : List ℕ) → accepted table schedule answers report ≡ true
+    → FailureTransparency table schedule answers report
+transparent-runs all table schedule answers report h =
+    of-bytes table schedule answers report h
+    (all (decodeTable table) (table-accepted table schedule answers report h) (decodeSchedule schedule))

@@ -1,0 +1,20 @@
+-- The answers that a run writes, read out of its buffer again, are the answers.
+-- Assumes nothing.
+use mathlib.Core.Path.{_≡_, refl, ap, sym, _∙_}
+use mathlib.Core.List.{List, [], _∷_, _++_, append-assoc, map}
+use Prim.Native.Nat.{ℕ, zero, suc, _+_, _*_, _/_, _%_, _^_}
+use native.Mathlib.Omega.{arith}
+use lib.ListN.{length, drop}
+use Rattle.rules.specs.Moves.{Numbers, numbered}
+use Rattle.rules.specs.Bytes.{number32, sixes, wordBytes, allBytes, written}
+use Rattle.rules.specs.Run.{answerBytes}
+use Rattle.rules.specs.Transparency.{readAnswers}
+
+-- a word's four bytes give the word
+pub word-back : (w : ℕ) → number32 (w / 2 ^ 24) (w / 2 ^ 16 % 2 ^ 8) (w / 2 ^ 8 % 2 ^ 8) (w % 2 ^ 8) ≡ w
+word-back w = omega arith
+
+-- whatever stands behind the answers
+pub answers-back : (l : List Numbers) (behind : List ℕ) → readAnswers (length l) (allBytes answerBytes l ++ behind) ≡ l
+answers-back [] behind = refl
+answers-back (n ∷ l) behind = rw (word-back (n .word), answers-back l behind)

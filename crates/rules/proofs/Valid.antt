@@ -1,0 +1,173 @@
+-- A table that passes numbers 1 to 8 is one of which `Accepted` holds.
+-- Assumes nothing.
+use mathlib.Core.Path.{_≡_, refl, ap, sym, _∙_}
+use mathlib.Core.Bool.{Bool, true, false, cond, _&&_}
+use mathlib.Core.List.{List, [], _∷_, map}
+use Prim.Native.Nat.{ℕ, zero, suc, _+_, _≤_, _<_}
+use native.Mathlib.Omega.{arith}
+use native.Mathlib.Nat.{not-suc-le-zero, le-of-suc-le-suc}
+use lib.Dec.{eqb, leb}
+use lib.ListN.{length, getD, drop, length-map}
+use borrow.Author.Tests.{leb-true}
+use Rattle.facts.specs.Tests.{and-left, and-right}
+use Rattle.backup.specs.Limits.{pcMost}
+use Rattle.rules.specs.Table.{Channel, Placement, Table, placementAt, codeOf}
+use Rattle.rules.specs.Judge.{endsOk, inputsOk, boardsOk, instructionsOk, Accepted}
+use Rattle.rules.specs.Bytes.{byteAt, sixes}
+use Rattle.rules.specs.Format.{boardsIn, processesIn, channelsIn, versionIn, pairs, recordsStart, recordBytes, programLength, recordLength, rests, placementIn, instruction, decodeTable, orNumber, lengthOk, countsOk, recordsOk, extentOk, codesOk, validateTable}
+
+-- ---- one test of a list of them
+
+pub test-passed : (test : Bool) (n further : ℕ) → orNumber test (suc n) further ≡ 0 → test ≡ true
+test-passed true n further h = refl
+test-passed false n further h = absurd (omega arith)
+
+pub further-passed : (test : Bool) (n further : ℕ) → orNumber test (suc n) further ≡ 0 → further ≡ 0
+further-passed true n further h = h
+further-passed false n further h = absurd (omega arith)
+
+-- ---- all eight
+
+pub record Valid (bytes : List ℕ) : Type 0 where
+  pub length-ok : lengthOk bytes ≡ true
+  pub version-ok : eqb (versionIn bytes) 1 ≡ true
+  pub counts-ok : countsOk bytes ≡ true
+  pub extent-ok : extentOk bytes ≡ true
+  pub ends-ok : endsOk (decodeTable bytes) ≡ true
+  pub inputs-ok : inputsOk (decodeTable bytes) ≡ true
+  pub boards-ok : boardsOk (decodeTable bytes) ≡ true
+  pub codes-ok : codesOk bytes ≡ true
+  pub instructions-ok : instructionsOk (decodeTable bytes) ≡ true
+
+-- of any eight tests and a ninth
+eight : (a b c d e f g h i : Bool)
+    → orNumber a 1 (orNumber b 2 (orNumber c 3 (orNumber d 4 (orNumber e 5 (orNumber f 6 (orNumber g 7 (orNumber (h && i) 8 0))))))) ≡ 0
+    → (a ≡ true) × (b ≡ true) × (c ≡ true) × (d ≡ true) × (e ≡ true) × (f ≡ true) × (g ≡ true) × (h ≡ true) × (i ≡ true)
+eight a b c d e f g h i n1 =
+    let n2 = further-passed a 0 _ n1 in
+    let n3 = further-passed b 1 _ n2 in
+    let n4 = further-passed c 2 _ n3 in
+    let n5 = further-passed d 3 _ n4 in
+    let n6 = further-passed e 4 _ n5 in
+    let n7 = further-passed f 5 _ n6 in
+    let n8 = further-passed g 6 _ n7 in
+    let last = test-passed (h && i) 7 0 n8 in (
+      test-passed a 0 _ n1,
+      test-passed b 1 _ n2,
+      test-passed c 2 _ n3,
+      test-passed d 3 _ n4,
+      test-passed e 4 _ n5,
+      test-passed f 5 _ n6,
+      test-passed g 6 _ n7,
+      and-left h i last,
+      and-right h i last,
+    )
+
+pub valid : (bytes : List ℕ) → validateTable bytes ≡ 0 → Valid bytes
+unfolding validateTable
+valid bytes h =
+    let t = decodeTable bytes in
+    let all = eight (lengthOk bytes) (eqb (versionIn bytes) 1) (countsOk bytes) (extentOk bytes) (endsOk t) (inputsOk t) (boardsOk t) (codesOk bytes) (instructionsOk t) h in
+    record {
+      length-ok = all .0;
+      version-ok = all .1;
+      counts-ok = all .2;
+      extent-ok = all .3;
+      ends-ok = all .4;
+      inputs-ok = all .5;
+      boards-ok = all .6;
+      codes-ok = all .7;
+      instructions-ok = all .8;
+    }
+
+-- ---- the counts are the lists' lengths
+
+length-pairs : (n : ℕ) (rest : List ℕ) → length (pairs n rest) ≡ n
+length-pairs zero rest = refl
+length-pairs (suc n) rest = ap suc (length-pairs n (drop 2 rest))
+
+length-rests : (n : ℕ) (rest : List ℕ) → length (rests n rest) ≡ n
+length-rests zero rest = refl
+length-rests (suc n) rest = ap suc (length-rests n (drop (recordLength rest) rest))
+
+pub length-sixes : {A : Type 0} (make : ℕ → ℕ → ℕ → A) (n : ℕ) (bytes : List ℕ) → length (sixes make n bytes) ≡ n
+length-sixes make zero bytes = refl
+length-sixes make (suc n) bytes = ap suc (length-sixes make n (drop 6 bytes))
+
+pub processes-counted : (bytes : List ℕ) → length (decodeTable bytes .processes) ≡ processesIn bytes
+unfolding decodeTable
+processes-counted bytes = length-map (rests (processesIn bytes) (recordBytes bytes)) placementIn ∙ length-rests (processesIn bytes) (recordBytes bytes)
+
+pub channels-counted : (bytes : List ℕ) → length (decodeTable bytes .channels) ≡ channelsIn bytes
+unfolding decodeTable
+channels-counted bytes = length-pairs (channelsIn bytes) (drop 6 bytes)
+
+-- ---- a program is as long as its record says
+
+short-from : (n : ℕ) (rest : List ℕ) (d : Placement) → recordsOk n rest ≡ true → (p : ℕ) → p < n
+    → length (getD (map placementIn (rests n rest)) p d .code) ≤ pcMost
+short-from zero rest d h p l = absurd (not-suc-le-zero l)
+short-from (suc n) rest d h zero l =
+    let few : programLength rest ≤ pcMost = leb-true (programLength rest) pcMost (and-left (leb (programLength rest) pcMost) _ h) in
+    rw (length-sixes instruction (programLength rest) (drop 3 rest)) few
+short-from (suc n) rest d h (suc p) l =
+    short-from n (drop (recordLength rest) rest) d
+    (and-right (leb (recordLength rest) (length rest)) _ (and-right (leb (programLength rest) pcMost) _ h))
+    p (le-of-suc-le-suc l)
+
+pub short-programs : (bytes : List ℕ) → extentOk bytes ≡ true → (p : ℕ) → p < processesIn bytes → length (codeOf (decodeTable bytes) p) ≤ pcMost
+unfolding decodeTable extentOk
+short-programs bytes h =
+    short-from (processesIn bytes) (recordBytes bytes) _
+    (and-right (leb (recordsStart bytes) (length bytes)) (recordsOk (processesIn bytes) (recordBytes bytes)) h)
+
+-- ---- together
+
+pub record Counted (bytes : List ℕ) : Type 0 where
+  pub boards-low : 2 ≤ boardsIn bytes
+  pub boards-high : boardsIn bytes ≤ 16
+  pub processes-low : 1 ≤ processesIn bytes
+  pub processes-high : processesIn bytes ≤ 16
+  pub channels-low : 1 ≤ channelsIn bytes
+  pub channels-high : channelsIn bytes ≤ 32
+
+-- a number within two bounds
+within : (low n high : ℕ) → (leb low n && leb n high) ≡ true → (low ≤ n) × (n ≤ high)
+within low n high h = (leb-true low n (and-left (leb low n) (leb n high) h), leb-true n high (and-right (leb low n) (leb n high) h))
+
+counted : (bytes : List ℕ) → countsOk bytes ≡ true → Counted bytes
+unfolding countsOk
+counted bytes h =
+    let others = and-right (leb 2 (boardsIn bytes) && leb (boardsIn bytes) 16) _ h in
+    let b = within 2 (boardsIn bytes) 16 (and-left _ ((leb 1 (processesIn bytes) && leb (processesIn bytes) 16) && (leb 1 (channelsIn bytes) && leb (channelsIn bytes) 32)) h) in
+    let p = within 1 (processesIn bytes) 16 (and-left _ (leb 1 (channelsIn bytes) && leb (channelsIn bytes) 32) others) in
+    let c = within 1 (channelsIn bytes) 32 (and-right (leb 1 (processesIn bytes) && leb (processesIn bytes) 16) _ others) in
+    record {
+      boards-low = b .0;
+      boards-high = b .1;
+      processes-low = p .0;
+      processes-high = p .1;
+      channels-low = c .0;
+      channels-high = c .1;
+    }
+
+pub decoded-accepted : (bytes : List ℕ) → validateTable bytes ≡ 0 → Accepted (decodeTable bytes)
+unfolding decodeTable
+decoded-accepted bytes h =
+    let v = valid bytes h in
+    let n = counted bytes (v .counts-ok) in
+    let ps = processes-counted bytes in
+    let cs = channels-counted bytes in
+    record {
+      boards-low = n .boards-low;
+      boards-high = n .boards-high;
+      processes-low = omega arith;
+      processes-high = omega arith;
+      channels-low = omega arith;
+      channels-high = omega arith;
+      short = λ p l. short-programs bytes (v .extent-ok) p (omega arith);
+      ends = v .ends-ok;
+      few-inputs = v .inputs-ok;
+      on-boards = v .boards-ok;
+      instructions = v .instructions-ok;
+    }

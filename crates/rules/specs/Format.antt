@@ -1,0 +1,156 @@
+-- A table in bytes: what it says, and the number that refuses it (document 01, "The table" and "What each move replies").
+-- "A refused one, lowest number first": each number is judged over the whole table before the next.
+-- Assumes nothing.
+use mathlib.Core.Bool.{Bool, true, false, cond, _&&_}
+use mathlib.Core.List.{List, [], _∷_, map}
+use Prim.Native.Nat.{ℕ, zero, suc, _+_, _*_}
+use lib.Dec.{eqb, leb}
+use lib.ListN.{length, drop}
+use Rattle.facts.specs.Tests.{allOf}
+use Rattle.backup.specs.Limits.{pcMost}
+use Rattle.rules.specs.Table.{Channel, Instruction, SET, ADD, TAKE, FIRST, SEND, JUMP, Placement, Table}
+use Rattle.rules.specs.Cabinet.{isEmpty}
+use Rattle.rules.specs.Judge.{endsOk, inputsOk, boardsOk, instructionsOk}
+use Rattle.rules.specs.Bytes.{byteAt, number16, sixes}
+
+-- ---- sizes, each named once; the largest n is the backup record's `pcMost`
+
+-- "Bytes 0 and 1: the length of all that follows them, at most 6,260."
+abbrev pub tableMost : ℕ
+tableMost = 6260
+
+-- "boards B, 2 to 16", "processes P, 1 to 16", "channels C, 1 to 32"
+abbrev pub boardsLeast : ℕ
+boardsLeast = 2
+
+abbrev pub boardsMost : ℕ
+boardsMost = 16
+
+abbrev pub processesMost : ℕ
+processesMost = 16
+
+abbrev pub channelsMost : ℕ
+channelsMost = 32
+
+-- ---- where things stand
+
+-- "Bytes 0 and 1: the length of all that follows them"
+abbrev pub lengthField : List ℕ → ℕ
+lengthField bytes = number16 (byteAt bytes 0) (byteAt bytes 1)
+
+-- "Byte 2: version 1. Byte 3: boards B, 2 to 16. Byte 4: processes P, 1 to 16. Byte 5: channels C, 1 to 32."
+abbrev pub versionIn : List ℕ → ℕ
+versionIn bytes = byteAt bytes 2
+
+abbrev pub boardsIn : List ℕ → ℕ
+boardsIn bytes = byteAt bytes 3
+
+abbrev pub processesIn : List ℕ → ℕ
+processesIn bytes = byteAt bytes 4
+
+abbrev pub channelsIn : List ℕ → ℕ
+channelsIn bytes = byteAt bytes 5
+
+-- "Then C pairs, sender and reader": the first n pairs of a list
+abbrev pub pairs : ℕ → List ℕ → List Channel
+pairs zero rest = []
+pairs (suc n) rest = record { sender = byteAt rest 0; reader = byteAt rest 1 } ∷ pairs n (drop 2 rest)
+
+-- "Then one record for each process": the table from the first record on
+abbrev pub recordsStart : List ℕ → ℕ
+recordsStart bytes = 6 + 2 * channelsIn bytes
+
+abbrev pub recordBytes : List ℕ → List ℕ
+recordBytes bytes = drop (recordsStart bytes) bytes
+
+-- "primary board, backup board, n (0 to 64), and n instructions of six bytes": of the record that begins a list
+abbrev pub programLength : List ℕ → ℕ
+programLength rest = byteAt rest 2
+
+abbrev pub recordLength : List ℕ → ℕ
+recordLength rest = 3 + 6 * programLength rest
+
+-- the table's rest from each record's start, for n records
+abbrev pub rests : ℕ → List ℕ → List (List ℕ)
+rests zero rest = []
+rests (suc n) rest = rest ∷ rests n (drop (recordLength rest) rest)
+
+-- ---- what it says
+
+-- 1 to 6, SET to JUMP
+abbrev pub isCode : ℕ → Bool
+isCode code = leb 1 code && leb code 6
+
+-- the instruction of a code, `a` and an operand; a code that is none never gets past number 8, and is a SET here
+abbrev pub instruction : ℕ → ℕ → ℕ → Instruction
+instruction zero a operand = SET a operand
+instruction (suc zero) a operand = SET a operand
+instruction (suc (suc zero)) a operand = ADD a operand
+instruction (suc (suc (suc zero))) a operand = TAKE a operand
+instruction (suc (suc (suc (suc zero)))) a operand = FIRST a operand
+instruction (suc (suc (suc (suc (suc zero))))) a operand = SEND a operand
+instruction (suc (suc (suc (suc (suc (suc zero)))))) a operand = JUMP a operand
+instruction (suc (suc (suc (suc (suc (suc (suc n))))))) a operand = SET a operand
+
+-- the record that begins a list: its placement, and its instructions' codes
+abbrev pub placementIn : List ℕ → Placement
+placementIn rest =
+    record { primary = byteAt rest 0; standby = byteAt rest 1; code = sixes instruction (programLength rest) (drop 3 rest) }
+
+abbrev pub codesIn : List ℕ → List ℕ
+codesIn rest = sixes (λ code a operand. code) (programLength rest) (drop 3 rest)
+
+unfoldable pub decodeTable : List ℕ → Table
+decodeTable bytes = record {
+  boards = boardsIn bytes;
+  channels = pairs (channelsIn bytes) (drop 6 bytes);
+  processes = map placementIn (rests (processesIn bytes) (recordBytes bytes));
+}
+
+-- ---- numbers 1 to 8
+
+-- a test, and the number that refuses what fails it; what passes is looked at further
+abbrev pub orNumber : Bool → ℕ → ℕ → ℕ
+orNumber test number further = cond test further number
+
+-- 1: "table under 6 bytes, length field over 6,260 or not the true one"
+unfoldable pub lengthOk : List ℕ → Bool
+lengthOk bytes = leb 6 (length bytes) && (leb (lengthField bytes) tableMost && eqb (2 + lengthField bytes) (length bytes))
+
+-- 3: "B, P or C"
+unfoldable pub countsOk : List ℕ → Bool
+countsOk bytes =
+    (leb boardsLeast (boardsIn bytes) && leb (boardsIn bytes) boardsMost)
+    && ((leb 1 (processesIn bytes) && leb (processesIn bytes) processesMost)
+    && (leb 1 (channelsIn bytes) && leb (channelsIn bytes) channelsMost))
+
+-- n records have at most 64 instructions each and end exactly where the list ends
+-- (past the list's end a byte is 0, so a record that lacks its n is 3 bytes long and isn't within it)
+abbrev pub recordsOk : ℕ → List ℕ → Bool
+recordsOk zero rest = isEmpty rest
+recordsOk (suc n) rest =
+    leb (programLength rest) pcMost && (leb (recordLength rest) (length rest) && recordsOk n (drop (recordLength rest) rest))
+
+-- 4: "n over 64, or pairs and records not ending exactly with the table"
+unfoldable pub extentOk : List ℕ → Bool
+extentOk bytes = leb (recordsStart bytes) (length bytes) && recordsOk (processesIn bytes) (recordBytes bytes)
+
+-- 8: "an instruction": its code, and then what the code asks
+unfoldable pub codesOk : List ℕ → Bool
+codesOk bytes = allOf (λ rest. allOf isCode (codesIn rest)) (rests (processesIn bytes) (recordBytes bytes))
+
+-- 0, or the number that refuses the table. 2 is "its version", 5 "channel ends", 6 "more than four channels read",
+-- 7 "a board not below B, or primary equal to backup".
+unfoldable pub validateTable : List ℕ → ℕ
+unfolding lengthOk countsOk extentOk codesOk decodeTable endsOk inputsOk boardsOk instructionsOk
+validateTable bytes =
+    let t = decodeTable bytes in
+    orNumber (lengthOk bytes) 1
+    (orNumber (eqb (versionIn bytes) 1) 2
+    (orNumber (countsOk bytes) 3
+    (orNumber (extentOk bytes) 4
+    (orNumber (endsOk t) 5
+    (orNumber (inputsOk t) 6
+    (orNumber (boardsOk t) 7
+    (orNumber (codesOk bytes && instructionsOk t) 8
+    0)))))))

@@ -1,0 +1,81 @@
+-- A whole run, from the bytes of a table and a schedule and the two lent buffers to the numbers that it returns and the buffers afterwards
+-- (document 01, "What each move replies").
+-- Assumes nothing.
+use mathlib.Core.Bool.{Bool, true, false, cond}
+use mathlib.Core.List.{List, [], _∷_, _++_, map}
+use Prim.Native.Nat.{ℕ, zero, suc, _+_, _*_}
+use lib.Dec.{eqb, leb}
+use lib.ListN.{length}
+use Rattle.rules.specs.Table.{Table}
+use Rattle.rules.specs.Machine.{register}
+use Rattle.rules.specs.Cabinet.{Process, Cabinet, started, quiescent}
+use Rattle.rules.specs.Moves.{Command, Numbers, numbers, Outcomes, runFrom}
+use Rattle.rules.specs.Bytes.{wordBytes, allBytes, written}
+use Rattle.rules.specs.Format.{processesIn, orNumber, decodeTable, validateTable}
+use Rattle.rules.specs.Schedule.{commandsIn, decodeSchedule, validateSchedule}
+
+-- "An accepted run returns 0, its number of records, and whether it ended quiet."
+pub record Ran : Type 0 where
+  pub number : ℕ
+  pub records : ℕ
+  pub quiet : Bool
+  -- the two lent buffers afterwards
+  pub answers : List ℕ
+  pub report : List ℕ
+
+-- ---- what is written
+
+-- "One six-byte answer a record: code, a, word."
+abbrev pub answerBytes : Numbers → List ℕ
+answerBytes n = n .code ∷ n .a ∷ wordBytes (n .word)
+
+-- "The report: board, place, unread count and hold-back, a byte each, then four registers."
+abbrev pub reportBytes : Process → List ℕ
+reportBytes x =
+    x .board
+    ∷ x .machine .pc
+    ∷ length (x .machine .mailbox)
+    ∷ x .suppress
+    ∷ (wordBytes (register (x .machine) 0)
+    ++ (wordBytes (register (x .machine) 1) ++ (wordBytes (register (x .machine) 2) ++ wordBytes (register (x .machine) 3))))
+
+-- ---- the run
+
+-- 0, or "lowest number first": those of the table, those of the schedule, then
+-- "11 answer buffer under six bytes a record; 12 report buffer under 20 bytes a process"
+unfoldable pub validateRun : List ℕ → List ℕ → List ℕ → List ℕ → ℕ
+unfolding validateTable validateSchedule
+validateRun table schedule answers report =
+    orNumber (eqb (validateTable table) 0) (validateTable table)
+    (orNumber (eqb (validateSchedule schedule) 0) (validateSchedule schedule)
+    (orNumber (leb (6 * commandsIn schedule) (length answers)) 11
+    (orNumber (leb (20 * processesIn table) (length report)) 12
+    0)))
+
+-- the run of a table and a list of commands: "It starts from the cabinet that the table gives"
+unfoldable pub ranFrom : Table → List Command → List ℕ → List ℕ → Ran
+unfolding started runFrom numbers quiescent
+ranFrom t commands answers report =
+    let end = runFrom t (started t) commands in
+    record {
+      number = 0;
+      records = length commands;
+      quiet = quiescent t (end .cabinet);
+      answers = written (allBytes answerBytes (map numbers (end .answers))) answers;
+      report = written (allBytes reportBytes (end .cabinet .processes)) report;
+    }
+
+-- A refused run "returns the number alone, no records, not quiet, and writes to no lent buffer".
+unfoldable pub refusedWith : ℕ → List ℕ → List ℕ → Ran
+refusedWith number answers report = record { number = number; records = 0; quiet = false; answers = answers; report = report }
+
+unfoldable pub run : List ℕ → List ℕ → List ℕ → List ℕ → Ran
+unfolding validateRun ranFrom refusedWith decodeTable decodeSchedule
+run table schedule answers report =
+    let number = validateRun table schedule answers report in
+    cond (eqb number 0) (ranFrom (decodeTable table) (decodeSchedule schedule) answers report) (refusedWith number answers report)
+
+-- the run is accepted: it returns the number 0
+unfoldable pub accepted : List ℕ → List ℕ → List ℕ → List ℕ → Bool
+unfolding run
+accepted table schedule answers report = eqb (run table schedule answers report .number) 0
