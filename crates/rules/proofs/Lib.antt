@@ -8,6 +8,7 @@ pub mod Good
 pub mod Invariant
 -- The bounds: read Counting, Room and Keep in this order.
 pub mod Guards
+pub mod Inputs
 pub mod Counting
 pub mod Room
 pub mod Crashed
