@@ -13,6 +13,7 @@ pub mod Counting
 pub mod Room
 pub mod Crashed
 pub mod Keep
+pub mod Sizes
 -- Tables and runs in bytes.
 pub mod Valid
 pub mod ReadBack
