@@ -1,12 +1,13 @@
 -- What is proved of document 01's definitions.
--- Demand 3 over any list of commands: read Steps, Runs, Tables, Ahead, Good and Invariant in this order.
+-- Demand 3 over any list of commands: read Steps, Runs, Tables, Ahead, Good, Tally and Invariant in this order.
 pub mod Steps
 pub mod Runs
 pub mod Tables
 pub mod Ahead
 pub mod Good
+pub mod Tally
 pub mod Invariant
--- The bounds: read Counting, Room and Keep in this order.
+-- The bounds: read Counting, Room, Keep and Sizes in this order.
 pub mod Guards
 pub mod Inputs
 pub mod Counting
