@@ -9,6 +9,7 @@ pub mod Tally
 pub mod Invariant
 -- The bounds: read Counting, Room, Keep and Sizes in this order.
 pub mod Guards
+pub mod Outboxes
 pub mod Inputs
 pub mod Counting
 pub mod Room
