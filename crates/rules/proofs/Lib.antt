@@ -16,6 +16,7 @@ pub mod Room
 pub mod Crashed
 pub mod Keep
 pub mod Sizes
+pub mod Saved
 -- Tables and runs in bytes.
 pub mod Valid
 pub mod ReadBack
