@@ -6,6 +6,9 @@ pub mod Tables
 pub mod Ahead
 pub mod Good
 pub mod Tally
+pub mod Replays
+pub mod Backups
+pub mod GoodMoves
 pub mod Invariant
 -- The bounds: read Counting, Room, Keep and Sizes in this order.
 pub mod Guards
