@@ -53,6 +53,14 @@ same-yes k c h = rw (eq-eqb k c h)
 pub same-no : (k c : ℕ) → k ≢ c → same k c ≡ 0
 same-no k c h = rw (ne-eqb k c h)
 
+same-symmetric : (k c : ℕ) → same k c ≡ same c k
+same-symmetric k c = by-eq k c (λ e. same-yes k c e ∙ sym (same-yes c k (sym e))) (λ n. same-no k c n ∙ sym (same-no c k (λ e. n (sym e))))
+
+pub occurs-at : (l : List ℕ) (i d : ℕ) → i < length l → 1 ≤ occurs (getD l i d) l
+occurs-at [] i d h = absurd (not-suc-le-zero h)
+occurs-at (x ∷ l) zero d h = let a = same-yes x x refl in omega arith
+occurs-at (x ∷ l) (suc i) d h = let a = occurs-at l i d (le-of-suc-le-suc h) in omega arith
+
 -- one more where the test passes
 pub cond-more : (b : Bool) (n : ℕ) → cond b (suc n) n ≡ cond b 1 0 + n
 cond-more true n = omega arith
@@ -108,4 +116,28 @@ length-by-counts most (c ∷ l) xs extra within few =
     let a = without-length c xs in
     let b = without-length c extra in
     let d : most * length (c ∷ l) ≡ most * length l + most = mul-suc most (length l) in
+    omega arith
+
+-- ---- sums over numbers that differ
+
+-- what occurs in `extra`, number by number
+pub total-occurs : (l extra : List ℕ) → ((k : ℕ) → occurs k l ≤ 1) → total (λ k. occurs k extra) l ≤ length extra
+total-occurs l [] once = let z = zeros l in omega arith
+  where
+    zeros : (r : List ℕ) → total (λ (k : ℕ). 0) r ≡ 0
+    zeros [] = refl
+    zeros (x ∷ r) = let h = zeros r in omega arith
+total-occurs l (x ∷ extra) once = let a = once x in let b = total-occurs l extra once in let d = parts l in omega arith
+  where
+    parts : (r : List ℕ) → total (λ k. same k x + occurs k extra) r ≡ occurs x r + total (λ k. occurs k extra) r
+    parts [] = refl
+    parts (y ∷ r) = let h = parts r in let g = same-symmetric y x in omega arith
+
+-- each term is at most a constant and a weight
+pub total-most : (f g : ℕ → ℕ) (most : ℕ) (l : List ℕ) → ((i : ℕ) → i < length l → f (getD l i 0) ≤ most + g (getD l i 0)) → total f l ≤ most * length l + total g l
+total-most f g most [] h = omega arith
+total-most f g most (x ∷ l) h =
+    let a = h zero (omega arith) in
+    let b = total-most f g most l (λ i n. h (suc i) (omega arith)) in
+    let d : most * length (x ∷ l) ≡ most * length l + most = mul-suc most (length l) in
     omega arith

@@ -56,12 +56,16 @@ module _ (t : Table) (ok : Accepted t) (p : ℕ) (hp : p < length (t .processes)
       stands : Stands (mail .channel) (inputs t p)
       stands = input t ok (mail .channel) p hp reads
 
-      pub arrives : length (r .log) < logMost → arrive r (portOf t p (mail .channel)) (mail .word) .replica ≡ arrived r (portOf t p (mail .channel)) (mail .word)
-      unfolding arrive arriveNumber
-      arrives room =
+      pub arrive-number : length (r .log) < logMost → arriveNumber r (portOf t p (mail .channel)) ≡ 0
+      unfolding arriveNumber
+      arrive-number room =
           let a = stands .below in
           let b = few-ports t ok p hp in
           rw (is-fit, lt-leb ports (portOf t p (mail .channel)) (omega arith), lt-leb logMost (length (r .log)) room)
+
+      pub arrives : length (r .log) < logMost → arrive r (portOf t p (mail .channel)) (mail .word) .replica ≡ arrived r (portOf t p (mail .channel)) (mail .word)
+      unfolding arrive
+      arrives room = rw (arrive-number room)
 
       pub arrived-state : stateOf t p (arrived r (portOf t p (mail .channel)) (mail .word)) ≡ delivered mail (stateOf t p r)
       unfolding stateOf delivered
@@ -80,9 +84,13 @@ module _ (t : Table) (ok : Accepted t) (p : ℕ) (hp : p < length (t .processes)
           }
 
     -- a word of its own is transmitted
+    pub count-number : countNumber r ≡ 0
+    unfolding countNumber
+    count-number = rw (is-fit, lt-leb sentMost (r .sent) few)
+
     pub counts-it : count r .replica ≡ counted r
-    unfolding count countNumber
-    counts-it = rw (is-fit, lt-leb sentMost (r .sent) few)
+    unfolding count
+    counts-it = rw count-number
 
     pub counted-kept : Kept t p (counted r)
     counted-kept = record { on-inputs = kept .on-inputs; short = kept .short; low = kept .low }
@@ -94,12 +102,16 @@ module _ (t : Table) (ok : Accepted t) (p : ℕ) (hp : p < length (t .processes)
       unfolding stateOf
       low-there = run-low ran (kept .low)
 
-      pub syncs : sync r s .replica ≡ synced r s
-      unfolding sync syncNumber stateOf
-      syncs =
+      pub sync-number : syncNumber r s ≡ 0
+      unfolding syncNumber stateOf
+      sync-number =
           let v = run-logged t p (few-ports t ok p hp) (r .log) ran refl (kept .on-inputs) in
           let a = low-fits low-there in
           rw (is-fit, le-ltb pcMost (s .pc) (omega arith), is-taken, not-lacking (tally t p acts) (r .log) (v .enough))
+
+      pub syncs : sync r s .replica ≡ synced r s
+      unfolding sync
+      syncs = rw sync-number
 
       pub synced-state : stateOf t p (synced r s) ≡ b
       unfolding stateOf

@@ -8,16 +8,17 @@ use mathlib.Core.List.{List, [], _∷_, _++_}
 use Prim.Native.Nat.{ℕ, zero, suc, _+_, _*_, _≤_, _<_}
 use native.Mathlib.Omega.{arith}
 use lib.Dec.{eqb, ltb, leb}
-use lib.ListN.{length, getD, set}
+use lib.ListN.{length, getD, set, length-map}
 use borrow.Author.Tests.{leb-false}
 use Rattle.facts.specs.Tests.{by-eq, no-way}
+use Rattle.facts.specs.Indexing.{getD-map}
 use Rattle.facts.specs.Counts.{same, occurs}
 use Rattle.backup.specs.Replica.{Replica, Reply, Checkpoint, FailOver, count, sync, failOver}
 use Rattle.rules.specs.Table.{Table, Instruction, environment, channelAt, codeOf}
-use Rattle.rules.specs.Machine.{Mail, Machine, Act, internal, took, sent, Outcome, halted, noMail, moved, localStep}
-use Rattle.rules.specs.Cabinet.{outboxMost, eventsMost, occupancyMost, Standby, Process, Item, message, checkpoint, Cabinet, nobody, processAt, outboxAt, protected, isSome, unreadOn, inFlight, full, waiting}
+use Rattle.rules.specs.Machine.{Mail, Machine, Act, internal, took, sent, Outcome, halted, noMail, moved, localStep, booted}
+use Rattle.rules.specs.Cabinet.{outboxMost, eventsMost, occupancyMost, Standby, Process, Item, message, checkpoint, Cabinet, nobody, processAt, outboxAt, protected, isSome, unreadOn, inFlight, full, waiting, placed, started}
 use Rattle.rules.specs.Moves.{Command, Result, withProcess, withOutbox, enqueue, advanced, send, stepFrom, step, oneMore, issued, issue, snapshot, counts, keeps, transmitItem, transmitOldest, transmit, inject, onReplica, deliver, promoted, unprotected, afterCrash, allAfterCrash, crash}
-use Rattle.rules.proofs.Counting.{weight, unread-occurs, step-unread, run-unread, flight-join, flight-leave, flight-lost}
+use Rattle.rules.proofs.Counting.{weight, unread-occurs, step-unread, run-unread, flight-join, flight-leave, flight-lost, flight-none}
 use Rattle.rules.proofs.Steps.{Steps}
 use Rattle.rules.proofs.Room.{Roomed, Room, change-room, admit, deliver-room, call-some}
 use Rattle.rules.proofs.Guards.{Leaves, unmoved, leaves, after-guard}
@@ -195,3 +196,18 @@ module _ (t : Table) (c : Cabinet) (rm : Room t [] c)
   pub crash-keeps : Leaves (Room t []) (crash t c b)
   unfolding crash crashed
   crash-keeps = after-guard _ _ _ λ _. after-guard _ _ _ λ _. leaves crash-room
+
+-- ---- the start
+
+pub start-room : (t : Table) → Room t [] (started t)
+unfolding started placed booted
+start-room t p hp =
+    let there : p < length (t .processes) = rw length-map at hp in
+    let e = getD-map placed (t .processes) p (record { primary = 0; standby = 0; code = [] }) nobody there in
+    record {
+      again = [];
+      few = omega arith;
+      none-yet = λ _. refl;
+      room = λ k _. rw e (let a = flight-none k (t .boards) in omega arith);
+      own = λ k _. rw e;
+    }

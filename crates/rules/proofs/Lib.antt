@@ -1,5 +1,5 @@
 -- What is proved of document 01's definitions.
--- Demand 3 over any list of commands: read Steps, Runs, Tables, Ahead, Good and Invariant in this order.
+-- Demand 3 over any list of commands: read Steps, Runs, Tables, Ahead, Good, Tally and Invariant in this order.
 pub mod Steps
 pub mod Runs
 pub mod Tables
@@ -12,12 +12,16 @@ pub mod GoodMoves
 pub mod Invariant
 pub mod Frame
 pub mod References
--- The bounds: read Counting, Room, Keep in this order.
+-- The bounds: read Counting, Room, Keep and Sizes in this order.
 pub mod Guards
+pub mod Outboxes
+pub mod Inputs
 pub mod Counting
 pub mod Room
 pub mod Crashed
 pub mod Keep
+pub mod Sizes
+pub mod Saved
 -- Tables and runs in bytes.
 pub mod Valid
 pub mod ReadBack

@@ -113,14 +113,14 @@ bump-drop i (m ∷ log) taken h =
         ∙ sym (goes taken m (dropPort i log) k e)
         ∙ ap (remaining taken) (sym (drop-miss i m log n))
 
-none-taken : (i : ℕ) → getD noTakes i 0 ≡ 0
+pub none-taken : (i : ℕ) → getD noTakes i 0 ≡ 0
 none-taken zero = refl
 none-taken (suc zero) = refl
 none-taken (suc (suc zero)) = refl
 none-taken (suc (suc (suc zero))) = refl
 none-taken (suc (suc (suc (suc i)))) = refl
 
-none-dropped : (log : List Message) → remaining noTakes log ≡ log
+pub none-dropped : (log : List Message) → remaining noTakes log ≡ log
 none-dropped [] = refl
 none-dropped (m ∷ log) = stays noTakes m log (none-taken (m .port)) ∙ ap (λ (l : List Message). m ∷ l) (none-dropped log)
 
