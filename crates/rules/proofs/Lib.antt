@@ -10,15 +10,18 @@ pub mod Replays
 pub mod Backups
 pub mod GoodMoves
 pub mod Invariant
+pub mod Guards
 pub mod Frame
 pub mod References
+pub mod Follow
+pub mod Transmission
+pub mod Crashed
+pub mod CrashKeeps
 -- The bounds: read Counting, Room, Keep and Sizes in this order.
-pub mod Guards
 pub mod Outboxes
 pub mod Inputs
 pub mod Counting
 pub mod Room
-pub mod Crashed
 pub mod Keep
 pub mod Sizes
 pub mod Saved
