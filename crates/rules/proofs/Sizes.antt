@@ -66,10 +66,13 @@ module _ (t : Table) (ok : Accepted t) (pending : List ℕ) (c : Cabinet) (p : �
       omega arith
 
   -- over its channels
-  pub occupied-few : total (λ k. max (unreadOn k (processAt c p .machine .mailbox) + inFlight k (c .outboxes)) occupancyMost) (inputs t p) ≤ logMost
+  pub occupied-few : total (λ k. max (occupancy t c k) occupancyMost) (inputs t p) ≤ logMost
+  unfolding occupancy
   occupied-few =
-      let a = total-most (λ k. max (unreadOn k (processAt c p .machine .mailbox) + inFlight k (c .outboxes)) occupancyMost) (λ k. occurs k (r .again)) occupancyMost (inputs t p)
-      (λ i h. let g = r .room (channelOn t p i) (input-reader t p i h) in omega arith) in
+      let each : (i : ℕ) → i < length (inputs t p)
+      → max (occupancy t c (channelOn t p i)) occupancyMost ≤ occupancyMost + occurs (channelOn t p i) (r .again) =
+      λ i h. (let reads = input-reader t p i h in let g = r .room (channelOn t p i) reads in rw reads (omega arith)) in
+      let a = total-most (λ k. max (occupancy t c k) occupancyMost) (λ k. occurs k (r .again)) occupancyMost (inputs t p) each in
       let b = total-occurs (inputs t p) (r .again) (inputs-once t p) in
       let d = few-ports t ok p hp in
       let e = r .few in
