@@ -90,7 +90,9 @@ count r = answer (countNumber r) r (counted r)
 -- how many messages of a log came in on a port
 abbrev pub savedOn : ℕ → List Message → ℕ
 savedOn p [] = 0
-savedOn p (m ∷ log) = cond (eqb p (m .port)) (suc (savedOn p log)) (savedOn p log)
+savedOn p (m ∷ log) =
+    let others = savedOn p log in
+    cond (eqb p (m .port)) (suc others) others
 
 -- how many messages were taken on a port
 abbrev pub takenOn : List ℕ → ℕ → ℕ
@@ -105,7 +107,9 @@ oneLess taken p = set taken p (takenOn taken p - 1)
 abbrev pub remaining : List ℕ → List Message → List Message
 remaining taken [] = []
 remaining taken (m ∷ log) =
-    cond (eqb (takenOn taken (m .port)) 0) (m ∷ remaining taken log) (remaining (oneLess taken (m .port)) log)
+    let stays = m ∷ remaining taken log in
+    let goes = remaining (oneLess taken (m .port)) log in
+    cond (eqb (takenOn taken (m .port)) 0) stays goes
 
 -- "more taken on a slot than saved"
 abbrev pub lacking : List ℕ → List Message → Bool

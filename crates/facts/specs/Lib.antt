@@ -3,3 +3,4 @@ pub mod Tests
 pub mod Lists
 pub mod Indexing
 pub mod Counts
+pub mod Sums

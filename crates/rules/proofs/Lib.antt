@@ -10,6 +10,8 @@ pub mod Replays
 pub mod Backups
 pub mod GoodMoves
 pub mod Invariant
+pub mod Frame
+pub mod References
 -- The bounds: read Counting, Room, Keep and Sizes in this order.
 pub mod Guards
 pub mod Outboxes
@@ -26,3 +28,7 @@ pub mod Bounded
 pub mod Valid
 pub mod ReadBack
 pub mod AcceptedRun
+pub mod Cases
+pub mod Marked
+pub mod MoveCases
+pub mod FormatCases

@@ -111,7 +111,9 @@ exhausted x = protected x && leb eventsMost (x .events)
 -- how many unread words of a mailbox are of channel k
 abbrev pub unreadOn : ℕ → List Mail → ℕ
 unreadOn k [] = 0
-unreadOn k (x ∷ l) = cond (eqb k (x .channel)) (suc (unreadOn k l)) (unreadOn k l)
+unreadOn k (x ∷ l) =
+    let others = unreadOn k l in
+    cond (eqb k (x .channel)) (suc others) others
 
 abbrev pub isOn : ℕ → Item → Bool
 isOn k (message x) = eqb k (x .channel)
@@ -120,7 +122,9 @@ isOn k (checkpoint p s) = false
 -- how many words of channel k wait in an outbox, and in all of them
 abbrev pub queuedOn : ℕ → List Item → ℕ
 queuedOn k [] = 0
-queuedOn k (x ∷ l) = cond (isOn k x) (suc (queuedOn k l)) (queuedOn k l)
+queuedOn k (x ∷ l) =
+    let others = queuedOn k l in
+    cond (isOn k x) (suc others) others
 
 abbrev pub inFlight : ℕ → List (List Item) → ℕ
 inFlight k [] = 0

@@ -42,7 +42,9 @@ sends t p k = ltb k (length (t .channels)) && eqb (channelAt t k .sender) p
 -- how many of the n lowest bits of a mask are set
 abbrev pub bits : ℕ → ℕ → ℕ
 bits mask zero = 0
-bits mask (suc n) = cond (bit mask n) (suc (bits mask n)) (bits mask n)
+bits mask (suc n) =
+    let lower = bits mask n in
+    cond (bit mask n) (suc lower) lower
 
 -- 8: "an instruction", one of process p whose program has n. "Elsewhere a is 0 to 3, and ADD's operand too."
 unfoldable pub instructionOk : Table → ℕ → ℕ → Instruction → Bool

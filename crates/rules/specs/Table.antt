@@ -42,7 +42,9 @@ codeOf t p = placementAt t p .code
 -- the channels of a list that process p reads, where the list's first is channel k
 abbrev pub readFrom : ℕ → List Channel → ℕ → List ℕ
 readFrom k [] p = []
-readFrom k (c ∷ cs) p = cond (eqb (c .reader) p) (k ∷ readFrom (suc k) cs p) (readFrom (suc k) cs p)
+readFrom k (c ∷ cs) p =
+    let others = readFrom (suc k) cs p in
+    cond (eqb (c .reader) p) (k ∷ others) others
 
 -- "Its slots 0 to 3 are those channels, ascending."
 unfoldable pub inputs : Table → ℕ → List ℕ

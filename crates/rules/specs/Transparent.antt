@@ -16,14 +16,17 @@ use Rattle.rules.specs.Moves.{Command, Numbers, numbers, Outcomes, runFr
 -- "The bus order is the answers 4, each as its channel and word, in the order of their records."
 unfoldable pub traceOf : List Numbers → List Mail
 traceOf [] = []
-traceOf (n ∷ l) = cond (eqb (n .code) 4) (record { channel = n .a; word = n .word } ∷ traceOf l) (traceOf l)
+traceOf (n ∷ l) =
+    let others = traceOf l in
+    cond (eqb (n .code) 4) (record { channel = n .a; word = n .word } ∷ others) others
 
 -- "the feeds of our list that answered 4", in order, each as its record's channel and word
 unfoldable pub fedOf : List Command → List Numbers → List Mail
 fedOf [] l = []
 fedOf (r ∷ rs) [] = []
 fedOf (r ∷ rs) (n ∷ l) =
-    cond (eqb (r .move) 4 && eqb (n .code) 4) (record { channel = r .a; word = r .word } ∷ fedOf rs l) (fedOf rs l)
+    let others = fedOf rs l in
+    cond (eqb (r .move) 4 && eqb (n .code) 4) (record { channel = r .a; word = r .word } ∷ others) others
 
 -- our run of a list: the answers' numbers, and the cabinet after the last command
 abbrev pub answered : Table → List Command → List Numbers
