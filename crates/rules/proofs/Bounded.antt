@@ -1,31 +1,29 @@
 -- The bounds of one state, from the invariant and the room.
 -- Assumes nothing.
-use mathlib.Core.Logic.{_≢_}
-use mathlib.Core.Path.{_≡_, refl, ap, sym, _∙_, subst}
+use mathlib.Core.Path.{_≡_, refl, ap, _∙_, subst}
 use mathlib.Core.Bool.{Bool, true, false, cond}
-use mathlib.Core.Option.{Option, none, some}
-use mathlib.Core.List.{List, [], _∷_, _++_, map}
-use Prim.Native.Nat.{ℕ, zero, suc, _+_, _≤_, _<_, max}
+use mathlib.Core.Option.{some}
+use mathlib.Core.List.{List, [], _∷_, _++_}
+use Prim.Native.Nat.{ℕ, _≤_, _<_}
 use native.Mathlib.Omega.{arith}
 use lib.Dec.{eqb}
-use lib.ListN.{length, getD}
-use Rattle.facts.specs.Counts.{total, occurs}
+use lib.ListN.{length}
+use Rattle.facts.specs.Counts.{occurs}
 use Rattle.backup.specs.Limits.{logMost, sentMost}
-use Rattle.backup.specs.Replica.{Replica, Checkpoint, FailOver, counted, takenOn, remaining, arriveNumber, countNumber, syncNumber, failOver}
-use Rattle.rules.specs.Table.{Table, environment, channelAt, codeOf, inputs, portOf, channelOn}
-use Rattle.rules.specs.Machine.{Mail, Machine}
+use Rattle.backup.specs.Replica.{Checkpoint, FailOver, counted, takenOn, remaining, arriveNumber, syncNumber}
+use Rattle.rules.specs.Table.{Table, channelAt, codeOf, portOf}
+use Rattle.rules.specs.Machine.{Machine}
 use Rattle.rules.specs.Reference.{Reference}
-use Rattle.rules.specs.Cabinet.{eventsMost, occupancyMost, Standby, Process, Item, message, checkpoint, Cabinet, processAt, outboxAt, protected, isSome, occupancy, full}
+use Rattle.rules.specs.Cabinet.{eventsMost, Standby, Process, Item, checkpoint, Cabinet, processAt, outboxAt, isSome, occupancy}
 use Rattle.rules.specs.Judge.{Accepted}
 use Rattle.rules.specs.Bounds.{mails, issuedTakes, BackupBounds, Bounds}
 use Rattle.rules.proofs.Runs.{_then_, tally}
 use Rattle.rules.proofs.Ahead.{Ahead, UpToIssue, up-to-issue}
 use Rattle.rules.proofs.Tables.{few-ports}
-use Rattle.rules.proofs.Good.{mailOf, stateOf, Good, backed, alone, late, Backed, Kept, good-backed, good-span, good-small, backed-sent, good-kept, good-suppress}
-use Rattle.rules.proofs.Backups.{run-low, is-fit, arrive-number, count-number, counted-kept, sync-number, takes-over}
-use Rattle.rules.proofs.Invariant.{Invariant, Roomy, mine, mine-same, machineAt, Owner, owner}
-use Rattle.rules.proofs.Inputs.{input-reader}
-use Rattle.rules.proofs.Room.{Roomed, Room}
+use Rattle.rules.proofs.Good.{stateOf, Good, backed, alone, late, Backed, Kept, good-backed, good-span, good-small, backed-sent, good-kept, good-suppress}
+use Rattle.rules.proofs.Backups.{run-low, arrive-number, count-number, counted-kept, sync-number, takes-over}
+use Rattle.rules.proofs.Invariant.{Invariant, mine, mine-same, machineAt, owner}
+use Rattle.rules.proofs.Room.{Room}
 use Rattle.rules.proofs.Sizes.{mailbox-short, occupied-few, roomy}
 use Rattle.rules.proofs.Saved.{tally-busy, backed-saved}
 

@@ -1,18 +1,17 @@
 -- A command keeps the room, where the cabinet has the invariant.
 -- Assumes nothing.
-use mathlib.Core.Logic.{_≢_}
-use mathlib.Core.Path.{_≡_, refl, ap, sym, _∙_, subst}
-use mathlib.Core.Option.{Option, none, some}
-use mathlib.Core.List.{List, [], _∷_, map}
-use Prim.Native.Nat.{ℕ, zero, suc, _+_, _≤_, _<_}
+use mathlib.Core.Path.{_≡_, ap, _∙_}
+use mathlib.Core.Option.{some}
+use mathlib.Core.List.{[], map}
+use Prim.Native.Nat.{ℕ, _≤_, _<_}
 use native.Mathlib.Omega.{arith}
 use lib.ListN.{length}
 use Rattle.backup.specs.Limits.{sentMost}
 use Rattle.backup.specs.Replica.{Replica}
-use Rattle.rules.specs.Table.{Table, environment, channelAt}
+use Rattle.rules.specs.Table.{Table, environment}
 use Rattle.rules.specs.Machine.{Machine}
 use Rattle.rules.specs.Reference.{Reference}
-use Rattle.rules.specs.Cabinet.{eventsMost, Standby, Process, Cabinet, processAt, unreadOn}
+use Rattle.rules.specs.Cabinet.{Standby, Cabinet, processAt, unreadOn}
 use Rattle.rules.specs.Moves.{Command, promoted, turn}
 use Rattle.rules.specs.Judge.{Accepted}
 use Rattle.rules.proofs.Runs.{takes, takes-busy}

@@ -1,21 +1,20 @@
 -- What the room gives: how long an inbox and a log are at most, and room in the log for each word that is about to arrive.
 -- Assumes nothing.
 use mathlib.Core.Logic.{_≢_}
-use mathlib.Core.Path.{_≡_, refl, ap, sym, _∙_, subst}
-use mathlib.Core.Bool.{Bool, true, false, cond}
-use mathlib.Core.Option.{Option, none, some}
+use mathlib.Core.Path.{_≡_, refl, ap, sym, _∙_}
+use mathlib.Core.Bool.{true}
+use mathlib.Core.Option.{none, some}
 use mathlib.Core.List.{List, [], _∷_, _++_, map}
-use Prim.Native.Nat.{ℕ, zero, suc, _+_, _*_, _≤_, _<_, max}
+use Prim.Native.Nat.{ℕ, _+_, _*_, _≤_, _<_, max}
 use native.Mathlib.Omega.{arith}
-use lib.ListN.{length, getD, set, length-append, length-map, List·getD-eq-default}
+use lib.ListN.{length, length-append, length-map, List·getD-eq-default}
 use Rattle.facts.specs.Tests.{no-way, by-eq, by-lt}
-use Rattle.facts.specs.Counts.{total, total-append, total-occurs, total-most, same, occurs, same-yes, same-no, length-by-counts}
-use Rattle.backup.specs.Limits.{logMost, ports}
-use Rattle.backup.specs.Replica.{Replica}
+use Rattle.facts.specs.Counts.{total, total-append, total-occurs, total-most, same, occurs, same-no, length-by-counts}
+use Rattle.backup.specs.Limits.{logMost}
 use Rattle.rules.specs.Table.{Table, environment, channelAt, inputs, channelOn}
-use Rattle.rules.specs.Machine.{Mail, Machine}
+use Rattle.rules.specs.Machine.{Mail}
 use Rattle.rules.specs.Reference.{Reference}
-use Rattle.rules.specs.Cabinet.{eventsMost, occupancyMost, Standby, Process, Item, message, Cabinet, nobody, processAt, outboxAt, protected, isSome, unreadOn, inFlight, occupancy, full}
+use Rattle.rules.specs.Cabinet.{eventsMost, occupancyMost, Standby, Process, message, Cabinet, nobody, processAt, protected, isSome, unreadOn, inFlight, occupancy}
 use Rattle.rules.specs.Judge.{Accepted}
 use Rattle.rules.proofs.Tables.{few-ports}
 use Rattle.rules.proofs.Good.{good-small}
