@@ -22,6 +22,7 @@ pub mod Crashed
 pub mod Keep
 pub mod Sizes
 pub mod Saved
+pub mod Flight
 pub mod KeepRoom
 pub mod Bounded
 -- Tables and runs in bytes.

@@ -14,7 +14,7 @@ use Rattle.backup.specs.Limits.{logMost}
 use Rattle.backup.specs.Replica.{Message, Checkpoint, counted, takenOn, remaining, arriveNumber, countNumber, syncNumber, failOver}
 use Rattle.rules.specs.Table.{Table, environment, channelAt, codeOf, inputs, portOf, channelOn}
 use Rattle.rules.specs.Machine.{Mail}
-use Rattle.rules.specs.Cabinet.{outboxMost, eventsMost, occupancyMost, Standby, Item, message, checkpoint, Cabinet, noTakes, processAt, outboxAt, occupancy, full}
+use Rattle.rules.specs.Cabinet.{outboxMost, eventsMost, occupancyMost, Standby, Item, message, checkpoint, Cabinet, noTakes, processAt, outboxAt, queuedOn, inFlight, occupancy, full}
 
 -- saved words as an inbox: "the saved words as inbox"
 abbrev pub mails : Table → ℕ → List Message → List Mail
@@ -67,3 +67,8 @@ pub record Bounds (t : Table) (c : Cabinet) (p : ℕ) : Type 0 where
 -- "each board has one queue, at most 32 entries"
 abbrev pub OutboxBounds : Cabinet → Type 0
 OutboxBounds c = (b : ℕ) → length (outboxAt c b) ≤ outboxMost
+
+-- Channel k of cabinet c. "its unread words and those in the queues": those in the queues all wait in the queue of its sender's board.
+pub record ChannelBounds (t : Table) (c : Cabinet) (k : ℕ) : Type 0 where
+  pub queued : inFlight k (c .outboxes) ≡ queuedOn k (outboxAt c (processAt c (channelAt t k .sender) .board))
+  pub few : inFlight k (c .outboxes) ≤ outboxMost
