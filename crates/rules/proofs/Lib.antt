@@ -25,6 +25,9 @@ pub mod Room
 pub mod Keep
 pub mod Sizes
 pub mod Saved
+pub mod Flight
+pub mod KeepRoom
+pub mod Bounded
 -- Tables and runs in bytes.
 pub mod Valid
 pub mod ReadBack
