@@ -1,3 +1,5 @@
 -- The backup record of document 01: its sizes, its value and calls, their laws, and how the code's data stand for the value.
 pub mod Limits
 pub mod Replica
+pub mod Laws
+pub mod Accepts

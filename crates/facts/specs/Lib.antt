@@ -1,3 +1,6 @@
 -- Generic facts: nothing here knows of boards, channels or programs.
 pub mod Tests
 pub mod Lists
+pub mod Indexing
+pub mod Counts
+pub mod Sums

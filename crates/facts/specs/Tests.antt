@@ -77,3 +77,8 @@ none-below f (suc n) h j l =
 pub no-such : (f : ℕ → Bool) (n : ℕ) → ((j : ℕ) → j < n → f j ≡ false) → anyBelow f n ≡ false
 no-such f zero h = refl
 no-such f (suc n) h = rw (h n (omega arith)) (no-such f n (λ j l. h j (omega arith)))
+
+-- the test holds of every element of both parts
+pub all-append : {A : Type 0} (f : A → Bool) (l r : List A) → allOf f l ≡ true → allOf f r ≡ true → allOf f (l ++ r) ≡ true
+all-append f [] r h k = k
+all-append f (x ∷ l) r h k = and-both (f x) (allOf f (l ++ r)) (and-left (f x) (allOf f l) h) (all-append f l r (and-right (f x) (allOf f l) h) k)

@@ -1,9 +1,33 @@
--- What is proved of document 01's definitions: its cases, computed (Cases, Marked, MoveCases, FormatCases), and accepted runs
--- (Valid, ReadBack, AcceptedRun).
+-- What is proved of document 01's definitions.
+-- Demand 3 over any list of commands: read Steps, Runs, Tables, Ahead, Good, Tally and Invariant in this order.
+pub mod Steps
+pub mod Runs
+pub mod Tables
+pub mod Ahead
+pub mod Good
+pub mod Tally
+pub mod Replays
+pub mod Backups
+pub mod GoodMoves
+pub mod Invariant
+pub mod Frame
+pub mod References
+-- The bounds: read Counting, Room, Keep and Sizes in this order.
+pub mod Guards
+pub mod Outboxes
+pub mod Inputs
+pub mod Counting
+pub mod Room
+pub mod Crashed
+pub mod Keep
+pub mod Sizes
+pub mod Saved
+-- Tables and runs in bytes.
+pub mod Valid
+pub mod ReadBack
+pub mod AcceptedRun
+-- Cases, computed: M1 to M13, then those that only a case can tell.
 pub mod Cases
 pub mod Marked
 pub mod MoveCases
 pub mod FormatCases
-pub mod Valid
-pub mod ReadBack
-pub mod AcceptedRun

@@ -6,6 +6,7 @@ pub mod Reference
 pub mod Cabinet
 pub mod Moves
 pub mod Judge
+pub mod Bounds
 pub mod Transparent
 pub mod Bytes
 pub mod Format

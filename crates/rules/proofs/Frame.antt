@@ -1,0 +1,162 @@
+-- The invariant when one process changes, with its own items in its own board's outbox and its machine in the reference: what step, sync
+-- and transmit have in common. And when a word arrives.
+-- Assumes nothing.
+use mathlib.Core.Logic.{_≢_}
+use mathlib.Core.Path.{_≡_, refl, ap, sym, _∙_, subst}
+use mathlib.Core.Bool.{Bool, true, false, cond}
+use mathlib.Core.Option.{Option, none, some}
+use mathlib.Core.List.{List, [], _∷_, _++_, append-nil}
+use Prim.Native.Nat.{ℕ, zero, suc, _≤_, _<_}
+use native.Mathlib.Omega.{arith}
+use lib.ListN.{length, getD, set, length-set}
+use lib.Seq.{getD-set-same, getD-set-other, set-out}
+use Rattle.facts.specs.Tests.{no-way, by-eq, by-lt}
+use Rattle.backup.specs.Replica.{Replica, Reply, arrive}
+use Rattle.rules.specs.Table.{Table, channelAt, portOf}
+use Rattle.rules.specs.Machine.{Mail, Machine, booted, delivered}
+use Rattle.rules.specs.Reference.{Reference, posted}
+use Rattle.rules.specs.Cabinet.{Standby, Process, Item, Cabinet, nobody, processAt, outboxAt, deadAt, isSome, protected}
+use Rattle.rules.specs.Moves.{onReplica, receive, deliver}
+use Rattle.rules.specs.Judge.{Accepted}
+use Rattle.rules.proofs.Good.{Good}
+use Rattle.rules.proofs.GoodMoves.{good-receive}
+use Rattle.rules.proofs.Invariant.{ownerOf, mine, mine-same, mine-other, mine-append, machineAt, Live, Seated, Invariant, RoomFor}
+
+-- ---- the boards of a process
+
+abbrev boardOf : Option Standby → Option ℕ
+boardOf none = none
+boardOf (some s) = some (s .board)
+
+-- x runs where y runs, and has its backup where y has it
+pub record SameSeat (x y : Process) : Type 0 where
+  pub board : x .board ≡ y .board
+  pub standby : boardOf (x .standby) ≡ boardOf (y .standby)
+
+pub same-boards : {x y : Process} → x .board ≡ y .board → x .standby ≡ y .standby → SameSeat x y
+same-boards e f = record { board = e; standby = ap boardOf f }
+
+-- a call of the backup moves nothing
+pub called-board : (call : Replica → Reply) (o : Option Standby) → boardOf (onReplica call o) ≡ boardOf o
+called-board call none = refl
+called-board call (some s) = refl
+
+same-protected : {x y : Process} → SameSeat x y → protected x ≡ protected y
+same-protected {x} {y} h = go (x .standby) (y .standby) (h .standby)
+  where
+    go : (o u : Option Standby) → boardOf o ≡ boardOf u → isSome o ≡ isSome u
+    go none none e = refl
+    go none (some s) e = cc
+    go (some r) none e = cc
+    go (some r) (some s) e = refl
+
+-- what holds of the board of y's backup holds of x's
+same-beside : {x y : Process} {s : Standby} (P : ℕ → Type 0) → SameSeat x y → x .standby ≡ some s → ((r : Standby) → y .standby ≡ some r → P (r .board)) → P (s .board)
+same-beside {x} {y} {s} P h e f = go (y .standby) (sym (h .standby) ∙ ap boardOf e) f
+  where
+    go : (u : Option Standby) → boardOf u ≡ some (s .board) → ((r : Standby) → u ≡ some r → P (r .board)) → P (s .board)
+    go none g k = absurd (no-way (cc))
+    go (some r) g k = let same : r .board ≡ s .board = cc in subst P same (k r refl)
+
+seated-same : {t : Table} {dead : List Bool} {x y : Process} → SameSeat x y → Seated t dead y → Seated t dead x
+seated-same {t} {dead} {x} h g =
+    record {
+      at = subst (Live t dead) (sym (h .board)) (g .at);
+      beside = λ s e. same-beside (Live t dead) h e (g .beside);
+      apart = λ s e. same-beside (λ b. b ≢ x .board) h e (λ r k. subst (λ (b : ℕ). r .board ≢ b) (sym (h .board)) (g .apart r k));
+    }
+
+-- ---- one process changes
+
+module _ {t : Table} {c : Cabinet} {s : Reference} (inv : Invariant t c s) (p : ℕ) (hp : p < length (c .processes)) (x : Process) (seat : SameSeat x (processAt c p)) where
+  at-p : getD (set (c .processes) p x) p nobody ≡ x
+  at-p = getD-set-same (c .processes) p x nobody hp
+
+  same-seat : (j : ℕ) → SameSeat (getD (set (c .processes) p x) j nobody) (processAt c j)
+  same-seat j =
+      by-eq j p
+      (λ e. subst (λ (i : ℕ). SameSeat (getD (set (c .processes) p x) i nobody) (processAt c i)) (sym e) (subst (λ (y : Process). SameSeat y (processAt c p)) (sym at-p) seat))
+      (λ n. subst (λ (y : Process). SameSeat y (processAt c j)) (sym (getD-set-other (c .processes) p j x nobody n)) (same-boards refl refl))
+
+  module _ (m : Machine) (qs : List (List Item))
+      (others : (b j : ℕ) → (j ≡ p → b ≡ processAt c p .board → ⊥) → mine t j (getD qs b []) ≡ mine t j (outboxAt c b))
+      (good-x : Good t p (mine t p (getD qs (processAt c p .board) [])) x m) where
+    good-p : Good t p (mine t p (getD qs (getD (set (c .processes) p x) p nobody .board) [])) (getD (set (c .processes) p x) p nobody) (getD (set (s .machines) p m) p booted)
+    good-p =
+        rw (getD-set-same (s .machines) p m booted (rw (inv .same-number) at hp), at-p)
+        (subst (λ (b : ℕ). Good t p (mine t p (getD qs b [])) x m) (sym (seat .board)) good-x)
+
+    good-j : (j : ℕ) → j < length (c .processes) → j ≢ p
+        → Good t j (mine t j (getD qs (getD (set (c .processes) p x) j nobody .board) [])) (getD (set (c .processes) p x) j nobody) (getD (set (s .machines) p m) j booted)
+    good-j j hj n =
+        rw (getD-set-other (c .processes) p j x nobody n, getD-set-other (s .machines) p j m booted n, others (processAt c j .board) j (λ e f. n e)) (inv .good j hj)
+
+    pub change : (trace : List Mail) → length qs ≡ length (c .outboxes)
+        → Invariant t (record { processes = set (c .processes) p x; outboxes = qs; dead = c .dead }) (record { machines = set (s .machines) p m; trace = trace })
+    change trace same-length =
+        record {
+          same-number = simp length-set (inv .same-number);
+          all-processes = simp length-set (inv .all-processes);
+          all-outboxes = same-length ∙ inv .all-outboxes;
+          all-boards = inv .all-boards;
+          good = λ j hj. by-eq j p
+              (λ e. subst (λ (i : ℕ). Good t i (mine t i (getD qs (getD (set (c .processes) p x) i nobody .board) [])) (getD (set (c .processes) p x) i nobody) (getD (set (s .machines) p m) i booted)) (sym e) good-p)
+              (λ n. good-j j (rw length-set at hj) n);
+          own = λ b j h.
+              let h′ : j < length (c .processes) → processAt c j .board ≡ b → ⊥ = λ hj e. h (rw length-set hj) (same-seat j .board ∙ e) in
+              others b j (λ e f. h′ (rw e hp) (ap (λ (i : ℕ). processAt c i .board) e ∙ sym f)) ∙ inv .own b j h′;
+          seated = λ j hj. seated-same (same-seat j) (inv .seated j (rw length-set at hj));
+          unharmed = λ alive j hj. same-protected (same-seat j) ∙ inv .unharmed alive j (rw length-set at hj);
+        }
+
+-- ---- a word arrives
+
+pub deliver-keeps : {t : Table} {c : Cabinet} {s : Reference} (mail : Mail) → Accepted t → Invariant t c s → RoomFor t c (mail .channel)
+    → Invariant t (deliver t mail c) (posted t mail s)
+unfolding deliver posted receive
+deliver-keeps {t} {c} {s} mail ok inv room =
+    let r : ℕ = channelAt t (mail .channel) .reader in
+    let x : Process = processAt c r in
+    by-lt r (length (c .processes))
+    (λ h. change inv r h (receive t r mail x) (record { board = refl; standby = called-board (λ k. arrive k (portOf t r (mail .channel)) (mail .word)) (x .standby) })
+    (delivered mail (machineAt s r)) (c .outboxes) (λ b j n. refl)
+    (good-receive ok (rw (inv .all-processes) at h) mail refl room (inv .good r h)) (s .trace ++ (mail ∷ [])) refl)
+    (λ h. rw (set-out (c .processes) r (receive t r mail x) h, set-out (s .machines) r (delivered mail (machineAt s r)) (omega (arith, inv .same-number)))
+    (record {
+      same-number = inv .same-number;
+      all-processes = inv .all-processes;
+      all-outboxes = inv .all-outboxes;
+      all-boards = inv .all-boards;
+      good = inv .good;
+      own = inv .own;
+      seated = inv .seated;
+      unharmed = inv .unharmed;
+    }))
+
+-- ---- an item joins, or leaves, the outbox of its process's board
+
+module _ (t : Table) (qs : List (List Item)) (B : ℕ) (hB : B < length qs) (item : Item) where
+  pub join-others : (b j : ℕ) → (j ≡ ownerOf t item → b ≡ B → ⊥) → mine t j (getD (set qs B (getD qs B [] ++ (item ∷ []))) b []) ≡ mine t j (getD qs b [])
+  join-others b j h =
+      by-eq b B
+      (λ e. rw (e, getD-set-same qs B (getD qs B [] ++ (item ∷ [])) [] hB)
+      (mine-append t j (getD qs B []) (item ∷ [])
+      ∙ ap (λ (l : List Item). mine t j (getD qs B []) ++ l) (mine-other t j item [] (λ f. h f e))
+      ∙ append-nil (mine t j (getD qs B []))))
+      (λ n. rw (getD-set-other qs B b (getD qs B [] ++ (item ∷ [])) [] n))
+
+  pub join-own : mine t (ownerOf t item) (getD (set qs B (getD qs B [] ++ (item ∷ []))) B []) ≡ mine t (ownerOf t item) (getD qs B []) ++ (item ∷ [])
+  join-own =
+      rw (getD-set-same qs B (getD qs B [] ++ (item ∷ [])) [] hB)
+      (mine-append t (ownerOf t item) (getD qs B []) (item ∷ [])
+      ∙ ap (λ (l : List Item). mine t (ownerOf t item) (getD qs B []) ++ l) (mine-same t (ownerOf t item) item [] refl))
+
+  module _ (rest : List Item) (oldest : getD qs B [] ≡ item ∷ rest) where
+    pub leave-others : (b j : ℕ) → (j ≡ ownerOf t item → b ≡ B → ⊥) → mine t j (getD (set qs B rest) b []) ≡ mine t j (getD qs b [])
+    leave-others b j h =
+        by-eq b B
+        (λ e. rw (e, getD-set-same qs B rest [] hB, oldest) (sym (mine-other t j item rest (λ f. h f e))))
+        (λ n. rw (getD-set-other qs B b rest [] n))
+
+    pub leave-own : mine t (ownerOf t item) (getD qs B []) ≡ item ∷ mine t (ownerOf t item) (getD (set qs B rest) B [])
+    leave-own = rw (getD-set-same qs B rest [] hB, oldest) (mine-same t (ownerOf t item) item rest refl)

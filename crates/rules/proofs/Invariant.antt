@@ -1,0 +1,102 @@
+-- What holds of the whole cabinet beside a reference machine, in every state that commands reach.
+-- Assumes nothing.
+use mathlib.Core.Logic.{_≢_}
+use mathlib.Core.Path.{_≡_, refl, ap, sym, _∙_, subst}
+use mathlib.Core.Bool.{Bool, true, false, cond}
+use mathlib.Core.Option.{Option, none, some}
+use mathlib.Core.List.{List, [], _∷_, _++_}
+use Prim.Native.Nat.{ℕ, zero, suc, _≤_, _<_}
+use native.Mathlib.Omega.{arith}
+use lib.Dec.{eqb}
+use lib.ListN.{length, getD}
+use borrow.Author.Tests.{eq-eqb, ne-eqb}
+use Rattle.facts.specs.Tests.{no-way, by-eq, by-lt}
+use Rattle.backup.specs.Limits.{logMost}
+use Rattle.backup.specs.Replica.{Replica}
+use Rattle.rules.specs.Table.{Table, environment, channelAt}
+use Rattle.rules.specs.Machine.{Mail, Machine, booted}
+use Rattle.rules.specs.Reference.{Reference}
+use Rattle.rules.specs.Cabinet.{Standby, Process, Item, message, checkpoint, Cabinet, processAt, outboxAt, deadAt, protected, full}
+use Rattle.rules.proofs.Good.{Good}
+
+-- ---- a process's own items of an outbox
+
+-- the process that an item comes from: a word names its channel and so its sender
+abbrev pub ownerOf : Table → Item → ℕ
+ownerOf t (message x) = channelAt t (x .channel) .sender
+ownerOf t (checkpoint p s) = p
+
+abbrev pub mine : Table → ℕ → List Item → List Item
+mine t p [] = []
+mine t p (item ∷ q) = cond (eqb p (ownerOf t item)) (item ∷ mine t p q) (mine t p q)
+
+pub mine-same : (t : Table) (p : ℕ) (item : Item) (q : List Item) → p ≡ ownerOf t item → mine t p (item ∷ q) ≡ item ∷ mine t p q
+mine-same t p item q h = rw (eq-eqb p (ownerOf t item) h)
+
+pub mine-other : (t : Table) (p : ℕ) (item : Item) (q : List Item) → p ≢ ownerOf t item → mine t p (item ∷ q) ≡ mine t p q
+mine-other t p item q h = rw (ne-eqb p (ownerOf t item) h)
+
+pub mine-append : (t : Table) (p : ℕ) (q r : List Item) → mine t p (q ++ r) ≡ mine t p q ++ mine t p r
+mine-append t p [] r = refl
+mine-append t p (item ∷ q) r = rw (mine-append t p q r) (go (eqb p (ownerOf t item)))
+  where
+    go : (b : Bool) → cond b (item ∷ (mine t p q ++ mine t p r)) (mine t p q ++ mine t p r) ≡ cond b (item ∷ mine t p q) (mine t p q) ++ mine t p r
+    go true = refl
+    go false = refl
+
+-- ---- the invariant
+
+abbrev pub machineAt : Reference → ℕ → Machine
+machineAt s p = getD (s .machines) p booted
+
+-- a board of the table that has not crashed
+pub record Live (t : Table) (dead : List Bool) (b : ℕ) : Type 0 where
+  pub there : b < t .boards
+  pub live : getD dead b false ≡ false
+
+-- where a process runs, and where its backup is
+pub record Seated (t : Table) (dead : List Bool) (x : Process) : Type 0 where
+  pub at : Live t dead (x .board)
+  pub beside : (s : Standby) → x .standby ≡ some s → Live t dead (s .board)
+  pub apart : (s : Standby) → x .standby ≡ some s → s .board ≢ x .board
+
+pub record Invariant (t : Table) (c : Cabinet) (s : Reference) : Type 0 where
+  pub same-number : length (c .processes) ≡ length (s .machines)
+  pub all-processes : length (c .processes) ≡ length (t .processes)
+  pub all-outboxes : length (c .outboxes) ≡ t .boards
+  pub all-boards : length (c .dead) ≡ t .boards
+  pub good : (p : ℕ) → p < length (c .processes) → Good t p (mine t p (outboxAt c (processAt c p .board))) (processAt c p) (machineAt s p)
+  -- an item of p stands in the outbox of p's board, and in no other
+  pub own : (b p : ℕ) → (p < length (c .processes) → processAt c p .board ≡ b → ⊥) → mine t p (outboxAt c b) ≡ []
+  pub seated : (p : ℕ) → p < length (c .processes) → Seated t (c .dead) (processAt c p)
+  -- until a board crashes every process has a backup
+  pub unharmed : ((b : ℕ) → deadAt c b ≡ false) → (p : ℕ) → p < length (c .processes) → protected (processAt c p) ≡ true
+
+-- ---- room in the log for a word that is about to arrive: what the bounds supply
+
+abbrev pub RoomFor : Table → Cabinet → ℕ → Type 0
+RoomFor t c k = (s : Standby) → processAt c (channelAt t k .reader) .standby ≡ some s → length (s .replica .log) < logMost
+
+pub record Roomy (t : Table) (c : Cabinet) : Type 0 where
+  -- for a feed that is not refused
+  pub for-feed : (k : ℕ) → channelAt t k .sender ≡ environment → full t c k ≡ false → RoomFor t c k
+  -- for the oldest item of an outbox
+  pub for-oldest : (b : ℕ) (x : Mail) (rest : List Item) → outboxAt c b ≡ message x ∷ rest → RoomFor t c (x .channel)
+
+-- ---- the oldest item of an outbox is one of a process that runs there
+
+pub record Owner (c : Cabinet) (b p : ℕ) : Type 0 where
+  pub there : p < length (c .processes)
+  pub runs : processAt c p .board ≡ b
+
+pub owner : (t : Table) (c : Cabinet) (s : Reference) (b : ℕ) (item : Item) (rest : List Item) → Invariant t c s → outboxAt c b ≡ item ∷ rest
+    → Owner c b (ownerOf t item)
+owner t c s b item rest inv h =
+    let p : ℕ = ownerOf t item in
+    by-lt p (length (c .processes))
+    (λ l. by-eq (processAt c p .board) b (λ e. record { there = l; runs = e }) (λ n. absurd (no-other (λ _ e. n e))))
+    (λ n. absurd (no-other (λ l _. omega arith)))
+  where
+    no-other : (ownerOf t item < length (c .processes) → processAt c (ownerOf t item) .board ≡ b → ⊥) → ⊥
+    no-other n =
+        no-way (let a : mine t (ownerOf t item) (item ∷ rest) ≡ [] = rw h at (inv .own b (ownerOf t item) n) in let d = mine-same t (ownerOf t item) item rest refl in cc)

@@ -1,0 +1,213 @@
+-- Each move keeps the room. A crash does so where each backup's words are the mailbox's and at most so many received ones (`Behind`).
+-- Assumes nothing.
+use mathlib.Core.Logic.{_≢_}
+use mathlib.Core.Path.{_≡_, refl, ap, sym, _∙_, subst}
+use mathlib.Core.Bool.{Bool, true, false, not, cond, _&&_}
+use mathlib.Core.Option.{Option, none, some}
+use mathlib.Core.List.{List, [], _∷_, _++_}
+use Prim.Native.Nat.{ℕ, zero, suc, _+_, _*_, _≤_, _<_}
+use native.Mathlib.Omega.{arith}
+use lib.Dec.{eqb, ltb, leb}
+use lib.ListN.{length, getD, set, length-map}
+use borrow.Author.Tests.{leb-false}
+use Rattle.facts.specs.Tests.{by-eq, no-way}
+use Rattle.facts.specs.Indexing.{getD-map}
+use Rattle.facts.specs.Counts.{same, occurs}
+use Rattle.backup.specs.Replica.{Replica, Reply, Checkpoint, FailOver, count, sync, failOver}
+use Rattle.rules.specs.Table.{Table, Instruction, environment, channelAt, codeOf}
+use Rattle.rules.specs.Machine.{Mail, Machine, Act, internal, took, sent, Outcome, halted, noMail, moved, localStep, booted}
+use Rattle.rules.specs.Cabinet.{outboxMost, eventsMost, occupancyMost, Standby, Process, Item, message, checkpoint, Cabinet, nobody, processAt, outboxAt, protected, isSome, unreadOn, inFlight, full, waiting, placed, started}
+use Rattle.rules.specs.Moves.{Command, Result, withProcess, withOutbox, enqueue, advanced, send, stepFrom, step, oneMore, issued, issue, snapshot, counts, keeps, transmitItem, transmitOldest, transmit, inject, onReplica, deliver, promoted, unprotected, afterCrash, allAfterCrash, crash}
+use Rattle.rules.proofs.Counting.{weight, unread-occurs, step-unread, run-unread, flight-join, flight-leave, flight-lost, flight-none}
+use Rattle.rules.proofs.Steps.{Steps}
+use Rattle.rules.proofs.Room.{Roomed, Room, change-room, admit, deliver-room, call-some}
+use Rattle.rules.proofs.Guards.{Leaves, unmoved, leaves, after-guard}
+use Rattle.rules.proofs.Crashed.{crash-length, crash-at}
+
+module _ (t : Table) (c : Cabinet) (small : length (c .processes) ≤ environment) (rm : Room t [] c) where
+  -- ---- step
+
+  module _ (p : ℕ) (m : Machine) (a : Act) (e : localStep (codeOf t p) (processAt c p .machine) ≡ moved m a) where
+    fewer : (k : ℕ) → unreadOn k (m .mailbox) ≤ unreadOn k (processAt c p .machine .mailbox)
+    fewer k =
+        let s : Steps (codeOf t p) (processAt c p .machine) a m = record { is = e } in
+        let h = step-unread k a s in
+        omega arith
+
+    -- it goes on, and what it sends, if anything, has been admitted
+    step-room : (pending : List ℕ) → Room t pending c → (taken : List ℕ) (events suppress : ℕ) (qs : List (List Item))
+        → ((k : ℕ) → inFlight k qs ≤ inFlight k (c .outboxes) + occurs k pending)
+        → Room t [] (record { processes = set (c .processes) p (advanced m taken events suppress (processAt c p)); outboxes = qs; dead = c .dead })
+    unfolding advanced
+    step-room pending with-pending taken events suppress qs joins =
+        change-room t pending [] c with-pending p (advanced m taken events suppress (processAt c p)) qs
+        (λ h. h)
+        (λ k. let x = fewer k in let y = joins k in omega arith)
+        (λ k. let y = joins k in omega arith)
+        (λ hp k n. let x = fewer k in let y = with-pending p hp .own k n in omega arith)
+
+    stays : (taken : List ℕ) (events suppress : ℕ) → Room t [] (withProcess p (advanced m taken events suppress (processAt c p)) c)
+    stays taken events suppress = step-room [] rm taken events suppress (c .outboxes) (λ k. omega arith)
+
+  send-room : (p : ℕ) (m : Machine) (mail : Mail) → localStep (codeOf t p) (processAt c p .machine) ≡ moved m (sent mail)
+      → (h : ℕ) → Leaves (Room t []) (send t c p (processAt c p) m mail h)
+  unfolding send
+  send-room p m mail e (suc h) = leaves (stays p m (sent mail) e (processAt c p .taken) (processAt c p .events) h)
+  send-room p m mail e zero =
+      after-guard _ _ _ λ _. after-guard _ _ _ λ _. after-guard _ _ _ λ free.
+      leaves (step-room p m (sent mail) e (mail .channel ∷ []) (admit t c (mail .channel) small free rm) (processAt c p .taken) (suc (processAt c p .events)) 0 _
+      (λ k. let j = flight-join k (c .outboxes) (processAt c p .board) (message mail) in omega arith))
+
+  outcome-room : (p : ℕ) (o : Outcome) → localStep (codeOf t p) (processAt c p .machine) ≡ o → Leaves (Room t []) (stepFrom t c p (processAt c p) o)
+  unfolding stepFrom
+  outcome-room p halted e = unmoved
+  outcome-room p noMail e = unmoved
+  outcome-room p (moved m internal) e = leaves (stays p m internal e (processAt c p .taken) (processAt c p .events) (processAt c p .suppress))
+  outcome-room p (moved m (took mail)) e =
+      after-guard _ _ _ λ _.
+      leaves (stays p m (took mail) e (oneMore t p mail (processAt c p .taken)) (suc (processAt c p .events)) (processAt c p .suppress))
+  outcome-room p (moved m (sent mail)) e = send-room p m mail e (processAt c p .suppress)
+
+  pub step-keeps : (p : ℕ) → Leaves (Room t []) (step t c p)
+  unfolding step
+  step-keeps p = outcome-room p (localStep (codeOf t p) (processAt c p .machine)) refl
+
+  -- ---- sync
+
+  pub issue-keeps : (p : ℕ) → Leaves (Room t []) (issue t c p)
+  unfolding issue issued
+  issue-keeps p =
+      after-guard _ _ _ λ _. after-guard _ _ _ λ _. after-guard _ _ _ λ _.
+      let joins : (k : ℕ) → inFlight k (set (c .outboxes) (processAt c p .board) (outboxAt c (processAt c p .board) ++ (checkpoint p (snapshot (processAt c p)) ∷ []))) ≤ inFlight k (c .outboxes) =
+      λ k. (let j = flight-join k (c .outboxes) (processAt c p .board) (checkpoint p (snapshot (processAt c p))) in omega arith) in
+      leaves (change-room t [] [] c rm p (issued (processAt c p)) _
+      (λ h. h)
+      (λ k. let j = joins k in omega arith)
+      (λ k. let j = joins k in omega arith)
+      (λ hp k n. rm p hp .own k n))
+
+  -- ---- feed
+
+  pub inject-keeps : (mail : Mail) → Leaves (Room t []) (inject t c mail)
+  unfolding inject
+  inject-keeps mail = after-guard _ _ _ λ _. after-guard _ _ _ λ free. leaves (deliver-room t c mail (admit t c (mail .channel) small free rm))
+
+  -- ---- carry
+
+  -- the oldest entry leaves, and a process's backup is called; a word that left is pending
+  called-room : (b p : ℕ) (item : Item) (rest : List Item) (pending : List ℕ) (call : Replica → Reply) → outboxAt c b ≡ item ∷ rest
+      → ((k : ℕ) → occurs k pending ≤ weight k item)
+      → (x : Process) → x .machine ≡ processAt c p .machine → x .standby ≡ onReplica call (processAt c p .standby)
+      → Room t pending (withProcess p x (withOutbox b rest c))
+  called-room b p item rest pending call e few x same-machine same-standby =
+      let same-mail : (k : ℕ) → unreadOn k (x .machine .mailbox) ≡ unreadOn k (processAt c p .machine .mailbox) =
+      λ k. ap (λ (m : Machine). unreadOn k (m .mailbox)) same-machine in
+      change-room t [] pending c rm p x (set (c .outboxes) b rest)
+      (λ h. sym (ap isSome same-standby ∙ call-some call (processAt c p .standby)) ∙ h)
+      (λ k. let a = same-mail k in let d = few k in let l = flight-leave k (c .outboxes) b item rest e in omega arith)
+      (λ k. let d = few k in let l = flight-leave k (c .outboxes) b item rest e in omega arith)
+      (λ hp k n. same-mail k ∙ rm p hp .own k n)
+
+  item-room : (b : ℕ) (item : Item) (rest : List Item) → outboxAt c b ≡ item ∷ rest → Leaves (Room t []) (transmitItem t (withOutbox b rest c) item)
+  unfolding transmitItem counts keeps
+  item-room b (message mail) rest e =
+      leaves (deliver-room t _ mail (called-room b (channelAt t (mail .channel) .sender) (message mail) rest (mail .channel ∷ []) count e
+      (λ k. omega arith) (counts (processAt c (channelAt t (mail .channel) .sender))) refl refl))
+  item-room b (checkpoint p s) rest e =
+      leaves (called-room b p (checkpoint p s) rest [] (λ r. sync r s) e (λ k. omega arith) (keeps s (processAt c p)) refl refl)
+
+  oldest-room : (b : ℕ) (q : List Item) → outboxAt c b ≡ q → Leaves (Room t []) (transmitOldest t c b q)
+  unfolding transmitOldest
+  oldest-room b [] e = unmoved
+  oldest-room b (item ∷ rest) e = item-room b item rest e
+
+  pub transmit-keeps : (b : ℕ) → Leaves (Room t []) (transmit t c b)
+  unfolding transmit
+  transmit-keeps b = after-guard _ _ _ λ _. oldest-room b (outboxAt c b) refl
+
+-- ---- crash
+
+-- a backup's words are those that are unread and those that were received since its checkpoint, at most two issues' worth
+pub record Behind (t : Table) (x : Process) (p : ℕ) (s : Standby) : Type 0 where
+  pub received : List ℕ
+  pub few : length received ≤ 2 * eventsMost
+  pub words : (k : ℕ) → unreadOn k (promoted t p s .machine .mailbox) ≡ unreadOn k (x .machine .mailbox) + occurs k received
+  pub own : (k : ℕ) → channelAt t k .reader ≢ p → unreadOn k (promoted t p s .machine .mailbox) ≡ 0
+
+module _ (t : Table) (c : Cabinet) (rm : Room t [] c)
+    (behind : (p : ℕ) → p < length (c .processes) → (s : Standby) → processAt c p .standby ≡ some s → Behind t (processAt c p) p s) (b : ℕ) where
+  crashed : Cabinet
+  crashed = record { processes = allAfterCrash t b 0 (c .processes); outboxes = set (c .outboxes) b []; dead = set (c .dead) b true }
+
+  module _ (p : ℕ) (hp : p < length (c .processes)) where
+    -- the crash makes y of a process, with no other words
+    as-before : (y : Process) → processAt crashed p ≡ y → (protected y ≡ true → protected (processAt c p) ≡ true) → y .machine ≡ processAt c p .machine
+        → Roomed t [] crashed p
+    unfolding crashed
+    as-before y is-y kind same-machine =
+        let r = rm p hp in
+        let same-mail : (k : ℕ) → unreadOn k (y .machine .mailbox) ≡ unreadOn k (processAt c p .machine .mailbox) =
+        λ k. ap (λ (m : Machine). unreadOn k (m .mailbox)) same-machine in
+        record {
+          again = r .again;
+          few = r .few;
+          none-yet = λ g. r .none-yet (kind (ap protected (sym is-y) ∙ g));
+          room = λ k g. rw is-y (let a = r .room k g in let l = flight-lost k (c .outboxes) b in let d = same-mail k in omega arith);
+          own = λ k g. rw is-y (same-mail k ∙ r .own k g);
+        }
+
+    -- it goes on at its backup
+    at-backup : (s : Standby) → processAt c p .standby ≡ some s → processAt crashed p ≡ promoted t p s → Roomed t [] crashed p
+    unfolding crashed promoted
+    at-backup s has is-promoted =
+        let r = rm p hp in
+        let v = behind p hp s has in
+        record {
+          again = v .received;
+          few = v .few;
+          none-yet = λ g. absurd (no-way (let a = ap protected (sym is-promoted) ∙ g in cc));
+          room = λ k g.
+              rw is-promoted
+              (let a = r .room k g in
+              let l = flight-lost k (c .outboxes) b in
+              let d = v .words k in
+              let z : occurs k (r .again) ≡ 0 = ap (occurs k) (r .none-yet (ap isSome has)) in
+              omega arith);
+          own = λ k g. rw is-promoted (v .own k g);
+        }
+
+    by-standby : (o : Option Standby) → processAt c p .standby ≡ o → processAt crashed p ≡ afterCrash t b p (processAt c p) o → Roomed t [] crashed p
+    unfolding afterCrash unprotected
+    by-standby none has e = as-before (processAt c p) e (λ h. h) refl
+    by-standby (some s) has e = go (eqb b (processAt c p .board)) (eqb b (s .board)) e
+      where
+        go : (here there : Bool) → processAt crashed p ≡ cond here (promoted t p s) (cond there (unprotected (processAt c p)) (processAt c p))
+            → Roomed t [] crashed p
+        go true there e′ = at-backup s has e′
+        go false true e′ = as-before (unprotected (processAt c p)) e′ (λ h. absurd (no-way (cc))) refl
+        go false false e′ = as-before (processAt c p) e′ (λ h. h) refl
+
+  crash-room : Room t [] crashed
+  unfolding crashed
+  crash-room p hp =
+      let h : p < length (c .processes) = rw (crash-length t b 0 (c .processes)) at hp in
+      by-standby p h (processAt c p .standby) refl (crash-at t b (c .processes) p h)
+
+  pub crash-keeps : Leaves (Room t []) (crash t c b)
+  unfolding crash crashed
+  crash-keeps = after-guard _ _ _ λ _. after-guard _ _ _ λ _. leaves crash-room
+
+-- ---- the start
+
+pub start-room : (t : Table) → Room t [] (started t)
+unfolding started placed booted
+start-room t p hp =
+    let there : p < length (t .processes) = rw length-map at hp in
+    let e = getD-map placed (t .processes) p (record { primary = 0; standby = 0; code = [] }) nobody there in
+    record {
+      again = [];
+      few = omega arith;
+      none-yet = λ _. refl;
+      room = λ k _. rw e (let a = flight-none k (t .boards) in omega arith);
+      own = λ k _. rw e;
+    }

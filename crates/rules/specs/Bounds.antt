@@ -1,0 +1,69 @@
+-- How much there is at most of anything in a cabinet, in every state that a list of commands reaches from the start, and that a backup
+-- never refuses there: what code with lists of fixed lengths rests on.
+-- Definitions only; proofs/Bounded.antt proves them.
+-- Assumes nothing.
+use mathlib.Core.Path.{_≡_}
+use mathlib.Core.Bool.{Bool, true, false, cond}
+use mathlib.Core.Option.{Option, none, some}
+use mathlib.Core.List.{List, [], _∷_, map}
+use Prim.Native.Nat.{ℕ, _+_, _≤_, max}
+use lib.Dec.{eqb}
+use lib.ListN.{length}
+use Rattle.facts.specs.Counts.{total}
+use Rattle.backup.specs.Limits.{logMost}
+use Rattle.backup.specs.Replica.{Message, Replica, Checkpoint, FailOver, counted, takenOn, remaining, arriveNumber, countNumber, syncNumber, failOver}
+use Rattle.rules.specs.Table.{Table, environment, channelAt, codeOf, inputs, portOf, channelOn}
+use Rattle.rules.specs.Machine.{Mail, Machine}
+use Rattle.rules.specs.Cabinet.{outboxMost, eventsMost, occupancyMost, Standby, Process, Item, message, checkpoint, Cabinet, noTakes, processAt, outboxAt, occupancy, full}
+
+-- saved words as an inbox: "the saved words as inbox"
+abbrev pub mails : Table → ℕ → List Message → List Mail
+mails t p log = map (λ (m : Message). record { channel = channelOn t p (m .port); word = m .word }) log
+
+-- the takes of process p's checkpoint that waits in an outbox, and none if none waits
+abbrev pub issuedTakes : ℕ → List Item → List ℕ
+issuedTakes p [] = noTakes
+issuedTakes p (message x ∷ q) = issuedTakes p q
+issuedTakes p (checkpoint r s ∷ q) = cond (eqb p r) (s .taken) (issuedTakes p q)
+
+-- The backup of process p, which is s, inside cabinet c.
+pub record BackupBounds (t : Table) (c : Cabinet) (p : ℕ) (s : Standby) : Type 0 where
+  -- "Hence a saved list has at most 48 words"
+  pub log : length (s .replica .log) ≤ logMost
+  -- "and a count at most 16": it never passes the limit on acts, 8
+  pub sent : s .replica .sent ≤ eventsMost
+  -- "37 if backed and acts are 8"
+  pub events : processAt c p .events ≤ eventsMost
+  -- "takes per slot since the last issue"
+  pub taken : (port : ℕ) → takenOn (processAt c p .taken) port ≤ eventsMost
+  -- "A channel is held when its unread words and those in the queues are 8 or more together."
+  pub occupied : (k : ℕ) → channelAt t k .reader ≡ p → occupancy t c k ≤ occupancyMost
+  -- the saved words, less those taken since the backup's state, are the inbox
+  pub saved : mails t p (remaining (processAt c p .taken) (remaining (issuedTakes p (outboxAt c (processAt c p .board))) (s .replica .log))) ≡ processAt c p .machine .mailbox
+  -- no call of the backup is refused. "A word goes [..] to the sender's backup record, which counts it":
+  pub counts : (b : ℕ) (x : Mail) (rest : List Item) → outboxAt c b ≡ message x ∷ rest → channelAt t (x .channel) .sender ≡ p → countNumber (s .replica) ≡ 0
+  -- "to [..] the reader's backup record". "Where a process sends to itself, its one record saves the word and counts it."
+  pub arrives : (b : ℕ) (x : Mail) (rest : List Item) → outboxAt c b ≡ message x ∷ rest → channelAt t (x .channel) .reader ≡ p
+      → arriveNumber (cond (eqb (channelAt t (x .channel) .sender) p) (counted (s .replica)) (s .replica)) (portOf t p (x .channel)) ≡ 0
+  -- "feed outside channel a with a word: to the inbox and the backup record"
+  pub feeds : (k : ℕ) → channelAt t k .sender ≡ environment → channelAt t k .reader ≡ p → full t c k ≡ false → arriveNumber (s .replica) (portOf t p k) ≡ 0
+  -- "A sync replaces the state in the process's backup record"
+  pub syncs : (b : ℕ) (x : Checkpoint) (rest : List Item) → outboxAt c b ≡ checkpoint p x ∷ rest → syncNumber (s .replica) x ≡ 0
+  -- "Each process running there goes on at its backup board"
+  pub promotes : failOver (s .replica) .number ≡ 0
+
+-- Process p of cabinet c.
+pub record Bounds (t : Table) (c : Cabinet) (p : ℕ) : Type 0 where
+  -- "Place n means halted."
+  pub pc : processAt c p .machine .pc ≤ length (codeOf t p)
+  -- "the saved words as inbox": it has no more words than a saved list
+  pub mailbox : length (processAt c p .machine .mailbox) ≤ logMost
+  -- "the count as hold-back"
+  pub suppress : processAt c p .suppress ≤ eventsMost
+  -- unread and in flight: over its channels at most 48, where each stands for 8 at least
+  pub occupied : total (λ k. max (occupancy t c k) occupancyMost) (inputs t p) ≤ logMost
+  pub backup : (s : Standby) → processAt c p .standby ≡ some s → BackupBounds t c p s
+
+-- "each board has one queue, at most 32 entries"
+abbrev pub OutboxBounds : Cabinet → Type 0
+OutboxBounds c = (b : ℕ) → length (outboxAt c b) ≤ outboxMost
