@@ -31,3 +31,4 @@ pub mod Cases
 pub mod Marked
 pub mod MoveCases
 pub mod FormatCases
+pub mod ReferenceCases
