@@ -26,6 +26,7 @@ pub mod Saved
 pub mod Valid
 pub mod ReadBack
 pub mod AcceptedRun
+pub mod Buffers
 -- Cases, computed: M1 to M13, then those that only a case can tell.
 pub mod Cases
 pub mod Marked
