@@ -1,9 +1,9 @@
 -- Sums over lists, how often a number occurs in a list, and how long a list is at most by what occurs in it.
 -- Assumes nothing.
 use mathlib.Core.Logic.{_≢_}
-use mathlib.Core.Path.{_≡_, refl, ap, sym, _∙_}
+use mathlib.Core.Path.{_≡_, refl, sym, _∙_}
 use mathlib.Core.Bool.{Bool, true, false, cond}
-use mathlib.Core.List.{List, [], _∷_, _++_, map}
+use mathlib.Core.List.{List, [], _∷_, _++_}
 use Prim.Native.Nat.{ℕ, zero, suc, _+_, _*_, _≤_, _<_}
 use native.Mathlib.Omega.{arith}
 use native.Mathlib.Nat.{le-of-suc-le-suc, not-suc-le-zero, mul-suc}
@@ -37,6 +37,10 @@ module _ {A : Type 0} (w : A → ℕ) where
   pub total-replicate : (n : ℕ) (x : A) → w x ≡ 0 → total w (replicate n x) ≡ 0
   total-replicate zero x h = refl
   total-replicate (suc n) x h = let m = total-replicate n x h in omega arith
+
+pub total-ones : {A : Type 0} (l : List A) → total (λ (_ : A). 1) l ≡ length l
+total-ones [] = refl
+total-ones (x ∷ l) = let h = total-ones l in omega arith
 
 -- ---- how often a number occurs
 

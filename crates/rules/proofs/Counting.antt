@@ -1,19 +1,19 @@
 -- How many words of a channel are unread, wait in an outbox, or are in flight: what appending, storing and receiving do to them.
 -- Assumes nothing.
-use mathlib.Core.Path.{_≡_, refl, ap, sym, _∙_, subst}
-use mathlib.Core.Bool.{Bool, true, false, cond}
+use mathlib.Core.Path.{_≡_, refl, ap, sym, _∙_}
+use mathlib.Core.Bool.{cond}
 use mathlib.Core.List.{List, [], _∷_, _++_, map}
-use Prim.Native.Nat.{ℕ, zero, suc, _+_, _≤_, _<_}
+use Prim.Native.Nat.{ℕ, _+_, _≤_}
 use native.Mathlib.Omega.{arith}
-use lib.Dec.{eqb, ltb}
+use lib.Dec.{eqb}
 use lib.ListN.{length, getD, set, replicate, List·getD-eq-default}
 use lib.Seq.{set-out}
 use Rattle.facts.specs.Tests.{no-way, by-lt}
 use Rattle.facts.specs.Counts.{total, total-append, total-set, total-set-less, total-replicate, same, occurs, cond-more}
 use Rattle.rules.specs.Table.{Instruction}
-use Rattle.rules.specs.Machine.{Mail, Machine, Act, internal, took, sent, Pull, nothing, found, behind, pull}
-use Rattle.rules.specs.Cabinet.{Item, message, checkpoint, unreadOn, isOn, queuedOn, inFlight}
-use Rattle.rules.proofs.Steps.{Steps, step-left}
+use Rattle.rules.specs.Machine.{Mail, Machine, Act, internal, took, sent}
+use Rattle.rules.specs.Cabinet.{Item, unreadOn, isOn, queuedOn, inFlight}
+use Rattle.rules.proofs.Steps.{Steps, step-left, pulled-total}
 use Rattle.rules.proofs.Runs.{Run, here, more, takes1, takes}
 
 -- ---- unread words
@@ -88,30 +88,11 @@ flight-none k n = flight-total k (replicate n []) ∙ total-replicate (queuedOn 
 
 -- ---- a receive removes one word, of its channel
 
-module _ (w : Mail → ℕ) where
-  pull-total : (f : ℕ → Bool) (xs : List Mail) (y : Mail) (ys : List Mail) → pull f xs ≡ found y ys → total w xs ≡ total w ys + w y
-  pull-total f [] y ys e = absurd (no-way (cc))
-  pull-total f (z ∷ zs) y ys e = go (f (z .channel)) (pull f zs) (λ v vs. pull-total f zs v vs) e
-    where
-      go : (b : Bool) (p : Pull) → ((v : Mail) (vs : List Mail) → p ≡ found v vs → total w zs ≡ total w vs + w v)
-          → cond b (found z zs) (behind z p) ≡ found y ys → w z + total w zs ≡ total w ys + w y
-      go true p ih e′ =
-          let a : w z ≡ w y = cc in
-          let b : total w zs ≡ total w ys = cc in
-          omega arith
-      go false nothing ih e′ = absurd (no-way (cc))
-      go false (found v vs) ih e′ =
-          let a : w v ≡ w y = cc in
-          let b : total w (z ∷ vs) ≡ total w ys = cc in
-          let h = ih v vs refl in
-          omega arith
-
 pub step-unread : {code : List Instruction} {m m1 : Machine} (k : ℕ) (a : Act) → Steps code m a m1
     → unreadOn k (m .mailbox) ≡ unreadOn k (m1 .mailbox) + occurs k (takes1 a)
 step-unread k internal e = let h = ap (unreadOn k) (step-left e) in omega arith
 step-unread {m = m} {m1 = m1} k (took x) e =
-    let l = step-left e in
-    let h = pull-total (onChannel k) (l .wanted) (m .mailbox) x (m1 .mailbox) (l .is) in
+    let h = pulled-total (onChannel k) (step-left e) in
     let a = unread-total k (m .mailbox) in
     let b = unread-total k (m1 .mailbox) in
     omega arith

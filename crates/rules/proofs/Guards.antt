@@ -1,4 +1,4 @@
--- A property of the cabinet that a move leaves: what it is of a result, through the checks, and of a whole command.
+-- What a move yields: a property of its result, through the checks, and of a whole command.
 -- Assumes nothing.
 use mathlib.Core.Path.{_≡_, refl}
 use mathlib.Core.Bool.{Bool, true, false}
@@ -8,39 +8,56 @@ use borrow.Author.Tests.{leb-false}
 use Rattle.rules.specs.Table.{Table}
 use Rattle.rules.specs.Machine.{Mail}
 use Rattle.rules.specs.Cabinet.{Cabinet}
-use Rattle.rules.specs.Moves.{Command, Refusal, Answer, Result, refuse, accept, guard, step, issue, transmit, inject, crash, perform, judged, settle, turn}
+use Rattle.rules.specs.Moves.{Command, Refusal, Answer, refused, Result, refuse, accept, guard, step, issue, transmit, inject, crash, perform, judged, settle, turn}
 
--- refused, or the cabinet afterwards has the property
-pub data Leaves (P : Cabinet → Type 0) : Result → Type 0 where
-  unmoved : {why : Refusal} → Leaves P (refuse why)
-  leaves : {c : Cabinet} {a : Answer} → P c → Leaves P (accept c a)
+-- refused, or the cabinet afterwards and the answer have the property
+pub data Yields (P : Cabinet → Answer → Type 0) : Result → Type 0 where
+  unmoved : {why : Refusal} → Yields P (refuse why)
+  leaves : {c : Cabinet} {a : Answer} → P c a → Yields P (accept c a)
 
-pub after-guard : {P : Cabinet → Type 0} (test : Bool) (why : Refusal) (rest : Result) → (test ≡ false → Leaves P rest) → Leaves P (guard test why rest)
+-- a property of the cabinet alone
+abbrev pub Leaves : (Cabinet → Type 0) → Result → Type 0
+Leaves P = Yields (λ c _. P c)
+
+pub after-guard : {P : Cabinet → Answer → Type 0} (test : Bool) (why : Refusal) (rest : Result) → (test ≡ false → Yields P rest) → Yields P (guard test why rest)
 unfolding guard
 after-guard true why rest h = unmoved
 after-guard false why rest h = h refl
 
-after-settle : {P : Cabinet → Type 0} (c : Cabinet) (r : Command) {res : Result} → P c → Leaves P res → P (settle c r res .cabinet)
-after-settle c r h unmoved = h
-after-settle c r h (leaves g) = g
+after-settle : (P : Cabinet → Answer → Type 0) (c : Cabinet) (r : Command) {res : Result} → ((why : Refusal) → P c (refused why (r .a))) → Yields P res
+    → P (settle c r res .cabinet) (settle c r res .answer)
+after-settle P c r h (unmoved {why = why}) = h why
+after-settle P c r h (leaves g) = g
+
+-- what each of the five moves yields, by its number, the command yields
+module _ (t : Table) (c : Cabinet) (r : Command) (P : ℕ → Cabinet → Answer → Type 0) (nothing-done : (n : ℕ) (why : Refusal) → P n c (refused why (r .a)))
+    (by-step : r .a < length (t .processes) → Yields (P 1) (step t c (r .a)))
+    (by-issue : r .a < length (t .processes) → Yields (P 2) (issue t c (r .a)))
+    (by-transmit : r .a < t .boards → Yields (P 3) (transmit t c (r .a)))
+    (by-inject : r .a < length (t .channels) → Yields (P 4) (inject t c (record { channel = r .a; word = r .word })))
+    (by-crash : r .a < t .boards → Yields (P 5) (crash t c (r .a))) where
+  by-number : (n : ℕ) → Yields (P n) (perform t c r n)
+  unfolding perform
+  by-number zero = unmoved
+  by-number (suc zero) = after-guard _ _ _ λ h. by-step (leb-false _ _ h)
+  by-number (suc (suc zero)) = after-guard _ _ _ λ h. by-issue (leb-false _ _ h)
+  by-number (suc (suc (suc zero))) = after-guard _ _ _ λ h. by-transmit (leb-false _ _ h)
+  by-number (suc (suc (suc (suc zero)))) = after-guard _ _ _ λ h. by-inject (leb-false _ _ h)
+  by-number (suc (suc (suc (suc (suc zero))))) = after-guard _ _ _ λ h. by-crash (leb-false _ _ h)
+  by-number (suc (suc (suc (suc (suc (suc n)))))) = unmoved
+
+  pub yields-turn : P (r .move) (turn t c r .cabinet) (turn t c r .answer)
+  unfolding turn judged
+  yields-turn = after-settle (P (r .move)) c r (nothing-done (r .move)) (after-guard _ _ _ λ _. by-number (r .move))
 
 -- what the five moves leave, a command leaves
-module _ {P : Cabinet → Type 0} (t : Table) (c : Cabinet) (before : P c)
-    (by-step : (p : ℕ) → p < length (t .processes) → Leaves P (step t c p))
-    (by-issue : (p : ℕ) → p < length (t .processes) → Leaves P (issue t c p))
-    (by-transmit : (b : ℕ) → b < t .boards → Leaves P (transmit t c b))
-    (by-inject : (mail : Mail) → mail .channel < length (t .channels) → Leaves P (inject t c mail))
-    (by-crash : (b : ℕ) → b < t .boards → Leaves P (crash t c b)) where
-  by-number : (r : Command) (n : ℕ) → Leaves P (perform t c r n)
-  unfolding perform
-  by-number r zero = unmoved
-  by-number r (suc zero) = after-guard _ _ _ λ h. by-step (r .a) (leb-false _ _ h)
-  by-number r (suc (suc zero)) = after-guard _ _ _ λ h. by-issue (r .a) (leb-false _ _ h)
-  by-number r (suc (suc (suc zero))) = after-guard _ _ _ λ h. by-transmit (r .a) (leb-false _ _ h)
-  by-number r (suc (suc (suc (suc zero)))) = after-guard _ _ _ λ h. by-inject (record { channel = r .a; word = r .word }) (leb-false _ _ h)
-  by-number r (suc (suc (suc (suc (suc zero))))) = after-guard _ _ _ λ h. by-crash (r .a) (leb-false _ _ h)
-  by-number r (suc (suc (suc (suc (suc (suc n)))))) = unmoved
-
-  pub after-turn : (r : Command) → P (turn t c r .cabinet)
-  unfolding turn judged
-  after-turn r = after-settle c r before (after-guard _ _ _ λ _. by-number r (r .move))
+pub after-turn : {P : Cabinet → Type 0} (t : Table) (c : Cabinet) → P c
+    → ((p : ℕ) → p < length (t .processes) → Leaves P (step t c p))
+    → ((p : ℕ) → p < length (t .processes) → Leaves P (issue t c p))
+    → ((b : ℕ) → b < t .boards → Leaves P (transmit t c b))
+    → ((mail : Mail) → mail .channel < length (t .channels) → Leaves P (inject t c mail))
+    → ((b : ℕ) → b < t .boards → Leaves P (crash t c b))
+    → (r : Command) → P (turn t c r .cabinet)
+after-turn {P} t c before by-step by-issue by-transmit by-inject by-crash r =
+    yields-turn t c r (λ _ d _. P d) (λ _ _. before) (by-step (r .a)) (by-issue (r .a)) (by-transmit (r .a))
+    (by-inject (record { channel = r .a; word = r .word })) (by-crash (r .a))

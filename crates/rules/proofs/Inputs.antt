@@ -11,13 +11,12 @@ use lib.Dec.{eqb}
 use lib.ListN.{length, getD}
 use borrow.Author.Tests.{eqb-true}
 use Rattle.facts.specs.Tests.{by-eq}
-use Rattle.facts.specs.Counts.{same, occurs, same-yes, same-no, cond-more, occurs-at}
+use Rattle.facts.specs.Counts.{occurs, same-yes, same-no, cond-more, occurs-at}
 use Rattle.backup.specs.Replica.{Message}
 use Rattle.rules.specs.Table.{environment, Channel, Table, channelAt, readFrom, inputs, channelOn}
-use Rattle.rules.specs.Machine.{Mail}
 use Rattle.rules.specs.Judge.{Accepted}
 use Rattle.rules.specs.Cabinet.{unreadOn}
-use Rattle.rules.proofs.Tables.{Stands, input}
+use Rattle.rules.proofs.Tables.{input}
 use Rattle.rules.proofs.Good.{mailOf, PortsBelow, no-ports, one-port}
 
 -- ---- once

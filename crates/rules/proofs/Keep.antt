@@ -1,24 +1,23 @@
 -- Each move keeps the room. A crash does so where each backup's words are the mailbox's and at most so many received ones (`Behind`).
 -- Assumes nothing.
 use mathlib.Core.Logic.{_≢_}
-use mathlib.Core.Path.{_≡_, refl, ap, sym, _∙_, subst}
-use mathlib.Core.Bool.{Bool, true, false, not, cond, _&&_}
+use mathlib.Core.Path.{_≡_, refl, ap, sym, _∙_}
+use mathlib.Core.Bool.{Bool, true, false, cond}
 use mathlib.Core.Option.{Option, none, some}
 use mathlib.Core.List.{List, [], _∷_, _++_}
 use Prim.Native.Nat.{ℕ, zero, suc, _+_, _*_, _≤_, _<_}
 use native.Mathlib.Omega.{arith}
-use lib.Dec.{eqb, ltb, leb}
-use lib.ListN.{length, getD, set, length-map}
-use borrow.Author.Tests.{leb-false}
-use Rattle.facts.specs.Tests.{by-eq, no-way}
+use lib.Dec.{eqb}
+use lib.ListN.{length, set, length-map}
+use Rattle.facts.specs.Tests.{no-way}
 use Rattle.facts.specs.Indexing.{getD-map}
-use Rattle.facts.specs.Counts.{same, occurs}
-use Rattle.backup.specs.Replica.{Replica, Reply, Checkpoint, FailOver, count, sync, failOver}
-use Rattle.rules.specs.Table.{Table, Instruction, environment, channelAt, codeOf}
+use Rattle.facts.specs.Counts.{occurs}
+use Rattle.backup.specs.Replica.{Replica, Reply, count, sync}
+use Rattle.rules.specs.Table.{Table, environment, channelAt, codeOf}
 use Rattle.rules.specs.Machine.{Mail, Machine, Act, internal, took, sent, Outcome, halted, noMail, moved, localStep, booted}
-use Rattle.rules.specs.Cabinet.{outboxMost, eventsMost, occupancyMost, Standby, Process, Item, message, checkpoint, Cabinet, nobody, processAt, outboxAt, protected, isSome, unreadOn, inFlight, full, waiting, placed, started}
-use Rattle.rules.specs.Moves.{Command, Result, withProcess, withOutbox, enqueue, advanced, send, stepFrom, step, oneMore, issued, issue, snapshot, counts, keeps, transmitItem, transmitOldest, transmit, inject, onReplica, deliver, promoted, unprotected, afterCrash, allAfterCrash, crash}
-use Rattle.rules.proofs.Counting.{weight, unread-occurs, step-unread, run-unread, flight-join, flight-leave, flight-lost, flight-none}
+use Rattle.rules.specs.Cabinet.{eventsMost, Standby, Process, Item, message, checkpoint, Cabinet, nobody, processAt, outboxAt, protected, isSome, unreadOn, inFlight, placed, started}
+use Rattle.rules.specs.Moves.{withProcess, withOutbox, advanced, send, stepFrom, step, issued, issue, snapshot, counts, keeps, transmitItem, transmitOldest, transmit, inject, onReplica, promoted, unprotected, afterCrash, allAfterCrash, crash}
+use Rattle.rules.proofs.Counting.{weight, step-unread, flight-join, flight-leave, flight-lost, flight-none}
 use Rattle.rules.proofs.Steps.{Steps}
 use Rattle.rules.proofs.Room.{Roomed, Room, change-room, admit, deliver-room, call-some}
 use Rattle.rules.proofs.Guards.{Leaves, unmoved, leaves, after-guard}
@@ -52,20 +51,20 @@ module _ (t : Table) (c : Cabinet) (small : length (c .processes) ≤ environmen
   send-room : (p : ℕ) (m : Machine) (mail : Mail) → localStep (codeOf t p) (processAt c p .machine) ≡ moved m (sent mail)
       → (h : ℕ) → Leaves (Room t []) (send t c p (processAt c p) m mail h)
   unfolding send
-  send-room p m mail e (suc h) = leaves (stays p m (sent mail) e (processAt c p .taken) (processAt c p .events) h)
+  send-room p m mail e (suc h) = leaves (stays p m (sent mail) e _ _ _)
   send-room p m mail e zero =
       after-guard _ _ _ λ _. after-guard _ _ _ λ _. after-guard _ _ _ λ free.
-      leaves (step-room p m (sent mail) e (mail .channel ∷ []) (admit t c (mail .channel) small free rm) (processAt c p .taken) (suc (processAt c p .events)) 0 _
+      leaves (step-room p m (sent mail) e (mail .channel ∷ []) (admit t c (mail .channel) small free rm) _ _ _ _
       (λ k. let j = flight-join k (c .outboxes) (processAt c p .board) (message mail) in omega arith))
 
   outcome-room : (p : ℕ) (o : Outcome) → localStep (codeOf t p) (processAt c p .machine) ≡ o → Leaves (Room t []) (stepFrom t c p (processAt c p) o)
   unfolding stepFrom
   outcome-room p halted e = unmoved
   outcome-room p noMail e = unmoved
-  outcome-room p (moved m internal) e = leaves (stays p m internal e (processAt c p .taken) (processAt c p .events) (processAt c p .suppress))
+  outcome-room p (moved m internal) e = leaves (stays p m internal e _ _ _)
   outcome-room p (moved m (took mail)) e =
       after-guard _ _ _ λ _.
-      leaves (stays p m (took mail) e (oneMore t p mail (processAt c p .taken)) (suc (processAt c p .events)) (processAt c p .suppress))
+      leaves (stays p m (took mail) e _ _ _)
   outcome-room p (moved m (sent mail)) e = send-room p m mail e (processAt c p .suppress)
 
   pub step-keeps : (p : ℕ) → Leaves (Room t []) (step t c p)

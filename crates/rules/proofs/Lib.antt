@@ -22,6 +22,8 @@ pub mod Crashed
 pub mod Keep
 pub mod Sizes
 pub mod Saved
+pub mod KeepRoom
+pub mod Bounded
 -- Tables and runs in bytes.
 pub mod Valid
 pub mod ReadBack

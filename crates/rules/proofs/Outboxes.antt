@@ -1,20 +1,20 @@
 -- No outbox is longer than document 01's limit, in any state: each move keeps it.
 -- Assumes nothing.
-use mathlib.Core.Path.{_≡_, refl, ap, sym, _∙_, subst}
-use mathlib.Core.Bool.{Bool, true, false}
+use mathlib.Core.Path.{_≡_, refl, ap}
+use mathlib.Core.Bool.{false}
 use mathlib.Core.List.{List, [], _∷_, _++_}
-use Prim.Native.Nat.{ℕ, zero, suc, _+_, _≤_, _<_}
+use Prim.Native.Nat.{ℕ, zero, suc, _≤_}
 use native.Mathlib.Omega.{arith}
 use lib.Dec.{leb}
-use lib.ListN.{length, getD, set, replicate, length-append}
+use lib.ListN.{length, getD, set, length-append}
 use lib.Seq.{getD-set-same, getD-set-other, set-out}
 use borrow.Author.Tests.{leb-false}
 use Rattle.facts.specs.Tests.{by-eq, by-lt}
 use Rattle.facts.specs.Indexing.{getD-replicate-any}
 use Rattle.rules.specs.Table.{Table, codeOf}
-use Rattle.rules.specs.Machine.{Mail, Machine, Act, internal, took, sent, Outcome, halted, noMail, moved, localStep}
-use Rattle.rules.specs.Cabinet.{outboxMost, Process, Item, message, checkpoint, Cabinet, processAt, outboxAt, started}
-use Rattle.rules.specs.Moves.{Command, Result, guard, send, stepFrom, step, issue, transmitItem, transmitOldest, transmit, deliver, inject, crash, turn, runFrom}
+use Rattle.rules.specs.Machine.{Mail, Machine, internal, took, sent, Outcome, halted, noMail, moved, localStep}
+use Rattle.rules.specs.Cabinet.{outboxMost, Item, message, checkpoint, Cabinet, processAt, outboxAt, started}
+use Rattle.rules.specs.Moves.{Command, send, stepFrom, step, issue, transmitItem, transmitOldest, transmit, deliver, inject, crash, turn, runFrom}
 use Rattle.rules.specs.Bounds.{OutboxBounds}
 use Rattle.rules.proofs.Guards.{Leaves, unmoved, leaves, after-guard, after-turn}
 

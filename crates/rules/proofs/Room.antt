@@ -2,22 +2,21 @@
 -- Assumes nothing.
 use mathlib.Core.Logic.{_≢_}
 use mathlib.Core.Path.{_≡_, refl, ap, sym, _∙_, subst}
-use mathlib.Core.Bool.{Bool, true, false, not, cond, _&&_}
+use mathlib.Core.Bool.{true, false}
 use mathlib.Core.Option.{Option, none, some}
 use mathlib.Core.List.{List, [], _∷_, _++_}
-use Prim.Native.Nat.{ℕ, zero, suc, _+_, _*_, _≤_, _<_}
+use Prim.Native.Nat.{ℕ, _+_, _*_, _≤_, _<_}
 use native.Mathlib.Omega.{arith}
-use lib.Dec.{eqb, leb}
-use lib.ListN.{length, getD, set, length-set}
-use lib.Seq.{getD-set-same, getD-set-other, set-out}
+use lib.ListN.{length, set, length-set}
+use lib.Seq.{getD-set-same, getD-set-other}
 use borrow.Author.Tests.{ne-eqb, leb-false}
-use Rattle.facts.specs.Tests.{by-eq, by-lt}
+use Rattle.facts.specs.Tests.{by-eq}
 use Rattle.facts.specs.Counts.{same, occurs, same-yes, same-no}
 use Rattle.backup.specs.Replica.{Replica, Reply, arrive}
 use Rattle.rules.specs.Table.{Table, environment, channelAt, portOf}
-use Rattle.rules.specs.Machine.{Mail, Machine, delivered}
+use Rattle.rules.specs.Machine.{Mail, delivered}
 use Rattle.rules.specs.Cabinet.{eventsMost, occupancyMost, Standby, Process, Item, Cabinet, nobody, processAt, protected, isSome, unreadOn, inFlight, occupancy, full}
-use Rattle.rules.specs.Moves.{withProcess, onReplica, receive, deliver}
+use Rattle.rules.specs.Moves.{onReplica, receive, deliver}
 use Rattle.rules.proofs.Counting.{unread-append}
 
 -- ---- what holds of each process

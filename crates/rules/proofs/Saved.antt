@@ -1,11 +1,9 @@
 -- While a process is protected, the saved words less those taken since the backup's state are its inbox, and its takes are few.
 -- Assumes nothing.
-use mathlib.Core.Logic.{_≢_}
-use mathlib.Core.Path.{_≡_, refl, ap, sym, _∙_, subst}
+use mathlib.Core.Path.{_≡_, refl, ap, sym, _∙_}
 use mathlib.Core.Bool.{Bool, true, false, cond}
-use mathlib.Core.Option.{Option, none, some}
-use mathlib.Core.List.{List, [], _∷_, _++_, map}
-use Prim.Native.Nat.{ℕ, zero, suc, _+_, _≤_, _<_}
+use mathlib.Core.List.{List, [], _∷_, map}
+use Prim.Native.Nat.{ℕ, suc, _≤_}
 use native.Mathlib.Omega.{arith}
 use lib.Dec.{eqb}
 use lib.ListN.{length, getD, set}
@@ -13,10 +11,10 @@ use lib.Seq.{getD-set-same, getD-set-other, set-out}
 use borrow.Author.Tests.{eq-eqb}
 use Rattle.facts.specs.Tests.{by-eq, by-lt}
 use Rattle.backup.specs.Limits.{ports}
-use Rattle.backup.specs.Replica.{Message, Replica, takenOn, remaining}
+use Rattle.backup.specs.Replica.{Message, takenOn, remaining}
 use Rattle.rules.specs.Table.{Table, codeOf, inputs, portOf}
-use Rattle.rules.specs.Machine.{Mail, Machine, Act, internal, took, sent}
-use Rattle.rules.specs.Cabinet.{eventsMost, Standby, Process, Item, message, checkpoint, noTakes}
+use Rattle.rules.specs.Machine.{Machine, Act, internal, took, sent}
+use Rattle.rules.specs.Cabinet.{Process, Item, message, checkpoint, noTakes}
 use Rattle.rules.specs.Bounds.{mails, issuedTakes}
 use Rattle.rules.proofs.Runs.{Run, here, more, _then_, tally, busy}
 use Rattle.rules.proofs.Ahead.{Ahead, level, silent, sending, issuing, taken-at, checkpoints}

@@ -1,21 +1,20 @@
 -- What the room gives: how long an inbox and a log are at most, and room in the log for each word that is about to arrive.
 -- Assumes nothing.
 use mathlib.Core.Logic.{_≢_}
-use mathlib.Core.Path.{_≡_, refl, ap, sym, _∙_, subst}
-use mathlib.Core.Bool.{Bool, true, false, cond}
-use mathlib.Core.Option.{Option, none, some}
+use mathlib.Core.Path.{_≡_, refl, ap, sym, _∙_}
+use mathlib.Core.Bool.{true}
+use mathlib.Core.Option.{none, some}
 use mathlib.Core.List.{List, [], _∷_, _++_, map}
-use Prim.Native.Nat.{ℕ, zero, suc, _+_, _*_, _≤_, _<_, max}
+use Prim.Native.Nat.{ℕ, _+_, _*_, _≤_, _<_, max}
 use native.Mathlib.Omega.{arith}
-use lib.ListN.{length, getD, set, length-append, length-map, List·getD-eq-default}
+use lib.ListN.{length, length-append, length-map, List·getD-eq-default}
 use Rattle.facts.specs.Tests.{no-way, by-eq, by-lt}
-use Rattle.facts.specs.Counts.{total, total-append, total-occurs, total-most, same, occurs, same-yes, same-no, length-by-counts}
-use Rattle.backup.specs.Limits.{logMost, ports}
-use Rattle.backup.specs.Replica.{Replica}
+use Rattle.facts.specs.Counts.{total, total-append, total-occurs, total-most, same, occurs, same-no, length-by-counts}
+use Rattle.backup.specs.Limits.{logMost}
 use Rattle.rules.specs.Table.{Table, environment, channelAt, inputs, channelOn}
-use Rattle.rules.specs.Machine.{Mail, Machine}
+use Rattle.rules.specs.Machine.{Mail}
 use Rattle.rules.specs.Reference.{Reference}
-use Rattle.rules.specs.Cabinet.{eventsMost, occupancyMost, Standby, Process, Item, message, Cabinet, nobody, processAt, outboxAt, protected, isSome, unreadOn, inFlight, occupancy, full}
+use Rattle.rules.specs.Cabinet.{eventsMost, occupancyMost, Standby, Process, message, Cabinet, nobody, processAt, protected, isSome, unreadOn, inFlight, occupancy}
 use Rattle.rules.specs.Judge.{Accepted}
 use Rattle.rules.proofs.Tables.{few-ports}
 use Rattle.rules.proofs.Good.{good-small}
@@ -66,10 +65,13 @@ module _ (t : Table) (ok : Accepted t) (pending : List ℕ) (c : Cabinet) (p : �
       omega arith
 
   -- over its channels
-  pub occupied-few : total (λ k. max (unreadOn k (processAt c p .machine .mailbox) + inFlight k (c .outboxes)) occupancyMost) (inputs t p) ≤ logMost
+  pub occupied-few : total (λ k. max (occupancy t c k) occupancyMost) (inputs t p) ≤ logMost
+  unfolding occupancy
   occupied-few =
-      let a = total-most (λ k. max (unreadOn k (processAt c p .machine .mailbox) + inFlight k (c .outboxes)) occupancyMost) (λ k. occurs k (r .again)) occupancyMost (inputs t p)
-      (λ i h. let g = r .room (channelOn t p i) (input-reader t p i h) in omega arith) in
+      let each : (i : ℕ) → i < length (inputs t p)
+      → max (occupancy t c (channelOn t p i)) occupancyMost ≤ occupancyMost + occurs (channelOn t p i) (r .again) =
+      λ i h. (let reads = input-reader t p i h in let g = r .room (channelOn t p i) reads in rw reads (omega arith)) in
+      let a = total-most (λ k. max (occupancy t c k) occupancyMost) (λ k. occurs k (r .again)) occupancyMost (inputs t p) each in
       let b = total-occurs (inputs t p) (r .again) (inputs-once t p) in
       let d = few-ports t ok p hp in
       let e = r .few in

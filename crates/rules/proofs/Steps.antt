@@ -1,15 +1,16 @@
 -- One local step of one machine: an arrival disturbs no step that was possible before it, a step takes the oldest word on a channel
 -- that it wants, and a machine does one thing.
 -- Assumes nothing.
-use mathlib.Core.Path.{_≡_, refl, ap, sym, _∙_, subst}
+use mathlib.Core.Path.{_≡_, refl, ap, sym, subst}
 use mathlib.Core.Bool.{Bool, true, false, cond}
 use mathlib.Core.List.{List, [], _∷_, _++_}
-use Prim.Native.Nat.{ℕ, zero, suc, _+_, _≤_, _<_}
+use Prim.Native.Nat.{ℕ, suc, _+_, _<_}
 use native.Mathlib.Omega.{arith}
 use lib.Dec.{eqb, ltb}
 use lib.ListN.{length, getD}
-use borrow.Author.Tests.{ltb-true, eq-eqb, ne-eqb, eqb-true, eqb-false}
+use borrow.Author.Tests.{ltb-true, eqb-true, eqb-false}
 use Rattle.facts.specs.Tests.{no-way}
+use Rattle.facts.specs.Counts.{total, total-ones}
 use Rattle.rules.specs.Table.{Instruction, SET, ADD, TAKE, FIRST, SEND, JUMP}
 use Rattle.rules.specs.Machine.{Mail, Machine, Act, internal, took, sent, Outcome, halted, noMail, moved, Pull, nothing, found, behind, pull, bit, take1, first1, execute, localStep, delivered}
 
@@ -162,16 +163,22 @@ pull-oldest wanted (z ∷ l) x rest e =
 pub pulled-oldest : {x : Mail} {l rest : List Mail} → Pulled x l rest → rest ≡ dropOldest (x .channel) l
 pulled-oldest {x} {l} {rest} h = sym (pull-oldest (h .wanted) l x rest (h .is))
 
--- one word fewer
-pull-length : (wanted : ℕ → Bool) (l : List Mail) (x : Mail) (rest : List Mail) → pull wanted l ≡ found x rest → length l ≡ suc (length rest)
-pull-length wanted [] x rest e = absurd (no-way (cc))
-pull-length wanted (z ∷ l) x rest e = go (wanted (z .channel)) (pull wanted l) (pull-length wanted l) e
-  where
-    go : (b : Bool) (p : Pull) → ((v : Mail) (vs : List Mail) → p ≡ found v vs → length l ≡ suc (length vs)) → cond b (found z l) (behind z p) ≡ found x rest
-        → suc (length l) ≡ suc (length rest)
-    go true p ih g = let same : l ≡ rest = cc in ap (λ (r : List Mail). suc (length r)) same
-    go false nothing ih g = absurd (no-way (cc))
-    go false (found v vs) ih g = let same : z ∷ vs ≡ rest = cc in ap suc (ih v vs refl ∙ ap length same)
+-- one word fewer, whatever a word weighs
+module _ (w : Mail → ℕ) where
+  pull-total : (wanted : ℕ → Bool) (l : List Mail) (x : Mail) (rest : List Mail) → pull wanted l ≡ found x rest → total w l ≡ total w rest + w x
+  pull-total wanted [] x rest e = absurd (no-way (cc))
+  pull-total wanted (z ∷ l) x rest e = go (wanted (z .channel)) (pull wanted l) (pull-total wanted l) e
+    where
+      go : (b : Bool) (p : Pull) → ((v : Mail) (vs : List Mail) → p ≡ found v vs → total w l ≡ total w vs + w v) → cond b (found z l) (behind z p) ≡ found x rest
+          → w z + total w l ≡ total w rest + w x
+      go true p ih g = let a : w z ≡ w x = cc in let b : total w l ≡ total w rest = cc in omega arith
+      go false nothing ih g = absurd (no-way (cc))
+      go false (found v vs) ih g =
+          let a : w v ≡ w x = cc in let b : total w (z ∷ vs) ≡ total w rest = cc in let h = ih v vs refl in omega arith
+
+  pub pulled-total : {x : Mail} {l rest : List Mail} → Pulled x l rest → total w l ≡ total w rest + w x
+  pulled-total {x} {l} {rest} h = pull-total (h .wanted) l x rest (h .is)
 
 pub pulled-length : {x : Mail} {l rest : List Mail} → Pulled x l rest → length l ≡ suc (length rest)
-pulled-length {x} {l} {rest} h = pull-length (h .wanted) l x rest (h .is)
+pulled-length {l = l} {rest = rest} h =
+    let a = pulled-total (λ _. 1) h in let b = total-ones l in let c = total-ones rest in omega arith

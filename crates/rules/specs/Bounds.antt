@@ -3,18 +3,18 @@
 -- Definitions only; proofs/Bounded.antt proves them.
 -- Assumes nothing.
 use mathlib.Core.Path.{_≡_}
-use mathlib.Core.Bool.{Bool, true, false, cond}
-use mathlib.Core.Option.{Option, none, some}
+use mathlib.Core.Bool.{false, cond}
+use mathlib.Core.Option.{some}
 use mathlib.Core.List.{List, [], _∷_, map}
-use Prim.Native.Nat.{ℕ, _+_, _≤_, max}
+use Prim.Native.Nat.{ℕ, _≤_, max}
 use lib.Dec.{eqb}
 use lib.ListN.{length}
 use Rattle.facts.specs.Counts.{total}
 use Rattle.backup.specs.Limits.{logMost}
-use Rattle.backup.specs.Replica.{Message, Replica, Checkpoint, FailOver, counted, takenOn, remaining, arriveNumber, countNumber, syncNumber, failOver}
+use Rattle.backup.specs.Replica.{Message, Checkpoint, counted, takenOn, remaining, arriveNumber, countNumber, syncNumber, failOver}
 use Rattle.rules.specs.Table.{Table, environment, channelAt, codeOf, inputs, portOf, channelOn}
-use Rattle.rules.specs.Machine.{Mail, Machine}
-use Rattle.rules.specs.Cabinet.{outboxMost, eventsMost, occupancyMost, Standby, Process, Item, message, checkpoint, Cabinet, noTakes, processAt, outboxAt, occupancy, full}
+use Rattle.rules.specs.Machine.{Mail}
+use Rattle.rules.specs.Cabinet.{outboxMost, eventsMost, occupancyMost, Standby, Item, message, checkpoint, Cabinet, noTakes, processAt, outboxAt, occupancy, full}
 
 -- saved words as an inbox: "the saved words as inbox"
 abbrev pub mails : Table → ℕ → List Message → List Mail

@@ -1,0 +1,116 @@
+-- The bounds of one state, from the invariant and the room.
+-- Assumes nothing.
+use mathlib.Core.Path.{_≡_, refl, ap, _∙_, subst}
+use mathlib.Core.Bool.{Bool, true, false, cond}
+use mathlib.Core.Option.{some}
+use mathlib.Core.List.{List, [], _∷_, _++_}
+use Prim.Native.Nat.{ℕ, _≤_, _<_}
+use native.Mathlib.Omega.{arith}
+use lib.Dec.{eqb}
+use lib.ListN.{length}
+use Rattle.facts.specs.Counts.{occurs}
+use Rattle.backup.specs.Limits.{logMost, sentMost}
+use Rattle.backup.specs.Replica.{Checkpoint, FailOver, counted, takenOn, remaining, arriveNumber, syncNumber}
+use Rattle.rules.specs.Table.{Table, channelAt, codeOf, portOf}
+use Rattle.rules.specs.Machine.{Machine}
+use Rattle.rules.specs.Reference.{Reference}
+use Rattle.rules.specs.Cabinet.{eventsMost, Standby, Process, Item, checkpoint, Cabinet, processAt, outboxAt, isSome, occupancy}
+use Rattle.rules.specs.Judge.{Accepted}
+use Rattle.rules.specs.Bounds.{mails, issuedTakes, BackupBounds, Bounds}
+use Rattle.rules.proofs.Runs.{_then_, tally}
+use Rattle.rules.proofs.Ahead.{Ahead, UpToIssue, up-to-issue}
+use Rattle.rules.proofs.Tables.{few-ports}
+use Rattle.rules.proofs.Good.{stateOf, Good, backed, alone, late, Backed, Kept, good-backed, good-span, good-small, backed-sent, good-kept, good-suppress}
+use Rattle.rules.proofs.Backups.{run-low, arrive-number, count-number, counted-kept, sync-number, takes-over}
+use Rattle.rules.proofs.Invariant.{Invariant, mine, mine-same, machineAt, owner}
+use Rattle.rules.proofs.Room.{Room}
+use Rattle.rules.proofs.Sizes.{mailbox-short, occupied-few, roomy}
+use Rattle.rules.proofs.Saved.{tally-busy, backed-saved}
+
+module _ (t : Table) (ok : Accepted t) (c : Cabinet) (s : Reference) (inv : Invariant t c s) (rm : Room t [] c) (p : ℕ) (hp : p < length (c .processes)) where
+  in-table : p < length (t .processes)
+  in-table = rw (inv .all-processes) at hp
+
+  -- ---- the backup
+
+  -- a checkpoint that is the oldest of p's own items finds what it says was taken
+  oldest-syncs : {items q : List Item} {y : Process} {m : Machine} {x : Checkpoint} (h : Backed t p items y m)
+      → UpToIssue t p (h .before) m (checkpoint p x) q (h .since) (y .machine) → syncNumber (h .standby .replica) x ≡ 0
+  oldest-syncs {x = x} h v =
+      let same : x ≡ record { pc = v .mid .pc; registers = v .mid .registers; taken = tally t p (h .before ++ v .acts) } = (let a = v .is-snapshot in cc) in
+      let few : h .standby .replica .sent < sentMost = (let a = backed-sent h in omega arith) in
+      sync-number t ok p in-table (h .standby .replica) (h .kept) few (h .replay .ran then v .to-mid) x
+      (ap (λ (z : Checkpoint). z .pc) same) (ap (λ (z : Checkpoint). z .registers) same) (ap (λ (z : Checkpoint). z .taken) same)
+
+  module _ (b : Standby) (e : processAt c p .standby ≡ some b) where
+    few-sent : b .replica .sent ≤ eventsMost
+    few-sent = good-small (inv .good p hp) e .few-sent
+
+    kept : Kept t p (b .replica)
+    kept = good-kept (inv .good p hp) e
+
+    below : b .replica .sent < sentMost
+    below = let a = few-sent in omega arith
+
+    -- what the invariant says of the backup of p
+    by-backed : (P : Standby → Type 0) → ((h : Backed t p (mine t p (outboxAt c (processAt c p .board))) (processAt c p) (machineAt s p)) → P (h .standby)) → P b
+    by-backed P f = good-backed P (inv .good p hp) e f
+
+    -- room in the log, also where it has counted a word of its own
+    arrives-there : (k : ℕ) → channelAt t k .reader ≡ p → length (b .replica .log) < logMost → (own : Bool)
+        → arriveNumber (cond own (counted (b .replica)) (b .replica)) (portOf t p k) ≡ 0
+    arrives-there k reads room true =
+        arrive-number t ok p in-table (counted (b .replica)) (counted-kept t ok p in-table (b .replica) kept below) (let a = few-sent in omega arith)
+        (record { channel = k; word = 0 }) reads room
+    arrives-there k reads room false = arrive-number t ok p in-table (b .replica) kept below (record { channel = k; word = 0 }) reads room
+
+    -- it is the reader's backup
+    of-reader : (k : ℕ) → channelAt t k .reader ≡ p → processAt c (channelAt t k .reader) .standby ≡ some b
+    of-reader k reads = ap (λ (j : ℕ). processAt c j .standby) reads ∙ e
+
+    syncs-there : (d : ℕ) (x : Checkpoint) (rest : List Item) → outboxAt c d ≡ checkpoint p x ∷ rest → syncNumber (b .replica) x ≡ 0
+    syncs-there d x rest oldest =
+        let o = owner t c s d (checkpoint p x) rest inv oldest in
+        let items : mine t p (outboxAt c (processAt c p .board)) ≡ checkpoint p x ∷ mine t p rest =
+        ap (λ (j : ℕ). mine t p (outboxAt c j)) (o .runs) ∙ ap (mine t p) oldest ∙ mine-same t p (checkpoint p x) rest refl in
+        by-backed (λ y. syncNumber (y .replica) x ≡ 0)
+        (λ h. oldest-syncs h (up-to-issue (subst (λ (q : List Item). Ahead t p (h .before) (machineAt s p) q (h .since) (processAt c p .machine)) items (h .ahead))))
+
+    backup-bounds : BackupBounds t c p b
+    unfolding occupancy
+    backup-bounds =
+        record {
+          log = kept .short;
+          sent = few-sent;
+          events = by-backed (λ _. processAt c p .events ≤ eventsMost) (λ h. let a = h .is-events in let d = h .few in omega arith);
+          taken = λ port. by-backed (λ _. takenOn (processAt c p .taken) port ≤ eventsMost)
+              (λ h. let a = tally-busy t p (h .since) port in let d = h .few in rw (h .is-taken) (omega arith));
+          occupied = λ k reads. rw reads (let a = rm p hp .room k reads in let z : occurs k (rm p hp .again) ≡ 0 = ap (occurs k) (rm p hp .none-yet (ap isSome e)) in omega arith);
+          saved = by-backed
+              (λ y. mails t p (remaining (processAt c p .taken) (remaining (issuedTakes p (outboxAt c (processAt c p .board))) (y .replica .log))) ≡ processAt c p .machine .mailbox)
+              (backed-saved t p (few-ports t ok p in-table) (outboxAt c (processAt c p .board)));
+          counts = λ d x rest oldest own. count-number t ok p in-table (b .replica) kept below;
+          arrives = λ d x rest oldest reads.
+              arrives-there (x .channel) reads (roomy t ok c s inv rm .for-oldest d x rest oldest b (of-reader (x .channel) reads)) (eqb (channelAt t (x .channel) .sender) p);
+          feeds = λ k outside reads free. arrives-there k reads (roomy t ok c s inv rm .for-feed k outside free b (of-reader k reads)) false;
+          syncs = syncs-there;
+          promotes = ap (λ (f : FailOver). f .number) (takes-over t ok p in-table (b .replica) kept below);
+        }
+
+  -- ---- the process
+
+  low : {items : List Item} {x : Process} {m : Machine} → Good t p items x m → x .machine .pc ≤ length (codeOf t p)
+  unfolding stateOf
+  low (backed h) = run-low t ok p in-table (good-span (backed h) (h .is-standby) .ran) (h .kept .low)
+  low (alone h) = h .low
+  low (late h) = h .low
+
+  pub bounds : Bounds t c p
+  bounds =
+      record {
+        pc = low (inv .good p hp);
+        mailbox = mailbox-short t ok [] c p in-table (rm p hp);
+        suppress = good-suppress (inv .good p hp);
+        occupied = occupied-few t ok [] c p in-table (rm p hp);
+        backup = backup-bounds;
+      }
