@@ -2,23 +2,21 @@
 -- Assumes nothing.
 use mathlib.Core.Path.{_≡_, refl, ap, sym, _∙_}
 use mathlib.Core.Bool.{Bool, true, false, cond}
-use mathlib.Core.List.{List, [], _∷_, _++_, map}
-use Prim.Native.Nat.{ℕ, zero, suc, _+_, _*_}
-use native.Mathlib.Omega.{arith}
+use mathlib.Core.List.{List, [], _∷_}
+use Prim.Native.Nat.{ℕ, suc, _*_, _≤_}
 use lib.Dec.{eqb, leb}
-use lib.ListN.{length, drop, length-map}
-use borrow.Author.Tests.{eqb-true, eqb-false}
+use lib.ListN.{length, length-map}
+use borrow.Author.Tests.{eqb-true, eqb-false, leb-true}
 use Rattle.rules.specs.Table.{Table}
 use Rattle.rules.specs.Cabinet.{Cabinet, started, quiescent}
-use Rattle.rules.specs.Moves.{Command, Numbers, numbers, Answer, turn, runFrom}
+use Rattle.rules.specs.Moves.{Command, numbers, turn, runFrom}
 use Rattle.rules.specs.Judge.{Accepted}
-use Rattle.rules.specs.Transparent.{answered, finished, traceOf, fedOf, Transparent}
-use Rattle.rules.specs.Bytes.{allBytes}
+use Rattle.rules.specs.Transparent.{answered, finished, Transparent}
 use Rattle.rules.specs.Format.{orNumber, processesIn, decodeTable, validateTable}
 use Rattle.rules.specs.Schedule.{commandsIn, decodeSchedule, validateSchedule}
-use Rattle.rules.specs.Run.{Ran, answerBytes, validateRun, ranFrom, refusedWith, run, accepted}
+use Rattle.rules.specs.Run.{validateRun, ranFrom, refusedWith, run, accepted}
 use Rattle.rules.specs.Transparency.{answersIn, FailureTransparency}
-use Rattle.rules.proofs.Valid.{decoded-accepted}
+use Rattle.rules.proofs.Valid.{test-passed, further-passed, decoded-accepted}
 use Rattle.rules.proofs.ReadBack.{answers-back}
 
 -- ---- accepted is the number 0, of all twelve
@@ -47,7 +45,7 @@ unfolding runFrom
 one-answer-each t c [] = refl
 one-answer-each t c (r ∷ rs) = ap suc (one-answer-each t (turn t c r .cabinet) rs)
 
-answered-length : (t : Table) (commands : List Command) → length (answered t commands) ≡ length commands
+pub answered-length : (t : Table) (commands : List Command) → length (answered t commands) ≡ length commands
 answered-length t commands = length-map (runFrom t (started t) commands .answers) numbers ∙ one-answer-each t (started t) commands
 
 module _ (table schedule answers report : List ℕ) (h : accepted table schedule answers report ≡ true) where
@@ -69,6 +67,21 @@ module _ (table schedule answers report : List ℕ) (h : accepted table schedule
   pub schedule-valid : validateSchedule schedule ≡ 0
   unfolding validateRun
   schedule-valid = number-passed (validateSchedule schedule) _ (number-passed (validateTable table) _ run-valid .1) .0
+
+  -- what numbers 11 and 12 ask
+  buffers-fit : (6 * commandsIn schedule ≤ length answers) × (20 * processesIn table ≤ length report)
+  unfolding validateRun
+  buffers-fit =
+      let eleven = leb (6 * commandsIn schedule) (length answers) in
+      let twelve = leb (20 * processesIn table) (length report) in
+      let both = number-passed (validateSchedule schedule) _ (number-passed (validateTable table) _ run-valid .1) .1 in
+      (leb-true (6 * commandsIn schedule) (length answers) (test-passed eleven 10 _ both), leb-true (20 * processesIn table) (length report) (test-passed twelve 11 _ (further-passed eleven 10 _ both)))
+
+  pub answers-fit : 6 * commandsIn schedule ≤ length answers
+  answers-fit = buffers-fit .0
+
+  pub report-fits : 20 * processesIn table ≤ length report
+  report-fits = buffers-fit .1
 
   -- ---- the answers, read out of the buffer
 

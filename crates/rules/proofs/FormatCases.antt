@@ -2,10 +2,10 @@
 -- Assumes nothing.
 use mathlib.Core.Path.{_≡_, refl}
 use mathlib.Core.List.{List, [], _∷_, _++_, map}
-use Prim.Native.Nat.{ℕ, zero, suc}
+use Prim.Native.Nat.{ℕ}
 use lib.ListN.{replicate}
-use Rattle.backup.specs.Replica.{fit, arriveNumber, countNumber, syncNumber}
-use Rattle.rules.specs.Table.{Channel, Instruction, SET, ADD, TAKE, FIRST, SEND, JUMP, Placement}
+use Rattle.backup.specs.Replica.{fit, arriveNumber}
+use Rattle.rules.specs.Table.{Channel, Instruction, SET, ADD, TAKE, FIRST, SEND, JUMP}
 use Rattle.rules.specs.Moves.{guard}
 use Rattle.rules.specs.Run.{run}
 use Rattle.rules.proofs.Cases.{times, withLength, channel, placement, cabinet, tableBytes, Case, case, given, said}

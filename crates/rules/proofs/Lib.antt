@@ -32,7 +32,10 @@ pub mod Bounded
 pub mod Valid
 pub mod ReadBack
 pub mod AcceptedRun
+pub mod Buffers
+-- Cases, computed: M1 to M13, then those that only a case can tell.
 pub mod Cases
 pub mod Marked
 pub mod MoveCases
 pub mod FormatCases
+pub mod ReferenceCases

@@ -1,12 +1,12 @@
 -- Document 01's marked cases M1 to M13 as one computed table: bytes in, numbers out.
 -- Assumes nothing.
 use mathlib.Core.Path.{_≡_, refl}
-use mathlib.Core.Bool.{Bool, true, false}
+use mathlib.Core.Bool.{true}
 use mathlib.Core.List.{List, [], _∷_, _++_, map}
-use Prim.Native.Nat.{ℕ, zero, suc, _*_}
-use lib.ListN.{length, replicate, set}
+use Prim.Native.Nat.{ℕ}
+use lib.ListN.{replicate, set}
 use Rattle.backup.specs.Replica.{Message, Replica, Checkpoint, noRegisters, fit, arriveNumber, countNumber, syncNumber, sync}
-use Rattle.rules.specs.Table.{SET, ADD, TAKE, FIRST, SEND, JUMP}
+use Rattle.rules.specs.Table.{SET, ADD}
 use Rattle.rules.specs.Moves.{guard, Command}
 use Rattle.rules.specs.Run.{run, accepted}
 use Rattle.rules.proofs.Cases.{step, carry, feed, crash, times, scheduleBytes, channel, placement, cabinet, tableBytes, numberOf, codesOf, reportOf, pageOf, Case, case, given, said}

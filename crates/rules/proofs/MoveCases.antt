@@ -2,9 +2,9 @@
 -- Assumes nothing.
 use mathlib.Core.Path.{_≡_, refl}
 use mathlib.Core.List.{List, [], _∷_, _++_}
-use Prim.Native.Nat.{ℕ, zero, suc}
+use Prim.Native.Nat.{ℕ}
 use Rattle.backup.specs.Replica.{fit, arriveNumber, countNumber, syncNumber}
-use Rattle.rules.specs.Table.{SET, ADD, TAKE, FIRST, SEND, JUMP}
+use Rattle.rules.specs.Table.{SET, TAKE, FIRST, SEND, JUMP}
 use Rattle.rules.specs.Moves.{guard, Command}
 use Rattle.rules.specs.Schedule.{command}
 use Rattle.rules.specs.Run.{run}

@@ -1,12 +1,12 @@
 -- The answers that a run writes, read out of its buffer again, are the answers.
 -- Assumes nothing.
-use mathlib.Core.Path.{_≡_, refl, ap, sym, _∙_}
-use mathlib.Core.List.{List, [], _∷_, _++_, append-assoc, map}
-use Prim.Native.Nat.{ℕ, zero, suc, _+_, _*_, _/_, _%_, _^_}
+use mathlib.Core.Path.{_≡_, refl}
+use mathlib.Core.List.{List, [], _∷_, _++_}
+use Prim.Native.Nat.{ℕ, _/_, _%_, _^_}
 use native.Mathlib.Omega.{arith}
-use lib.ListN.{length, drop}
-use Rattle.rules.specs.Moves.{Numbers, numbered}
-use Rattle.rules.specs.Bytes.{number32, sixes, wordBytes, allBytes, written}
+use lib.ListN.{length}
+use Rattle.rules.specs.Moves.{Numbers}
+use Rattle.rules.specs.Bytes.{number32, allBytes}
 use Rattle.rules.specs.Run.{answerBytes}
 use Rattle.rules.specs.Transparency.{readAnswers}
 

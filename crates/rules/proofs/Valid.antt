@@ -1,9 +1,9 @@
 -- A table that passes numbers 1 to 8 is one of which `Accepted` holds.
 -- Assumes nothing.
-use mathlib.Core.Path.{_≡_, refl, ap, sym, _∙_}
-use mathlib.Core.Bool.{Bool, true, false, cond, _&&_}
-use mathlib.Core.List.{List, [], _∷_, map}
-use Prim.Native.Nat.{ℕ, zero, suc, _+_, _≤_, _<_}
+use mathlib.Core.Path.{_≡_, refl, ap, _∙_}
+use mathlib.Core.Bool.{Bool, true, false, _&&_}
+use mathlib.Core.List.{List, map}
+use Prim.Native.Nat.{ℕ, zero, suc, _≤_, _<_}
 use native.Mathlib.Omega.{arith}
 use native.Mathlib.Nat.{not-suc-le-zero, le-of-suc-le-suc}
 use lib.Dec.{eqb, leb}
@@ -11,9 +11,9 @@ use lib.ListN.{length, getD, drop, length-map}
 use borrow.Author.Tests.{leb-true}
 use Rattle.facts.specs.Tests.{and-left, and-right}
 use Rattle.backup.specs.Limits.{pcMost}
-use Rattle.rules.specs.Table.{Channel, Placement, Table, placementAt, codeOf}
+use Rattle.rules.specs.Table.{Placement, codeOf}
 use Rattle.rules.specs.Judge.{endsOk, inputsOk, boardsOk, instructionsOk, Accepted}
-use Rattle.rules.specs.Bytes.{byteAt, sixes}
+use Rattle.rules.specs.Bytes.{sixes}
 use Rattle.rules.specs.Format.{boardsIn, processesIn, channelsIn, versionIn, pairs, recordsStart, recordBytes, programLength, recordLength, rests, placementIn, instruction, decodeTable, orNumber, lengthOk, countsOk, recordsOk, extentOk, codesOk, validateTable}
 
 -- ---- one test of a list of them

@@ -1,15 +1,15 @@
 -- A whole run, from the bytes of a table and a schedule and the two lent buffers to the numbers that it returns and the buffers afterwards
 -- (document 01, "What each move replies").
 -- Assumes nothing.
-use mathlib.Core.Bool.{Bool, true, false, cond}
-use mathlib.Core.List.{List, [], _∷_, _++_, map}
-use Prim.Native.Nat.{ℕ, zero, suc, _+_, _*_}
+use mathlib.Core.Bool.{Bool, false, cond}
+use mathlib.Core.List.{List, _∷_, _++_, map}
+use Prim.Native.Nat.{ℕ, _*_}
 use lib.Dec.{eqb, leb}
 use lib.ListN.{length}
 use Rattle.rules.specs.Table.{Table}
 use Rattle.rules.specs.Machine.{register}
-use Rattle.rules.specs.Cabinet.{Process, Cabinet, started, quiescent}
-use Rattle.rules.specs.Moves.{Command, Numbers, numbers, Outcomes, runFrom}
+use Rattle.rules.specs.Cabinet.{Process, started, quiescent}
+use Rattle.rules.specs.Moves.{Command, Numbers, numbers, runFrom}
 use Rattle.rules.specs.Bytes.{wordBytes, allBytes, written}
 use Rattle.rules.specs.Format.{processesIn, orNumber, decodeTable, validateTable}
 use Rattle.rules.specs.Schedule.{commandsIn, decodeSchedule, validateSchedule}

@@ -1,11 +1,11 @@
 -- A schedule in bytes: its commands, and the number that refuses it (document 01, "The cabinet's moves" and "What each move replies").
 -- Assumes nothing.
-use mathlib.Core.Bool.{Bool, true, false, cond, _&&_}
-use mathlib.Core.List.{List, [], _∷_}
-use Prim.Native.Nat.{ℕ, zero, suc, _+_, _-_, _*_, _/_}
+use mathlib.Core.Bool.{Bool, _&&_}
+use mathlib.Core.List.{List}
+use Prim.Native.Nat.{ℕ, _+_, _-_, _*_, _/_}
 use lib.Dec.{eqb, leb}
 use lib.ListN.{length, drop}
-use Rattle.rules.specs.Bytes.{byteAt, sixes}
+use Rattle.rules.specs.Bytes.{sixes}
 use Rattle.rules.specs.Format.{lengthField, versionIn, orNumber}
 use Rattle.rules.specs.Moves.{Command}
 

@@ -2,11 +2,10 @@
 -- "Demand 3 speaks of that list as a whole, in one theorem, and not of each move by itself."
 -- Assumes nothing.
 use mathlib.Core.Path.{_≡_}
-use mathlib.Core.Bool.{Bool, true}
-use mathlib.Core.Option.{Option, none, some}
+use mathlib.Core.Bool.{true}
+use mathlib.Core.Option.{none, some}
 use mathlib.Core.List.{List, map}
 use Prim.Native.Nat.{ℕ}
-use Rattle.rules.specs.Machine.{Machine}
 use Rattle.rules.specs.Reference.{Reference, Action, step, referenceStart, referenceRun, act, injections}
 use Rattle.rules.specs.Cabinet.{Process}
 use Rattle.rules.specs.Moves.{Numbers, numbered}

@@ -2,16 +2,16 @@
 -- Transparency says the same of the bytes of a run.
 -- Assumes nothing.
 use mathlib.Core.Path.{_≡_}
-use mathlib.Core.Bool.{Bool, true, false, cond, _&&_}
-use mathlib.Core.Option.{Option, none, some}
+use mathlib.Core.Bool.{true, cond, _&&_}
+use mathlib.Core.Option.{none, some}
 use mathlib.Core.List.{List, [], _∷_, map}
 use Prim.Native.Nat.{ℕ}
 use lib.Dec.{eqb}
 use Rattle.rules.specs.Table.{Table}
-use Rattle.rules.specs.Machine.{Mail, Machine}
+use Rattle.rules.specs.Machine.{Mail}
 use Rattle.rules.specs.Reference.{Reference, Action, step, referenceStart, referenceRun, act, injections}
 use Rattle.rules.specs.Cabinet.{Process, Cabinet, started, quiescent}
-use Rattle.rules.specs.Moves.{Command, Numbers, numbers, Outcomes, runFrom}
+use Rattle.rules.specs.Moves.{Command, Numbers, numbers, runFrom}
 
 -- "The bus order is the answers 4, each as its channel and word, in the order of their records."
 unfoldable pub traceOf : List Numbers → List Mail

@@ -1,0 +1,34 @@
+-- The plain cabinet on the sample, computed: it runs, it gives the sample page's bus order and last line, and it refuses.
+-- Assumes nothing.
+use mathlib.Core.Path.{_≡_, refl}
+use mathlib.Core.Option.{Option, none, some}
+use mathlib.Core.List.{List, [], _∷_, _++_, map}
+use Prim.Native.Nat.{ℕ}
+use lib.ListN.{replicate}
+use Rattle.rules.specs.Machine.{Mail}
+use Rattle.rules.specs.Reference.{Reference, Action, inject, step, referenceStart, referenceRun}
+use Rattle.rules.specs.Format.{decodeTable}
+use Rattle.rules.proofs.Marked.{sample}
+
+abbrev mail : ℕ → ℕ → Mail
+mail channel word = record { channel = channel; word = word }
+
+abbrev plainRun : List Action → Option Reference
+plainRun l = referenceRun (decodeTable sample) (referenceStart (decodeTable sample)) l
+
+-- the page's two feeds and eight steps
+abbrev plainPage : List Action
+plainPage = inject (mail 0 5) ∷ inject (mail 0 7) ∷ replicate 8 (step 0)
+
+abbrev plainEnd : Reference
+plainEnd = record {
+  machines = record { registers = 7 ∷ 12 ∷ 0 ∷ 0 ∷ []; pc = 0; mailbox = [] } ∷ [];
+  trace = mail 0 5 ∷ mail 0 7 ∷ mail 1 5 ∷ mail 1 12 ∷ [];
+}
+
+-- that run; one more step, for which there is no word; a step of no process; feeds of a channel whose sender is a process, and of none
+pub plain-page : map plainRun
+    (plainPage ∷ (plainPage ++ (step 0 ∷ [])) ∷ (step 1 ∷ []) ∷ (inject (mail 1 5) ∷ []) ∷ (inject (mail 2 5) ∷ []) ∷ [])
+    ≡ some plainEnd ∷ none ∷ none ∷ none ∷ none ∷ []
+unfolding referenceRun referenceStart decodeTable
+plain-page = refl
