@@ -41,6 +41,10 @@ pub record Follows (t : Table) (c : Cabinet) (s : Reference) (trace fed : List M
 abbrev pub traced1 : Answer → List Mail
 traced1 a = traceOf (numbers a ∷ [])
 
+-- the feed of a word, where it was accepted
+abbrev pub fed1 : Mail → Answer → List Mail
+fed1 mail a = cond (eqb (numbers a .code) 4) (mail ∷ []) []
+
 -- one after another
 pub follows-then : {t : Table} {c d : Cabinet} {s : Reference} {tr fd tr′ fd′ : List Mail} (f : Follows t c s tr fd) → Follows t d (f .end) tr′ fd′
     → Follows t d s (tr ++ tr′) (fd ++ fd′)

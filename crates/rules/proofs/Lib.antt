@@ -28,6 +28,11 @@ pub mod Saved
 pub mod Flight
 pub mod KeepRoom
 pub mod Bounded
+-- Demand 3: one command and any list, the start, a quiet end, the theorem.
+pub mod Turn
+pub mod Start
+pub mod Quiet
+pub mod Transparency
 -- Tables and runs in bytes.
 pub mod Valid
 pub mod ReadBack

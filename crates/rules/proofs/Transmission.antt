@@ -27,7 +27,7 @@ use Rattle.rules.proofs.Invariant.{ownerOf, mine, machineAt, Invariant,
 use Rattle.rules.proofs.Frame.{SameSeat, called-board, change, deliver-keeps, leave-others, leave-own}
 use Rattle.rules.proofs.References.{run-append, run-one, injections-append, steps, injections-steps, act-sent, put-put, put-get, put-length, run-silent}
 use Rattle.rules.proofs.Guards.{Yields, unmoved, leaves, after-guard}
-use Rattle.rules.proofs.Follow.{Follows, traced1}
+use Rattle.rules.proofs.Follow.{Follows, traced1, fed1}
 
 -- a count leaves the log, so that the room stays
 count-log : (r : Replica) → count r .replica .log ≡ r .log
@@ -167,7 +167,7 @@ module _ {t : Table} (ok : Accepted t) {c : Cabinet} {s : Reference} (inv : Inva
 
   -- ---- feed
 
-  pub follow-inject : (mail : Mail) → mail .channel < length (t .channels) → Yields (λ d a. Follows t d s (traced1 a) (traced1 a)) (inject t c mail)
+  pub follow-inject : (mail : Mail) → mail .channel < length (t .channels) → Yields (λ d a. Follows t d s (traced1 a) (fed1 mail a)) (inject t c mail)
   unfolding inject numbers traceOf act posted injections
   follow-inject mail h =
       after-guard _ _ _ λ outside. after-guard _ _ _ λ free.
