@@ -21,7 +21,7 @@ use Rattle.rules.specs.Judge.{Accepted}
 use Rattle.rules.specs.Transparent.{traceOf}
 use Rattle.rules.proofs.Good.{Good}
 use Rattle.rules.proofs.GoodMoves.{good-promoted, good-unprotected}
-use Rattle.rules.proofs.Invariant.{mine, machineAt, Live, Seated, Invariant}
+use Rattle.rules.proofs.Invariant.{mine, machineAt, Live, Seated, Invariant, in-table}
 use Rattle.rules.proofs.Crashed.{crash-length, crash-at}
 use Rattle.rules.proofs.Guards.{Yields, leaves, after-guard}
 use Rattle.rules.proofs.Follow.{Follows, stay, traced1}
@@ -107,11 +107,11 @@ module _ {t : Table} (ok : Accepted t) {c : Cabinet} {s : Reference} (inv : Inva
   unfolding unprotected
   good-then p hp (taken-over k e here) =
       subst (λ (l : List Item). Good t p l (promoted t p k) (machineAt s p)) (sym (lost p (promoted t p k .board) here))
-      (good-promoted ok (rw (inv .all-processes) at hp) (inv .good p hp) e)
+      (good-promoted ok (in-table inv hp) (inv .good p hp) e)
   good-then p hp (bared k e n) =
       subst (λ (l : List Item). Good t p l (unprotected (processAt c p)) (machineAt s p))
       (sym (ap (mine t p) (same-outbox (processAt c p .board) n)))
-      (good-unprotected ok (rw (inv .all-processes) at hp) (inv .good p hp) e)
+      (good-unprotected ok (in-table inv hp) (inv .good p hp) e)
   good-then p hp (spared n m) =
       subst (λ (l : List Item). Good t p l (processAt c p) (machineAt s p)) (sym (ap (mine t p) (same-outbox (processAt c p .board) n))) (inv .good p hp)
 

@@ -23,7 +23,7 @@ use Rattle.rules.proofs.Tables.{step-own}
 use Rattle.rules.proofs.Ahead.{checkpoints}
 use Rattle.rules.proofs.Good.{Good}
 use Rattle.rules.proofs.GoodMoves.{good-silent, good-suppressed, good-send, good-issued}
-use Rattle.rules.proofs.Invariant.{ownerOf, mine, machineAt, Invariant}
+use Rattle.rules.proofs.Invariant.{ownerOf, mine, machineAt, Invariant, in-table, its-outbox}
 use Rattle.rules.proofs.Frame.{SameSeat, same-boards, change, join-others, join-own}
 use Rattle.rules.proofs.References.{run-append, injections-append}
 use Rattle.rules.proofs.Guards.{Yields, unmoved, leaves, after-guard}
@@ -86,12 +86,6 @@ none-waits t p (checkpoint r s ∷ q) h = go (eqb p r) (none-waits t p q) h
 -- ---- one process steps, or issues a checkpoint
 
 module _ {t : Table} (ok : Accepted t) {c : Cabinet} {s : Reference} (inv : Invariant t c s) (p : ℕ) (hp : p < length (c .processes)) where
-  in-table : p < length (t .processes)
-  in-table = rw (inv .all-processes) at hp
-
-  its-outbox : processAt c p .board < length (c .outboxes)
-  its-outbox = rw (inv .all-outboxes) (inv .seated p hp .at .there)
-
   -- its own items aside, nothing else changes
   wait : (y : Process) (qs : List (List Item)) → SameSeat y (processAt c p) → length qs ≡ length (c .outboxes)
       → ((b j : ℕ) → (j ≡ p → b ≡ processAt c p .board → ⊥) → mine t j (getD qs b []) ≡ mine t j (outboxAt c b))
@@ -110,9 +104,9 @@ module _ {t : Table} (ok : Accepted t) {c : Cabinet} {s : Reference} (inv : Inva
       let B : ℕ = processAt c p .board in
       let q : List Item = outboxAt c B ++ (item ∷ []) in
       wait y (set (c .outboxes) B q) seat (length-set (c .outboxes) B q)
-      (λ b j n. join-others t (c .outboxes) B its-outbox item b j (λ e f. n (e ∙ is-own) f))
+      (λ b j n. join-others t (c .outboxes) B (its-outbox inv hp) item b j (λ e f. n (e ∙ is-own) f))
       (subst (λ (l : List Item). Good t p l y (machineAt s p))
-      (sym (subst (λ (o : ℕ). mine t o (getD (set (c .outboxes) B q) B []) ≡ mine t o (outboxAt c B) ++ (item ∷ [])) is-own (join-own t (c .outboxes) B its-outbox item)))
+      (sym (subst (λ (o : ℕ). mine t o (getD (set (c .outboxes) B q) B []) ≡ mine t o (outboxAt c B) ++ (item ∷ [])) is-own (join-own t (c .outboxes) B (its-outbox inv hp) item)))
       good)
 
   -- ---- step
@@ -122,12 +116,12 @@ module _ {t : Table} (ok : Accepted t) {c : Cabinet} {s : Reference} (inv : Inva
   unfolding send numbers traceOf advanced
   follow-send m mail (suc h) z e =
       leaves (wait (advanced m (processAt c p .taken) (processAt c p .events) h (processAt c p)) (c .outboxes) (same-boards refl refl) refl (λ b j n. refl)
-      (good-suppressed ok in-table (inv .good p hp) z e))
+      (good-suppressed ok (in-table inv hp) (inv .good p hp) z e))
   follow-send m mail zero z e =
       after-guard _ _ _ λ limit. after-guard _ _ _ λ _. after-guard _ _ _ λ _.
       leaves (wait-joined (advanced m (processAt c p .taken) (suc (processAt c p .events)) 0 (processAt c p)) (message mail) (same-boards refl refl)
-      (step-own t ok p in-table e)
-      (good-send ok in-table (inv .good p hp) z e (not-exhausted (processAt c p) limit)))
+      (step-own t ok p (in-table inv hp) e)
+      (good-send ok (in-table inv hp) (inv .good p hp) z e (not-exhausted (processAt c p) limit)))
 
   follow-outcome : (o : Outcome) → localStep (codeOf t p) (processAt c p .machine) ≡ o
       → Yields (λ d a. Follows t d s (traced1 a) []) (stepFrom t c p (processAt c p) o)
@@ -136,11 +130,11 @@ module _ {t : Table} (ok : Accepted t) {c : Cabinet} {s : Reference} (inv : Inva
   follow-outcome noMail e = unmoved
   follow-outcome (moved m internal) e =
       leaves (wait (advanced m (processAt c p .taken) (processAt c p .events) (processAt c p .suppress) (processAt c p)) (c .outboxes) (same-boards refl refl) refl (λ b j n. refl)
-      (good-silent ok in-table {k = internal} (processAt c p .events) (inv .good p hp) (record { is = e }) refl (omega arith) (λ _ h. h)))
+      (good-silent ok (in-table inv hp) {k = internal} (processAt c p .events) (inv .good p hp) (record { is = e }) refl (omega arith) (λ _ h. h)))
   follow-outcome (moved m (took mail)) e =
       after-guard _ _ _ λ limit.
       leaves (wait (advanced m (oneMore t p mail (processAt c p .taken)) (suc (processAt c p .events)) (processAt c p .suppress) (processAt c p)) (c .outboxes) (same-boards refl refl) refl (λ b j n. refl)
-      (good-silent ok in-table {k = took mail} (suc (processAt c p .events)) (inv .good p hp) (record { is = e }) refl (omega arith) (λ safe _. not-exhausted (processAt c p) limit safe)))
+      (good-silent ok (in-table inv hp) {k = took mail} (suc (processAt c p .events)) (inv .good p hp) (record { is = e }) refl (omega arith) (λ safe _. not-exhausted (processAt c p) limit safe)))
   follow-outcome (moved m (sent mail)) e = follow-send m mail (processAt c p .suppress) refl (record { is = e })
 
   pub follow-step : Yields (λ d a. Follows t d s (traced1 a) []) (step t c p)
@@ -154,4 +148,4 @@ module _ {t : Table} (ok : Accepted t) {c : Cabinet} {s : Reference} (inv : Inva
   follow-issue =
       after-guard _ _ _ λ safe. after-guard _ _ _ λ none-there. after-guard _ _ _ λ _.
       leaves (wait-joined (issued (processAt c p)) (checkpoint p (snapshot (processAt c p))) (same-boards refl refl) refl
-      (good-issued ok in-table (inv .good p hp) (not-false _ safe) (none-waits t p (outboxAt c (processAt c p .board)) none-there)))
+      (good-issued ok (in-table inv hp) (inv .good p hp) (not-false _ safe) (none-waits t p (outboxAt c (processAt c p .board)) none-there)))

@@ -20,7 +20,7 @@ use Rattle.rules.specs.Moves.{onReplica, receive, deliver}
 use Rattle.rules.specs.Judge.{Accepted}
 use Rattle.rules.proofs.Good.{Good}
 use Rattle.rules.proofs.GoodMoves.{good-receive}
-use Rattle.rules.proofs.Invariant.{ownerOf, mine, mine-same, mine-other, mine-append, machineAt, Live, Seated, Invariant, RoomFor}
+use Rattle.rules.proofs.Invariant.{ownerOf, mine, mine-same, mine-other, mine-append, machineAt, Live, Seated, Invariant, in-table, in-reference, RoomFor}
 
 -- ---- the boards of a process
 
@@ -83,7 +83,7 @@ module _ {t : Table} {c : Cabinet} {s : Reference} (inv : Invariant t c s) (p : 
       (good-x : Good t p (mine t p (getD qs (processAt c p .board) [])) x m) where
     good-p : Good t p (mine t p (getD qs (getD (set (c .processes) p x) p nobody .board) [])) (getD (set (c .processes) p x) p nobody) (getD (set (s .machines) p m) p booted)
     good-p =
-        rw (getD-set-same (s .machines) p m booted (rw (inv .same-number) at hp), at-p)
+        rw (getD-set-same (s .machines) p m booted (in-reference inv hp), at-p)
         (subst (λ (b : ℕ). Good t p (mine t p (getD qs b [])) x m) (sym (seat .board)) good-x)
 
     good-j : (j : ℕ) → j < length (c .processes) → j ≢ p
@@ -120,7 +120,7 @@ deliver-keeps {t} {c} {s} mail ok inv room =
     by-lt r (length (c .processes))
     (λ h. change inv r h (receive t r mail x) (record { board = refl; standby = called-board (λ k. arrive k (portOf t r (mail .channel)) (mail .word)) (x .standby) })
     (delivered mail (machineAt s r)) (c .outboxes) (λ b j n. refl)
-    (good-receive ok (rw (inv .all-processes) at h) mail refl room (inv .good r h)) (s .trace ++ (mail ∷ [])) refl)
+    (good-receive ok (in-table inv h) mail refl room (inv .good r h)) (s .trace ++ (mail ∷ [])) refl)
     (λ h. rw (set-out (c .processes) r (receive t r mail x) h, set-out (s .machines) r (delivered mail (machineAt s r)) (omega (arith, inv .same-number)))
     (record {
       same-number = inv .same-number;

@@ -72,6 +72,17 @@ pub record Invariant (t : Table) (c : Cabinet) (s : Reference) : Type 0 where
   -- until a board crashes every process has a backup
   pub unharmed : ((b : ℕ) → deadAt c b ≡ false) → (p : ℕ) → p < length (c .processes) → protected (processAt c p) ≡ true
 
+-- a process of the cabinet is one of the table and of the reference, and its board has an outbox
+module _ {t : Table} {c : Cabinet} {s : Reference} (inv : Invariant t c s) {p : ℕ} (hp : p < length (c .processes)) where
+  pub in-table : p < length (t .processes)
+  in-table = rw (inv .all-processes) at hp
+
+  pub in-reference : p < length (s .machines)
+  in-reference = rw (inv .same-number) at hp
+
+  pub its-outbox : processAt c p .board < length (c .outboxes)
+  its-outbox = rw (inv .all-outboxes) (inv .seated p hp .at .there)
+
 -- ---- room in the log for a word that is about to arrive: what the bounds supply
 
 abbrev pub RoomFor : Table → Cabinet → ℕ → Type 0
