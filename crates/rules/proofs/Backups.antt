@@ -1,18 +1,18 @@
 -- Inside the cabinet no call of a backup is refused: each does what its name says.
 -- Assumes nothing.
-use mathlib.Core.Path.{_≡_, refl, ap, sym, _∙_, subst}
+use mathlib.Core.Path.{_≡_, refl, ap, sym, _∙_}
 use mathlib.Core.Bool.{true}
 use mathlib.Core.Option.{Option, some}
 use mathlib.Core.List.{List, [], _∷_, _++_, map, map-append}
-use Prim.Native.Nat.{ℕ, zero, suc, _+_, _≤_, _<_}
+use Prim.Native.Nat.{ℕ, _≤_, _<_}
 use native.Mathlib.Omega.{arith}
 use lib.ListN.{length, length-append}
 use borrow.Author.Tests.{lt-ltb, le-ltb, lt-leb}
 use Rattle.backup.specs.Limits.{logMost, ports, sentMost, pcMost}
-use Rattle.backup.specs.Replica.{Message, Replica, Checkpoint, Reply, FailOver, onPorts, fit, arrived, arriveNumber, arrive, counted, countNumber, count, synced, syncNumber, sync, failOver, remaining}
+use Rattle.backup.specs.Replica.{Message, Replica, Checkpoint, Reply, onPorts, fit, arrived, arriveNumber, arrive, counted, countNumber, count, synced, syncNumber, sync, failOver, remaining}
 use Rattle.backup.specs.Laws.{shorter}
-use Rattle.backup.specs.Accepts.{Fit, parts-fit, not-lacking, fail-over-accepted}
-use Rattle.rules.specs.Table.{Table, channelAt, codeOf, inputs, portOf, channelOn}
+use Rattle.backup.specs.Accepts.{parts-fit, not-lacking, fail-over-accepted}
+use Rattle.rules.specs.Table.{Table, channelAt, codeOf, inputs, portOf}
 use Rattle.rules.specs.Machine.{Mail, Machine, Act, delivered}
 use Rattle.rules.specs.Cabinet.{Standby}
 use Rattle.rules.specs.Moves.{onReplica, recovered}

@@ -4,19 +4,17 @@ use mathlib.Core.Logic.{_≢_}
 use mathlib.Core.Path.{_≡_, refl, ap, sym, _∙_, subst}
 use mathlib.Core.Bool.{Bool, true, false, not, cond, _&&_}
 use mathlib.Core.Option.{Option, none, some}
-use mathlib.Core.List.{List, [], _∷_, _++_}
-use Prim.Native.Nat.{ℕ, zero, suc, _≤_, _<_}
-use native.Mathlib.Omega.{arith}
+use mathlib.Core.List.{List, [], _∷_}
+use Prim.Native.Nat.{ℕ, zero, suc, _<_}
 use lib.Dec.{eqb}
 use lib.ListN.{length, getD, set, length-set, List·getD-eq-default}
 use lib.Seq.{getD-set-same, getD-set-other}
 use borrow.Author.Tests.{eqb-true, eqb-false, ne-eqb}
 use Rattle.facts.specs.Tests.{no-way, by-eq, by-lt, none-below}
 use Rattle.rules.specs.Table.{Table}
-use Rattle.rules.specs.Machine.{Machine}
 use Rattle.rules.specs.Reference.{Reference}
-use Rattle.rules.specs.Cabinet.{Standby, Process, Item, Cabinet, nobody, processAt, outboxAt, deadAt, isSome, protected}
-use Rattle.rules.specs.Moves.{done, numbers, promoted, unprotected, afterCrash, allAfterCrash, otherDead, crash}
+use Rattle.rules.specs.Cabinet.{Standby, Process, Item, Cabinet, processAt, outboxAt, deadAt, isSome, protected}
+use Rattle.rules.specs.Moves.{numbers, promoted, unprotected, afterCrash, allAfterCrash, otherDead, crash}
 use Rattle.rules.specs.Judge.{Accepted}
 use Rattle.rules.specs.Transparent.{traceOf}
 use Rattle.rules.proofs.Good.{Good}

@@ -4,7 +4,7 @@ use mathlib.Core.Path.{_≡_, refl, ap, sym, _∙_, subst}
 use mathlib.Core.Bool.{Bool, true, false, cond, _||_}
 use mathlib.Core.Option.{some}
 use mathlib.Core.List.{List, [], _∷_, _++_, append-assoc, append-nil}
-use Prim.Native.Nat.{ℕ, zero, suc, _+_, _≤_, _<_}
+use Prim.Native.Nat.{ℕ, zero, suc, _<_}
 use native.Mathlib.Omega.{arith}
 use lib.Dec.{eqb}
 use lib.ListN.{length, getD, set, length-set}
@@ -12,7 +12,7 @@ use lib.Seq.{set-getD}
 use borrow.Author.Tests.{leb-false, not-false}
 use Rattle.facts.specs.Tests.{no-way}
 use Rattle.rules.specs.Table.{Table, channelAt, codeOf}
-use Rattle.rules.specs.Machine.{Mail, Machine, booted, Act, internal, took, sent, Outcome, halted, noMail, moved, localStep}
+use Rattle.rules.specs.Machine.{Mail, Machine, booted, internal, took, sent, Outcome, halted, noMail, moved, localStep}
 use Rattle.rules.specs.Reference.{Reference, Action, referenceRun, injections}
 use Rattle.rules.specs.Cabinet.{eventsMost, Process, Item, message, checkpoint, Cabinet, processAt, outboxAt, protected, exhausted, waiting}
 use Rattle.rules.specs.Moves.{Answer, numbers, withProcess, withOutbox, advanced, send, stepFrom, step, oneMore, issued, snapshot, issue}

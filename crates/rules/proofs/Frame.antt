@@ -3,10 +3,10 @@
 -- Assumes nothing.
 use mathlib.Core.Logic.{_≢_}
 use mathlib.Core.Path.{_≡_, refl, ap, sym, _∙_, subst}
-use mathlib.Core.Bool.{Bool, true, false, cond}
+use mathlib.Core.Bool.{Bool}
 use mathlib.Core.Option.{Option, none, some}
 use mathlib.Core.List.{List, [], _∷_, _++_, append-nil}
-use Prim.Native.Nat.{ℕ, zero, suc, _≤_, _<_}
+use Prim.Native.Nat.{ℕ, _<_}
 use native.Mathlib.Omega.{arith}
 use lib.ListN.{length, getD, set, length-set}
 use lib.Seq.{getD-set-same, getD-set-other, set-out}
@@ -15,7 +15,7 @@ use Rattle.backup.specs.Replica.{Replica, Reply, arrive}
 use Rattle.rules.specs.Table.{Table, channelAt, portOf}
 use Rattle.rules.specs.Machine.{Mail, Machine, booted, delivered}
 use Rattle.rules.specs.Reference.{Reference, posted}
-use Rattle.rules.specs.Cabinet.{Standby, Process, Item, Cabinet, nobody, processAt, outboxAt, deadAt, isSome, protected}
+use Rattle.rules.specs.Cabinet.{Standby, Process, Item, Cabinet, nobody, processAt, outboxAt, isSome, protected}
 use Rattle.rules.specs.Moves.{onReplica, receive, deliver}
 use Rattle.rules.specs.Judge.{Accepted}
 use Rattle.rules.proofs.Good.{Good}

@@ -1,18 +1,17 @@
 -- What holds of the whole cabinet beside a reference machine, in every state that commands reach.
 -- Assumes nothing.
 use mathlib.Core.Logic.{_≢_}
-use mathlib.Core.Path.{_≡_, refl, ap, sym, _∙_, subst}
+use mathlib.Core.Path.{_≡_, refl}
 use mathlib.Core.Bool.{Bool, true, false, cond}
-use mathlib.Core.Option.{Option, none, some}
+use mathlib.Core.Option.{some}
 use mathlib.Core.List.{List, [], _∷_, _++_}
-use Prim.Native.Nat.{ℕ, zero, suc, _≤_, _<_}
+use Prim.Native.Nat.{ℕ, _<_}
 use native.Mathlib.Omega.{arith}
 use lib.Dec.{eqb}
 use lib.ListN.{length, getD}
 use borrow.Author.Tests.{eq-eqb, ne-eqb}
 use Rattle.facts.specs.Tests.{no-way, by-eq, by-lt}
 use Rattle.backup.specs.Limits.{logMost}
-use Rattle.backup.specs.Replica.{Replica}
 use Rattle.rules.specs.Table.{Table, environment, channelAt}
 use Rattle.rules.specs.Machine.{Mail, Machine, booted}
 use Rattle.rules.specs.Reference.{Reference}

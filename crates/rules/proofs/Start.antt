@@ -1,18 +1,18 @@
 -- The cabinet that the table gives has the invariant, beside the reference machine as it starts.
 -- Assumes nothing.
 use mathlib.Core.Path.{_≡_, refl, ap, sym, _∙_, subst}
-use mathlib.Core.Bool.{Bool, true, false}
+use mathlib.Core.Bool.{true, false}
 use mathlib.Core.Option.{some}
-use mathlib.Core.List.{List, [], _∷_, map}
-use Prim.Native.Nat.{ℕ, zero, suc, _≤_, _<_}
+use mathlib.Core.List.{[]}
+use Prim.Native.Nat.{ℕ, _<_}
 use native.Mathlib.Omega.{arith}
-use lib.ListN.{length, getD, length-map, length-replicate, replicate}
+use lib.ListN.{length, length-map, length-replicate, replicate}
 use Rattle.facts.specs.Indexing.{getD-map, getD-replicate-any}
 use Rattle.backup.specs.Replica.{initial}
 use Rattle.rules.specs.Table.{Table, Placement, placementAt}
-use Rattle.rules.specs.Machine.{Machine, booted}
-use Rattle.rules.specs.Reference.{Reference, referenceStart}
-use Rattle.rules.specs.Cabinet.{Standby, Process, Item, Cabinet, placed, started, nobody, processAt, outboxAt, isSome, protected}
+use Rattle.rules.specs.Machine.{booted}
+use Rattle.rules.specs.Reference.{referenceStart}
+use Rattle.rules.specs.Cabinet.{Standby, Process, placed, started, nobody, processAt, outboxAt, protected}
 use Rattle.rules.specs.Judge.{Accepted}
 use Rattle.rules.proofs.Runs.{here}
 use Rattle.rules.proofs.Ahead.{level}

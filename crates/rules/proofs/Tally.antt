@@ -5,7 +5,7 @@ use mathlib.Core.Logic.{_≢_}
 use mathlib.Core.Path.{_≡_, refl, ap, sym, _∙_, subst}
 use mathlib.Core.Bool.{Bool, true, false, cond}
 use mathlib.Core.List.{List, [], _∷_, _++_, map}
-use Prim.Native.Nat.{ℕ, zero, suc, _+_, _-_, _≤_, _<_}
+use Prim.Native.Nat.{ℕ, zero, suc, _-_, _≤_, _<_}
 use native.Mathlib.Omega.{arith}
 use lib.Dec.{eqb}
 use lib.ListN.{length, getD, set, length-set}
@@ -18,7 +18,7 @@ use Rattle.backup.specs.Laws.{stays, goes, by-taken, none-taken as nothing-drop
 use Rattle.rules.specs.Table.{Table, Instruction, inputs, portOf, channelOn}
 use Rattle.rules.specs.Machine.{Mail, Machine, Act, internal, took, sent, Pull, nothing, found, behind, pull}
 use Rattle.rules.specs.Cabinet.{noTakes}
-use Rattle.rules.proofs.Steps.{Steps, Pulled, step-left}
+use Rattle.rules.proofs.Steps.{Steps, step-left}
 use Rattle.rules.proofs.Runs.{Run, here, more, tally, tally1}
 use Rattle.rules.proofs.Tables.{port-of-channel}
 use Rattle.rules.proofs.Good.{mailOf, PortsBelow, no-ports, one-port}

@@ -1,12 +1,11 @@
 -- Transmission and feeds, followed by the reference machine: the steps that lead up to the item, or the same feed.
 -- Assumes nothing.
 use mathlib.Core.Path.{_≡_, refl, ap, sym, _∙_, subst}
-use mathlib.Core.Bool.{Bool, true, false, not, cond}
+use mathlib.Core.Bool.{Bool, true, false, cond}
 use mathlib.Core.Option.{Option, none, some}
 use mathlib.Core.List.{List, [], _∷_, _++_, append-nil}
-use Prim.Native.Nat.{ℕ, zero, suc, _≤_, _<_}
-use native.Mathlib.Omega.{arith}
-use lib.Dec.{eqb, ltb}
+use Prim.Native.Nat.{ℕ, zero, suc, _<_}
+use lib.Dec.{eqb}
 use lib.ListN.{length, getD, set, length-set}
 use lib.Seq.{getD-set-same, getD-set-other}
 use borrow.Author.Tests.{not-false, eqb-true, lt-ltb}
@@ -14,17 +13,17 @@ use Rattle.facts.specs.Tests.{no-way, by-eq}
 use Rattle.backup.specs.Limits.{logMost}
 use Rattle.backup.specs.Replica.{Replica, Checkpoint, answer, counted, countNumber, count, sync}
 use Rattle.rules.specs.Table.{Table, environment, channelAt, codeOf}
-use Rattle.rules.specs.Machine.{Mail, Machine, Act, sent}
-use Rattle.rules.specs.Reference.{Reference, Action, posted, withMachine, act, referenceRun, injections}
-use Rattle.rules.specs.Cabinet.{Standby, Process, Item, message, checkpoint, Cabinet, nobody, processAt, outboxAt, protected, full}
-use Rattle.rules.specs.Moves.{Answer, transmitted, syncKept, syncLost, numbers, accept, withProcess, withOutbox, onReplica, counts, keeps, deliver, transmitItem, transmitOldest, transmit, inject}
+use Rattle.rules.specs.Machine.{Mail, Machine, sent}
+use Rattle.rules.specs.Reference.{Reference, Action, posted, withMachine, act, injections}
+use Rattle.rules.specs.Cabinet.{Standby, Process, Item, message, checkpoint, Cabinet, nobody, processAt, outboxAt, protected}
+use Rattle.rules.specs.Moves.{syncKept, syncLost, numbers, accept, withProcess, withOutbox, onReplica, counts, keeps, deliver, transmitItem, transmitOldest, transmit, inject}
 use Rattle.rules.specs.Judge.{Accepted}
 use Rattle.rules.specs.Transparent.{traceOf}
 use Rattle.rules.proofs.Steps.{Steps}
 use Rattle.rules.proofs.Good.{Good}
 use Rattle.rules.proofs.GoodMoves.{Transmitted, Synced, good-counts, good-keeps}
 use Rattle.rules.proofs.Invariant.{ownerOf, mine, machineAt, Invariant, in-table, in-reference, its-outbox, RoomFor, Roomy, owner}
-use Rattle.rules.proofs.Frame.{SameSeat, called-board, change, deliver-keeps, leave-others, leave-own}
+use Rattle.rules.proofs.Frame.{called-board, change, deliver-keeps, leave-others, leave-own}
 use Rattle.rules.proofs.References.{run-append, run-one, injections-append, steps, injections-steps, act-sent, put-put, put-get, put-length, run-silent}
 use Rattle.rules.proofs.Guards.{Yields, unmoved, leaves, after-guard}
 use Rattle.rules.proofs.Follow.{Follows, traced1, fed1}

@@ -4,13 +4,12 @@
 -- Assumes nothing.
 use mathlib.Core.Path.{_≡_, refl, ap, _∙_}
 use mathlib.Core.Bool.{Bool, true, false}
-use mathlib.Core.Option.{some}
-use mathlib.Core.List.{List, [], _++_, append-nil}
+use mathlib.Core.List.{List, _++_, append-nil}
 use Rattle.facts.specs.Tests.{no-way}
 use Rattle.rules.specs.Table.{Table}
 use Rattle.rules.specs.Machine.{Mail}
-use Rattle.rules.specs.Reference.{Reference, referenceStart, injections}
-use Rattle.rules.specs.Cabinet.{Cabinet, started, quiescent}
+use Rattle.rules.specs.Reference.{referenceStart, injections}
+use Rattle.rules.specs.Cabinet.{started, quiescent}
 use Rattle.rules.specs.Moves.{Command}
 use Rattle.rules.specs.Judge.{Accepted}
 use Rattle.rules.specs.Transparent.{Transparent, traceOf, fedOf, answered, finished}

@@ -1,11 +1,10 @@
 -- One command, then any list of them, followed by the reference machine. The room for words that are about to arrive comes with it.
 -- Assumes nothing.
-use mathlib.Core.Path.{_≡_, refl, ap, ap₂, sym, _∙_, subst, subst₂}
+use mathlib.Core.Path.{_≡_, refl, sym, subst₂}
 use mathlib.Core.Bool.{Bool, true, false, cond, _&&_}
 use mathlib.Core.List.{List, [], _∷_, _++_, map}
-use Prim.Native.Nat.{ℕ, zero, suc, _<_}
+use Prim.Native.Nat.{ℕ}
 use lib.Dec.{eqb}
-use lib.ListN.{length}
 use Rattle.rules.specs.Table.{Table}
 use Rattle.rules.specs.Machine.{Mail}
 use Rattle.rules.specs.Reference.{Reference}
