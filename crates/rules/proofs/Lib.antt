@@ -17,22 +17,24 @@ pub mod Follow
 pub mod Transmission
 pub mod Crashed
 pub mod CrashKeeps
--- The bounds: read Counting, Room, Keep and Sizes in this order.
+-- The bounds of one state: read Counting, Room, Keep, Sizes and Bounded in this order.
 pub mod Outboxes
 pub mod Inputs
 pub mod Counting
 pub mod Room
 pub mod Keep
+pub mod KeepRoom
 pub mod Sizes
 pub mod Saved
 pub mod Flight
-pub mod KeepRoom
 pub mod Bounded
 -- Demand 3: one command and any list, the start, a quiet end, the theorem.
 pub mod Turn
 pub mod Start
 pub mod Quiet
 pub mod Transparency
+-- The bounds of every state that is reached.
+pub mod Reached
 -- Tables and runs in bytes.
 pub mod Valid
 pub mod ReadBack
