@@ -1,14 +1,14 @@
 -- Sums over lists, how often a number occurs in a list, and how long a list is at most by what occurs in it.
 -- Assumes nothing.
 use mathlib.Core.Logic.{_≢_}
-use mathlib.Core.Path.{_≡_, refl, sym, _∙_}
+use mathlib.Core.Path.{_≡_, refl, ap, sym, _∙_}
 use mathlib.Core.Bool.{Bool, true, false, cond}
 use mathlib.Core.List.{List, [], _∷_, _++_}
 use Prim.Native.Nat.{ℕ, zero, suc, _+_, _*_, _≤_, _<_}
 use native.Mathlib.Omega.{arith}
 use native.Mathlib.Nat.{le-of-suc-le-suc, not-suc-le-zero, mul-suc}
 use lib.Dec.{eqb}
-use lib.ListN.{length, getD, set, replicate}
+use lib.ListN.{length, getD, set, replicate, List·getD-eq-default}
 use borrow.Author.Tests.{eq-eqb, ne-eqb}
 use Rattle.facts.specs.Tests.{by-eq}
 
@@ -37,6 +37,13 @@ module _ {A : Type 0} (w : A → ℕ) where
   pub total-replicate : (n : ℕ) (x : A) → w x ≡ 0 → total w (replicate n x) ≡ 0
   total-replicate zero x h = refl
   total-replicate (suc n) x h = let m = total-replicate n x h in omega arith
+
+-- every element but the one at b weighs nothing
+pub total-one : {A : Type 0} (w : A → ℕ) (l : List A) (b : ℕ) (d : A) → w d ≡ 0 → ((j : ℕ) → j ≢ b → w (getD l j d) ≡ 0) → total w l ≡ w (getD l b d)
+total-one w [] b d z h = sym z
+total-one w (x ∷ l) zero d z h = let a = total-one w l (length l) d z (λ j _. h (suc j) (λ e. absurd (omega arith))) in let e = ap w (List·getD-eq-default l d {n = length l} (omega arith)) in omega arith
+total-one w (x ∷ l) (suc b) d z h =
+    let a = h zero (λ e. absurd (omega arith)) in let e = total-one w l b d z (λ j n. h (suc j) (λ f. n (omega arith))) in omega arith
 
 pub total-ones : {A : Type 0} (l : List A) → total (λ (_ : A). 1) l ≡ length l
 total-ones [] = refl

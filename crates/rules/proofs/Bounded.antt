@@ -80,6 +80,9 @@ module _ (t : Table) (ok : Accepted t) (c : Cabinet) (s : Reference) (inv : Inva
     unfolding occupancy
     backup-bounds =
         record {
+          board = inv .seated p hp .beside b e .there;
+          live = inv .seated p hp .beside b e .live;
+          apart = inv .seated p hp .apart b e;
           log = kept .short;
           sent = few-sent;
           events = by-backed (λ _. processAt c p .events ≤ eventsMost) (λ h. let a = h .is-events in let d = h .few in omega arith);
@@ -108,6 +111,8 @@ module _ (t : Table) (ok : Accepted t) (c : Cabinet) (s : Reference) (inv : Inva
   pub bounds : Bounds t c p
   bounds =
       record {
+        board = inv .seated p hp .at .there;
+        live = inv .seated p hp .at .live;
         pc = low (inv .good p hp);
         mailbox = mailbox-short t ok [] c p in-table (rm p hp);
         suppress = good-suppress (inv .good p hp);

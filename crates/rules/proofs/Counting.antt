@@ -46,7 +46,7 @@ queued-total : (k : ℕ) (q : List Item) → queuedOn k q ≡ total (weight k) q
 queued-total k [] = refl
 queued-total k (x ∷ q) = let a = cond-more (isOn k x) (queuedOn k q) in let b = queued-total k q in omega arith
 
-flight-total : (k : ℕ) (qs : List (List Item)) → inFlight k qs ≡ total (queuedOn k) qs
+pub flight-total : (k : ℕ) (qs : List (List Item)) → inFlight k qs ≡ total (queuedOn k) qs
 flight-total k [] = refl
 flight-total k (q ∷ qs) = let h = flight-total k qs in omega arith
 

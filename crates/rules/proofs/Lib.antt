@@ -10,20 +10,29 @@ pub mod Replays
 pub mod Backups
 pub mod GoodMoves
 pub mod Invariant
+pub mod Guards
 pub mod Frame
 pub mod References
+pub mod Follow
+pub mod Transmission
+pub mod Crashed
+pub mod CrashKeeps
 -- The bounds: read Counting, Room, Keep and Sizes in this order.
-pub mod Guards
 pub mod Outboxes
 pub mod Inputs
 pub mod Counting
 pub mod Room
-pub mod Crashed
 pub mod Keep
 pub mod Sizes
 pub mod Saved
+pub mod Flight
 pub mod KeepRoom
 pub mod Bounded
+-- Demand 3: one command and any list, the start, a quiet end, the theorem.
+pub mod Turn
+pub mod Start
+pub mod Quiet
+pub mod Transparency
 -- Tables and runs in bytes.
 pub mod Valid
 pub mod ReadBack

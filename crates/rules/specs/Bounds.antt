@@ -2,11 +2,12 @@
 -- never refuses there: what code with lists of fixed lengths rests on.
 -- Definitions only; proofs/Bounded.antt proves them.
 -- Assumes nothing.
+use mathlib.Core.Logic.{_≢_}
 use mathlib.Core.Path.{_≡_}
 use mathlib.Core.Bool.{false, cond}
 use mathlib.Core.Option.{some}
 use mathlib.Core.List.{List, [], _∷_, map}
-use Prim.Native.Nat.{ℕ, _≤_, max}
+use Prim.Native.Nat.{ℕ, _≤_, _<_, max}
 use lib.Dec.{eqb}
 use lib.ListN.{length}
 use Rattle.facts.specs.Counts.{total}
@@ -14,7 +15,7 @@ use Rattle.backup.specs.Limits.{logMost}
 use Rattle.backup.specs.Replica.{Message, Checkpoint, counted, takenOn, remaining, arriveNumber, countNumber, syncNumber, failOver}
 use Rattle.rules.specs.Table.{Table, environment, channelAt, codeOf, inputs, portOf, channelOn}
 use Rattle.rules.specs.Machine.{Mail}
-use Rattle.rules.specs.Cabinet.{outboxMost, eventsMost, occupancyMost, Standby, Item, message, checkpoint, Cabinet, noTakes, processAt, outboxAt, occupancy, full}
+use Rattle.rules.specs.Cabinet.{outboxMost, eventsMost, occupancyMost, Standby, Item, message, checkpoint, Cabinet, noTakes, processAt, outboxAt, deadAt, queuedOn, inFlight, occupancy, full}
 
 -- saved words as an inbox: "the saved words as inbox"
 abbrev pub mails : Table → ℕ → List Message → List Mail
@@ -28,6 +29,10 @@ issuedTakes p (checkpoint r s ∷ q) = cond (eqb p r) (s .taken) (issuedTakes p 
 
 -- The backup of process p, which is s, inside cabinet c.
 pub record BackupBounds (t : Table) (c : Cabinet) (p : ℕ) (s : Standby) : Type 0 where
+  -- it stands on a live board of the table, and not on the process's own
+  pub board : s .board < t .boards
+  pub live : deadAt c (s .board) ≡ false
+  pub apart : s .board ≢ processAt c p .board
   -- "Hence a saved list has at most 48 words"
   pub log : length (s .replica .log) ≤ logMost
   -- "and a count at most 16": it never passes the limit on acts, 8
@@ -54,6 +59,9 @@ pub record BackupBounds (t : Table) (c : Cabinet) (p : ℕ) (s : Standby) : Type
 
 -- Process p of cabinet c.
 pub record Bounds (t : Table) (c : Cabinet) (p : ℕ) : Type 0 where
+  -- it runs on a live board of the table
+  pub board : processAt c p .board < t .boards
+  pub live : deadAt c (processAt c p .board) ≡ false
   -- "Place n means halted."
   pub pc : processAt c p .machine .pc ≤ length (codeOf t p)
   -- "the saved words as inbox": it has no more words than a saved list
@@ -67,3 +75,8 @@ pub record Bounds (t : Table) (c : Cabinet) (p : ℕ) : Type 0 where
 -- "each board has one queue, at most 32 entries"
 abbrev pub OutboxBounds : Cabinet → Type 0
 OutboxBounds c = (b : ℕ) → length (outboxAt c b) ≤ outboxMost
+
+-- Channel k of cabinet c. "its unread words and those in the queues": those in the queues all wait in the queue of its sender's board.
+pub record ChannelBounds (t : Table) (c : Cabinet) (k : ℕ) : Type 0 where
+  pub queued : inFlight k (c .outboxes) ≡ queuedOn k (outboxAt c (processAt c (channelAt t k .sender) .board))
+  pub few : inFlight k (c .outboxes) ≤ outboxMost

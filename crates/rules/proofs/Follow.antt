@@ -1,0 +1,157 @@
+-- Each accepted move is followed by actions of the reference machine. Step and sync are followed by none: the reference machine waits.
+-- Assumes nothing.
+use mathlib.Core.Path.{_≡_, refl, ap, sym, _∙_, subst}
+use mathlib.Core.Bool.{Bool, true, false, cond, _||_}
+use mathlib.Core.Option.{some}
+use mathlib.Core.List.{List, [], _∷_, _++_, append-assoc, append-nil}
+use Prim.Native.Nat.{ℕ, zero, suc, _+_, _≤_, _<_}
+use native.Mathlib.Omega.{arith}
+use lib.Dec.{eqb}
+use lib.ListN.{length, getD, set, length-set}
+use lib.Seq.{set-getD}
+use borrow.Author.Tests.{leb-false, not-false}
+use Rattle.facts.specs.Tests.{no-way}
+use Rattle.rules.specs.Table.{Table, channelAt, codeOf}
+use Rattle.rules.specs.Machine.{Mail, Machine, booted, Act, internal, took, sent, Outcome, halted, noMail, moved, localStep}
+use Rattle.rules.specs.Reference.{Reference, Action, referenceRun, injections}
+use Rattle.rules.specs.Cabinet.{eventsMost, Process, Item, message, checkpoint, Cabinet, processAt, outboxAt, protected, exhausted, waiting}
+use Rattle.rules.specs.Moves.{Answer, numbers, withProcess, withOutbox, advanced, send, stepFrom, step, oneMore, issued, snapshot, issue}
+use Rattle.rules.specs.Judge.{Accepted}
+use Rattle.rules.specs.Transparent.{traceOf}
+use Rattle.rules.proofs.Steps.{Steps}
+use Rattle.rules.proofs.Tables.{step-own}
+use Rattle.rules.proofs.Ahead.{checkpoints}
+use Rattle.rules.proofs.Good.{Good}
+use Rattle.rules.proofs.GoodMoves.{good-silent, good-suppressed, good-send, good-issued}
+use Rattle.rules.proofs.Invariant.{ownerOf, mine, machineAt, Invariant}
+use Rattle.rules.proofs.Frame.{SameSeat, same-boards, change, join-others, join-own}
+use Rattle.rules.proofs.References.{run-append, injections-append}
+use Rattle.rules.proofs.Guards.{Yields, unmoved, leaves, after-guard}
+
+-- from s the reference machine can go on so that the invariant holds beside c, its trace has `trace` more, and its feeds are `fed`
+pub record Follows (t : Table) (c : Cabinet) (s : Reference) (trace fed : List Mail) : Type 0 where
+  pub actions : List Action
+  pub end : Reference
+  pub ran : referenceRun t s actions ≡ some end
+  pub invariant : Invariant t c end
+  pub traced : end .trace ≡ s .trace ++ trace
+  pub injected : injections actions ≡ fed
+
+-- the words that an answer puts into the trace
+abbrev pub traced1 : Answer → List Mail
+traced1 a = traceOf (numbers a ∷ [])
+
+-- the feed of a word, where it was accepted
+abbrev pub fed1 : Mail → Answer → List Mail
+fed1 mail a = cond (eqb (numbers a .code) 4) (mail ∷ []) []
+
+-- one after another
+pub follows-then : {t : Table} {c d : Cabinet} {s : Reference} {tr fd tr′ fd′ : List Mail} (f : Follows t c s tr fd) → Follows t d (f .end) tr′ fd′
+    → Follows t d s (tr ++ tr′) (fd ++ fd′)
+follows-then {t} {s = s} {tr = tr} {tr′ = tr′} f g =
+    record {
+      actions = f .actions ++ g .actions;
+      end = g .end;
+      ran = run-append t s (f .actions) (g .actions) (f .end) (f .ran) ∙ g .ran;
+      invariant = g .invariant;
+      traced = g .traced ∙ ap (λ (l : List Mail). l ++ tr′) (f .traced) ∙ append-assoc (s .trace) tr tr′;
+      injected = injections-append (f .actions) (g .actions) ∙ (let a = f .injected in let b = g .injected in cc);
+    }
+
+-- the reference machine waits
+pub stay : {t : Table} {c : Cabinet} {s : Reference} → Invariant t c s → Follows t c s [] []
+unfolding referenceRun injections
+stay {s = s} inv = record { actions = []; end = s; ran = refl; invariant = inv; traced = sym (append-nil (s .trace)); injected = refl }
+
+-- ---- what the checks say
+
+not-exhausted : (x : Process) → exhausted x ≡ false → protected x ≡ true → x .events < eventsMost
+unfolding exhausted
+not-exhausted x h safe = leb-false eventsMost (x .events) (rw safe at h)
+
+none-waits : (t : Table) (p : ℕ) (q : List Item) → waiting p q ≡ false → checkpoints (mine t p q) ≡ 0
+none-waits t p [] h = refl
+none-waits t p (message x ∷ q) h = go (eqb p (channelAt t (x .channel) .sender)) (none-waits t p q h)
+  where
+    go : (b : Bool) → checkpoints (mine t p q) ≡ 0 → checkpoints (cond b (message x ∷ mine t p q) (mine t p q)) ≡ 0
+    go true ih = ih
+    go false ih = ih
+none-waits t p (checkpoint r s ∷ q) h = go (eqb p r) (none-waits t p q) h
+  where
+    go : (b : Bool) → (waiting p q ≡ false → checkpoints (mine t p q) ≡ 0) → b || waiting p q ≡ false
+        → checkpoints (cond b (checkpoint r s ∷ mine t p q) (mine t p q)) ≡ 0
+    go true ih g = absurd (no-way (cc))
+    go false ih g = ih g
+
+-- ---- one process steps, or issues a checkpoint
+
+module _ {t : Table} (ok : Accepted t) {c : Cabinet} {s : Reference} (inv : Invariant t c s) (p : ℕ) (hp : p < length (c .processes)) where
+  in-table : p < length (t .processes)
+  in-table = rw (inv .all-processes) at hp
+
+  its-outbox : processAt c p .board < length (c .outboxes)
+  its-outbox = rw (inv .all-outboxes) (inv .seated p hp .at .there)
+
+  -- its own items aside, nothing else changes
+  wait : (y : Process) (qs : List (List Item)) → SameSeat y (processAt c p) → length qs ≡ length (c .outboxes)
+      → ((b j : ℕ) → (j ≡ p → b ≡ processAt c p .board → ⊥) → mine t j (getD qs b []) ≡ mine t j (outboxAt c b))
+      → Good t p (mine t p (getD qs (processAt c p .board) [])) y (machineAt s p)
+      → Follows t (record { processes = set (c .processes) p y; outboxes = qs; dead = c .dead }) s [] []
+  wait y qs seat same-length others good =
+      stay (subst (λ (l : List Machine). Invariant t (record { processes = set (c .processes) p y; outboxes = qs; dead = c .dead }) (record { machines = l; trace = s .trace }))
+      (set-getD (s .machines) p booted)
+      (change inv p hp y seat (machineAt s p) qs others good (s .trace) same-length))
+
+  -- an item of its own joins its board's outbox
+  wait-joined : (y : Process) (item : Item) → SameSeat y (processAt c p) → ownerOf t item ≡ p
+      → Good t p (mine t p (outboxAt c (processAt c p .board)) ++ (item ∷ [])) y (machineAt s p)
+      → Follows t (withProcess p y (withOutbox (processAt c p .board) (outboxAt c (processAt c p .board) ++ (item ∷ [])) c)) s [] []
+  wait-joined y item seat is-own good =
+      let B : ℕ = processAt c p .board in
+      let q : List Item = outboxAt c B ++ (item ∷ []) in
+      wait y (set (c .outboxes) B q) seat (length-set (c .outboxes) B q)
+      (λ b j n. join-others t (c .outboxes) B its-outbox item b j (λ e f. n (e ∙ is-own) f))
+      (subst (λ (l : List Item). Good t p l y (machineAt s p))
+      (sym (subst (λ (o : ℕ). mine t o (getD (set (c .outboxes) B q) B []) ≡ mine t o (outboxAt c B) ++ (item ∷ [])) is-own (join-own t (c .outboxes) B its-outbox item)))
+      good)
+
+  -- ---- step
+
+  follow-send : (m : Machine) (mail : Mail) (h : ℕ) → processAt c p .suppress ≡ h → Steps (codeOf t p) (processAt c p .machine) (sent mail) m
+      → Yields (λ d a. Follows t d s (traced1 a) []) (send t c p (processAt c p) m mail h)
+  unfolding send numbers traceOf advanced
+  follow-send m mail (suc h) z e =
+      leaves (wait (advanced m (processAt c p .taken) (processAt c p .events) h (processAt c p)) (c .outboxes) (same-boards refl refl) refl (λ b j n. refl)
+      (good-suppressed ok in-table (inv .good p hp) z e))
+  follow-send m mail zero z e =
+      after-guard _ _ _ λ limit. after-guard _ _ _ λ _. after-guard _ _ _ λ _.
+      leaves (wait-joined (advanced m (processAt c p .taken) (suc (processAt c p .events)) 0 (processAt c p)) (message mail) (same-boards refl refl)
+      (step-own t ok p in-table e)
+      (good-send ok in-table (inv .good p hp) z e (not-exhausted (processAt c p) limit)))
+
+  follow-outcome : (o : Outcome) → localStep (codeOf t p) (processAt c p .machine) ≡ o
+      → Yields (λ d a. Follows t d s (traced1 a) []) (stepFrom t c p (processAt c p) o)
+  unfolding stepFrom numbers traceOf advanced
+  follow-outcome halted e = unmoved
+  follow-outcome noMail e = unmoved
+  follow-outcome (moved m internal) e =
+      leaves (wait (advanced m (processAt c p .taken) (processAt c p .events) (processAt c p .suppress) (processAt c p)) (c .outboxes) (same-boards refl refl) refl (λ b j n. refl)
+      (good-silent ok in-table {k = internal} (processAt c p .events) (inv .good p hp) (record { is = e }) refl (omega arith) (λ _ h. h)))
+  follow-outcome (moved m (took mail)) e =
+      after-guard _ _ _ λ limit.
+      leaves (wait (advanced m (oneMore t p mail (processAt c p .taken)) (suc (processAt c p .events)) (processAt c p .suppress) (processAt c p)) (c .outboxes) (same-boards refl refl) refl (λ b j n. refl)
+      (good-silent ok in-table {k = took mail} (suc (processAt c p .events)) (inv .good p hp) (record { is = e }) refl (omega arith) (λ safe _. not-exhausted (processAt c p) limit safe)))
+  follow-outcome (moved m (sent mail)) e = follow-send m mail (processAt c p .suppress) refl (record { is = e })
+
+  pub follow-step : Yields (λ d a. Follows t d s (traced1 a) []) (step t c p)
+  unfolding step
+  follow-step = follow-outcome (localStep (codeOf t p) (processAt c p .machine)) refl
+
+  -- ---- sync
+
+  pub follow-issue : Yields (λ d a. Follows t d s (traced1 a) []) (issue t c p)
+  unfolding issue numbers traceOf issued
+  follow-issue =
+      after-guard _ _ _ λ safe. after-guard _ _ _ λ none-there. after-guard _ _ _ λ _.
+      leaves (wait-joined (issued (processAt c p)) (checkpoint p (snapshot (processAt c p))) (same-boards refl refl) refl
+      (good-issued ok in-table (inv .good p hp) (not-false _ safe) (none-waits t p (outboxAt c (processAt c p .board)) none-there)))

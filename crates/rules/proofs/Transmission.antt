@@ -1,0 +1,182 @@
+-- Transmission and feeds, followed by the reference machine: the steps that lead up to the item, or the same feed.
+-- Assumes nothing.
+use mathlib.Core.Path.{_≡_, refl, ap, sym, _∙_, subst}
+use mathlib.Core.Bool.{Bool, true, false, not, cond}
+use mathlib.Core.Option.{Option, none, some}
+use mathlib.Core.List.{List, [], _∷_, _++_, append-nil}
+use Prim.Native.Nat.{ℕ, zero, suc, _≤_, _<_}
+use native.Mathlib.Omega.{arith}
+use lib.Dec.{eqb, ltb}
+use lib.ListN.{length, getD, set, length-set}
+use lib.Seq.{getD-set-same, getD-set-other}
+use borrow.Author.Tests.{not-false, eqb-true, lt-ltb}
+use Rattle.facts.specs.Tests.{no-way, by-eq}
+use Rattle.backup.specs.Limits.{logMost}
+use Rattle.backup.specs.Replica.{Replica, Checkpoint, answer, counted, countNumber, count, sync}
+use Rattle.rules.specs.Table.{Table, environment, channelAt, codeOf}
+use Rattle.rules.specs.Machine.{Mail, Machine, Act, sent}
+use Rattle.rules.specs.Reference.{Reference, Action, posted, withMachine, act, referenceRun, injections}
+use Rattle.rules.specs.Cabinet.{Standby, Process, Item, message, checkpoint, Cabinet, nobody, processAt, outboxAt, protected, full}
+use Rattle.rules.specs.Moves.{Answer, transmitted, syncKept, syncLost, numbers, accept, withProcess, withOutbox, onReplica, counts, keeps, deliver, transmitItem, transmitOldest, transmit, inject}
+use Rattle.rules.specs.Judge.{Accepted}
+use Rattle.rules.specs.Transparent.{traceOf}
+use Rattle.rules.proofs.Steps.{Steps}
+use Rattle.rules.proofs.Good.{Good}
+use Rattle.rules.proofs.GoodMoves.{Transmitted, Synced, good-counts, good-keeps}
+use Rattle.rules.proofs.Invariant.{ownerOf, mine, machineAt, Invariant, RoomFor, Roomy, owner}
+use Rattle.rules.proofs.Frame.{SameSeat, called-board, change, deliver-keeps, leave-others, leave-own}
+use Rattle.rules.proofs.References.{run-append, run-one, injections-append, steps, injections-steps, act-sent, put-put, put-get, put-length, run-silent}
+use Rattle.rules.proofs.Guards.{Yields, unmoved, leaves, after-guard}
+use Rattle.rules.proofs.Follow.{Follows, traced1, fed1}
+
+-- a count leaves the log, so that the room stays
+count-log : (r : Replica) → count r .replica .log ≡ r .log
+unfolding count
+count-log r = go (countNumber r)
+  where
+    go : (n : ℕ) → answer n r (counted r) .replica .log ≡ r .log
+    go zero = refl
+    go (suc n) = refl
+
+counted-room : (o : Option Standby) → ((s : Standby) → o ≡ some s → length (s .replica .log) < logMost)
+    → (s : Standby) → onReplica count o ≡ some s → length (s .replica .log) < logMost
+counted-room none h s e = absurd (no-way (cc))
+counted-room (some r) h s e =
+    let same : record { board = r .board; replica = count (r .replica) .replica } ≡ s = cc in
+    subst (λ (k : Standby). length (k .replica .log) < logMost) same (rw (count-log (r .replica)) (h r refl))
+
+-- the process that sends on a word's channel
+abbrev senderOf : Table → Mail → ℕ
+senderOf t mail = channelAt t (mail .channel) .sender
+
+room-left : (t : Table) (c : Cabinet) (k p b : ℕ) (rest : List Item) → p < length (c .processes) → RoomFor t c k
+    → RoomFor t (withProcess p (counts (processAt c p)) (withOutbox b rest c)) k
+unfolding counts
+room-left t c k p b rest hp room s =
+    let r : ℕ = channelAt t k .reader in
+    by-eq r p
+    (λ e. subst (λ (y : Process). y .standby ≡ some s → length (s .replica .log) < logMost)
+    (sym (ap (λ (i : ℕ). getD (set (c .processes) p (counts (processAt c p))) i nobody) e ∙ getD-set-same (c .processes) p (counts (processAt c p)) nobody hp))
+    (counted-room (processAt c p .standby) (subst (λ (i : ℕ). (s : Standby) → processAt c i .standby ≡ some s → length (s .replica .log) < logMost) e room) s))
+    (λ n. subst (λ (y : Process). y .standby ≡ some s → length (s .replica .log) < logMost)
+    (sym (getD-set-other (c .processes) p r (counts (processAt c p)) nobody n)) (room s))
+
+module _ {t : Table} (ok : Accepted t) {c : Cabinet} {s : Reference} (inv : Invariant t c s) (p : ℕ) (hp : p < length (c .processes)) where
+  in-table : p < length (t .processes)
+  in-table = rw (inv .all-processes) at hp
+
+  in-reference : p < length (s .machines)
+  in-reference = rw (inv .same-number) at hp
+
+  its-outbox : processAt c p .board < length (c .outboxes)
+  its-outbox = rw (inv .all-outboxes) (inv .seated p hp .at .there)
+
+  module _ (item : Item) (is-own : ownerOf t item ≡ p) (rest : List Item) (oldest : outboxAt c (processAt c p .board) ≡ item ∷ rest) where
+    others : (b j : ℕ) → (j ≡ p → b ≡ processAt c p .board → ⊥) → mine t j (getD (set (c .outboxes) (processAt c p .board) rest) b []) ≡ mine t j (outboxAt c b)
+    others b j n = leave-others t (c .outboxes) (processAt c p .board) its-outbox item rest oldest b j (λ e f. n (e ∙ is-own) f)
+
+    items : mine t p (outboxAt c (processAt c p .board)) ≡ item ∷ mine t p (getD (set (c .outboxes) (processAt c p .board) rest) (processAt c p .board) [])
+    items =
+        subst (λ (o : ℕ). mine t o (outboxAt c (processAt c p .board)) ≡ item ∷ mine t o (getD (set (c .outboxes) (processAt c p .board) rest) (processAt c p .board) []))
+        is-own (leave-own t (c .outboxes) (processAt c p .board) its-outbox item rest oldest)
+
+  -- ---- a word
+
+  follow-word : (mail : Mail) (rest : List Item) → senderOf t mail ≡ p → outboxAt c (processAt c p .board) ≡ message mail ∷ rest → RoomFor t c (mail .channel)
+      → Transmitted t p (mine t p (getD (set (c .outboxes) (processAt c p .board) rest) (processAt c p .board) [])) mail (counts (processAt c p)) (machineAt s p)
+      → Follows t (deliver t mail (withProcess p (counts (processAt c p)) (withOutbox (processAt c p .board) rest c))) s (mail ∷ []) []
+  unfolding counts posted withMachine injections
+  follow-word mail rest is-own oldest room v =
+      let B : ℕ = processAt c p .board in
+      let mid : Reference = withMachine p (v .mid) s in
+      let end : Reference = posted t mail (withMachine p (v .last) s) in
+      let up-to-mid = run-silent t p (v .steps .to-mid) refl (v .steps .silent-there) s in-reference refl in
+      let sends-it : Steps (codeOf t p) (machineAt mid p) (sent mail) (v .last) =
+      subst (λ (m : Machine). Steps (codeOf t p) m (sent mail) (v .last)) (sym (put-get p (v .mid) s in-reference)) (v .sends-it) in
+      let acts = act-sent t mid p (subst (λ (n : ℕ). p < n) (sym (put-length p (v .mid) s)) in-reference) sends-it in
+      record {
+        actions = steps p (v .steps .acts) ++ (Action.step p ∷ []);
+        end = end;
+        ran = run-append t s (steps p (v .steps .acts)) (Action.step p ∷ []) mid up-to-mid
+            ∙ run-one t mid (Action.step p) end (acts ∙ ap (λ (z : Reference). some (posted t mail z)) (put-put p (v .mid) s (v .last)));
+        invariant = deliver-keeps mail ok
+            (change inv p hp (counts (processAt c p)) (record { board = refl; standby = called-board count (processAt c p .standby) }) (v .last)
+            (set (c .outboxes) B rest) (others (message mail) is-own rest oldest) (v .good) (s .trace) (length-set (c .outboxes) B rest))
+            (room-left t c (mail .channel) p B rest hp room);
+        traced = refl;
+        injected = injections-append (steps p (v .steps .acts)) (Action.step p ∷ []) ∙ ap (λ (l : List Mail). l ++ []) (injections-steps p (v .steps .acts));
+      }
+
+  -- ---- a checkpoint
+
+  follow-checkpoint : (k : Checkpoint) (rest : List Item) → outboxAt c (processAt c p .board) ≡ checkpoint p k ∷ rest
+      → Synced t p (mine t p (getD (set (c .outboxes) (processAt c p .board) rest) (processAt c p .board) [])) (keeps k (processAt c p)) (machineAt s p)
+      → Follows t (withProcess p (keeps k (processAt c p)) (withOutbox (processAt c p .board) rest c)) s [] []
+  unfolding keeps withMachine
+  follow-checkpoint k rest oldest v =
+      let B : ℕ = processAt c p .board in
+      record {
+        actions = steps p (v .steps .acts);
+        end = withMachine p (v .mid) s;
+        ran = run-silent t p (v .steps .to-mid) refl (v .steps .silent-there) s in-reference refl;
+        invariant = change inv p hp (keeps k (processAt c p)) (record { board = refl; standby = called-board (λ r. sync r k) (processAt c p .standby) }) (v .mid)
+            (set (c .outboxes) B rest) (others (checkpoint p k) refl rest oldest) (v .good) (s .trace) (length-set (c .outboxes) B rest);
+        traced = sym (append-nil (s .trace));
+        injected = injections-steps p (v .steps .acts);
+      }
+
+  -- ---- either, from the board that p runs on
+
+  transmits-word : (b : ℕ) (mail : Mail) (rest : List Item) → processAt c p .board ≡ b → senderOf t mail ≡ p → outboxAt c b ≡ message mail ∷ rest → RoomFor t c (mail .channel)
+      → Follows t (deliver t mail (withProcess p (counts (processAt c p)) (withOutbox b rest c))) s (mail ∷ []) []
+  transmits-word b mail rest runs is-own =
+      subst (λ (B : ℕ). outboxAt c B ≡ message mail ∷ rest → RoomFor t c (mail .channel)
+      → Follows t (deliver t mail (withProcess p (counts (processAt c p)) (withOutbox B rest c))) s (mail ∷ []) []) runs
+      (λ oldest room. follow-word mail rest is-own oldest room (good-counts ok in-table mail
+      (subst (λ (l : List Item). Good t p l (processAt c p) (machineAt s p)) (items (message mail) is-own rest oldest) (inv .good p hp))))
+
+  transmits-checkpoint : (b : ℕ) (k : Checkpoint) (rest : List Item) → processAt c p .board ≡ b → outboxAt c b ≡ checkpoint p k ∷ rest
+      → Follows t (withProcess p (keeps k (processAt c p)) (withOutbox b rest c)) s [] []
+  transmits-checkpoint b k rest runs =
+      subst (λ (B : ℕ). outboxAt c B ≡ checkpoint p k ∷ rest → Follows t (withProcess p (keeps k (processAt c p)) (withOutbox B rest c)) s [] []) runs
+      (λ oldest. follow-checkpoint k rest oldest (good-keeps ok in-table k
+      (subst (λ (l : List Item). Good t p l (processAt c p) (machineAt s p)) (items (checkpoint p k) refl rest oldest) (inv .good p hp))))
+
+module _ {t : Table} (ok : Accepted t) {c : Cabinet} {s : Reference} (inv : Invariant t c s) (roomy : Roomy t c) where
+  follow-item : (b : ℕ) (item : Item) (rest : List Item) → outboxAt c b ≡ item ∷ rest
+      → Yields (λ d a. Follows t d s (traced1 a) []) (transmitItem t (withOutbox b rest c) item)
+  unfolding transmitItem numbers traceOf
+  follow-item b (message mail) rest oldest =
+      let o = owner t c s b (message mail) rest inv oldest in
+      leaves (transmits-word ok inv (senderOf t mail) (o .there) b mail rest (o .runs) refl oldest (roomy .for-oldest b mail rest oldest))
+  follow-item b (checkpoint p k) rest oldest =
+      let o = owner t c s b (checkpoint p k) rest inv oldest in
+      kept-or-lost (protected (processAt c p)) (transmits-checkpoint ok inv p (o .there) b k rest (o .runs) oldest)
+    where
+      kept-or-lost : {d : Cabinet} (y : Bool) → Follows t d s [] [] → Yields (λ d a. Follows t d s (traced1 a) []) (accept d (cond y (syncKept p) (syncLost p)))
+      kept-or-lost true f = leaves f
+      kept-or-lost false f = leaves f
+
+  pub follow-transmit : (b : ℕ) → Yields (λ d a. Follows t d s (traced1 a) []) (transmit t c b)
+  unfolding transmit transmitOldest
+  follow-transmit b = after-guard _ _ _ λ _. go (outboxAt c b) refl
+    where
+      go : (q : List Item) → outboxAt c b ≡ q → Yields (λ d a. Follows t d s (traced1 a) []) (transmitOldest t c b q)
+      go [] e = unmoved
+      go (item ∷ rest) e = follow-item b item rest e
+
+  -- ---- feed
+
+  pub follow-inject : (mail : Mail) → mail .channel < length (t .channels) → Yields (λ d a. Follows t d s (traced1 a) (fed1 mail a)) (inject t c mail)
+  unfolding inject numbers traceOf act posted injections
+  follow-inject mail h =
+      after-guard _ _ _ λ outside. after-guard _ _ _ λ free.
+      let from-outside : channelAt t (mail .channel) .sender ≡ environment = eqb-true _ _ (not-false _ outside) in
+      leaves (record {
+        actions = Action.inject mail ∷ [];
+        end = posted t mail s;
+        ran = run-one t s (Action.inject mail) (posted t mail s) (rw (lt-ltb (mail .channel) (length (t .channels)) h, not-false (eqb (channelAt t (mail .channel) .sender) environment) outside));
+        invariant = deliver-keeps mail ok inv (roomy .for-feed (mail .channel) from-outside free);
+        traced = refl;
+        injected = refl;
+      })

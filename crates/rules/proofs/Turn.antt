@@ -1,0 +1,90 @@
+-- One command, then any list of them, followed by the reference machine. The room for words that are about to arrive comes with it.
+-- Assumes nothing.
+use mathlib.Core.Path.{_≡_, refl, ap, ap₂, sym, _∙_, subst, subst₂}
+use mathlib.Core.Bool.{Bool, true, false, cond, _&&_}
+use mathlib.Core.List.{List, [], _∷_, _++_, map}
+use Prim.Native.Nat.{ℕ, zero, suc, _<_}
+use lib.Dec.{eqb}
+use lib.ListN.{length}
+use Rattle.rules.specs.Table.{Table}
+use Rattle.rules.specs.Machine.{Mail}
+use Rattle.rules.specs.Reference.{Reference}
+use Rattle.rules.specs.Cabinet.{Cabinet}
+use Rattle.rules.specs.Moves.{Command, Refusal, badRecord, notInTable, boardDead, isHalted, noSuchWord, eventsFull, outboxFull, channelFull, noBackup, syncWaits, outboxEmpty, notOutside, otherCrashed, refusalNumber, Answer, refused, Numbers, numbers, turn, runFrom}
+use Rattle.rules.specs.Judge.{Accepted}
+use Rattle.rules.specs.Transparent.{traceOf, fedOf}
+use Rattle.rules.proofs.Invariant.{Invariant, Roomy}
+use Rattle.rules.proofs.Guards.{yields-turn}
+use Rattle.rules.proofs.Follow.{Follows, traced1, stay, follows-then, follow-step, follow-issue}
+use Rattle.rules.proofs.Transmission.{follow-transmit, follow-inject}
+use Rattle.rules.proofs.CrashKeeps.{follow-crash}
+use Rattle.rules.proofs.Room.{Room}
+use Rattle.rules.proofs.Sizes.{roomy}
+use Rattle.rules.proofs.KeepRoom.{turn-room}
+
+-- ---- one command
+
+-- the feed that a command of move n is, if it was accepted
+abbrev fedBy : ℕ → Command → Answer → List Mail
+fedBy n r a = cond (eqb n 4 && eqb (numbers a .code) 4) (record { channel = r .a; word = r .word } ∷ []) []
+
+-- no refusal is a 4
+not-four : (why : Refusal) → eqb (refusalNumber why) 4 ≡ false
+unfolding refusalNumber
+not-four = elim [ badRecord ↦ refl | notInTable ↦ refl | boardDead ↦ refl | isHalted ↦ refl | noSuchWord ↦ refl | eventsFull ↦ refl | outboxFull ↦ refl | channelFull ↦ refl | noBackup ↦ refl | syncWaits ↦ refl | outboxEmpty ↦ refl | notOutside ↦ refl | otherCrashed ↦ refl ]
+
+refused-trace : (why : Refusal) (a : ℕ) → traced1 (refused why a) ≡ []
+unfolding traceOf numbers
+refused-trace why a = rw (not-four why)
+
+refused-feed : (n : ℕ) (r : Command) (why : Refusal) → fedBy n r (refused why (r .a)) ≡ []
+unfolding numbers
+refused-feed n r why = rw (not-four why) (go (eqb n 4))
+  where
+    go : (b : Bool) → cond {A = List Mail} (b && false) (record { channel = r .a; word = r .word } ∷ []) [] ≡ []
+    go true = refl
+    go false = refl
+
+turn-follows : {t : Table} → Accepted t → {c : Cabinet} {s : Reference} → Invariant t c s → Roomy t c → (r : Command)
+    → Follows t (turn t c r .cabinet) s (traced1 (turn t c r .answer)) (fedBy (r .move) r (turn t c r .answer))
+turn-follows {t} ok {c} {s} inv room r =
+    yields-turn t c r (λ n d a. Follows t d s (traced1 a) (fedBy n r a))
+    (λ n why. subst₂ (Follows t c s) (sym (refused-trace why (r .a))) (sym (refused-feed n r why)) (stay inv))
+    (λ h. follow-step ok inv (r .a) (rw (inv .all-processes) h))
+    (λ h. follow-issue ok inv (r .a) (rw (inv .all-processes) h))
+    (λ _. follow-transmit ok inv room (r .a))
+    (λ h. follow-inject ok inv room (record { channel = r .a; word = r .word }) h)
+    (λ h. follow-crash ok inv (r .a) h)
+
+-- ---- any list of commands
+
+-- one more answer in front
+cons-by : {A : Type 0} (b : Bool) (x : A) (l : List A) → cond b (x ∷ []) [] ++ l ≡ cond b (x ∷ l) l
+cons-by true x l = refl
+cons-by false x l = refl
+
+trace-cons : (n : Numbers) (l : List Numbers) → traceOf (n ∷ []) ++ traceOf l ≡ traceOf (n ∷ l)
+unfolding traceOf
+trace-cons n l = cons-by (eqb (n .code) 4) (record { channel = n .a; word = n .word }) (traceOf l)
+
+fed-cons : (r : Command) (a : Answer) (rs : List Command) (l : List Numbers) → fedBy (r .move) r a ++ fedOf rs l ≡ fedOf (r ∷ rs) (numbers a ∷ l)
+unfolding fedOf
+fed-cons r a rs l = cons-by (eqb (r .move) 4 && eqb (numbers a .code) 4) (record { channel = r .a; word = r .word }) (fedOf rs l)
+
+-- the run of a list from cabinet c, followed from s
+pub record FollowsRun (t : Table) (c : Cabinet) (s : Reference) (commands : List Command) : Type 0 where
+  pub follows : Follows t (runFrom t c commands .cabinet) s (traceOf (map numbers (runFrom t c commands .answers))) (fedOf commands (map numbers (runFrom t c commands .answers)))
+  pub room : Room t [] (runFrom t c commands .cabinet)
+
+pub run-follows : {t : Table} → Accepted t → (c : Cabinet) (s : Reference) → Invariant t c s → Room t [] c → (commands : List Command) → FollowsRun t c s commands
+unfolding runFrom traceOf fedOf
+run-follows ok c s inv rm [] = record { follows = stay inv; room = rm }
+run-follows {t} ok c s inv rm (r ∷ rs) =
+    let f = turn-follows ok inv (roomy t ok c s inv rm) r in
+    let g = run-follows ok (turn t c r .cabinet) (f .end) (f .invariant) (turn-room t ok c s inv rm r) rs in
+    let a : Answer = turn t c r .answer in
+    let l : List Numbers = map numbers (runFrom t (turn t c r .cabinet) rs .answers) in
+    record {
+      follows = subst₂ (Follows t (runFrom t c (r ∷ rs) .cabinet) s) (trace-cons (numbers a) l) (fed-cons r a rs l) (follows-then f (g .follows));
+      room = g .room;
+    }
