@@ -46,3 +46,5 @@ pub mod Marked
 pub mod MoveCases
 pub mod FormatCases
 pub mod ReferenceCases
+-- Demand 3 of every accepted run.
+pub mod Theorem
