@@ -24,7 +24,7 @@ use Rattle.rules.proofs.Ahead.{checkpoints}
 use Rattle.rules.proofs.Good.{Good}
 use Rattle.rules.proofs.GoodMoves.{good-silent, good-suppressed, good-send, good-issued}
 use Rattle.rules.proofs.Invariant.{ownerOf, mine, machineAt, Invariant, in-table, its-outbox}
-use Rattle.rules.proofs.Frame.{SameSeat, same-boards, change, join-others, join-own}
+use Rattle.rules.proofs.Frame.{SameSeat, same-boards, changed, OthersStay, change, join-others, join-own}
 use Rattle.rules.proofs.References.{run-append, injections-append}
 use Rattle.rules.proofs.Guards.{Yields, unmoved, leaves, after-guard}
 
@@ -87,14 +87,16 @@ none-waits t p (checkpoint r s ∷ q) h = go (eqb p r) (none-waits t p q) h
 
 module _ {t : Table} (ok : Accepted t) {c : Cabinet} {s : Reference} (inv : Invariant t c s) (p : ℕ) (hp : p < length (c .processes)) where
   -- its own items aside, nothing else changes
-  wait : (y : Process) (qs : List (List Item)) → SameSeat y (processAt c p) → length qs ≡ length (c .outboxes)
-      → ((b j : ℕ) → (j ≡ p → b ≡ processAt c p .board → ⊥) → mine t j (getD qs b []) ≡ mine t j (outboxAt c b))
-      → Good t p (mine t p (getD qs (processAt c p .board) [])) y (machineAt s p)
-      → Follows t (record { processes = set (c .processes) p y; outboxes = qs; dead = c .dead }) s [] []
-  wait y qs seat same-length others good =
-      stay (subst (λ (l : List Machine). Invariant t (record { processes = set (c .processes) p y; outboxes = qs; dead = c .dead }) (record { machines = l; trace = s .trace }))
-      (set-getD (s .machines) p booted)
-      (change inv p hp y seat (machineAt s p) qs others good (s .trace) same-length))
+  wait : (y : Process) (outboxes : List (List Item)) → SameSeat y (processAt c p) → length outboxes ≡ length (c .outboxes) → OthersStay t p outboxes c
+      → Good t p (mine t p (getD outboxes (processAt c p .board) [])) y (machineAt s p) → Follows t (changed p y outboxes c) s [] []
+  wait y outboxes seat same-length others good =
+      stay (subst (λ (l : List Machine). Invariant t (changed p y outboxes c) (record { machines = l; trace = s .trace })) (set-getD (s .machines) p booted)
+      (change inv p hp y seat (machineAt s p) outboxes others good (s .trace) same-length))
+
+  -- no item joins an outbox
+  wait-only : (y : Process) → SameSeat y (processAt c p) → Good t p (mine t p (outboxAt c (processAt c p .board))) y (machineAt s p)
+      → Follows t (withProcess p y c) s [] []
+  wait-only y seat good = wait y (c .outboxes) seat refl (λ b j n. refl) good
 
   -- an item of its own joins its board's outbox
   wait-joined : (y : Process) (item : Item) → SameSeat y (processAt c p) → ownerOf t item ≡ p
@@ -115,7 +117,7 @@ module _ {t : Table} (ok : Accepted t) {c : Cabinet} {s : Reference} (inv : Inva
       → Yields (λ d a. Follows t d s (traced1 a) []) (send t c p (processAt c p) m mail h)
   unfolding send numbers traceOf advanced
   follow-send m mail (suc h) z e =
-      leaves (wait (advanced m (processAt c p .taken) (processAt c p .events) h (processAt c p)) (c .outboxes) (same-boards refl refl) refl (λ b j n. refl)
+      leaves (wait-only (advanced m (processAt c p .taken) (processAt c p .events) h (processAt c p)) (same-boards refl refl)
       (good-suppressed ok (in-table inv hp) (inv .good p hp) z e))
   follow-send m mail zero z e =
       after-guard _ _ _ λ limit. after-guard _ _ _ λ _. after-guard _ _ _ λ _.
@@ -129,12 +131,13 @@ module _ {t : Table} (ok : Accepted t) {c : Cabinet} {s : Reference} (inv : Inva
   follow-outcome halted e = unmoved
   follow-outcome noMail e = unmoved
   follow-outcome (moved m internal) e =
-      leaves (wait (advanced m (processAt c p .taken) (processAt c p .events) (processAt c p .suppress) (processAt c p)) (c .outboxes) (same-boards refl refl) refl (λ b j n. refl)
+      leaves (wait-only (advanced m (processAt c p .taken) (processAt c p .events) (processAt c p .suppress) (processAt c p)) (same-boards refl refl)
       (good-silent ok (in-table inv hp) {k = internal} (processAt c p .events) (inv .good p hp) (record { is = e }) refl (omega arith) (λ _ h. h)))
   follow-outcome (moved m (took mail)) e =
       after-guard _ _ _ λ limit.
-      leaves (wait (advanced m (oneMore t p mail (processAt c p .taken)) (suc (processAt c p .events)) (processAt c p .suppress) (processAt c p)) (c .outboxes) (same-boards refl refl) refl (λ b j n. refl)
-      (good-silent ok (in-table inv hp) {k = took mail} (suc (processAt c p .events)) (inv .good p hp) (record { is = e }) refl (omega arith) (λ safe _. not-exhausted (processAt c p) limit safe)))
+      leaves (wait-only (advanced m (oneMore t p mail (processAt c p .taken)) (suc (processAt c p .events)) (processAt c p .suppress) (processAt c p)) (same-boards refl refl)
+      (good-silent ok (in-table inv hp) {k = took mail} (suc (processAt c p .events)) (inv .good p hp) (record { is = e }) refl (omega arith)
+      (λ safe _. not-exhausted (processAt c p) limit safe)))
   follow-outcome (moved m (sent mail)) e = follow-send m mail (processAt c p .suppress) refl (record { is = e })
 
   pub follow-step : Yields (λ d a. Follows t d s (traced1 a) []) (step t c p)

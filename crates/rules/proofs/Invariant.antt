@@ -59,12 +59,16 @@ pub record Seated (t : Table) (dead : List Bool) (x : Process) : Type 0 where
   pub beside : (s : Standby) → x .standby ≡ some s → Live t dead (s .board)
   pub apart : (s : Standby) → x .standby ≡ some s → s .board ≢ x .board
 
+-- process p beside its machine in the reference, with its own items of its board's outbox
+abbrev pub GoodAt : Table → Cabinet → Reference → ℕ → Type 0
+GoodAt t c s p = Good t p (mine t p (outboxAt c (processAt c p .board))) (processAt c p) (machineAt s p)
+
 pub record Invariant (t : Table) (c : Cabinet) (s : Reference) : Type 0 where
   pub same-number : length (c .processes) ≡ length (s .machines)
   pub all-processes : length (c .processes) ≡ length (t .processes)
   pub all-outboxes : length (c .outboxes) ≡ t .boards
   pub all-boards : length (c .dead) ≡ t .boards
-  pub good : (p : ℕ) → p < length (c .processes) → Good t p (mine t p (outboxAt c (processAt c p .board))) (processAt c p) (machineAt s p)
+  pub good : (p : ℕ) → p < length (c .processes) → GoodAt t c s p
   -- an item of p stands in the outbox of p's board, and in no other
   pub own : (b p : ℕ) → (p < length (c .processes) → processAt c p .board ≡ b → ⊥) → mine t p (outboxAt c b) ≡ []
   pub seated : (p : ℕ) → p < length (c .processes) → Seated t (c .dead) (processAt c p)

@@ -86,7 +86,9 @@ bump-drop : (i : ℕ) (log : List Message) (taken : List ℕ) → i < length tak
 bump-drop i [] taken h = refl
 bump-drop i (m ∷ log) taken h =
     by-eq i (m .port)
-    (λ e. goes (bump i taken) m log (let a : takenOn (bump i taken) (m .port) ≡ suc (getD taken i 0) = ap (takenOn (bump i taken)) (sym e) ∙ getD-set-same taken i (suc (getD taken i 0)) 0 h in omega arith)
+    (λ e. let raised : takenOn (bump i taken) (m .port) ≡ suc (getD taken i 0) =
+    ap (takenOn (bump i taken)) (sym e) ∙ getD-set-same taken i (suc (getD taken i 0)) 0 h in
+    goes (bump i taken) m log (omega arith)
     ∙ ap (λ (j : ℕ). remaining (oneLess (bump i taken) j) log) (sym e)
     ∙ ap (λ (l : List ℕ). remaining l log) (less-bump i taken h)
     ∙ ap (remaining taken) (sym (drop-hit i m log e)))
@@ -161,7 +163,9 @@ from-log t p wanted x rest (one-port {m = m} {log = log} h r) e =
         let left : mailOf t p m ∷ ys ≡ rest = cc in
         let v = ih x ys (ap (λ (u : Mail). found u ys) same) in
         let f = v .1 in
-        let other : f .port ≢ m .port = λ e′. no-way (let a : wanted (channelOn t p (m .port)) ≡ true = subst (λ (i : ℕ). wanted (channelOn t p i) ≡ true) e′ (rw (f .on-channel) at (v .0)) in cc) in
+        let is-wanted : wanted (channelOn t p (f .port)) ≡ true = rw (f .on-channel) at (v .0) in
+        let other : f .port ≢ m .port =
+        λ e′. no-way (let a : wanted (channelOn t p (m .port)) ≡ true = subst (λ (i : ℕ). wanted (channelOn t p i) ≡ true) e′ is-wanted in cc) in
         let miss = drop-miss (f .port) m log other in (
           v .0,
           record {

@@ -23,7 +23,7 @@ use Rattle.rules.proofs.Steps.{Steps}
 use Rattle.rules.proofs.Good.{Good}
 use Rattle.rules.proofs.GoodMoves.{Transmitted, Synced, good-counts, good-keeps}
 use Rattle.rules.proofs.Invariant.{ownerOf, mine, machineAt, Invariant, in-table, in-reference, its-outbox, RoomFor, Roomy, owner}
-use Rattle.rules.proofs.Frame.{called-board, change, deliver-keeps, leave-others, leave-own}
+use Rattle.rules.proofs.Frame.{called-board, OthersStay, change, deliver-keeps, leave-others, leave-own}
 use Rattle.rules.proofs.References.{run-append, run-one, injections-append, steps, injections-steps, act-sent, put-put, put-get, put-length, run-silent}
 use Rattle.rules.proofs.Guards.{Yields, unmoved, leaves, after-guard}
 use Rattle.rules.proofs.Follow.{Follows, traced1, fed1}
@@ -62,7 +62,7 @@ room-left t c k p b rest hp room s =
 
 module _ {t : Table} (ok : Accepted t) {c : Cabinet} {s : Reference} (inv : Invariant t c s) (p : ℕ) (hp : p < length (c .processes)) where
   module _ (item : Item) (is-own : ownerOf t item ≡ p) (rest : List Item) (oldest : outboxAt c (processAt c p .board) ≡ item ∷ rest) where
-    others : (b j : ℕ) → (j ≡ p → b ≡ processAt c p .board → ⊥) → mine t j (getD (set (c .outboxes) (processAt c p .board) rest) b []) ≡ mine t j (outboxAt c b)
+    others : OthersStay t p (set (c .outboxes) (processAt c p .board) rest) c
     others b j n = leave-others t (c .outboxes) (processAt c p .board) (its-outbox inv hp) item rest oldest b j (λ e f. n (e ∙ is-own) f)
 
     items : mine t p (outboxAt c (processAt c p .board)) ≡ item ∷ mine t p (getD (set (c .outboxes) (processAt c p .board) rest) (processAt c p .board) [])
@@ -117,7 +117,8 @@ module _ {t : Table} (ok : Accepted t) {c : Cabinet} {s : Reference} (inv : Inva
 
   -- ---- either, from the board that p runs on
 
-  transmits-word : (b : ℕ) (mail : Mail) (rest : List Item) → processAt c p .board ≡ b → senderOf t mail ≡ p → outboxAt c b ≡ message mail ∷ rest → RoomFor t c (mail .channel)
+  transmits-word : (b : ℕ) (mail : Mail) (rest : List Item) → processAt c p .board ≡ b → senderOf t mail ≡ p → outboxAt c b ≡ message mail ∷ rest
+      → RoomFor t c (mail .channel)
       → Follows t (deliver t mail (withProcess p (counts (processAt c p)) (withOutbox b rest c))) s (mail ∷ []) []
   transmits-word b mail rest runs is-own =
       subst (λ (B : ℕ). outboxAt c B ≡ message mail ∷ rest → RoomFor t c (mail .channel)
@@ -165,7 +166,8 @@ module _ {t : Table} (ok : Accepted t) {c : Cabinet} {s : Reference} (inv : Inva
       leaves (record {
         actions = Action.inject mail ∷ [];
         end = posted t mail s;
-        ran = run-one t s (Action.inject mail) (posted t mail s) (rw (lt-ltb (mail .channel) (length (t .channels)) h, not-false (eqb (channelAt t (mail .channel) .sender) environment) outside));
+        ran = run-one t s (Action.inject mail) (posted t mail s)
+            (rw (lt-ltb (mail .channel) (length (t .channels)) h, not-false (eqb (senderOf t mail) environment) outside));
         invariant = deliver-keeps mail ok inv (roomy .for-feed (mail .channel) from-outside free);
         traced = refl;
         injected = refl;

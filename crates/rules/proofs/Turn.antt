@@ -30,7 +30,19 @@ fedBy n r a = cond (eqb n 4 && eqb (numbers a .code) 4) (record { channel = r .a
 -- no refusal is a 4
 not-four : (why : Refusal) → eqb (refusalNumber why) 4 ≡ false
 unfolding refusalNumber
-not-four = elim [ badRecord ↦ refl | notInTable ↦ refl | boardDead ↦ refl | isHalted ↦ refl | noSuchWord ↦ refl | eventsFull ↦ refl | outboxFull ↦ refl | channelFull ↦ refl | noBackup ↦ refl | syncWaits ↦ refl | outboxEmpty ↦ refl | notOutside ↦ refl | otherCrashed ↦ refl ]
+not-four badRecord = refl
+not-four notInTable = refl
+not-four boardDead = refl
+not-four isHalted = refl
+not-four noSuchWord = refl
+not-four eventsFull = refl
+not-four outboxFull = refl
+not-four channelFull = refl
+not-four noBackup = refl
+not-four syncWaits = refl
+not-four outboxEmpty = refl
+not-four notOutside = refl
+not-four otherCrashed = refl
 
 refused-trace : (why : Refusal) (a : ℕ) → traced1 (refused why a) ≡ []
 unfolding traceOf numbers
