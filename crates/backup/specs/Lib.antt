@@ -3,3 +3,4 @@ pub mod Limits
 pub mod Replica
 pub mod Laws
 pub mod Accepts
+pub mod Place

@@ -1,1 +1,4 @@
-// x
+// The backup record.
+mod limits;
+mod pack;
+pub mod place;

@@ -23,3 +23,35 @@ pub prefix-take : (n : ℕ) (l : List ℕ) → n ≤ length l → prefix n l ≡
 prefix-take zero l h = refl
 prefix-take (suc n) [] h = absurd (not-suc-le-zero h)
 prefix-take (suc n) (x ∷ l) h = ap (λ (r : List ℕ). x ∷ r) (prefix-take n l (le-of-suc-le-suc h))
+
+-- a store at the end of a prefix makes it longer by one
+pub prefix-push : (n : ℕ) (l : List ℕ) (x : ℕ) → n < length l → prefix (suc n) (set l n x) ≡ prefix n l ++ (x ∷ [])
+prefix-push n [] x h = absurd (not-suc-le-zero h)
+prefix-push zero (y ∷ l) x h = refl
+prefix-push (suc n) (y ∷ l) x h = ap (λ (r : List ℕ). y ∷ r) (prefix-push n l x (le-of-suc-le-suc h))
+
+-- one number more of the prefix, from the list
+pub prefix-more : (n : ℕ) (l : List ℕ) → prefix (suc n) l ≡ prefix n l ++ (getD l n 0 ∷ [])
+prefix-more zero [] = refl
+prefix-more zero (x ∷ l) = refl
+prefix-more (suc n) [] = ap (λ (r : List ℕ). 0 ∷ r) (prefix-more n [])
+prefix-more (suc n) (x ∷ l) = ap (λ (r : List ℕ). x ∷ r) (prefix-more n l)
+
+-- f 0, f 1, .., n of them
+abbrev pub listed : {A : Type 0} → (ℕ → A) → ℕ → List A
+listed f zero = []
+listed f (suc n) = f zero ∷ listed (λ i. f (suc i)) n
+
+-- a list of known length, written out by its elements
+pub written-out : {A : Type 0} (l : List A) (n : ℕ) (d : A) → length l ≡ n → l ≡ listed (λ i. getD l i d) n
+written-out [] zero d h = refl
+written-out [] (suc n) d h = absurd (omega arith)
+written-out (x ∷ l) zero d h = absurd (omega arith)
+written-out (x ∷ l) (suc n) d h = ap (λ (r : List _). x ∷ r) (written-out l n d (omega arith))
+
+pub getD-prefix : (n : ℕ) (l : List ℕ) (i : ℕ) → i < n → getD (prefix n l) i 0 ≡ getD l i 0
+getD-prefix zero l i h = absurd (not-suc-le-zero h)
+getD-prefix (suc n) [] zero h = refl
+getD-prefix (suc n) [] (suc i) h = getD-prefix n [] i (le-of-suc-le-suc h)
+getD-prefix (suc n) (x ∷ l) zero h = refl
+getD-prefix (suc n) (x ∷ l) (suc i) h = getD-prefix n l i (le-of-suc-le-suc h)

@@ -6,9 +6,10 @@ use mathlib.Core.Bool.{Bool, true, false, not, cond, _&&_, _||_}
 use mathlib.Core.List.{List, [], _∷_, _++_}
 use Prim.Native.Nat.{ℕ, zero, suc, _+_, _≤_, _<_}
 use native.Mathlib.Omega.{arith}
-use native.Mathlib.Nat.{not-suc-le-zero}
+use native.Mathlib.Nat.{not-suc-le-zero, le-of-suc-le-suc}
 use native.Mathlib.Decide.{decLe, decLt, ℕ-discrete}
 use lib.Dec.{eqb, ltb, leb}
+use lib.ListN.{length, getD}
 
 -- the test holds of some number below n
 abbrev pub anyBelow : (ℕ → Bool) → ℕ → Bool
@@ -82,3 +83,14 @@ no-such f (suc n) h = rw (h n (omega arith)) (no-such f n (λ j l. h j (omega ar
 pub all-append : {A : Type 0} (f : A → Bool) (l r : List A) → allOf f l ≡ true → allOf f r ≡ true → allOf f (l ++ r) ≡ true
 all-append f [] r h k = k
 all-append f (x ∷ l) r h k = and-both (f x) (allOf f (l ++ r)) (and-left (f x) (allOf f l) h) (all-append f l r (and-right (f x) (allOf f l) h) k)
+
+-- so it holds at each place
+pub all-at : {A : Type 0} (f : A → Bool) (l : List A) (i : ℕ) (d : A) → allOf f l ≡ true → i < length l → f (getD l i d) ≡ true
+all-at f [] i d h k = absurd (not-suc-le-zero k)
+all-at f (x ∷ l) zero d h k = and-left (f x) (allOf f l) h
+all-at f (x ∷ l) (suc i) d h k = all-at f l i d (and-right (f x) (allOf f l) h) (le-of-suc-le-suc k)
+
+-- two tests that agree below n
+pub any-same : (f g : ℕ → Bool) (n : ℕ) → ((i : ℕ) → i < n → f i ≡ g i) → anyBelow f n ≡ anyBelow g n
+any-same f g zero h = refl
+any-same f g (suc n) h = rw (h n (omega arith), any-same f g n (λ i l. h i (omega arith)))

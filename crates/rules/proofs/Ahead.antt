@@ -2,17 +2,17 @@
 -- the process's own items of its board's outbox. The reference machine lags behind: it is stepped only when a word of the process is
 -- transmitted (up to exactly that SEND), when its checkpoint is transmitted (up to the snapshot), and at a quiet end.
 -- Assumes nothing.
-use mathlib.Core.Path.{_≡_, refl, ap, sym, _∙_, subst}
-use mathlib.Core.Bool.{Bool, true, false}
+use mathlib.Core.Path.{_≡_, ap, sym, _∙_}
+use mathlib.Core.Bool.{false}
 use mathlib.Core.List.{List, [], _∷_, _++_, append-assoc, append-nil}
-use Prim.Native.Nat.{ℕ, zero, suc, _+_, _*_, _≤_, _<_}
+use Prim.Native.Nat.{ℕ, suc, _+_, _*_, _≤_}
 use native.Mathlib.Omega.{arith}
 use Rattle.backup.specs.Replica.{Checkpoint}
 use Rattle.rules.specs.Table.{Table, Instruction, codeOf}
-use Rattle.rules.specs.Machine.{Mail, Machine, Act, internal, took, sent, delivered}
+use Rattle.rules.specs.Machine.{Mail, Machine, Act, sent, delivered}
 use Rattle.rules.specs.Cabinet.{eventsMost, Item, message, checkpoint}
 use Rattle.rules.proofs.Steps.{Steps, step-later}
-use Rattle.rules.proofs.Runs.{Run, here, more, isSend, Silent, tally, busy, busy1, busy-snoc}
+use Rattle.rules.proofs.Runs.{Run, here, more, isSend, Silent, tally, busy, busy-snoc}
 
 -- the snapshot that process p issues as machine m, after these acts since its last one
 abbrev pub taken-at : Table → ℕ → List Act → Machine → Item

@@ -1,18 +1,18 @@
 -- Inside the cabinet no call of a backup is refused: each does what its name says.
 -- Assumes nothing.
-use mathlib.Core.Path.{_≡_, refl, ap, sym, _∙_, subst}
-use mathlib.Core.Bool.{Bool, true, false, not, cond, _&&_}
-use mathlib.Core.Option.{Option, none, some}
+use mathlib.Core.Path.{_≡_, refl, ap, sym, _∙_}
+use mathlib.Core.Bool.{true}
+use mathlib.Core.Option.{Option, some}
 use mathlib.Core.List.{List, [], _∷_, _++_, map, map-append}
-use Prim.Native.Nat.{ℕ, zero, suc, _+_, _≤_, _<_}
+use Prim.Native.Nat.{ℕ, _≤_, _<_}
 use native.Mathlib.Omega.{arith}
-use lib.Dec.{eqb, ltb, leb}
 use lib.ListN.{length, length-append}
-use borrow.Author.Tests.{lt-ltb, le-ltb, le-leb, lt-leb}
-use Rattle.facts.specs.Tests.{no-way, and-both}
+use borrow.Author.Tests.{lt-ltb, le-ltb, lt-leb}
 use Rattle.backup.specs.Limits.{logMost, ports, sentMost, pcMost}
-use Rattle.backup.specs.Replica.{Message, Replica, Checkpoint, Reply, FailOver, onPorts, fit, answer, arrived, arriveNumber, arrive, counted, countNumber, count, lacking, synced, syncNumber, sync, failOver, remaining}
-use Rattle.rules.specs.Table.{Table, channelAt, codeOf, inputs, portOf, channelOn}
+use Rattle.backup.specs.Replica.{Message, Replica, Checkpoint, Reply, onPorts, fit, arrived, arriveNumber, arrive, counted, countNumber, count, synced, syncNumber, sync, failOver, remaining}
+use Rattle.backup.specs.Laws.{shorter}
+use Rattle.backup.specs.Accepts.{parts-fit, not-lacking, fail-over-accepted}
+use Rattle.rules.specs.Table.{Table, channelAt, codeOf, inputs, portOf}
 use Rattle.rules.specs.Machine.{Mail, Machine, Act, delivered}
 use Rattle.rules.specs.Cabinet.{Standby}
 use Rattle.rules.specs.Moves.{onReplica, recovered}
@@ -20,7 +20,7 @@ use Rattle.rules.specs.Judge.{Accepted}
 use Rattle.rules.proofs.Runs.{Run, here, more, tally}
 use Rattle.rules.proofs.Tables.{Stands, input, few-ports, step-low}
 use Rattle.rules.proofs.Good.{mailOf, stateOf, PortsBelow, no-ports, one-port, Kept}
-use Rattle.rules.proofs.Tally.{remaining-shorter, remaining-ports, run-logged, not-lacking}
+use Rattle.rules.proofs.Tally.{remaining-ports, run-logged}
 
 -- a call on a process's backup, where it has one
 pub called : (call : Replica → Reply) {o : Option Standby} {s : Standby} {r : Replica} → o ≡ some s → call (s .replica) .replica ≡ r
@@ -45,11 +45,13 @@ module _ (t : Table) (ok : Accepted t) (p : ℕ) (hp : p < length (t .processes)
 
   module _ (r : Replica) (kept : Kept t p r) (few : r .sent < sentMost) where
     pub is-fit : fit r ≡ true
-    unfolding fit
     is-fit =
-        and-both _ _ (le-leb (length (r .log)) logMost (kept .short))
-        (and-both _ _ (on-ports (few-ports t ok p hp) (kept .on-inputs))
-        (and-both _ _ (le-leb (r .sent) sentMost (omega arith)) (le-leb (r .pc) pcMost (low-fits (kept .low)))))
+        parts-fit r record {
+          few = kept .short;
+          on-ports = on-ports (few-ports t ok p hp) (kept .on-inputs);
+          sent-small = omega arith;
+          pc-small = low-fits (kept .low);
+        }
 
     -- a word arrives on one of its channels
     module _ (mail : Mail) (reads : channelAt t (mail .channel) .reader ≡ p) where
@@ -107,7 +109,7 @@ module _ (t : Table) (ok : Accepted t) (p : ℕ) (hp : p < length (t .processes)
       sync-number =
           let v = run-logged t p (few-ports t ok p hp) (r .log) ran refl (kept .on-inputs) in
           let a = low-fits low-there in
-          rw (is-fit, le-ltb pcMost (s .pc) (omega arith), is-taken, not-lacking (tally t p acts) (r .log) (v .enough))
+          rw (is-fit, le-ltb pcMost (s .pc) (omega arith), is-taken, not-lacking (tally t p acts) (r .log) (λ i _. v .enough i))
 
       pub syncs : sync r s .replica ≡ synced r s
       unfolding sync
@@ -124,14 +126,13 @@ module _ (t : Table) (ok : Accepted t) (p : ℕ) (hp : p < length (t .processes)
       synced-kept =
           record {
             on-inputs = remaining-ports (kept .on-inputs) (s .taken);
-            short = (let a = remaining-shorter (r .log) (s .taken) in let c = kept .short in omega arith);
+            short = (let a = shorter (s .taken) (r .log) in let c = kept .short in omega arith);
             low = rw is-pc low-there;
           }
 
     -- it takes over
     pub takes-over : failOver r ≡ record { number = 0; log = r .log; pc = r .pc; registers = r .registers; sent = r .sent }
-    unfolding failOver
-    takes-over = rw is-fit
+    takes-over = fail-over-accepted r is-fit
 
     pub recovers : recovered t p (failOver r) ≡ stateOf t p r
     unfolding recovered stateOf

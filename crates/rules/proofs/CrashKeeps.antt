@@ -4,24 +4,22 @@ use mathlib.Core.Logic.{_≢_}
 use mathlib.Core.Path.{_≡_, refl, ap, sym, _∙_, subst}
 use mathlib.Core.Bool.{Bool, true, false, not, cond, _&&_}
 use mathlib.Core.Option.{Option, none, some}
-use mathlib.Core.List.{List, [], _∷_, _++_}
-use Prim.Native.Nat.{ℕ, zero, suc, _≤_, _<_}
-use native.Mathlib.Omega.{arith}
+use mathlib.Core.List.{List, [], _∷_}
+use Prim.Native.Nat.{ℕ, zero, suc, _<_}
 use lib.Dec.{eqb}
 use lib.ListN.{length, getD, set, length-set, List·getD-eq-default}
 use lib.Seq.{getD-set-same, getD-set-other}
 use borrow.Author.Tests.{eqb-true, eqb-false, ne-eqb}
 use Rattle.facts.specs.Tests.{no-way, by-eq, by-lt, none-below}
 use Rattle.rules.specs.Table.{Table}
-use Rattle.rules.specs.Machine.{Machine}
 use Rattle.rules.specs.Reference.{Reference}
-use Rattle.rules.specs.Cabinet.{Standby, Process, Item, Cabinet, nobody, processAt, outboxAt, deadAt, isSome, protected}
-use Rattle.rules.specs.Moves.{done, numbers, promoted, unprotected, afterCrash, allAfterCrash, otherDead, crash}
+use Rattle.rules.specs.Cabinet.{Standby, Process, Item, Cabinet, processAt, outboxAt, deadAt, isSome, protected}
+use Rattle.rules.specs.Moves.{numbers, promoted, unprotected, afterCrash, allAfterCrash, otherDead, crash}
 use Rattle.rules.specs.Judge.{Accepted}
 use Rattle.rules.specs.Transparent.{traceOf}
 use Rattle.rules.proofs.Good.{Good}
 use Rattle.rules.proofs.GoodMoves.{good-promoted, good-unprotected}
-use Rattle.rules.proofs.Invariant.{mine, machineAt, Live, Seated, Invariant}
+use Rattle.rules.proofs.Invariant.{mine, machineAt, Live, Seated, Invariant, in-table}
 use Rattle.rules.proofs.Crashed.{crash-length, crash-at}
 use Rattle.rules.proofs.Guards.{Yields, leaves, after-guard}
 use Rattle.rules.proofs.Follow.{Follows, stay, traced1}
@@ -107,11 +105,11 @@ module _ {t : Table} (ok : Accepted t) {c : Cabinet} {s : Reference} (inv : Inva
   unfolding unprotected
   good-then p hp (taken-over k e here) =
       subst (λ (l : List Item). Good t p l (promoted t p k) (machineAt s p)) (sym (lost p (promoted t p k .board) here))
-      (good-promoted ok (rw (inv .all-processes) at hp) (inv .good p hp) e)
+      (good-promoted ok (in-table inv hp) (inv .good p hp) e)
   good-then p hp (bared k e n) =
       subst (λ (l : List Item). Good t p l (unprotected (processAt c p)) (machineAt s p))
       (sym (ap (mine t p) (same-outbox (processAt c p .board) n)))
-      (good-unprotected ok (rw (inv .all-processes) at hp) (inv .good p hp) e)
+      (good-unprotected ok (in-table inv hp) (inv .good p hp) e)
   good-then p hp (spared n m) =
       subst (λ (l : List Item). Good t p l (processAt c p) (machineAt s p)) (sym (ap (mine t p) (same-outbox (processAt c p .board) n))) (inv .good p hp)
 

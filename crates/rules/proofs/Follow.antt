@@ -4,7 +4,7 @@ use mathlib.Core.Path.{_≡_, refl, ap, sym, _∙_, subst}
 use mathlib.Core.Bool.{Bool, true, false, cond, _||_}
 use mathlib.Core.Option.{some}
 use mathlib.Core.List.{List, [], _∷_, _++_, append-assoc, append-nil}
-use Prim.Native.Nat.{ℕ, zero, suc, _+_, _≤_, _<_}
+use Prim.Native.Nat.{ℕ, zero, suc, _<_}
 use native.Mathlib.Omega.{arith}
 use lib.Dec.{eqb}
 use lib.ListN.{length, getD, set, length-set}
@@ -12,7 +12,7 @@ use lib.Seq.{set-getD}
 use borrow.Author.Tests.{leb-false, not-false}
 use Rattle.facts.specs.Tests.{no-way}
 use Rattle.rules.specs.Table.{Table, channelAt, codeOf}
-use Rattle.rules.specs.Machine.{Mail, Machine, booted, Act, internal, took, sent, Outcome, halted, noMail, moved, localStep}
+use Rattle.rules.specs.Machine.{Mail, Machine, booted, internal, took, sent, Outcome, halted, noMail, moved, localStep}
 use Rattle.rules.specs.Reference.{Reference, Action, referenceRun, injections}
 use Rattle.rules.specs.Cabinet.{eventsMost, Process, Item, message, checkpoint, Cabinet, processAt, outboxAt, protected, exhausted, waiting}
 use Rattle.rules.specs.Moves.{Answer, numbers, withProcess, withOutbox, advanced, send, stepFrom, step, oneMore, issued, snapshot, issue}
@@ -23,8 +23,8 @@ use Rattle.rules.proofs.Tables.{step-own}
 use Rattle.rules.proofs.Ahead.{checkpoints}
 use Rattle.rules.proofs.Good.{Good}
 use Rattle.rules.proofs.GoodMoves.{good-silent, good-suppressed, good-send, good-issued}
-use Rattle.rules.proofs.Invariant.{ownerOf, mine, machineAt, Invariant}
-use Rattle.rules.proofs.Frame.{SameSeat, same-boards, change, join-others, join-own}
+use Rattle.rules.proofs.Invariant.{ownerOf, mine, machineAt, Invariant, in-table, its-outbox}
+use Rattle.rules.proofs.Frame.{SameSeat, same-boards, changed, OthersStay, change, join-others, join-own}
 use Rattle.rules.proofs.References.{run-append, injections-append}
 use Rattle.rules.proofs.Guards.{Yields, unmoved, leaves, after-guard}
 
@@ -86,21 +86,17 @@ none-waits t p (checkpoint r s ∷ q) h = go (eqb p r) (none-waits t p q) h
 -- ---- one process steps, or issues a checkpoint
 
 module _ {t : Table} (ok : Accepted t) {c : Cabinet} {s : Reference} (inv : Invariant t c s) (p : ℕ) (hp : p < length (c .processes)) where
-  in-table : p < length (t .processes)
-  in-table = rw (inv .all-processes) at hp
-
-  its-outbox : processAt c p .board < length (c .outboxes)
-  its-outbox = rw (inv .all-outboxes) (inv .seated p hp .at .there)
-
   -- its own items aside, nothing else changes
-  wait : (y : Process) (qs : List (List Item)) → SameSeat y (processAt c p) → length qs ≡ length (c .outboxes)
-      → ((b j : ℕ) → (j ≡ p → b ≡ processAt c p .board → ⊥) → mine t j (getD qs b []) ≡ mine t j (outboxAt c b))
-      → Good t p (mine t p (getD qs (processAt c p .board) [])) y (machineAt s p)
-      → Follows t (record { processes = set (c .processes) p y; outboxes = qs; dead = c .dead }) s [] []
-  wait y qs seat same-length others good =
-      stay (subst (λ (l : List Machine). Invariant t (record { processes = set (c .processes) p y; outboxes = qs; dead = c .dead }) (record { machines = l; trace = s .trace }))
-      (set-getD (s .machines) p booted)
-      (change inv p hp y seat (machineAt s p) qs others good (s .trace) same-length))
+  wait : (y : Process) (outboxes : List (List Item)) → SameSeat y (processAt c p) → length outboxes ≡ length (c .outboxes) → OthersStay t p outboxes c
+      → Good t p (mine t p (getD outboxes (processAt c p .board) [])) y (machineAt s p) → Follows t (changed p y outboxes c) s [] []
+  wait y outboxes seat same-length others good =
+      stay (subst (λ (l : List Machine). Invariant t (changed p y outboxes c) (record { machines = l; trace = s .trace })) (set-getD (s .machines) p booted)
+      (change inv p hp y seat (machineAt s p) outboxes others good (s .trace) same-length))
+
+  -- no item joins an outbox
+  wait-only : (y : Process) → SameSeat y (processAt c p) → Good t p (mine t p (outboxAt c (processAt c p .board))) y (machineAt s p)
+      → Follows t (withProcess p y c) s [] []
+  wait-only y seat good = wait y (c .outboxes) seat refl (λ b j n. refl) good
 
   -- an item of its own joins its board's outbox
   wait-joined : (y : Process) (item : Item) → SameSeat y (processAt c p) → ownerOf t item ≡ p
@@ -110,9 +106,9 @@ module _ {t : Table} (ok : Accepted t) {c : Cabinet} {s : Reference} (inv : Inva
       let B : ℕ = processAt c p .board in
       let q : List Item = outboxAt c B ++ (item ∷ []) in
       wait y (set (c .outboxes) B q) seat (length-set (c .outboxes) B q)
-      (λ b j n. join-others t (c .outboxes) B its-outbox item b j (λ e f. n (e ∙ is-own) f))
+      (λ b j n. join-others t (c .outboxes) B (its-outbox inv hp) item b j (λ e f. n (e ∙ is-own) f))
       (subst (λ (l : List Item). Good t p l y (machineAt s p))
-      (sym (subst (λ (o : ℕ). mine t o (getD (set (c .outboxes) B q) B []) ≡ mine t o (outboxAt c B) ++ (item ∷ [])) is-own (join-own t (c .outboxes) B its-outbox item)))
+      (sym (subst (λ (o : ℕ). mine t o (getD (set (c .outboxes) B q) B []) ≡ mine t o (outboxAt c B) ++ (item ∷ [])) is-own (join-own t (c .outboxes) B (its-outbox inv hp) item)))
       good)
 
   -- ---- step
@@ -121,13 +117,13 @@ module _ {t : Table} (ok : Accepted t) {c : Cabinet} {s : Reference} (inv : Inva
       → Yields (λ d a. Follows t d s (traced1 a) []) (send t c p (processAt c p) m mail h)
   unfolding send numbers traceOf advanced
   follow-send m mail (suc h) z e =
-      leaves (wait (advanced m (processAt c p .taken) (processAt c p .events) h (processAt c p)) (c .outboxes) (same-boards refl refl) refl (λ b j n. refl)
-      (good-suppressed ok in-table (inv .good p hp) z e))
+      leaves (wait-only (advanced m (processAt c p .taken) (processAt c p .events) h (processAt c p)) (same-boards refl refl)
+      (good-suppressed ok (in-table inv hp) (inv .good p hp) z e))
   follow-send m mail zero z e =
       after-guard _ _ _ λ limit. after-guard _ _ _ λ _. after-guard _ _ _ λ _.
       leaves (wait-joined (advanced m (processAt c p .taken) (suc (processAt c p .events)) 0 (processAt c p)) (message mail) (same-boards refl refl)
-      (step-own t ok p in-table e)
-      (good-send ok in-table (inv .good p hp) z e (not-exhausted (processAt c p) limit)))
+      (step-own t ok p (in-table inv hp) e)
+      (good-send ok (in-table inv hp) (inv .good p hp) z e (not-exhausted (processAt c p) limit)))
 
   follow-outcome : (o : Outcome) → localStep (codeOf t p) (processAt c p .machine) ≡ o
       → Yields (λ d a. Follows t d s (traced1 a) []) (stepFrom t c p (processAt c p) o)
@@ -135,12 +131,13 @@ module _ {t : Table} (ok : Accepted t) {c : Cabinet} {s : Reference} (inv : Inva
   follow-outcome halted e = unmoved
   follow-outcome noMail e = unmoved
   follow-outcome (moved m internal) e =
-      leaves (wait (advanced m (processAt c p .taken) (processAt c p .events) (processAt c p .suppress) (processAt c p)) (c .outboxes) (same-boards refl refl) refl (λ b j n. refl)
-      (good-silent ok in-table {k = internal} (processAt c p .events) (inv .good p hp) (record { is = e }) refl (omega arith) (λ _ h. h)))
+      leaves (wait-only (advanced m (processAt c p .taken) (processAt c p .events) (processAt c p .suppress) (processAt c p)) (same-boards refl refl)
+      (good-silent ok (in-table inv hp) {k = internal} (processAt c p .events) (inv .good p hp) (record { is = e }) refl (omega arith) (λ _ h. h)))
   follow-outcome (moved m (took mail)) e =
       after-guard _ _ _ λ limit.
-      leaves (wait (advanced m (oneMore t p mail (processAt c p .taken)) (suc (processAt c p .events)) (processAt c p .suppress) (processAt c p)) (c .outboxes) (same-boards refl refl) refl (λ b j n. refl)
-      (good-silent ok in-table {k = took mail} (suc (processAt c p .events)) (inv .good p hp) (record { is = e }) refl (omega arith) (λ safe _. not-exhausted (processAt c p) limit safe)))
+      leaves (wait-only (advanced m (oneMore t p mail (processAt c p .taken)) (suc (processAt c p .events)) (processAt c p .suppress) (processAt c p)) (same-boards refl refl)
+      (good-silent ok (in-table inv hp) {k = took mail} (suc (processAt c p .events)) (inv .good p hp) (record { is = e }) refl (omega arith)
+      (λ safe _. not-exhausted (processAt c p) limit safe)))
   follow-outcome (moved m (sent mail)) e = follow-send m mail (processAt c p .suppress) refl (record { is = e })
 
   pub follow-step : Yields (λ d a. Follows t d s (traced1 a) []) (step t c p)
@@ -154,4 +151,4 @@ module _ {t : Table} (ok : Accepted t) {c : Cabinet} {s : Reference} (inv : Inva
   follow-issue =
       after-guard _ _ _ λ safe. after-guard _ _ _ λ none-there. after-guard _ _ _ λ _.
       leaves (wait-joined (issued (processAt c p)) (checkpoint p (snapshot (processAt c p))) (same-boards refl refl) refl
-      (good-issued ok in-table (inv .good p hp) (not-false _ safe) (none-waits t p (outboxAt c (processAt c p .board)) none-there)))
+      (good-issued ok (in-table inv hp) (inv .good p hp) (not-false _ safe) (none-waits t p (outboxAt c (processAt c p .board)) none-there)))

@@ -3,10 +3,10 @@
 -- Assumes nothing.
 use mathlib.Core.Logic.{_≢_}
 use mathlib.Core.Path.{_≡_, refl, ap, sym, _∙_, subst}
-use mathlib.Core.Bool.{Bool, true, false, cond}
+use mathlib.Core.Bool.{Bool}
 use mathlib.Core.Option.{Option, none, some}
 use mathlib.Core.List.{List, [], _∷_, _++_, append-nil}
-use Prim.Native.Nat.{ℕ, zero, suc, _≤_, _<_}
+use Prim.Native.Nat.{ℕ, _<_}
 use native.Mathlib.Omega.{arith}
 use lib.ListN.{length, getD, set, length-set}
 use lib.Seq.{getD-set-same, getD-set-other, set-out}
@@ -15,12 +15,12 @@ use Rattle.backup.specs.Replica.{Replica, Reply, arrive}
 use Rattle.rules.specs.Table.{Table, channelAt, portOf}
 use Rattle.rules.specs.Machine.{Mail, Machine, booted, delivered}
 use Rattle.rules.specs.Reference.{Reference, posted}
-use Rattle.rules.specs.Cabinet.{Standby, Process, Item, Cabinet, nobody, processAt, outboxAt, deadAt, isSome, protected}
+use Rattle.rules.specs.Cabinet.{Standby, Process, Item, Cabinet, nobody, processAt, outboxAt, isSome, protected}
 use Rattle.rules.specs.Moves.{onReplica, receive, deliver}
 use Rattle.rules.specs.Judge.{Accepted}
 use Rattle.rules.proofs.Good.{Good}
 use Rattle.rules.proofs.GoodMoves.{good-receive}
-use Rattle.rules.proofs.Invariant.{ownerOf, mine, mine-same, mine-other, mine-append, machineAt, Live, Seated, Invariant, RoomFor}
+use Rattle.rules.proofs.Invariant.{ownerOf, mine, mine-same, mine-other, mine-append, machineAt, Live, Seated, GoodAt, Invariant, in-table, in-reference, RoomFor}
 
 -- ---- the boards of a process
 
@@ -68,46 +68,57 @@ seated-same {t} {dead} {x} h g =
 
 -- ---- one process changes
 
-module _ {t : Table} {c : Cabinet} {s : Reference} (inv : Invariant t c s) (p : ℕ) (hp : p < length (c .processes)) (x : Process) (seat : SameSeat x (processAt c p)) where
-  at-p : getD (set (c .processes) p x) p nobody ≡ x
-  at-p = getD-set-same (c .processes) p x nobody hp
+abbrev pub changed : ℕ → Process → List (List Item) → Cabinet → Cabinet
+changed p x outboxes c = record { processes = set (c .processes) p x; outboxes = outboxes; dead = c .dead }
 
-  same-seat : (j : ℕ) → SameSeat (getD (set (c .processes) p x) j nobody) (processAt c j)
+abbrev put : ℕ → Machine → List Mail → Reference → Reference
+put p m trace s = record { machines = set (s .machines) p m; trace = trace }
+
+-- in no other outbox, and of no other process in its own, do the items change
+abbrev pub OthersStay : Table → ℕ → List (List Item) → Cabinet → Type 0
+OthersStay t p outboxes c = (b j : ℕ) → (j ≡ p → b ≡ processAt c p .board → ⊥) → mine t j (getD outboxes b []) ≡ mine t j (outboxAt c b)
+
+module _ {t : Table} {c : Cabinet} {s : Reference} (inv : Invariant t c s) (p : ℕ) (hp : p < length (c .processes))
+    (x : Process) (seat : SameSeat x (processAt c p)) (m : Machine) (outboxes : List (List Item)) (others : OthersStay t p outboxes c)
+    (good-x : Good t p (mine t p (getD outboxes (processAt c p .board) [])) x m) (trace : List Mail) where
+  is-x : processAt (changed p x outboxes c) p ≡ x
+  is-x = getD-set-same (c .processes) p x nobody hp
+
+  is-other : (j : ℕ) → j ≢ p → processAt (changed p x outboxes c) j ≡ processAt c j
+  is-other j n = getD-set-other (c .processes) p j x nobody n
+
+  same-seat : (j : ℕ) → SameSeat (processAt (changed p x outboxes c) j) (processAt c j)
   same-seat j =
       by-eq j p
-      (λ e. subst (λ (i : ℕ). SameSeat (getD (set (c .processes) p x) i nobody) (processAt c i)) (sym e) (subst (λ (y : Process). SameSeat y (processAt c p)) (sym at-p) seat))
-      (λ n. subst (λ (y : Process). SameSeat y (processAt c j)) (sym (getD-set-other (c .processes) p j x nobody n)) (same-boards refl refl))
+      (λ e. subst (λ (i : ℕ). SameSeat (processAt (changed p x outboxes c) i) (processAt c i)) (sym e)
+      (subst (λ (y : Process). SameSeat y (processAt c p)) (sym is-x) seat))
+      (λ n. subst (λ (y : Process). SameSeat y (processAt c j)) (sym (is-other j n)) (same-boards refl refl))
 
-  module _ (m : Machine) (qs : List (List Item))
-      (others : (b j : ℕ) → (j ≡ p → b ≡ processAt c p .board → ⊥) → mine t j (getD qs b []) ≡ mine t j (outboxAt c b))
-      (good-x : Good t p (mine t p (getD qs (processAt c p .board) [])) x m) where
-    good-p : Good t p (mine t p (getD qs (getD (set (c .processes) p x) p nobody .board) [])) (getD (set (c .processes) p x) p nobody) (getD (set (s .machines) p m) p booted)
-    good-p =
-        rw (getD-set-same (s .machines) p m booted (rw (inv .same-number) at hp), at-p)
-        (subst (λ (b : ℕ). Good t p (mine t p (getD qs b [])) x m) (sym (seat .board)) good-x)
+  good-p : GoodAt t (changed p x outboxes c) (put p m trace s) p
+  good-p =
+      rw (getD-set-same (s .machines) p m booted (in-reference inv hp), is-x)
+      (subst (λ (b : ℕ). Good t p (mine t p (getD outboxes b [])) x m) (sym (seat .board)) good-x)
 
-    good-j : (j : ℕ) → j < length (c .processes) → j ≢ p
-        → Good t j (mine t j (getD qs (getD (set (c .processes) p x) j nobody .board) [])) (getD (set (c .processes) p x) j nobody) (getD (set (s .machines) p m) j booted)
-    good-j j hj n =
-        rw (getD-set-other (c .processes) p j x nobody n, getD-set-other (s .machines) p j m booted n, others (processAt c j .board) j (λ e f. n e)) (inv .good j hj)
+  good-other : (j : ℕ) → j < length (c .processes) → j ≢ p → GoodAt t (changed p x outboxes c) (put p m trace s) j
+  good-other j hj n =
+      rw (is-other j n, getD-set-other (s .machines) p j m booted n, others (processAt c j .board) j (λ e f. n e)) (inv .good j hj)
 
-    pub change : (trace : List Mail) → length qs ≡ length (c .outboxes)
-        → Invariant t (record { processes = set (c .processes) p x; outboxes = qs; dead = c .dead }) (record { machines = set (s .machines) p m; trace = trace })
-    change trace same-length =
-        record {
-          same-number = simp length-set (inv .same-number);
-          all-processes = simp length-set (inv .all-processes);
-          all-outboxes = same-length ∙ inv .all-outboxes;
-          all-boards = inv .all-boards;
-          good = λ j hj. by-eq j p
-              (λ e. subst (λ (i : ℕ). Good t i (mine t i (getD qs (getD (set (c .processes) p x) i nobody .board) [])) (getD (set (c .processes) p x) i nobody) (getD (set (s .machines) p m) i booted)) (sym e) good-p)
-              (λ n. good-j j (rw length-set at hj) n);
-          own = λ b j h.
-              let h′ : j < length (c .processes) → processAt c j .board ≡ b → ⊥ = λ hj e. h (rw length-set hj) (same-seat j .board ∙ e) in
-              others b j (λ e f. h′ (rw e hp) (ap (λ (i : ℕ). processAt c i .board) e ∙ sym f)) ∙ inv .own b j h′;
-          seated = λ j hj. seated-same (same-seat j) (inv .seated j (rw length-set at hj));
-          unharmed = λ alive j hj. same-protected (same-seat j) ∙ inv .unharmed alive j (rw length-set at hj);
-        }
+  pub change : length outboxes ≡ length (c .outboxes) → Invariant t (changed p x outboxes c) (put p m trace s)
+  change same-length =
+      record {
+        same-number = simp length-set (inv .same-number);
+        all-processes = simp length-set (inv .all-processes);
+        all-outboxes = same-length ∙ inv .all-outboxes;
+        all-boards = inv .all-boards;
+        good = λ j hj. by-eq j p
+            (λ e. subst (GoodAt t (changed p x outboxes c) (put p m trace s)) (sym e) good-p)
+            (λ n. good-other j (rw length-set at hj) n);
+        own = λ b j h.
+            let elsewhere : j < length (c .processes) → processAt c j .board ≡ b → ⊥ = λ hj e. h (rw length-set hj) (same-seat j .board ∙ e) in
+            others b j (λ e f. elsewhere (rw e hp) (ap (λ (i : ℕ). processAt c i .board) e ∙ sym f)) ∙ inv .own b j elsewhere;
+        seated = λ j hj. seated-same (same-seat j) (inv .seated j (rw length-set at hj));
+        unharmed = λ alive j hj. same-protected (same-seat j) ∙ inv .unharmed alive j (rw length-set at hj);
+      }
 
 -- ---- a word arrives
 
@@ -120,7 +131,7 @@ deliver-keeps {t} {c} {s} mail ok inv room =
     by-lt r (length (c .processes))
     (λ h. change inv r h (receive t r mail x) (record { board = refl; standby = called-board (λ k. arrive k (portOf t r (mail .channel)) (mail .word)) (x .standby) })
     (delivered mail (machineAt s r)) (c .outboxes) (λ b j n. refl)
-    (good-receive ok (rw (inv .all-processes) at h) mail refl room (inv .good r h)) (s .trace ++ (mail ∷ [])) refl)
+    (good-receive ok (in-table inv h) mail refl room (inv .good r h)) (s .trace ++ (mail ∷ [])) refl)
     (λ h. rw (set-out (c .processes) r (receive t r mail x) h, set-out (s .machines) r (delivered mail (machineAt s r)) (omega (arith, inv .same-number)))
     (record {
       same-number = inv .same-number;

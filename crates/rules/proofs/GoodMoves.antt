@@ -1,8 +1,8 @@
 -- Each move keeps what holds of one process.
 -- Assumes nothing.
 use mathlib.Core.Path.{_≡_, refl, ap, sym, _∙_, subst}
-use mathlib.Core.Bool.{Bool, true, false}
-use mathlib.Core.Option.{Option, none, some}
+use mathlib.Core.Bool.{true, false}
+use mathlib.Core.Option.{some}
 use mathlib.Core.List.{List, [], _∷_, _++_}
 use Prim.Native.Nat.{ℕ, zero, suc, _+_, _≤_, _<_}
 use native.Mathlib.Omega.{arith}
@@ -10,18 +10,18 @@ use lib.ListN.{length}
 use Rattle.facts.specs.Tests.{no-way}
 use Rattle.backup.specs.Limits.{logMost, sentMost}
 use Rattle.backup.specs.Replica.{Replica, Checkpoint, FailOver, arrive, arrived, count, counted, sync, synced, failOver}
-use Rattle.rules.specs.Table.{Table, Instruction, channelAt, codeOf, portOf}
-use Rattle.rules.specs.Machine.{Mail, Machine, Act, internal, took, sent, delivered}
-use Rattle.rules.specs.Cabinet.{eventsMost, Standby, Process, Item, message, checkpoint, noTakes, protected, isSome}
+use Rattle.rules.specs.Table.{Table, channelAt, codeOf, portOf}
+use Rattle.rules.specs.Machine.{Mail, Machine, Act, sent, delivered}
+use Rattle.rules.specs.Cabinet.{eventsMost, Standby, Process, Item, message, checkpoint, protected, isSome}
 use Rattle.rules.specs.Moves.{advanced, issued, snapshot, receive, counts, keeps, recovered, promoted, unprotected}
 use Rattle.rules.specs.Judge.{Accepted}
 use Rattle.rules.proofs.Steps.{Steps}
-use Rattle.rules.proofs.Runs.{Run, here, more, _then_, isSend, Silent, tally, tally1, busy, busy1, busy-snoc}
+use Rattle.rules.proofs.Runs.{Run, here, more, _then_, isSend, Silent, tally, tally1, busy1, busy-snoc}
 use Rattle.rules.proofs.Tables.{step-low}
 use Rattle.rules.proofs.Ahead.{Ahead, level, checkpoints, checkpoints-append, ahead-later, ahead-silent, ahead-send, ahead-issue, up-to-send, up-to-issue, UpToEnd, up-to-end, ahead-total}
-use Rattle.rules.proofs.Good.{stateOf, Kept, Replay, Backed, Alone, Late, Good, backed, alone, late, backed-sent, good-backed}
+use Rattle.rules.proofs.Good.{stateOf, Replay, Backed, Alone, Late, Good, backed, alone, late, backed-sent, good-backed}
 use Rattle.rules.proofs.Tally.{tally-snoc}
-use Rattle.rules.proofs.Replays.{replay-later, replay-on, replay-none, Replays, replay-silent, replay-send, replay-zero}
+use Rattle.rules.proofs.Replays.{replay-later, replay-on, replay-none, replay-silent, replay-send, replay-zero}
 use Rattle.rules.proofs.Backups.{called, run-low, arrives, arrived-state, arrived-kept, counts-it, counted-kept, syncs, synced-state, synced-kept, takes-over, recovers}
 
 -- the reference machine went on silently to mid

@@ -1,18 +1,17 @@
 -- What holds of the whole cabinet beside a reference machine, in every state that commands reach.
 -- Assumes nothing.
 use mathlib.Core.Logic.{_≢_}
-use mathlib.Core.Path.{_≡_, refl, ap, sym, _∙_, subst}
+use mathlib.Core.Path.{_≡_, refl}
 use mathlib.Core.Bool.{Bool, true, false, cond}
-use mathlib.Core.Option.{Option, none, some}
+use mathlib.Core.Option.{some}
 use mathlib.Core.List.{List, [], _∷_, _++_}
-use Prim.Native.Nat.{ℕ, zero, suc, _≤_, _<_}
+use Prim.Native.Nat.{ℕ, _<_}
 use native.Mathlib.Omega.{arith}
 use lib.Dec.{eqb}
 use lib.ListN.{length, getD}
 use borrow.Author.Tests.{eq-eqb, ne-eqb}
 use Rattle.facts.specs.Tests.{no-way, by-eq, by-lt}
 use Rattle.backup.specs.Limits.{logMost}
-use Rattle.backup.specs.Replica.{Replica}
 use Rattle.rules.specs.Table.{Table, environment, channelAt}
 use Rattle.rules.specs.Machine.{Mail, Machine, booted}
 use Rattle.rules.specs.Reference.{Reference}
@@ -60,17 +59,32 @@ pub record Seated (t : Table) (dead : List Bool) (x : Process) : Type 0 where
   pub beside : (s : Standby) → x .standby ≡ some s → Live t dead (s .board)
   pub apart : (s : Standby) → x .standby ≡ some s → s .board ≢ x .board
 
+-- process p beside its machine in the reference, with its own items of its board's outbox
+abbrev pub GoodAt : Table → Cabinet → Reference → ℕ → Type 0
+GoodAt t c s p = Good t p (mine t p (outboxAt c (processAt c p .board))) (processAt c p) (machineAt s p)
+
 pub record Invariant (t : Table) (c : Cabinet) (s : Reference) : Type 0 where
   pub same-number : length (c .processes) ≡ length (s .machines)
   pub all-processes : length (c .processes) ≡ length (t .processes)
   pub all-outboxes : length (c .outboxes) ≡ t .boards
   pub all-boards : length (c .dead) ≡ t .boards
-  pub good : (p : ℕ) → p < length (c .processes) → Good t p (mine t p (outboxAt c (processAt c p .board))) (processAt c p) (machineAt s p)
+  pub good : (p : ℕ) → p < length (c .processes) → GoodAt t c s p
   -- an item of p stands in the outbox of p's board, and in no other
   pub own : (b p : ℕ) → (p < length (c .processes) → processAt c p .board ≡ b → ⊥) → mine t p (outboxAt c b) ≡ []
   pub seated : (p : ℕ) → p < length (c .processes) → Seated t (c .dead) (processAt c p)
   -- until a board crashes every process has a backup
   pub unharmed : ((b : ℕ) → deadAt c b ≡ false) → (p : ℕ) → p < length (c .processes) → protected (processAt c p) ≡ true
+
+-- a process of the cabinet is one of the table and of the reference, and its board has an outbox
+module _ {t : Table} {c : Cabinet} {s : Reference} (inv : Invariant t c s) {p : ℕ} (hp : p < length (c .processes)) where
+  pub in-table : p < length (t .processes)
+  in-table = rw (inv .all-processes) at hp
+
+  pub in-reference : p < length (s .machines)
+  in-reference = rw (inv .same-number) at hp
+
+  pub its-outbox : processAt c p .board < length (c .outboxes)
+  its-outbox = rw (inv .all-outboxes) (inv .seated p hp .at .there)
 
 -- ---- room in the log for a word that is about to arrive: what the bounds supply
 

@@ -1,14 +1,16 @@
 -- What is proved of document 01's definitions.
--- Demand 3 over any list of commands: read Steps, Runs, Tables, Ahead, Good, Tally and Invariant in this order.
+-- Demand 3 over any list of commands, in the order to read. One machine, and what an accepted table gives:
 pub mod Steps
 pub mod Runs
 pub mod Tables
+-- one process beside its machine in the reference, and its backup:
 pub mod Ahead
 pub mod Good
 pub mod Tally
 pub mod Replays
 pub mod Backups
 pub mod GoodMoves
+-- the whole cabinet, and each move followed by the reference machine:
 pub mod Invariant
 pub mod Guards
 pub mod Frame
@@ -46,3 +48,5 @@ pub mod Marked
 pub mod MoveCases
 pub mod FormatCases
 pub mod ReferenceCases
+-- Demand 3 of every accepted run.
+pub mod Theorem

@@ -3,9 +3,9 @@
 use mathlib.Core.Path.{_≡_, refl}
 use mathlib.Core.Bool.{true}
 use mathlib.Core.List.{List, [], _∷_, _++_, map}
-use Prim.Native.Nat.{ℕ}
+use Prim.Native.Nat.{ℕ, zero, suc}
 use lib.ListN.{replicate, set}
-use Rattle.backup.specs.Replica.{Message, Replica, Checkpoint, noRegisters, fit, arriveNumber, countNumber, syncNumber, sync}
+use Rattle.backup.specs.Replica.{Message, Replica, Checkpoint, noRegisters, initial, fit, arrive, arriveNumber, countNumber, syncNumber, sync}
 use Rattle.rules.specs.Table.{SET, ADD}
 use Rattle.rules.specs.Moves.{guard, Command}
 use Rattle.rules.specs.Run.{run, accepted}
@@ -98,6 +98,16 @@ marks =
 pub marked : given marks ≡ said marks
 unfolding run guard sync syncNumber arriveNumber countNumber fit
 marked = refl
+
+-- the numbers of n arrivals at a backup
+abbrev arrivals : ℕ → Replica → List ℕ
+arrivals zero r = []
+arrivals (suc n) r = arrive r 0 7 .number ∷ arrivals n (arrive r 0 7 .replica)
+
+-- "Others: 48 arrivals pass, the 49th is 22" (the other of these two is in MoveCases)
+pub arrivals-fill : arrivals 49 initial ≡ times 48 (0 ∷ []) ++ (22 ∷ [])
+unfolding arrive arriveNumber fit
+arrivals-fill = refl
 
 -- the theorem's one hypothesis holds of the sample
 pub sample-accepted : accepted sample (scheduleBytes samplePage) (replicate 120 0) (replicate 20 0) ≡ true

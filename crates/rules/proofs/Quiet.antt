@@ -1,20 +1,20 @@
 -- A quiet end: no process is late, no item waits, so that silent steps take each reference machine to the running one, and none can step.
 -- Assumes nothing.
 use mathlib.Core.Path.{_≡_, refl, ap, sym, _∙_, subst}
-use mathlib.Core.Bool.{Bool, true, false, cond, _&&_}
+use mathlib.Core.Bool.{Bool, true, false, cond}
 use mathlib.Core.Option.{Option, none, some}
 use mathlib.Core.List.{List, [], _∷_, _++_, map}
 use Prim.Native.Nat.{ℕ, zero, suc, _≤_, _<_}
 use native.Mathlib.Omega.{arith}
 use native.Mathlib.Nat.{not-suc-le-zero}
 use lib.Dec.{ltb}
-use lib.ListN.{length, getD, length-set, length-map, List·getD-eq-default}
+use lib.ListN.{length, length-set, length-map, List·getD-eq-default}
 use lib.Seq.{getD-set-same, getD-set-other, ext-getD}
 use borrow.Author.Tests.{le-ltb}
 use Rattle.facts.specs.Tests.{no-way, by-eq, by-lt, and-left, and-right, allOf, allBelow, all-below}
 use Rattle.facts.specs.Indexing.{all-of, getD-map}
 use Rattle.rules.specs.Table.{Table, Instruction, codeOf}
-use Rattle.rules.specs.Machine.{Mail, Machine, booted, Act, Outcome, halted, noMail, moved, localStep}
+use Rattle.rules.specs.Machine.{Machine, booted, Act, Outcome, halted, noMail, moved, localStep}
 use Rattle.rules.specs.Reference.{Reference, Action, step, withMachine, stepped, act, referenceRun, injections}
 use Rattle.rules.specs.Cabinet.{Process, Item, Cabinet, nobody, processAt, outboxAt, idle, isEmpty, quiescent}
 use Rattle.rules.proofs.Steps.{Steps}

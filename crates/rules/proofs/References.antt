@@ -1,13 +1,11 @@
 -- Runs of the reference machine: one after another, and the silent steps of one process in a row.
 -- Assumes nothing.
-use mathlib.Core.Path.{_≡_, refl, ap, sym, _∙_, subst}
-use mathlib.Core.Bool.{Bool, true, false}
+use mathlib.Core.Path.{_≡_, refl, ap, _∙_}
+use mathlib.Core.Bool.{false}
 use mathlib.Core.Option.{Option, none, some}
 use mathlib.Core.List.{List, [], _∷_, _++_}
-use Prim.Native.Nat.{ℕ, zero, suc, _≤_, _<_}
-use native.Mathlib.Omega.{arith}
-use lib.Dec.{ltb}
-use lib.ListN.{length, getD, set, length-set}
+use Prim.Native.Nat.{ℕ, _<_}
+use lib.ListN.{length, length-set}
 use lib.Seq.{getD-set-same, set-set, set-getD}
 use borrow.Author.Tests.{lt-ltb}
 use Rattle.facts.specs.Tests.{no-way}

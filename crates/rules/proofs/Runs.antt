@@ -1,11 +1,11 @@
 -- Runs of one machine: local steps with their acts, how many of the acts are sends, takes or either, and that an arrival disturbs no run.
 -- Assumes nothing.
-use mathlib.Core.Path.{_≡_, refl, ap, sym, _∙_, subst}
+use mathlib.Core.Path.{_≡_, refl, ap}
 use mathlib.Core.Bool.{Bool, true, false}
-use mathlib.Core.List.{List, [], _∷_, _++_, append-assoc}
-use Prim.Native.Nat.{ℕ, zero, suc, _+_, _≤_, _<_}
+use mathlib.Core.List.{List, [], _∷_, _++_}
+use Prim.Native.Nat.{ℕ, suc, _+_, _≤_}
 use native.Mathlib.Omega.{arith}
-use lib.ListN.{length, length-append}
+use lib.ListN.{length}
 use Rattle.facts.specs.Tests.{no-way}
 use Rattle.rules.specs.Table.{Table, Instruction}
 use Rattle.rules.specs.Machine.{Mail, Machine, Act, internal, took, sent, delivered}

@@ -1,24 +1,27 @@
--- The cabinet that the table gives has the invariant, beside the reference machine as it starts.
+-- The cabinet that the table gives has the invariant, beside the reference machine as it starts, and so has every state that commands reach.
 -- Assumes nothing.
 use mathlib.Core.Path.{_≡_, refl, ap, sym, _∙_, subst}
-use mathlib.Core.Bool.{Bool, true, false}
+use mathlib.Core.Bool.{true, false}
 use mathlib.Core.Option.{some}
-use mathlib.Core.List.{List, [], _∷_, map}
-use Prim.Native.Nat.{ℕ, zero, suc, _≤_, _<_}
+use mathlib.Core.List.{List, []}
+use Prim.Native.Nat.{ℕ, _<_}
 use native.Mathlib.Omega.{arith}
-use lib.ListN.{length, getD, length-map, length-replicate, replicate}
+use lib.ListN.{length, length-map, length-replicate, replicate}
 use Rattle.facts.specs.Indexing.{getD-map, getD-replicate-any}
 use Rattle.backup.specs.Replica.{initial}
 use Rattle.rules.specs.Table.{Table, Placement, placementAt}
-use Rattle.rules.specs.Machine.{Machine, booted}
-use Rattle.rules.specs.Reference.{Reference, referenceStart}
-use Rattle.rules.specs.Cabinet.{Standby, Process, Item, Cabinet, placed, started, nobody, processAt, outboxAt, isSome, protected}
+use Rattle.rules.specs.Machine.{booted}
+use Rattle.rules.specs.Reference.{referenceStart}
+use Rattle.rules.specs.Cabinet.{Standby, Process, placed, started, nobody, processAt, outboxAt, protected}
+use Rattle.rules.specs.Moves.{Command}
 use Rattle.rules.specs.Judge.{Accepted}
 use Rattle.rules.proofs.Runs.{here}
 use Rattle.rules.proofs.Ahead.{level}
 use Rattle.rules.proofs.Tables.{primary-ok, standby-ok, apart-ok}
 use Rattle.rules.proofs.Good.{stateOf, no-ports, Good, backed}
 use Rattle.rules.proofs.Invariant.{mine, machineAt, Live, Seated, Invariant}
+use Rattle.rules.proofs.Keep.{start-room}
+use Rattle.rules.proofs.Turn.{FollowsRun, run-follows}
 
 -- one process, where its placement says
 good-placed : (t : Table) (p : ℕ) (x : Placement) → Good t p [] (placed x) booted
@@ -101,3 +104,7 @@ module _ (t : Table) (ok : Accepted t) where
         seated = λ p hp. let h : p < length (t .processes) = rw processes at hp in rw (none-dead, process-is p h) (seated-placed p h);
         unharmed = λ _ p hp. let h : p < length (t .processes) = rw processes at hp in ap protected (process-is p h) ∙ all-protected (placementAt t p);
       }
+
+-- the run of any list of commands from the start
+pub reached : (t : Table) → Accepted t → (commands : List Command) → FollowsRun t (started t) (referenceStart t) commands
+reached t ok commands = run-follows ok (started t) (referenceStart t) (start-invariant t ok) (start-room t) commands

@@ -2,8 +2,8 @@
 -- within the program, boards are those of the table.
 -- Assumes nothing.
 use mathlib.Core.Logic.{_≢_}
-use mathlib.Core.Path.{_≡_, refl, ap, sym, _∙_, subst}
-use mathlib.Core.Bool.{Bool, true, false, not, cond, _&&_, _||_}
+use mathlib.Core.Path.{_≡_, refl, ap, sym, subst}
+use mathlib.Core.Bool.{Bool, true, false, not, cond, _&&_}
 use mathlib.Core.List.{List, [], _∷_}
 use Prim.Native.Nat.{ℕ, zero, suc, _+_, _≤_, _<_}
 use native.Mathlib.Omega.{arith}
@@ -11,9 +11,9 @@ use native.Mathlib.Nat.{le-of-suc-le-suc, not-suc-le-zero, le-refl, le-suc}
 use lib.Dec.{eqb, ltb, leb}
 use lib.ListN.{length, getD, List·getD-eq-default}
 use borrow.Author.Tests.{eqb-true, eqb-false, eq-eqb, ne-eqb, leb-true, ltb-true, not-true}
-use Rattle.facts.specs.Tests.{no-way, and-left, and-right, by-eq, by-lt, all-below, allOf}
+use Rattle.facts.specs.Tests.{and-left, and-right, by-lt, all-below, allOf}
 use Rattle.facts.specs.Indexing.{all-of}
-use Rattle.backup.specs.Limits.{ports, pcMost}
+use Rattle.backup.specs.Limits.{ports}
 use Rattle.rules.specs.Table.{environment, Channel, Instruction, SET, ADD, TAKE, FIRST, SEND, JUMP, Placement, Table, channelAt, placementAt, codeOf, readFrom, inputs, position, portOf, channelOn}
 use Rattle.rules.specs.Machine.{Mail, Machine, Act, internal, took, sent, Outcome, halted, noMail, moved, Pull, nothing, found, pull, bit, register, take1, first1, execute}
 use Rattle.rules.specs.Judge.{inputsOk, boardsOk, sends, instructionOk, instructionsOk, Accepted}

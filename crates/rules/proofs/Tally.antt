@@ -5,19 +5,20 @@ use mathlib.Core.Logic.{_≢_}
 use mathlib.Core.Path.{_≡_, refl, ap, sym, _∙_, subst}
 use mathlib.Core.Bool.{Bool, true, false, cond}
 use mathlib.Core.List.{List, [], _∷_, _++_, map}
-use Prim.Native.Nat.{ℕ, zero, suc, _+_, _-_, _≤_, _<_}
+use Prim.Native.Nat.{ℕ, zero, suc, _-_, _≤_, _<_}
 use native.Mathlib.Omega.{arith}
-use lib.Dec.{eqb, ltb}
+use lib.Dec.{eqb}
 use lib.ListN.{length, getD, set, length-set}
 use lib.Seq.{getD-set-same, getD-set-other, set-set, set-comm, set-getD}
-use borrow.Author.Tests.{eqb-true, eq-eqb, ne-eqb, le-ltb}
-use Rattle.facts.specs.Tests.{no-way, by-eq, no-such}
+use borrow.Author.Tests.{eq-eqb, ne-eqb}
+use Rattle.facts.specs.Tests.{no-way, by-eq}
 use Rattle.backup.specs.Limits.{ports}
-use Rattle.backup.specs.Replica.{Message, savedOn, takenOn, oneLess, remaining, lacking}
+use Rattle.backup.specs.Replica.{Message, savedOn, takenOn, oneLess, remaining}
+use Rattle.backup.specs.Laws.{stays, goes, by-taken, none-taken as nothing-dropped}
 use Rattle.rules.specs.Table.{Table, Instruction, inputs, portOf, channelOn}
 use Rattle.rules.specs.Machine.{Mail, Machine, Act, internal, took, sent, Pull, nothing, found, behind, pull}
 use Rattle.rules.specs.Cabinet.{noTakes}
-use Rattle.rules.proofs.Steps.{Steps, Pulled, step-left}
+use Rattle.rules.proofs.Steps.{Steps, step-left}
 use Rattle.rules.proofs.Runs.{Run, here, more, tally, tally1}
 use Rattle.rules.proofs.Tables.{port-of-channel}
 use Rattle.rules.proofs.Good.{mailOf, PortsBelow, no-ports, one-port}
@@ -80,38 +81,28 @@ saved-hit i m log h = rw (eq-eqb i (m .port) h)
 saved-miss : (i : ℕ) (m : Message) (log : List Message) → i ≢ m .port → savedOn i (m ∷ log) ≡ savedOn i log
 saved-miss i m log h = rw (ne-eqb i (m .port) h)
 
-stays : (taken : List ℕ) (m : Message) (log : List Message) → takenOn taken (m .port) ≡ 0 → remaining taken (m ∷ log) ≡ m ∷ remaining taken log
-stays taken m log h = rw (eq-eqb (takenOn taken (m .port)) 0 h)
-
-goes : (taken : List ℕ) (m : Message) (log : List Message) (k : ℕ) → takenOn taken (m .port) ≡ suc k
-    → remaining taken (m ∷ log) ≡ remaining (oneLess taken (m .port)) log
-goes taken m log k h = rw (ne-eqb (takenOn taken (m .port)) 0 (λ e. omega arith))
-
 -- one take more drops one message more, the oldest of its port
 bump-drop : (i : ℕ) (log : List Message) (taken : List ℕ) → i < length taken → remaining (bump i taken) log ≡ remaining taken (dropPort i log)
 bump-drop i [] taken h = refl
 bump-drop i (m ∷ log) taken h =
     by-eq i (m .port)
-    (λ e. goes (bump i taken) m log (getD taken i 0) (ap (takenOn (bump i taken)) (sym e) ∙ getD-set-same taken i (suc (getD taken i 0)) 0 h)
+    (λ e. let raised : takenOn (bump i taken) (m .port) ≡ suc (getD taken i 0) =
+    ap (takenOn (bump i taken)) (sym e) ∙ getD-set-same taken i (suc (getD taken i 0)) 0 h in
+    goes (bump i taken) m log (omega arith)
     ∙ ap (λ (j : ℕ). remaining (oneLess (bump i taken) j) log) (sym e)
     ∙ ap (λ (l : List ℕ). remaining l log) (less-bump i taken h)
     ∙ ap (remaining taken) (sym (drop-hit i m log e)))
-    (λ n. go n (takenOn taken (m .port)) refl (bump-drop i log taken h) (bump-drop i log (oneLess taken (m .port)) (rw length-set h)))
-  where
-    go : i ≢ m .port → (k : ℕ) → takenOn taken (m .port) ≡ k → remaining (bump i taken) log ≡ remaining taken (dropPort i log)
-        → remaining (bump i (oneLess taken (m .port))) log ≡ remaining (oneLess taken (m .port)) (dropPort i log)
-        → remaining (bump i taken) (m ∷ log) ≡ remaining taken (dropPort i (m ∷ log))
-    go n zero e kept gone =
-        stays (bump i taken) m log (getD-set-other taken i (m .port) (suc (getD taken i 0)) 0 (λ f. n (sym f)) ∙ e)
-        ∙ ap (λ (l : List Message). m ∷ l) kept
-        ∙ sym (stays taken m (dropPort i log) e)
-        ∙ ap (remaining taken) (sym (drop-miss i m log n))
-    go n (suc k) e kept gone =
-        goes (bump i taken) m log k (getD-set-other taken i (m .port) (suc (getD taken i 0)) 0 (λ f. n (sym f)) ∙ e)
-        ∙ ap (λ (l : List ℕ). remaining l log) (less-bump-other i (m .port) taken n)
-        ∙ gone
-        ∙ sym (goes taken m (dropPort i log) k e)
-        ∙ ap (remaining taken) (sym (drop-miss i m log n))
+    (λ n. let other : takenOn (bump i taken) (m .port) ≡ takenOn taken (m .port) = getD-set-other taken i (m .port) (suc (getD taken i 0)) 0 (λ f. n (sym f)) in
+    by-taken taken (m .port)
+    (λ z. stays (bump i taken) m log (other ∙ z)
+    ∙ ap (λ (l : List Message). m ∷ l) (bump-drop i log taken h)
+    ∙ sym (stays taken m (dropPort i log) z)
+    ∙ ap (remaining taken) (sym (drop-miss i m log n)))
+    (λ g. goes (bump i taken) m log (omega arith)
+    ∙ ap (λ (l : List ℕ). remaining l log) (less-bump-other i (m .port) taken n)
+    ∙ bump-drop i log (oneLess taken (m .port)) (rw length-set h)
+    ∙ sym (goes taken m (dropPort i log) g)
+    ∙ ap (remaining taken) (sym (drop-miss i m log n))))
 
 pub none-taken : (i : ℕ) → getD noTakes i 0 ≡ 0
 none-taken zero = refl
@@ -121,26 +112,14 @@ none-taken (suc (suc (suc zero))) = refl
 none-taken (suc (suc (suc (suc i)))) = refl
 
 pub none-dropped : (log : List Message) → remaining noTakes log ≡ log
-none-dropped [] = refl
-none-dropped (m ∷ log) = stays noTakes m log (none-taken (m .port)) ∙ ap (λ (l : List Message). m ∷ l) (none-dropped log)
-
-pub remaining-shorter : (log : List Message) (taken : List ℕ) → length (remaining taken log) ≤ length log
-remaining-shorter [] taken = omega arith
-remaining-shorter (m ∷ log) taken = go (eqb (takenOn taken (m .port)) 0) (remaining-shorter log taken) (remaining-shorter log (oneLess taken (m .port)))
-  where
-    go : (b : Bool) → length (remaining taken log) ≤ length log → length (remaining (oneLess taken (m .port)) log) ≤ length log
-        → length (cond b (m ∷ remaining taken log) (remaining (oneLess taken (m .port)) log)) ≤ suc (length log)
-    go true h g = omega arith
-    go false h g = omega arith
+none-dropped log = nothing-dropped noTakes log none-taken
 
 pub remaining-ports : {n : ℕ} {log : List Message} → PortsBelow n log → (taken : List ℕ) → PortsBelow n (remaining taken log)
 remaining-ports no-ports taken = no-ports
-remaining-ports {n} (one-port {m = m} {log = log} h r) taken = go (eqb (takenOn taken (m .port)) 0) (remaining-ports r taken) (remaining-ports r (oneLess taken (m .port)))
-  where
-    go : (b : Bool) → PortsBelow n (remaining taken log) → PortsBelow n (remaining (oneLess taken (m .port)) log)
-        → PortsBelow n (cond b (m ∷ remaining taken log) (remaining (oneLess taken (m .port)) log))
-    go true g k = one-port h g
-    go false g k = k
+remaining-ports {n} (one-port {m = m} {log = log} h r) taken =
+    by-taken taken (m .port)
+    (λ z. rw (stays taken m log z) (one-port h (remaining-ports r taken)))
+    (λ g. rw (goes taken m log g) (remaining-ports r (oneLess taken (m .port))))
 
 -- ---- a take of a machine whose mailbox is a log's
 
@@ -184,7 +163,9 @@ from-log t p wanted x rest (one-port {m = m} {log = log} h r) e =
         let left : mailOf t p m ∷ ys ≡ rest = cc in
         let v = ih x ys (ap (λ (u : Mail). found u ys) same) in
         let f = v .1 in
-        let other : f .port ≢ m .port = λ e′. no-way (let a : wanted (channelOn t p (m .port)) ≡ true = subst (λ (i : ℕ). wanted (channelOn t p i) ≡ true) e′ (rw (f .on-channel) at (v .0)) in cc) in
+        let is-wanted : wanted (channelOn t p (f .port)) ≡ true = rw (f .on-channel) at (v .0) in
+        let other : f .port ≢ m .port =
+        λ e′. no-way (let a : wanted (channelOn t p (m .port)) ≡ true = subst (λ (i : ℕ). wanted (channelOn t p i) ≡ true) e′ is-wanted in cc) in
         let miss = drop-miss (f .port) m log other in (
           v .0,
           record {
@@ -242,7 +223,3 @@ module _ (t : Table) (p : ℕ) (few : length (inputs t p) ≤ ports) where
           let v = from-log t p (l .wanted) x (m1 .mailbox) h (ap (pull (l .wanted)) (sym e) ∙ l .is) in
           took-logged (v .1) (ih (dropPort (v .1 .port) log) (v .1 .rest-is) (v .1 .ports-left))
       go (sent x) s′ ih = let g = ih log (step-left s′ ∙ e) h in record { left = g .left; enough = g .enough }
-
--- no more taken on a port than saved
-pub not-lacking : (taken : List ℕ) (log : List Message) → ((i : ℕ) → takenOn taken i ≤ savedOn i log) → lacking taken log ≡ false
-not-lacking taken log h = no-such (λ i. ltb (savedOn i log) (takenOn taken i)) ports (λ i _. le-ltb (savedOn i log) (takenOn taken i) (h i))

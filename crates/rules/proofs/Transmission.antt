@@ -1,12 +1,11 @@
 -- Transmission and feeds, followed by the reference machine: the steps that lead up to the item, or the same feed.
 -- Assumes nothing.
 use mathlib.Core.Path.{_≡_, refl, ap, sym, _∙_, subst}
-use mathlib.Core.Bool.{Bool, true, false, not, cond}
+use mathlib.Core.Bool.{Bool, true, false, cond}
 use mathlib.Core.Option.{Option, none, some}
 use mathlib.Core.List.{List, [], _∷_, _++_, append-nil}
-use Prim.Native.Nat.{ℕ, zero, suc, _≤_, _<_}
-use native.Mathlib.Omega.{arith}
-use lib.Dec.{eqb, ltb}
+use Prim.Native.Nat.{ℕ, zero, suc, _<_}
+use lib.Dec.{eqb}
 use lib.ListN.{length, getD, set, length-set}
 use lib.Seq.{getD-set-same, getD-set-other}
 use borrow.Author.Tests.{not-false, eqb-true, lt-ltb}
@@ -14,17 +13,17 @@ use Rattle.facts.specs.Tests.{no-way, by-eq}
 use Rattle.backup.specs.Limits.{logMost}
 use Rattle.backup.specs.Replica.{Replica, Checkpoint, answer, counted, countNumber, count, sync}
 use Rattle.rules.specs.Table.{Table, environment, channelAt, codeOf}
-use Rattle.rules.specs.Machine.{Mail, Machine, Act, sent}
-use Rattle.rules.specs.Reference.{Reference, Action, posted, withMachine, act, referenceRun, injections}
-use Rattle.rules.specs.Cabinet.{Standby, Process, Item, message, checkpoint, Cabinet, nobody, processAt, outboxAt, protected, full}
-use Rattle.rules.specs.Moves.{Answer, transmitted, syncKept, syncLost, numbers, accept, withProcess, withOutbox, onReplica, counts, keeps, deliver, transmitItem, transmitOldest, transmit, inject}
+use Rattle.rules.specs.Machine.{Mail, Machine, sent}
+use Rattle.rules.specs.Reference.{Reference, Action, posted, withMachine, act, injections}
+use Rattle.rules.specs.Cabinet.{Standby, Process, Item, message, checkpoint, Cabinet, nobody, processAt, outboxAt, protected}
+use Rattle.rules.specs.Moves.{syncKept, syncLost, numbers, accept, withProcess, withOutbox, onReplica, counts, keeps, deliver, transmitItem, transmitOldest, transmit, inject}
 use Rattle.rules.specs.Judge.{Accepted}
 use Rattle.rules.specs.Transparent.{traceOf}
 use Rattle.rules.proofs.Steps.{Steps}
 use Rattle.rules.proofs.Good.{Good}
 use Rattle.rules.proofs.GoodMoves.{Transmitted, Synced, good-counts, good-keeps}
-use Rattle.rules.proofs.Invariant.{ownerOf, mine, machineAt, Invariant, RoomFor, Roomy, owner}
-use Rattle.rules.proofs.Frame.{SameSeat, called-board, change, deliver-keeps, leave-others, leave-own}
+use Rattle.rules.proofs.Invariant.{ownerOf, mine, machineAt, Invariant, in-table, in-reference, its-outbox, RoomFor, Roomy, owner}
+use Rattle.rules.proofs.Frame.{called-board, OthersStay, change, deliver-keeps, leave-others, leave-own}
 use Rattle.rules.proofs.References.{run-append, run-one, injections-append, steps, injections-steps, act-sent, put-put, put-get, put-length, run-silent}
 use Rattle.rules.proofs.Guards.{Yields, unmoved, leaves, after-guard}
 use Rattle.rules.proofs.Follow.{Follows, traced1, fed1}
@@ -62,23 +61,14 @@ room-left t c k p b rest hp room s =
     (sym (getD-set-other (c .processes) p r (counts (processAt c p)) nobody n)) (room s))
 
 module _ {t : Table} (ok : Accepted t) {c : Cabinet} {s : Reference} (inv : Invariant t c s) (p : ℕ) (hp : p < length (c .processes)) where
-  in-table : p < length (t .processes)
-  in-table = rw (inv .all-processes) at hp
-
-  in-reference : p < length (s .machines)
-  in-reference = rw (inv .same-number) at hp
-
-  its-outbox : processAt c p .board < length (c .outboxes)
-  its-outbox = rw (inv .all-outboxes) (inv .seated p hp .at .there)
-
   module _ (item : Item) (is-own : ownerOf t item ≡ p) (rest : List Item) (oldest : outboxAt c (processAt c p .board) ≡ item ∷ rest) where
-    others : (b j : ℕ) → (j ≡ p → b ≡ processAt c p .board → ⊥) → mine t j (getD (set (c .outboxes) (processAt c p .board) rest) b []) ≡ mine t j (outboxAt c b)
-    others b j n = leave-others t (c .outboxes) (processAt c p .board) its-outbox item rest oldest b j (λ e f. n (e ∙ is-own) f)
+    others : OthersStay t p (set (c .outboxes) (processAt c p .board) rest) c
+    others b j n = leave-others t (c .outboxes) (processAt c p .board) (its-outbox inv hp) item rest oldest b j (λ e f. n (e ∙ is-own) f)
 
     items : mine t p (outboxAt c (processAt c p .board)) ≡ item ∷ mine t p (getD (set (c .outboxes) (processAt c p .board) rest) (processAt c p .board) [])
     items =
         subst (λ (o : ℕ). mine t o (outboxAt c (processAt c p .board)) ≡ item ∷ mine t o (getD (set (c .outboxes) (processAt c p .board) rest) (processAt c p .board) []))
-        is-own (leave-own t (c .outboxes) (processAt c p .board) its-outbox item rest oldest)
+        is-own (leave-own t (c .outboxes) (processAt c p .board) (its-outbox inv hp) item rest oldest)
 
   -- ---- a word
 
@@ -90,10 +80,10 @@ module _ {t : Table} (ok : Accepted t) {c : Cabinet} {s : Reference} (inv : Inva
       let B : ℕ = processAt c p .board in
       let mid : Reference = withMachine p (v .mid) s in
       let end : Reference = posted t mail (withMachine p (v .last) s) in
-      let up-to-mid = run-silent t p (v .steps .to-mid) refl (v .steps .silent-there) s in-reference refl in
+      let up-to-mid = run-silent t p (v .steps .to-mid) refl (v .steps .silent-there) s (in-reference inv hp) refl in
       let sends-it : Steps (codeOf t p) (machineAt mid p) (sent mail) (v .last) =
-      subst (λ (m : Machine). Steps (codeOf t p) m (sent mail) (v .last)) (sym (put-get p (v .mid) s in-reference)) (v .sends-it) in
-      let acts = act-sent t mid p (subst (λ (n : ℕ). p < n) (sym (put-length p (v .mid) s)) in-reference) sends-it in
+      subst (λ (m : Machine). Steps (codeOf t p) m (sent mail) (v .last)) (sym (put-get p (v .mid) s (in-reference inv hp))) (v .sends-it) in
+      let acts = act-sent t mid p (subst (λ (n : ℕ). p < n) (sym (put-length p (v .mid) s)) (in-reference inv hp)) sends-it in
       record {
         actions = steps p (v .steps .acts) ++ (Action.step p ∷ []);
         end = end;
@@ -118,7 +108,7 @@ module _ {t : Table} (ok : Accepted t) {c : Cabinet} {s : Reference} (inv : Inva
       record {
         actions = steps p (v .steps .acts);
         end = withMachine p (v .mid) s;
-        ran = run-silent t p (v .steps .to-mid) refl (v .steps .silent-there) s in-reference refl;
+        ran = run-silent t p (v .steps .to-mid) refl (v .steps .silent-there) s (in-reference inv hp) refl;
         invariant = change inv p hp (keeps k (processAt c p)) (record { board = refl; standby = called-board (λ r. sync r k) (processAt c p .standby) }) (v .mid)
             (set (c .outboxes) B rest) (others (checkpoint p k) refl rest oldest) (v .good) (s .trace) (length-set (c .outboxes) B rest);
         traced = sym (append-nil (s .trace));
@@ -127,19 +117,20 @@ module _ {t : Table} (ok : Accepted t) {c : Cabinet} {s : Reference} (inv : Inva
 
   -- ---- either, from the board that p runs on
 
-  transmits-word : (b : ℕ) (mail : Mail) (rest : List Item) → processAt c p .board ≡ b → senderOf t mail ≡ p → outboxAt c b ≡ message mail ∷ rest → RoomFor t c (mail .channel)
+  transmits-word : (b : ℕ) (mail : Mail) (rest : List Item) → processAt c p .board ≡ b → senderOf t mail ≡ p → outboxAt c b ≡ message mail ∷ rest
+      → RoomFor t c (mail .channel)
       → Follows t (deliver t mail (withProcess p (counts (processAt c p)) (withOutbox b rest c))) s (mail ∷ []) []
   transmits-word b mail rest runs is-own =
       subst (λ (B : ℕ). outboxAt c B ≡ message mail ∷ rest → RoomFor t c (mail .channel)
       → Follows t (deliver t mail (withProcess p (counts (processAt c p)) (withOutbox B rest c))) s (mail ∷ []) []) runs
-      (λ oldest room. follow-word mail rest is-own oldest room (good-counts ok in-table mail
+      (λ oldest room. follow-word mail rest is-own oldest room (good-counts ok (in-table inv hp) mail
       (subst (λ (l : List Item). Good t p l (processAt c p) (machineAt s p)) (items (message mail) is-own rest oldest) (inv .good p hp))))
 
   transmits-checkpoint : (b : ℕ) (k : Checkpoint) (rest : List Item) → processAt c p .board ≡ b → outboxAt c b ≡ checkpoint p k ∷ rest
       → Follows t (withProcess p (keeps k (processAt c p)) (withOutbox b rest c)) s [] []
   transmits-checkpoint b k rest runs =
       subst (λ (B : ℕ). outboxAt c B ≡ checkpoint p k ∷ rest → Follows t (withProcess p (keeps k (processAt c p)) (withOutbox B rest c)) s [] []) runs
-      (λ oldest. follow-checkpoint k rest oldest (good-keeps ok in-table k
+      (λ oldest. follow-checkpoint k rest oldest (good-keeps ok (in-table inv hp) k
       (subst (λ (l : List Item). Good t p l (processAt c p) (machineAt s p)) (items (checkpoint p k) refl rest oldest) (inv .good p hp))))
 
 module _ {t : Table} (ok : Accepted t) {c : Cabinet} {s : Reference} (inv : Invariant t c s) (roomy : Roomy t c) where
@@ -175,7 +166,8 @@ module _ {t : Table} (ok : Accepted t) {c : Cabinet} {s : Reference} (inv : Inva
       leaves (record {
         actions = Action.inject mail ∷ [];
         end = posted t mail s;
-        ran = run-one t s (Action.inject mail) (posted t mail s) (rw (lt-ltb (mail .channel) (length (t .channels)) h, not-false (eqb (channelAt t (mail .channel) .sender) environment) outside));
+        ran = run-one t s (Action.inject mail) (posted t mail s)
+            (rw (lt-ltb (mail .channel) (length (t .channels)) h, not-false (eqb (senderOf t mail) environment) outside));
         invariant = deliver-keeps mail ok inv (roomy .for-feed (mail .channel) from-outside free);
         traced = refl;
         injected = refl;

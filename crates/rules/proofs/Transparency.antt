@@ -4,26 +4,19 @@
 -- Assumes nothing.
 use mathlib.Core.Path.{_≡_, refl, ap, _∙_}
 use mathlib.Core.Bool.{Bool, true, false}
-use mathlib.Core.Option.{some}
-use mathlib.Core.List.{List, [], _++_, append-nil}
+use mathlib.Core.List.{List, _++_, append-nil}
 use Rattle.facts.specs.Tests.{no-way}
 use Rattle.rules.specs.Table.{Table}
 use Rattle.rules.specs.Machine.{Mail}
-use Rattle.rules.specs.Reference.{Reference, referenceStart, injections}
-use Rattle.rules.specs.Cabinet.{Cabinet, started, quiescent}
+use Rattle.rules.specs.Reference.{referenceStart, injections}
+use Rattle.rules.specs.Cabinet.{quiescent}
 use Rattle.rules.specs.Moves.{Command}
 use Rattle.rules.specs.Judge.{Accepted}
 use Rattle.rules.specs.Transparent.{Transparent, traceOf, fedOf, answered, finished}
 use Rattle.rules.proofs.References.{run-append, injections-append}
 use Rattle.rules.proofs.Follow.{Follows}
-use Rattle.rules.proofs.Turn.{FollowsRun, run-follows}
-use Rattle.rules.proofs.Start.{start-invariant}
+use Rattle.rules.proofs.Start.{reached}
 use Rattle.rules.proofs.Quiet.{all-caught-up, same-machines, no-more}
-use Rattle.rules.proofs.Keep.{start-room}
-
--- the run of a list from the start
-pub followed : (t : Table) → Accepted t → (commands : List Command) → FollowsRun t (started t) (referenceStart t) commands
-followed t ok commands = run-follows ok (started t) (referenceStart t) (start-invariant t ok) (start-room t) commands
 
 -- at a quiet end the reference machine goes on to the running machines
 finish : (t : Table) (commands : List Command) → Follows t (finished t commands) (referenceStart t) (traceOf (answered t commands)) (fedOf commands (answered t commands))
@@ -55,4 +48,4 @@ finish t commands f true q =
     }
 
 pub transparent : (t : Table) → Accepted t → (commands : List Command) → Transparent t commands
-transparent t ok commands = finish t commands (followed t ok commands .follows) (quiescent t (finished t commands)) refl
+transparent t ok commands = finish t commands (reached t ok commands .follows) (quiescent t (finished t commands)) refl

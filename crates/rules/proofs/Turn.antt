@@ -1,11 +1,10 @@
 -- One command, then any list of them, followed by the reference machine. The room for words that are about to arrive comes with it.
 -- Assumes nothing.
-use mathlib.Core.Path.{_≡_, refl, ap, ap₂, sym, _∙_, subst, subst₂}
+use mathlib.Core.Path.{_≡_, refl, sym, subst₂}
 use mathlib.Core.Bool.{Bool, true, false, cond, _&&_}
 use mathlib.Core.List.{List, [], _∷_, _++_, map}
-use Prim.Native.Nat.{ℕ, zero, suc, _<_}
+use Prim.Native.Nat.{ℕ}
 use lib.Dec.{eqb}
-use lib.ListN.{length}
 use Rattle.rules.specs.Table.{Table}
 use Rattle.rules.specs.Machine.{Mail}
 use Rattle.rules.specs.Reference.{Reference}
@@ -31,7 +30,19 @@ fedBy n r a = cond (eqb n 4 && eqb (numbers a .code) 4) (record { channel = r .a
 -- no refusal is a 4
 not-four : (why : Refusal) → eqb (refusalNumber why) 4 ≡ false
 unfolding refusalNumber
-not-four = elim [ badRecord ↦ refl | notInTable ↦ refl | boardDead ↦ refl | isHalted ↦ refl | noSuchWord ↦ refl | eventsFull ↦ refl | outboxFull ↦ refl | channelFull ↦ refl | noBackup ↦ refl | syncWaits ↦ refl | outboxEmpty ↦ refl | notOutside ↦ refl | otherCrashed ↦ refl ]
+not-four badRecord = refl
+not-four notInTable = refl
+not-four boardDead = refl
+not-four isHalted = refl
+not-four noSuchWord = refl
+not-four eventsFull = refl
+not-four outboxFull = refl
+not-four channelFull = refl
+not-four noBackup = refl
+not-four syncWaits = refl
+not-four outboxEmpty = refl
+not-four notOutside = refl
+not-four otherCrashed = refl
 
 refused-trace : (why : Refusal) (a : ℕ) → traced1 (refused why a) ≡ []
 unfolding traceOf numbers

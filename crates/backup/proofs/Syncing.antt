@@ -1,0 +1,90 @@
+-- A checkpoint in place: the tallies tell 23, one pass over the log drops, and the head is written anew.
+-- Assumes nothing.
+use mathlib.Core.Path.{_≡_, refl, ap, sym, _∙_, subst}
+use mathlib.Core.Bool.{Bool, true, false}
+use mathlib.Core.List.{List, [], _∷_}
+use Prim.Native.Nat.{ℕ, zero, suc, _+_, _-_, _≤_, _<_}
+use native.Mathlib.Omega.{arith}
+use lib.Dec.{ltb}
+use lib.ListN.{length, getD, set, length-set}
+use borrow.Author.Tests.{lt-ltb, le-ltb}
+use Rattle.facts.specs.Tests.{any-same}
+use Rattle.facts.specs.Lists.{listed, written-out}
+use Rattle.backup.specs.Limits.{logMost, ports, pcMost}
+use Rattle.backup.specs.Replica.{Message, Replica, savedOn, takenOn, lacking, sync, syncNumber, synced}
+use Rattle.backup.specs.Laws.{saved-remaining}
+use Rattle.backup.specs.Accepts.{fit-parts, enough, sync-accepted, synced-fit}
+use Rattle.backup.specs.Place.{messages, viewIn, tallyIn, headLength, Sound, Called, takenOf, checkpointOf, lacksIn, Compacted, restatedIn}
+use Rattle.backup.specs.declared.place.Checkpoint.{Checkpoint}
+use Rattle.backup.proofs.InPlace.{refused-so, accepted-so, same-replica, view-length}
+
+-- of a sound backup the tallies tell what the definition asks of the log
+lacks-same : (log head taken : List ℕ) → Sound log head → lacking taken (viewIn log head .log) ≡ lacksIn head taken
+lacks-same log head taken s =
+    any-same (λ p. ltb (savedOn p (viewIn log head .log)) (takenOn taken p)) (λ p. ltb (tallyIn head p) (takenOn taken p)) ports
+    (λ p l. ap (λ (n : ℕ). ltb n (takenOn taken p)) (sym (s .tallies p l)))
+
+-- ---- the head after a checkpoint, cell by cell
+
+-- a head, written out
+spelled : List ℕ → List ℕ
+spelled head = listed (λ i. getD head i 0) headLength
+
+view-restated : (log head : List ℕ) (len : ℕ) (c : Checkpoint) → length head ≡ headLength
+    → viewIn log (restatedIn head len c) ≡ record { log = messages len log; sent = 0; pc = c .pc; registers = c .r0 ∷ c .r1 ∷ c .r2 ∷ c .r3 ∷ [] }
+unfolding viewIn restatedIn spelled
+view-restated log head len c h = ap (λ (l : List ℕ). viewIn log (restatedIn l len c)) (written-out head headLength 0 h)
+
+tally-spelled : (head : List ℕ) (len : ℕ) (c : Checkpoint) (p : ℕ) → p < ports
+    → tallyIn (restatedIn (spelled head) len c) p ≡ tallyIn (spelled head) p - takenOn (takenOf c) p
+unfolding restatedIn spelled
+tally-spelled head len c zero h = refl
+tally-spelled head len c (suc zero) h = refl
+tally-spelled head len c (suc (suc zero)) h = refl
+tally-spelled head len c (suc (suc (suc zero))) h = refl
+tally-spelled head len c (suc (suc (suc (suc p)))) h = absurd (omega arith)
+
+tally-restated : (head : List ℕ) (len : ℕ) (c : Checkpoint) → length head ≡ headLength → (p : ℕ) → p < ports
+    → tallyIn (restatedIn head len c) p ≡ tallyIn head p - takenOn (takenOf c) p
+unfolding spelled
+tally-restated head len c h p l =
+    subst (λ (k : List ℕ). tallyIn (restatedIn k len c) p ≡ tallyIn k p - takenOn (takenOf c) p) (sym (written-out head headLength 0 h)) (tally-spelled head len c p l)
+
+length-restated : (head : List ℕ) (len : ℕ) (c : Checkpoint) → length (restatedIn head len c) ≡ length head
+unfolding restatedIn
+length-restated head len c = simp length-set
+
+-- ---- the replies
+
+module _ (log head : List ℕ) (c : Checkpoint) where
+  pub sync-21 : pcMost < c .pc → Called log head log head 21 (λ v. sync v (checkpointOf c))
+  unfolding sync syncNumber
+  sync-21 h = refused-so log head 21 (λ v. sync v (checkpointOf c)) (λ s. rw (s .is-fit, lt-ltb pcMost (c .pc) h))
+
+  pub sync-23 : c .pc ≤ pcMost → lacksIn head (takenOf c) ≡ true → Called log head log head 23 (λ v. sync v (checkpointOf c))
+  unfolding sync syncNumber
+  sync-23 h k = refused-so log head 23 (λ v. sync v (checkpointOf c))
+      (λ s. rw (s .is-fit, le-ltb pcMost (c .pc) h, lacks-same log head (takenOf c) s ∙ k))
+
+  -- a log longer than its array is none of a sound backup
+  pub sync-20 : logMost < getD head 0 0 → Called log head log head 20 (λ v. sync v (checkpointOf c))
+  sync-20 h = refused-so log head 20 (λ v. sync v (checkpointOf c))
+      (λ s. absurd (let f = fit-parts (viewIn log head) (s .is-fit) .few in let l = view-length log head in omega arith))
+
+  pub sync-done : (kept : ℕ) (log′ : List ℕ) → c .pc ≤ pcMost → lacksIn head (takenOf c) ≡ false → Compacted log (getD head 0 0) (takenOf c) kept log′
+      → Called log head log′ (restatedIn head kept c) 0 (λ v. sync v (checkpointOf c))
+  unfolding viewIn
+  sync-done kept log′ h k m =
+      accepted-so log head log′ (restatedIn head kept c) (λ v. sync v (checkpointOf c)) (synced (viewIn log head) (checkpointOf c))
+      (λ s. sync-accepted (viewIn log head) (checkpointOf c) (s .is-fit) h (enough (takenOf c) (viewIn log head .log) (lacks-same log head (takenOf c) s ∙ k)))
+      (λ s.
+      let r = m .rest (s .log-length) (fit-parts (viewIn log head) (s .is-fit) .on-ports) in
+      record {
+        log-length = m .same-length ∙ s .log-length;
+        head-length = length-restated head kept c ∙ s .head-length;
+        view = view-restated log′ head kept c (s .head-length) ∙ same-replica r refl refl refl;
+        is-fit = synced-fit (viewIn log head) (checkpointOf c) (s .is-fit) h;
+        tallies = λ p l.
+            tally-restated head kept c (s .head-length) p l ∙ ap (λ (n : ℕ). n - takenOn (takenOf c) p) (s .tallies p l)
+            ∙ sym (saved-remaining p (takenOf c) (viewIn log head .log));
+      })

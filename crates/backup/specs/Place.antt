@@ -1,0 +1,107 @@
+-- A backup in place: how a log and a head, two lists of numbers, stand for the value, and what every call in place promises.
+-- Assumes nothing.
+use mathlib.Core.Path.{_≡_}
+use mathlib.Core.Bool.{Bool, true, false}
+use mathlib.Core.List.{List, [], _∷_, map}
+use Prim.Native.Nat.{ℕ, _+_, _-_, _*_, _/_, _%_, _^_, _≤_, _<_}
+use lib.Dec.{ltb}
+use lib.ListN.{length, getD, set}
+use Rattle.facts.specs.Tests.{anyBelow}
+use Rattle.facts.specs.Lists.{prefix}
+use Rattle.backup.specs.Limits.{logMost, ports}
+use Rattle.backup.specs.Replica.{Message, Replica, Reply, FailOver, fit, onPorts, savedOn, takenOn, remaining}
+use Rattle.backup.specs.Replica as value
+use Rattle.backup.specs.declared.place.Checkpoint.{Checkpoint}
+use Rattle.backup.specs.declared.place.Promotion.{Promotion}
+
+-- a message as one number: port times 2^32, plus word
+abbrev pub pack : ℕ → ℕ → ℕ
+pack port word = port * 4294967296 + word
+
+abbrev pub portIn : ℕ → ℕ
+portIn x = x / 4294967296
+
+abbrev pub wordIn : ℕ → ℕ
+wordIn x = x % 4294967296
+
+abbrev pub unpack : ℕ → Message
+unpack x = record { port = portIn x; word = wordIn x }
+
+-- the first n messages of a log
+abbrev pub messages : ℕ → List ℕ → List Message
+messages n log = map unpack (prefix n log)
+
+-- how many numbers a head has
+abbrev pub headLength : ℕ
+headLength = 11
+
+-- the value that a log and a head stand for: the head has the log's length, the count, the program counter and four registers
+unfoldable pub viewIn : List ℕ → List ℕ → Replica
+viewIn log head = record {
+  log = messages (getD head 0 0) log;
+  sent = getD head 1 0;
+  pc = getD head 2 0;
+  registers = getD head 3 0 ∷ getD head 4 0 ∷ getD head 5 0 ∷ getD head 6 0 ∷ [];
+}
+
+-- how many messages on port p the head says that there are
+abbrev pub tallyIn : List ℕ → ℕ → ℕ
+tallyIn head p = getD head (7 + p) 0
+
+-- what the calls in place keep: the value is fit, and the head's tallies say how many messages came in on each port
+pub record Sound (log head : List ℕ) : Type 0 where
+  pub log-length : length log ≡ logMost
+  pub head-length : length head ≡ headLength
+  pub is-fit : fit (viewIn log head) ≡ true
+  pub tallies : (p : ℕ) → p < ports → tallyIn head p ≡ savedOn p (viewIn log head .log)
+
+-- What a call in place promises, from the arrays at entry and at exit, the number it returned, and the definition that it follows.
+pub record Called (log head log′ head′ : List ℕ) (number : ℕ) (call : Replica → Reply) : Type 0 where
+  -- refused: both arrays are as they were
+  pub untouched : (number ≡ 0 → ⊥) → (log′ ≡ log) × (head′ ≡ head)
+  -- of a sound backup: the definition's number and value, and it is sound again
+  pub number-is : Sound log head → number ≡ call (viewIn log head) .number
+  pub value-is : Sound log head → viewIn log′ head′ ≡ call (viewIn log head) .replica
+  pub sound-again : Sound log head → Sound log′ head′
+
+-- the code's checkpoint as the definitions' one
+abbrev pub takenOf : Checkpoint → List ℕ
+takenOf c = c .t0 ∷ c .t1 ∷ c .t2 ∷ c .t3 ∷ []
+
+abbrev pub checkpointOf : Checkpoint → value.Checkpoint
+checkpointOf c = record { pc = c .pc; registers = c .r0 ∷ c .r1 ∷ c .r2 ∷ c .r3 ∷ []; taken = takenOf c }
+
+-- ---- what the steps of a checkpoint in place do
+
+-- more was taken on some port than its tally says
+abbrev pub lacksIn : List ℕ → List ℕ → Bool
+lacksIn head taken = anyBelow (λ p. ltb (tallyIn head p) (takenOn taken p)) ports
+
+-- one pass over a log leaves, in its first numbers, what a drop as taken leaves
+pub record Compacted (log : List ℕ) (len : ℕ) (taken : List ℕ) (kept : ℕ) (log′ : List ℕ) : Type 0 where
+  pub no-more : kept ≤ len
+  pub same-length : length log′ ≡ length log
+  pub rest : length log ≡ logMost → onPorts (messages len log) ≡ true → messages kept log′ ≡ remaining taken (messages len log)
+
+-- the head after a checkpoint, where len messages stay
+unfoldable pub restatedIn : List ℕ → ℕ → Checkpoint → List ℕ
+restatedIn head len c =
+    let h = set (set (set (set (set (set (set head 0 len) 1 0) 2 (c .pc)) 3 (c .r0)) 4 (c .r1)) 5 (c .r2)) 6 (c .r3) in
+    let a = set h 7 (getD h 7 0 - c .t0) in
+    let b = set a 8 (getD a 8 0 - c .t1) in
+    let d = set b 9 (getD b 9 0 - c .t2) in
+    set d 10 (getD d 10 0 - c .t3)
+
+-- ---- take over in place
+
+-- what a promotion reads off the head
+abbrev pub promotionIn : List ℕ → Promotion
+promotionIn head = record {
+  len = getD head 0 0;
+  sent = getD head 1 0;
+  pc = getD head 2 0;
+  r0 = getD head 3 0;
+  r1 = getD head 4 0;
+  r2 = getD head 5 0;
+  r3 = getD head 6 0;
+}

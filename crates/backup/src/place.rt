@@ -1,0 +1,226 @@
+// The backup in place: one backup in two lent arrays of numbers, a log and a head. These calls are for the crates above; they ask
+// nothing of their caller. They do not look for 20: of a backup that is sound (fit, with true tallies) they reply as document 01
+// says and leave it sound, and what an unsound one comes to is only safe. A refused call touches neither array.
+ghost use mathlib.Core.Path.{_≡_};
+ghost use mathlib.Core.List.{List, [], _∷_};
+ghost use Prim.Native.Nat.{ℕ, _+_, _-_, _%_, _^_, _≤_, _<_};
+ghost use lib.ListN.{length, getD, set};
+ghost use Rattle.backup.specs.Replica.{arrive, count, sync};
+ghost use Rattle.backup.specs.Place.{Called, portIn, wordIn, checkpointOf, takenOf, lacksIn, restatedIn, Compacted, promotionIn};
+use crate::limits::LOG;
+use crate::limits::PC_MOST;
+use crate::limits::PORTS;
+use crate::limits::SENT_MOST;
+use crate::pack::packed;
+use crate::pack::port_of;
+use crate::pack::word_of;
+
+// Where a head has its numbers: the log's length, the count of transmitted messages, the program counter, four registers, and for
+// each port how many messages of the log came in on it.
+pub const LEN: usize = 0;
+
+pub const SENT: usize = 1;
+
+pub const PC: usize = 2;
+
+pub const R0: usize = 3;
+
+pub const R1: usize = 4;
+
+pub const R2: usize = 5;
+
+pub const R3: usize = 6;
+
+pub const SAVED0: usize = 7;
+
+pub const SAVED1: usize = 8;
+
+pub const SAVED2: usize = 9;
+
+pub const SAVED3: usize = 10;
+
+pub const HEAD: usize = 11;
+
+// A process at the moment a checkpoint was issued: program counter, registers, and the receives on each port since the last one.
+pub struct Checkpoint {
+    pub pc: u32,
+    pub r0: u32,
+    pub r1: u32,
+    pub r2: u32,
+    pub r3: u32,
+    pub t0: u32,
+    pub t1: u32,
+    pub t2: u32,
+    pub t3: u32,
+}
+
+// What a promotion goes on from, beside the log: how many messages it has, the count, the program counter and the registers.
+pub struct Promotion {
+    pub len: u32,
+    pub sent: u32,
+    pub pc: u32,
+    pub r0: u32,
+    pub r1: u32,
+    pub r2: u32,
+    pub r3: u32,
+}
+
+fn wide(x: u32) -> usize
+    ensures { λ r. ⌜ r ≡ x ⌝ }
+{
+    x as usize
+}
+
+// One more in a cell of the head.
+fn bump(head: &mut [u32; HEAD], i: usize)
+    requires { ⌜ i < 11 ⌝ }
+    ensures { λ _. ⌜ now (head .exit) ≡ set (now (head .entry)) i ((getD (now (head .entry)) i 0 + 1) % 2 ^ 32) ⌝ }
+{
+    head[i] = std::num::wrapping_add_u32(head[i], 1);
+}
+
+// x less n, or 0 where n is more.
+fn minus(x: u32, n: u32) -> u32
+    ensures { λ r. ⌜ r ≡ x - n ⌝ }
+{
+    if n <= x { x - n } else { 0 }
+}
+
+// A message arrived: 0, or 21 or 22.
+pub fn arrive_in(log: &mut [u64; LOG], head: &mut [u32; HEAD], port: u32, word: u32) -> u8
+    ensures { λ r. ⌜ Called (now (log .entry)) (now (head .entry)) (now (log .exit)) (now (head .exit)) r (λ v. arrive v port word) ⌝ }
+{
+    if port >= PORTS {
+        return 21;
+    }
+    let len = wide(head[LEN]);
+    if len >= LOG {
+        return 22;
+    }
+    log[len] = packed(port, word);
+    bump(head, LEN);
+    bump(head, SAVED0 + wide(port));
+    0
+}
+
+// A message of the process was transmitted: 0, or 24.
+pub fn count_in(head: &mut [u32; HEAD]) -> u8
+    ensures { λ r. ⌜ ((log : List ℕ) → Called log (now (head .entry)) log (now (head .exit)) r count) ⌝ }
+{
+    if head[SENT] >= SENT_MOST {
+        return 24;
+    }
+    bump(head, SENT);
+    0
+}
+
+// Whether more was taken on some port than its tally says, from port 3 down.
+fn lacks(head: &[u32; HEAD], c: Checkpoint) -> bool
+    ensures { λ r. ⌜ r ≡ lacksIn (now (head .entry)) (takenOf c) ⌝ }
+{
+    if head[SAVED3] < c.t3 {
+        return true;
+    }
+    if head[SAVED2] < c.t2 {
+        return true;
+    }
+    if head[SAVED1] < c.t1 {
+        return true;
+    }
+    head[SAVED0] < c.t0
+}
+
+// The port of a message, below 4 whatever the number is.
+fn lane(x: u64) -> usize
+    ensures { λ r. ⌜ r ≡ portIn x % 4 ⌝ }
+{
+    wide(port_of(x) % 4)
+}
+
+// Drops the oldest messages of each port, as many as were taken on it, in one pass over the first len; says how many stay.
+fn compact(log: &mut [u64; LOG], len: usize, taken: [u32; 4]) -> usize
+    requires { ⌜ len ≤ 48 ⌝ }
+    ensures { λ r. ⌜ Compacted (now (log .entry)) len taken r (now (log .exit)) ⌝ }
+{
+    let mut left = taken;
+    let mut i = 0;
+    let mut kept = 0;
+    while i < len {
+        let x = log[i];
+        let s = lane(x);
+        let n = left[s];
+        if n > 0 {
+            left[s] = n - 1;
+        } else {
+            log[kept] = x;
+            kept += 1;
+        }
+        i += 1;
+    }
+    kept
+}
+
+// The head of a log of len messages after a checkpoint: its state, no count, and the tallies less what was taken.
+fn restate(head: &mut [u32; HEAD], len: u32, c: Checkpoint)
+    ensures { λ _. ⌜ now (head .exit) ≡ restatedIn (now (head .entry)) len c ⌝ }
+{
+    head[LEN] = len;
+    head[SENT] = 0;
+    head[PC] = c.pc;
+    head[R0] = c.r0;
+    head[R1] = c.r1;
+    head[R2] = c.r2;
+    head[R3] = c.r3;
+    head[SAVED0] = minus(head[SAVED0], c.t0);
+    head[SAVED1] = minus(head[SAVED1], c.t1);
+    head[SAVED2] = minus(head[SAVED2], c.t2);
+    head[SAVED3] = minus(head[SAVED3], c.t3);
+}
+
+// A checkpoint lands: 0, or 21 or 23.
+pub fn sync_in(log: &mut [u64; LOG], head: &mut [u32; HEAD], c: Checkpoint) -> u8
+    ensures { λ r. ⌜ Called (now (log .entry)) (now (head .entry)) (now (log .exit)) (now (head .exit)) r (λ v. sync v (checkpointOf c)) ⌝ }
+{
+    if c.pc > PC_MOST {
+        return 21;
+    }
+    if lacks(head, c) {
+        return 23;
+    }
+    let len = wide(head[LEN]);
+    if len > LOG {
+        return 20;
+    }
+    let kept = compact(log, len, [c.t0, c.t1, c.t2, c.t3]);
+    restate(head, kept as u32, c);
+    0
+}
+
+// The backup takes over: what its process goes on from. The log holds the messages.
+pub fn fail_over_in(head: &[u32; HEAD]) -> Promotion
+    ensures { λ r. ⌜ r ≡ promotionIn (now (head .entry)) ⌝ }
+{
+    Promotion {
+        len: head[LEN],
+        sent: head[SENT],
+        pc: head[PC],
+        r0: head[R0],
+        r1: head[R1],
+        r2: head[R2],
+        r3: head[R3],
+    }
+}
+
+// The port of message i of a log; 0 where i is no index of one.
+pub fn port_in(log: &[u64; LOG], i: usize) -> u32
+    ensures { λ r. ⌜ (i < 48 → r ≡ portIn (getD (now (log .entry)) i 0)) ⌝ }
+{
+    if i < LOG { port_of(log[i]) } else { 0 }
+}
+
+// Its word.
+pub fn word_in(log: &[u64; LOG], i: usize) -> u32
+    ensures { λ r. ⌜ (i < 48 → r ≡ wordIn (getD (now (log .entry)) i 0)) ⌝ }
+{
+    if i < LOG { word_of(log[i]) } else { 0 }
+}
