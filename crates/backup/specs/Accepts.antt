@@ -10,7 +10,7 @@ use lib.ListN.{length, length-append}
 use borrow.Author.Tests.{le-ltb, lt-ltb, le-leb, lt-leb, leb-true, leb-false, ltb-false}
 use Rattle.facts.specs.Tests.{anyBelow, none-below, no-such, and-left, and-right, and-both, all-append, no-way}
 use Rattle.backup.specs.Limits.{logMost, ports, sentMost, pcMost}
-use Rattle.backup.specs.Replica.{Message, Replica, Checkpoint, Reply, FailOver, fit, onPorts, answer, arrived, arriveNumber, arrive, counted, countNumber, count, savedOn, takenOn, remaining, lacking, synced, syncNumber, sync, failOver}
+use Rattle.backup.specs.Replica.{noRegisters, Message, Replica, Checkpoint, Reply, FailOver, fit, onPorts, answer, arrived, arriveNumber, arrive, counted, countNumber, count, savedOn, takenOn, remaining, lacking, synced, syncNumber, sync, failOver}
 use Rattle.backup.specs.Laws.{ports-remaining, shorter}
 
 -- ---- fitness, part by part
@@ -41,6 +41,20 @@ pub parts-fit : (r : Replica) → Fit r → fit r ≡ true
 unfolding fit
 parts-fit r h =
     rw (le-leb (length (r .log)) logMost (h .few), h .on-ports, le-leb (r .sent) sentMost (h .sent-small), le-leb (r .pc) pcMost (h .pc-small))
+
+-- ---- unfit: 20, whatever the call
+
+pub arrive-unfit : (r : Replica) (port word : ℕ) → fit r ≡ false → arrive r port word ≡ record { number = 20; replica = r }
+unfolding arrive arriveNumber
+arrive-unfit r port word f = rw f
+
+pub count-unfit : (r : Replica) → fit r ≡ false → count r ≡ record { number = 20; replica = r }
+unfolding count countNumber
+count-unfit r f = rw f
+
+pub sync-unfit : (r : Replica) (c : Checkpoint) → fit r ≡ false → sync r c ≡ record { number = 20; replica = r }
+unfolding sync syncNumber
+sync-unfit r c f = rw f
 
 -- ---- arrive
 
@@ -101,3 +115,7 @@ pub fail-over-accepted : (r : Replica) → fit r ≡ true
     → failOver r ≡ record { number = 0; log = r .log; pc = r .pc; registers = r .registers; sent = r .sent }
 unfolding failOver
 fail-over-accepted r f = rw f
+
+pub fail-over-unfit : (r : Replica) → fit r ≡ false → failOver r ≡ record { number = 20; log = []; pc = 0; registers = noRegisters; sent = 0 }
+unfolding failOver
+fail-over-unfit r f = rw f

@@ -1,0 +1,42 @@
+use mathlib.Core.Path.{refl}
+use Rattle.backup.specs.Accepts.{arrive-unfit}
+use Rattle.backup.specs.Value.{view}
+use Rattle.backup.proofs.ByValue.{answered-20, answered-so}
+use native.Mathlib.Omega.{arith}
+use borrow.Author.Needs.{needs}
+use Rattle.backup.proofs.arrive.Statement.{statement}
+use Rattle.backup.proofs.arrive.Tie as tie
+use Rattle.backup.proofs.arrive.Reads as reads
+use Rattle.backup.proofs.arrive.Lts as lts
+use Rattle.backup.proofs.opened.Reads as opened-reads
+use Rattle.backup.proofs.place.arrive_in.Reads as arrive-in-reads
+use Rattle.backup.proofs.settled.Reads as settled-reads
+
+-- src/lib.rt:125:9
+opened-requires : tie.Need-opened-requires
+opened-requires c κs = search needs
+
+-- src/lib.rt:129:13
+arrive-in-requires : tie.Need-arrive-in-requires
+arrive-in-requires c κs = search needs
+
+-- src/lib.rt:130:9
+settled-requires : tie.Need-settled-requires
+settled-requires c κs = search needs
+
+-- src/lib.rt:130:9
+returns : tie.Need-returns
+returns c =
+    let o = c .before .before .before .before .before .before .before .opened in
+    answered-so (c .before .before .before .before .before .before .before .before .args .b) (o .result) (o .ensures) (c .settled .result) _ (c .before .arrive-in .result) (c .before .arrive-in .last .0) (c .before .arrive-in .last .1 .0) (c .before .before .before .before .before .before .if1 .taken)
+    (c .before .arrive-in .ensures) (c .settled .ensures)
+
+-- src/lib.rt:122:1
+returns-2 : tie.Need-returns-2
+returns-2 c =
+    let a = c .before .before .args in
+    answered-20 (a .b) (c .before .opened .result) (c .before .opened .ensures) _ _ (c .if1 .left) refl refl (arrive-unfit (view (a .b)) (a .port) (a .word))
+
+pub arrive-spec : {M : Type 1} → statement M
+arrive-spec =
+    tie.close (tie.spec opened-requires arrive-in-requires settled-requires returns returns-2)

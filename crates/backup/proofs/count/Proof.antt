@@ -1,0 +1,42 @@
+use mathlib.Core.Path.{refl}
+use Rattle.backup.specs.Accepts.{count-unfit}
+use Rattle.backup.specs.Value.{view}
+use Rattle.backup.proofs.ByValue.{answered-20, answered-so}
+use native.Mathlib.Omega.{arith}
+use borrow.Author.Needs.{needs}
+use Rattle.backup.proofs.count.Statement.{statement}
+use Rattle.backup.proofs.count.Tie as tie
+use Rattle.backup.proofs.count.Reads as reads
+use Rattle.backup.proofs.count.Lts as lts
+use Rattle.backup.proofs.opened.Reads as opened-reads
+use Rattle.backup.proofs.place.count_in.Reads as count-in-reads
+use Rattle.backup.proofs.settled.Reads as settled-reads
+
+-- src/lib.rt:139:9
+opened-requires : tie.Need-opened-requires
+opened-requires c κs = search needs
+
+-- src/lib.rt:143:13
+count-in-requires : tie.Need-count-in-requires
+count-in-requires c κs = search needs
+
+-- src/lib.rt:144:9
+settled-requires : tie.Need-settled-requires
+settled-requires c κs = search needs
+
+-- src/lib.rt:144:9
+returns : tie.Need-returns
+returns c =
+    let o = c .before .before .before .before .before .before .opened in
+    answered-so (c .before .before .before .before .before .before .before .args .b) (o .result) (o .ensures) (c .settled .result) _ (c .before .count-in .result) (c .before .before .before .before .before .before .before .args .b .log) (c .before .count-in .last .0) (c .before .before .before .before .before .if1 .taken)
+    (c .before .count-in .ensures (c .before .before .before .before .before .before .before .args .b .log)) (c .settled .ensures)
+
+-- src/lib.rt:136:1
+returns-2 : tie.Need-returns-2
+returns-2 c =
+    let a = c .before .before .args in
+    answered-20 (a .b) (c .before .opened .result) (c .before .opened .ensures) _ _ (c .if1 .left) refl refl (count-unfit (view (a .b)))
+
+pub count-spec : {M : Type 1} → statement M
+count-spec =
+    tie.close (tie.spec opened-requires count-in-requires settled-requires returns returns-2)

@@ -1,0 +1,36 @@
+use mathlib.Core.Path.{refl, sym, _∙_}
+use Rattle.backup.specs.Replica.{initial}
+use Rattle.backup.specs.Accepts.{fail-over-accepted, fail-over-unfit}
+use Rattle.backup.specs.Value.{view}
+use Rattle.backup.proofs.ByValue.{promoted-is}
+use native.Mathlib.Omega.{arith}
+use borrow.Author.Needs.{needs}
+use Rattle.backup.proofs.fail_over.Statement.{statement}
+use Rattle.backup.proofs.fail_over.Tie as tie
+use Rattle.backup.proofs.fail_over.Reads as reads
+use Rattle.backup.proofs.fail_over.Lts as lts
+use Rattle.backup.proofs.new.Reads as new-reads
+use Rattle.backup.proofs.opened.Reads as opened-reads
+
+-- src/lib.rt:167:9
+opened-requires : tie.Need-opened-requires
+opened-requires c κs = search needs
+
+-- src/lib.rt:169:9
+returns : tie.Need-returns
+returns c =
+    let b = c .before .before .args .b in
+    promoted-is _ (view b) refl ∙ sym (fail-over-accepted (view b) (sym (c .before .opened .ensures .says) ∙ c .if1 .taken))
+
+-- src/lib.rt:171:38
+new-requires : tie.Need-new-requires
+new-requires c κs = search needs
+
+-- src/lib.rt:164:1
+returns-2 : tie.Need-returns-2
+returns-2 c =
+    let b = c .before .before .before .args .b in
+    promoted-is _ initial (c .new .ensures) ∙ sym (fail-over-unfit (view b) (sym (c .before .before .opened .ensures .says) ∙ c .before .if1 .left))
+
+pub fail-over-spec : {M : Type 1} → statement M
+fail-over-spec = tie.close (tie.spec opened-requires returns new-requires returns-2)

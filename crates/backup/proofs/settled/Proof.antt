@@ -1,0 +1,23 @@
+use mathlib.Core.Path.{refl, sym}
+use native.Mathlib.Omega.{arith}
+use borrow.Author.Needs.{needs}
+use Rattle.backup.proofs.settled.Statement.{statement}
+use Rattle.backup.proofs.settled.Tie as tie
+use Rattle.backup.proofs.settled.Reads as reads
+use Rattle.backup.proofs.settled.Lts as lts
+use Rattle.backup.proofs.closed.Reads as closed-reads
+
+-- src/lib.rt:116:9
+returns : tie.Need-returns
+returns c = record { number-is = refl; refused = λ _. refl; accepted = λ z. absurd (c .if1 .taken z) }
+
+-- src/lib.rt:118:32
+closed-requires : tie.Need-closed-requires
+closed-requires c κs = search needs
+
+-- src/lib.rt:112:1
+returns-2 : tie.Need-returns-2
+returns-2 c = record { number-is = sym (c .before .if1 .left); refused = λ n. absurd (n (c .before .if1 .left)); accepted = λ _. c .closed .ensures }
+
+pub settled-spec : {M : Type 1} → statement M
+settled-spec = tie.close (tie.spec returns closed-requires returns-2)

@@ -1,0 +1,43 @@
+use mathlib.Core.Path.{refl}
+use Rattle.backup.specs.Accepts.{sync-unfit}
+use Rattle.backup.specs.Value.{view}
+use Rattle.backup.specs.Place.{checkpointOf}
+use Rattle.backup.proofs.ByValue.{answered-20, answered-so}
+use native.Mathlib.Omega.{arith}
+use borrow.Author.Needs.{needs}
+use Rattle.backup.proofs.sync.Statement.{statement}
+use Rattle.backup.proofs.sync.Tie as tie
+use Rattle.backup.proofs.sync.Reads as reads
+use Rattle.backup.proofs.sync.Lts as lts
+use Rattle.backup.proofs.opened.Reads as opened-reads
+use Rattle.backup.proofs.place.sync_in.Reads as sync-in-reads
+use Rattle.backup.proofs.settled.Reads as settled-reads
+
+-- src/lib.rt:153:9
+opened-requires : tie.Need-opened-requires
+opened-requires c κs = search needs
+
+-- src/lib.rt:157:13
+sync-in-requires : tie.Need-sync-in-requires
+sync-in-requires c κs = search needs
+
+-- src/lib.rt:158:9
+settled-requires : tie.Need-settled-requires
+settled-requires c κs = search needs
+
+-- src/lib.rt:158:9
+returns : tie.Need-returns
+returns c =
+    let o = c .before .before .before .before .before .before .before .opened in
+    answered-so (c .before .before .before .before .before .before .before .before .args .b) (o .result) (o .ensures) (c .settled .result) _ (c .before .sync-in .result) (c .before .sync-in .last .0) (c .before .sync-in .last .1 .0) (c .before .before .before .before .before .before .if1 .taken)
+    (c .before .sync-in .ensures) (c .settled .ensures)
+
+-- src/lib.rt:150:1
+returns-2 : tie.Need-returns-2
+returns-2 c =
+    let a = c .before .before .args in
+    answered-20 (a .b) (c .before .opened .result) (c .before .opened .ensures) _ _ (c .if1 .left) refl refl (sync-unfit (view (a .b)) (checkpointOf (a .c)))
+
+pub sync-spec : {M : Type 1} → statement M
+sync-spec =
+    tie.close (tie.spec opened-requires sync-in-requires settled-requires returns returns-2)
