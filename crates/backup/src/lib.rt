@@ -193,6 +193,16 @@ fn settled(b: Backup, number: u8, log: [u64; LOG], head: [u32; HEAD]) -> Reply
     }
 }
 
+// The reply to any call on a backup that is not fit.
+fn unfit(b: Backup) -> Reply
+    ensures { λ r. ⌜ (r .number ≡ 20) × (r .backup ≡ b) ⌝ }
+{
+    Reply {
+        number: 20,
+        backup: b,
+    }
+}
+
 // A message arrives on a port: 20, 21, 22.
 pub fn arrive(b: Backup, port: u32, word: u32) -> Reply
     ensures { λ r. ⌜ Answered b r (λ v. arriveOf v port word) ⌝ }
@@ -201,13 +211,10 @@ pub fn arrive(b: Backup, port: u32, word: u32) -> Reply
     if h.fits {
         let mut log = b.log;
         let mut head = h.head;
-        let number = place::arrive_in(&mut log, &mut head, port, word);
-        return settled(b, number, log, head);
+        let saved = place::arrive_in(&mut log, &mut head, port, word);
+        return settled(b, saved, log, head);
     }
-    Reply {
-        number: 20,
-        backup: b,
-    }
+    unfit(b)
 }
 
 // A message of the process was transmitted: 20, 24.
@@ -218,13 +225,10 @@ pub fn count(b: Backup) -> Reply
     if h.fits {
         let log = b.log;
         let mut head = h.head;
-        let number = place::count_in(&mut head);
-        return settled(b, number, log, head);
+        let counted = place::count_in(&mut head);
+        return settled(b, counted, log, head);
     }
-    Reply {
-        number: 20,
-        backup: b,
-    }
+    unfit(b)
 }
 
 // A checkpoint lands: 20, 21, 23.
@@ -235,13 +239,10 @@ pub fn sync(b: Backup, c: Checkpoint) -> Reply
     if h.fits {
         let mut log = b.log;
         let mut head = h.head;
-        let number = place::sync_in(&mut log, &mut head, c);
-        return settled(b, number, log, head);
+        let landed = place::sync_in(&mut log, &mut head, c);
+        return settled(b, landed, log, head);
     }
-    Reply {
-        number: 20,
-        backup: b,
-    }
+    unfit(b)
 }
 
 // The backup takes over: 20, and then no words and the rest 0.

@@ -1,4 +1,3 @@
-use mathlib.Core.Path.{refl}
 use Rattle.backup.specs.Accepts.{arrive-unfit}
 use Rattle.backup.specs.Value.{view}
 use Rattle.backup.proofs.ByValue.{answered-20, answered-so}
@@ -31,12 +30,16 @@ returns c =
     answered-so (c .before .before .before .before .before .before .before .before .args .b) (o .result) (o .ensures) (c .settled .result) _ (c .before .arrive-in .result) (c .before .arrive-in .last .0) (c .before .arrive-in .last .1 .0) (c .before .before .before .before .before .before .if1 .taken)
     (c .before .arrive-in .ensures) (c .settled .ensures)
 
+unfit-requires : tie.Need-unfit-requires
+unfit-requires c κs = search needs
+
 -- src/lib.rt:122:1
 returns-2 : tie.Need-returns-2
 returns-2 c =
-    let a = c .before .before .args in
-    answered-20 (a .b) (c .before .opened .result) (c .before .opened .ensures) _ _ (c .if1 .left) refl refl (arrive-unfit (view (a .b)) (a .port) (a .word))
+    let a = c .before .before .before .args in
+    let o = c .before .before .opened in
+    answered-20 (a .b) (o .result) (o .ensures) _ _ (c .before .if1 .left) (c .unfit .ensures .0) (c .unfit .ensures .1) (arrive-unfit (view (a .b)) (a .port) (a .word))
 
 pub arrive-spec : {M : Type 1} → statement M
 arrive-spec =
-    tie.close (tie.spec opened-requires arrive-in-requires settled-requires returns returns-2)
+    tie.close (tie.spec opened-requires arrive-in-requires settled-requires returns unfit-requires returns-2)

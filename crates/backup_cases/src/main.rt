@@ -1,0 +1,244 @@
+// Cases of the backup record, run and compared with stdout: M12 of document 01, the forty-ninth arrival, every refusal of every call
+// and its place in the order, take over of a full and of an empty record, and syncs that take everything, nothing, or one slot's oldest.
+use backup::Backup;
+use backup::FailOver;
+use backup::Reply;
+use backup::place::Checkpoint;
+use libc::STDOUT_FILENO;
+
+fn text(s: &[u8]) {
+    io::write_all(STDOUT_FILENO, s);
+}
+
+fn number(n: u64) {
+    text(b" ");
+    io::print_decimal(STDOUT_FILENO, n);
+}
+
+// Length, count, place, registers, and the saved words as slot and word, oldest first.
+fn show(b: Backup) {
+    text(b" saved");
+    number(b.len as u64);
+    text(b" count");
+    number(b.sent as u64);
+    text(b" place");
+    number(b.pc as u64);
+    text(b" registers");
+    number(b.r0 as u64);
+    number(b.r1 as u64);
+    number(b.r2 as u64);
+    number(b.r3 as u64);
+    text(b" words");
+    let len = b.len as usize;
+    let log = b.log;
+    for i in 0..len {
+        if i < 48 {
+            let x = log[i];
+            number(backup::pack::port_of(x) as u64);
+            number(backup::pack::word_of(x) as u64);
+        }
+    }
+    text(b"\n");
+}
+
+fn reply(case: &[u8], r: Reply) -> Backup {
+    text(case);
+    number(r.number as u64);
+    show(r.backup);
+    r.backup
+}
+
+fn promoted(case: &[u8], f: FailOver) {
+    text(case);
+    number(f.number as u64);
+    show(f.promoted);
+}
+
+// Two words on slots 0 and 2, one on slot 1 between them.
+fn three() -> Backup {
+    let a = backup::arrive(backup::new(), 0, 10).backup;
+    let b = backup::arrive(a, 1, 11).backup;
+    backup::arrive(b, 0, 12).backup
+}
+
+// n words on slots 0, 1, 2, 3, 0, ..; the last reply.
+fn filled(n: u32) -> Reply {
+    let mut r = Reply {
+        number: 0,
+        backup: backup::new(),
+    };
+    for i in 0..n {
+        r = backup::arrive(r.backup, i % 4, i);
+    }
+    r
+}
+
+// A record after n transmissions; the last reply.
+fn counted(n: u32) -> Reply {
+    let mut r = Reply {
+        number: 0,
+        backup: backup::new(),
+    };
+    for _ in 0..n {
+        r = backup::count(r.backup);
+    }
+    r
+}
+
+fn checkpoint(pc: u32, t0: u32, t1: u32, t2: u32, t3: u32) -> Checkpoint {
+    Checkpoint {
+        pc: pc,
+        r0: 1,
+        r1: 2,
+        r2: 3,
+        r3: 4294967295,
+        t0: t0,
+        t1: t1,
+        t2: t2,
+        t3: t3,
+    }
+}
+
+fn arrivals() {
+    reply(
+        b"arrive on an empty record",
+        backup::arrive(backup::new(), 3, 4294967295),
+    );
+    reply(
+        b"M12's record",
+        Reply {
+            number: 0,
+            backup: three(),
+        },
+    );
+    reply(b"forty-eight arrivals", filled(48));
+    reply(b"the forty-ninth", filled(49));
+    reply(b"slot 4", backup::arrive(three(), 4, 9));
+    reply(
+        b"slot 4 into a full record",
+        backup::arrive(filled(48).backup, 4, 9),
+    );
+}
+
+fn counts() {
+    reply(b"count", backup::count(three()));
+    reply(b"sixteen counts", counted(16));
+    reply(b"the seventeenth", counted(17));
+}
+
+fn syncs() {
+    reply(b"M12", backup::sync(three(), checkpoint(5, 1, 0, 0, 0)));
+    reply(
+        b"nothing taken",
+        backup::sync(three(), checkpoint(64, 0, 0, 0, 0)),
+    );
+    reply(
+        b"everything taken",
+        backup::sync(three(), checkpoint(0, 2, 1, 0, 0)),
+    );
+    reply(
+        b"everything of a full record",
+        backup::sync(filled(48).backup, checkpoint(7, 12, 12, 12, 12)),
+    );
+    reply(
+        b"slot by slot",
+        backup::sync(filled(9).backup, checkpoint(7, 1, 2, 0, 1)),
+    );
+    reply(
+        b"the count goes to 0",
+        backup::sync(counted(16).backup, checkpoint(1, 0, 0, 0, 0)),
+    );
+    reply(
+        b"place 65",
+        backup::sync(three(), checkpoint(65, 0, 0, 0, 0)),
+    );
+    reply(
+        b"place 65 and too many taken",
+        backup::sync(three(), checkpoint(65, 9, 9, 9, 9)),
+    );
+    reply(
+        b"three taken on slot 0",
+        backup::sync(three(), checkpoint(1, 3, 0, 0, 0)),
+    );
+    reply(
+        b"two taken on slot 1",
+        backup::sync(three(), checkpoint(1, 0, 2, 0, 0)),
+    );
+    reply(
+        b"one taken on slot 2",
+        backup::sync(three(), checkpoint(1, 0, 0, 1, 0)),
+    );
+    reply(
+        b"one taken on slot 3",
+        backup::sync(three(), checkpoint(1, 0, 0, 0, 1)),
+    );
+}
+
+fn promotions() {
+    promoted(
+        b"take over of an empty record",
+        backup::fail_over(backup::new()),
+    );
+    promoted(
+        b"take over of three words",
+        backup::fail_over(
+            backup::sync(backup::count(three()).backup, checkpoint(3, 1, 0, 0, 0)).backup,
+        ),
+    );
+    promoted(
+        b"take over of a full record",
+        backup::fail_over(filled(48).backup),
+    );
+    promoted(
+        b"take over with sixteen counted",
+        backup::fail_over(counted(16).backup),
+    );
+}
+
+// Every call on a record that is unfit in one way: 20 before the call's own numbers.
+fn unfit(case: &[u8], b: Backup) {
+    text(case);
+    number(backup::arrive(b, 4, 0).number as u64);
+    number(backup::arrive(b, 0, 0).number as u64);
+    number(backup::count(b).number as u64);
+    number(backup::sync(b, checkpoint(65, 9, 9, 9, 9)).number as u64);
+    number(backup::sync(b, checkpoint(0, 0, 0, 0, 0)).number as u64);
+    promoted(b" then", backup::fail_over(b));
+    reply(b"  and it comes back", backup::arrive(b, 0, 0));
+}
+
+fn unfits() {
+    let mut b = three();
+    b.len = 49;
+    unfit(b"over 48 words:", b);
+    b = three();
+    b.log[2] = 4 * 4294967296 + 12;
+    unfit(b"slot 4 saved:", b);
+    b = three();
+    b.sent = 17;
+    unfit(b"count 17:", b);
+    b = three();
+    b.pc = 65;
+    unfit(b"place 65:", b);
+    b = three();
+    b.log[3] = 4 * 4294967296;
+    reply(
+        b"what lies beyond the length doesn't matter",
+        backup::arrive(b, 2, 13),
+    );
+}
+
+fn main() {
+    reply(
+        b"new",
+        Reply {
+            number: 0,
+            backup: backup::new(),
+        },
+    );
+    arrivals();
+    counts();
+    syncs();
+    promotions();
+    unfits();
+}
