@@ -1,0 +1,2 @@
+-- One process in lent arrays: how the arrays stand for the rules' process, and what is kept of them.
+pub mod Row
