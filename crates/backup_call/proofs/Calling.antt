@@ -16,7 +16,7 @@ use Rattle.backup.specs.declared.Backup.{Backup}
 use Rattle.backup.specs.declared.Reply.{Reply}
 use Rattle.backup.specs.declared.FailOver.{FailOver}
 use Rattle.backup_call.specs.Layout.{stateLength, callLength, stateView}
-use Rattle.backup_call.specs.Exported.{Asked, start, promotion, unknown, missized, byNumber, Sized, sized, asked, answered, handedBy, Exported, Settled, HandedOver}
+use Rattle.backup_call.specs.Exported.{Asked, start, promotion, unknown, missized, byNumber, Sized, lengthsMatch, asked, answered, handedBy, Exported, Settled, HandedOver}
 
 -- ---- what is asked
 
@@ -27,7 +27,7 @@ asked-by state call reply n s e =
 
 pub asked-missized : (state call reply : List ℕ) → (Sized state call reply → ⊥) → asked state call reply ≡ missized
 unfolding asked
-asked-missized state call reply h = go (sized state call reply) refl
+asked-missized state call reply h = go (lengthsMatch state call reply) refl
   where
     one : Bool
     one = eqb (length state) stateLength
@@ -38,7 +38,7 @@ asked-missized state call reply h = go (sized state call reply) refl
     three : Bool
     three = eqb (length reply) stateLength
 
-    go : (t : Bool) → sized state call reply ≡ t → asked state call reply ≡ missized
+    go : (t : Bool) → lengthsMatch state call reply ≡ t → asked state call reply ≡ missized
     go false e = rw e
     go true e =
         absurd

@@ -1,4 +1,5 @@
--- What the exported call promises, from its three lent slices at entry and at exit and the number that it returns.
+-- What the exported call promises, from its three lent slices at entry and at exit and the number that it returns. Document 01:
+-- "Refused, it comes back unchanged."
 -- Assumes nothing.
 use mathlib.Core.Path.{_≡_}
 use mathlib.Core.Bool.{Bool, true, false, cond, _&&_}
@@ -19,15 +20,18 @@ use Rattle.backup_call.specs.Layout.{stateLength, callLength, stateView,
 
 pub data Asked : Type 0 where
   start : Asked
+  -- a port and a word
   arrival : ℕ → ℕ → Asked
   transmission : Asked
   checkpoint : value.Checkpoint → Asked
+  -- document 01: take over
   promotion : Asked
   -- a number that stands for no call
   unknown : Asked
   -- a slice of another length than it should have
   missized : Asked
 
+-- by a call's first number; the others are its arguments
 abbrev pub byNumber : ℕ → List ℕ → Asked
 byNumber zero call = start
 byNumber (suc zero) call = arrival (getD call 1 0) (getD call 2 0)
@@ -42,11 +46,11 @@ pub record Sized (state call reply : List ℕ) : Type 0 where
   pub call-is : length call ≡ callLength
   pub reply-is : length reply ≡ stateLength
 
-abbrev pub sized : List ℕ → List ℕ → List ℕ → Bool
-sized state call reply = eqb (length state) stateLength && (eqb (length call) callLength && eqb (length reply) stateLength)
+abbrev pub lengthsMatch : List ℕ → List ℕ → List ℕ → Bool
+lengthsMatch state call reply = eqb (length state) stateLength && (eqb (length call) callLength && eqb (length reply) stateLength)
 
 unfoldable pub asked : List ℕ → List ℕ → List ℕ → Asked
-asked state call reply = cond (sized state call reply) (byNumber (getD call 0 0) call) missized
+asked state call reply = cond (lengthsMatch state call reply) (byNumber (getD call 0 0) call) missized
 
 -- ---- what is answered
 
