@@ -2,7 +2,7 @@
 -- Assumes nothing.
 use mathlib.Core.Path.{_≡_, refl, ap, sym, _∙_}
 use mathlib.Core.List.{List, [], _∷_, _++_, map, map-append}
-use Prim.Native.Nat.{ℕ, zero, suc, _+_, _*_, _/_, _%_, _^_, _≤_, _<_}
+use Prim.Native.Nat.{ℕ, zero, suc, _+_, _^_, _≤_, _<_}
 use native.Mathlib.Omega.{arith}
 use lib.ListN.{length, getD, set, length-set}
 use borrow.Author.Tests.{le-leb, lt-leb}
@@ -13,15 +13,8 @@ use Rattle.backup.specs.Limits.{logMost, ports}
 use Rattle.backup.specs.Replica.{Message, Replica, savedOn, arrive, arriveNumber, arrived}
 use Rattle.backup.specs.Laws.{saved-append, saved-cons}
 use Rattle.backup.specs.Accepts.{fit-parts, arrive-accepted, arrived-fit}
-use Rattle.backup.specs.Place.{pack, unpack, messages, viewIn, tallyIn, headLength, Sound, Called}
+use Rattle.backup.specs.Place.{pack, unpack, unpack-pack, messages, viewIn, tallyIn, headLength, Sound, Called}
 use Rattle.backup.proofs.InPlace.{refused-so, accepted-so, same-replica, view-length, saved-few, bumped, bumped-other, bumped-same}
-
--- a message packed and unpacked is itself
-pub unpack-pack : (port word : ℕ) → word < 2 ^ 32 → unpack (pack port word) ≡ record { port = port; word = word }
-unpack-pack port word h =
-    let a : (port * 4294967296 + word) / 4294967296 ≡ port = omega arith in
-    let b : (port * 4294967296 + word) % 4294967296 ≡ word = omega arith in
-    λ i. record { port = a i; word = b i }
 
 module _ (log head : List ℕ) (port word : ℕ) where
   pub arrive-21 : ports ≤ port → Called log head log head 21 (λ v. arrive v port word)
