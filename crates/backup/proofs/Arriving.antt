@@ -2,25 +2,19 @@
 -- Assumes nothing.
 use mathlib.Core.Path.{_≡_, refl, ap, sym, _∙_}
 use mathlib.Core.List.{List, [], _∷_, _++_, map, map-append}
-use Prim.Native.Nat.{ℕ, zero, suc, _+_, _*_, _/_, _%_, _^_, _≤_, _<_}
+use Prim.Native.Nat.{ℕ, zero, suc, _+_, _^_, _≤_, _<_}
 use native.Mathlib.Omega.{arith}
 use lib.ListN.{length, getD, set, length-set}
 use borrow.Author.Tests.{le-leb, lt-leb}
 use Rattle.facts.specs.Tests.{by-eq}
+use Rattle.facts.specs.Counts.{same-yes, same-no}
 use Rattle.facts.specs.Lists.{prefix, prefix-push}
 use Rattle.backup.specs.Limits.{logMost, ports}
 use Rattle.backup.specs.Replica.{Message, Replica, savedOn, arrive, arriveNumber, arrived}
-use Rattle.backup.specs.Laws.{saved-append, saved-cons, one-same, one-other}
+use Rattle.backup.specs.Laws.{saved-append, saved-cons}
 use Rattle.backup.specs.Accepts.{fit-parts, arrive-accepted, arrived-fit}
-use Rattle.backup.specs.Place.{pack, unpack, messages, viewIn, tallyIn, headLength, Sound, Called}
+use Rattle.backup.specs.Place.{pack, unpack, unpack-pack, messages, viewIn, tallyIn, headLength, Sound, Called}
 use Rattle.backup.proofs.InPlace.{refused-so, accepted-so, same-replica, view-length, saved-few, bumped, bumped-other, bumped-same}
-
--- a message packed and unpacked is itself
-pub unpack-pack : (port word : ℕ) → word < 2 ^ 32 → unpack (pack port word) ≡ record { port = port; word = word }
-unpack-pack port word h =
-    let a : (port * 4294967296 + word) / 4294967296 ≡ port = omega arith in
-    let b : (port * 4294967296 + word) % 4294967296 ≡ word = omega arith in
-    λ i. record { port = a i; word = b i }
 
 module _ (log head : List ℕ) (port word : ℕ) where
   pub arrive-21 : ports ≤ port → Called log head log head 21 (λ v. arrive v port word)
@@ -73,14 +67,14 @@ module _ (log head : List ℕ) (port word : ℕ) where
         let b = saved-append p old (m ∷ []) in
         let d = saved-cons p m [] in
         by-eq p port
-        (λ e. let o = one-same p port e in
+        (λ e. let o = same-yes p port e in
         let f = saved-few p old in
         let g = view-length log head in
         let n : getD (bumped head 0) (7 + p) 0 ≡ getD head (7 + p) 0 = bumped-other head 0 (7 + p) (λ k. omega arith) in
         let q : getD (bumped (bumped head 0) (7 + p)) (7 + p) 0 ≡ suc (getD (bumped head 0) (7 + p) 0) =
         bumped-same (bumped head 0) (7 + p) (rw length-set (let z = s .head-length in omega arith)) (omega arith) in
         ap (λ (k : ℕ). getD (bumped (bumped head 0) (7 + k)) (7 + p) 0) (sym e) ∙ omega arith)
-        (λ n. let o = one-other p port n in let c = cell (7 + p) (λ e. omega arith) (λ e. n (omega arith)) in omega arith)
+        (λ n. let o = same-no p port n in let c = cell (7 + p) (λ e. omega arith) (λ e. n (omega arith)) in omega arith)
 
   pub arrive-done : port < ports → word < 2 ^ 32 → getD head 0 0 < logMost
       → Called log head (set log (getD head 0 0) (pack port word)) (bumped (bumped head 0) (7 + port)) 0 (λ v. arrive v port word)

@@ -10,7 +10,7 @@ use lib.ListN.{length, getD, set, replicate, length-map, length-set}
 use lib.Seq.{getD-set-same, getD-set-other}
 use borrow.Author.Tests.{le-leb}
 use Rattle.facts.specs.Lists.{prefix, length-prefix}
-use Rattle.facts.specs.Sums.{one}
+use Rattle.facts.specs.Counts.{same}
 use Rattle.backup.specs.Limits.{logMost, ports, sentMost}
 use Rattle.backup.specs.Replica.{Message, Replica, Reply, fit, savedOn, initial, count, countNumber, counted}
 use Rattle.backup.specs.Laws.{saved-cons}
@@ -64,7 +64,7 @@ pub view-length : (log head : List ℕ) → length (viewIn log head .log) ≡ ge
 unfolding viewIn
 view-length log head = length-map (prefix (getD head 0 0) log) unpack ∙ length-prefix (getD head 0 0) log
 
-one-few : (p q : ℕ) → one p q ≤ 1
+one-few : (p q : ℕ) → same p q ≤ 1
 one-few p q = go (eqb p q)
   where
     go : (b : Bool) → cond b 1 0 ≤ 1

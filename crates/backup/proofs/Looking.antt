@@ -11,10 +11,11 @@ use lib.ListN.{length, getD, set, length-set}
 use lib.Seq.{getD-set-same, getD-set-other}
 use borrow.Author.Tests.{ltb-true, lt-ltb}
 use Rattle.facts.specs.Tests.{all-at, all-append, and-both, by-eq, no-way}
+use Rattle.facts.specs.Counts.{same-yes, same-no}
 use Rattle.facts.specs.Lists.{prefix, prefix-more, written-out}
 use Rattle.backup.specs.Limits.{ports}
 use Rattle.backup.specs.Replica.{Message, onPorts, savedOn}
-use Rattle.backup.specs.Laws.{saved-append, saved-cons, one-same, one-other}
+use Rattle.backup.specs.Laws.{saved-append, saved-cons}
 use Rattle.backup.specs.Place.{portIn, unpack, messages}
 use Rattle.backup.specs.Value.{Census}
 use Rattle.backup.specs.declared.Tallies.{Tallies}
@@ -60,10 +61,10 @@ looked-on log len n i q h l e g =
           ap (savedOn p) (one-longer log i) ∙ saved-append p (messages i log) (m ∷ []) in
           let c = saved-cons p m [] in
           by-eq p q
-          (λ f. let o = one-same p (m .port) (f ∙ e) in
+          (λ f. let o = same-yes p (m .port) (f ∙ e) in
           let d : getD (set n q (getD n q 0 + 1)) p 0 ≡ getD n p 0 + 1 = rw f (getD-set-same n q (getD n q 0 + 1) 0 (let z = h .four in omega arith)) in
           omega arith)
-          (λ f. let o = one-other p (m .port) (λ z. f (z ∙ sym e)) in let d = getD-set-other n q p (getD n q 0 + 1) 0 f in omega arith);
+          (λ f. let o = same-no p (m .port) (λ z. f (z ∙ sym e)) in let d = getD-set-other n q p (getD n q 0 + 1) 0 f in omega arith);
     }
 
 -- one that is on no port

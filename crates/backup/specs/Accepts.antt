@@ -58,10 +58,14 @@ sync-unfit r c f = rw f
 
 -- ---- arrive
 
+pub arrive-number : (r : Replica) (port : ℕ) → fit r ≡ true → port < ports → length (r .log) < logMost → arriveNumber r port ≡ 0
+unfolding arriveNumber
+arrive-number r port f p l = rw (f, lt-leb ports port p, lt-leb logMost (length (r .log)) l)
+
 pub arrive-accepted : (r : Replica) (port word : ℕ) → fit r ≡ true → port < ports → length (r .log) < logMost
     → arrive r port word ≡ record { number = 0; replica = arrived r port word }
-unfolding arrive arriveNumber
-arrive-accepted r port word f p l = rw (f, lt-leb ports port p, lt-leb logMost (length (r .log)) l)
+unfolding arrive
+arrive-accepted r port word f p l = rw (arrive-number r port f p l)
 
 pub arrived-fit : (r : Replica) (port word : ℕ) → fit r ≡ true → port < ports → length (r .log) < logMost → fit (arrived r port word) ≡ true
 arrived-fit r port word f p l =
@@ -76,9 +80,13 @@ arrived-fit r port word f p l =
 
 -- ---- count
 
+pub count-number : (r : Replica) → fit r ≡ true → r .sent < sentMost → countNumber r ≡ 0
+unfolding countNumber
+count-number r f l = rw (f, lt-leb sentMost (r .sent) l)
+
 pub count-accepted : (r : Replica) → fit r ≡ true → r .sent < sentMost → count r ≡ record { number = 0; replica = counted r }
-unfolding count countNumber
-count-accepted r f l = rw (f, lt-leb sentMost (r .sent) l)
+unfolding count
+count-accepted r f l = rw (count-number r f l)
 
 pub counted-fit : (r : Replica) → fit r ≡ true → r .sent < sentMost → fit (counted r) ≡ true
 counted-fit r f l =
@@ -94,10 +102,15 @@ pub enough : (taken : List ℕ) (log : List Message) → lacking taken log ≡ f
 enough taken log h p l = ltb-false (savedOn p log) (takenOn taken p) (none-below (λ q. ltb (savedOn q log) (takenOn taken q)) ports h p l)
 
 -- a sync is never refused if each port has at least what is taken and the program counter is small enough
+pub sync-number : (r : Replica) (c : Checkpoint) → fit r ≡ true → c .pc ≤ pcMost → ((p : ℕ) → p < ports → takenOn (c .taken) p ≤ savedOn p (r .log))
+    → syncNumber r c ≡ 0
+unfolding syncNumber
+sync-number r c f p h = rw (f, le-ltb pcMost (c .pc) p, not-lacking (c .taken) (r .log) h)
+
 pub sync-accepted : (r : Replica) (c : Checkpoint) → fit r ≡ true → c .pc ≤ pcMost → ((p : ℕ) → p < ports → takenOn (c .taken) p ≤ savedOn p (r .log))
     → sync r c ≡ record { number = 0; replica = synced r c }
-unfolding sync syncNumber
-sync-accepted r c f p h = rw (f, le-ltb pcMost (c .pc) p, not-lacking (c .taken) (r .log) h)
+unfolding sync
+sync-accepted r c f p h = rw (sync-number r c f p h)
 
 pub synced-fit : (r : Replica) (c : Checkpoint) → fit r ≡ true → c .pc ≤ pcMost → fit (synced r c) ≡ true
 synced-fit r c f p =

@@ -12,7 +12,8 @@ use lib.ListN.{length, getD, set, drop, length-append, length-drop}
 use lib.Seq.{getD-set-other}
 use borrow.Author.Tests.{eqb-true, eqb-false, eq-eqb, ne-eqb, ltb-true, lt-ltb, le-ltb, le-leb, lt-leb, leb-true}
 use Rattle.facts.specs.Tests.{by-eq, by-lt, allOf, anyBelow, no-such, no-way, and-left, and-right, and-both, all-append}
-use Rattle.facts.specs.Sums.{_⊕_, getD-⊕, getD-lowered, sumBelow, sum-add, sum-same, one}
+use Rattle.facts.specs.Sums.{_⊕_, getD-⊕, getD-lowered, sumBelow, sum-add, sum-same}
+use Rattle.facts.specs.Counts.{same, same-yes, same-no}
 use Rattle.backup.specs.Limits.{logMost, ports, sentMost, pcMost}
 use Rattle.backup.specs.Replica.{Message, Replica, Checkpoint, Reply, fit, onPorts, answer, arrived, arriveNumber, arrive, counted, countNumber, count, savedOn, takenOn, oneLess, remaining, lacking, synced, syncNumber, sync}
 
@@ -49,18 +50,12 @@ on-same p m l h = rw (eq-eqb p (m .port) h)
 on-other : (p : ℕ) (m : Message) (l : List Message) → p ≢ m .port → onPort p (m ∷ l) ≡ onPort p l
 on-other p m l h = rw (ne-eqb p (m .port) h)
 
-pub saved-cons : (p : ℕ) (m : Message) (l : List Message) → savedOn p (m ∷ l) ≡ one p (m .port) + savedOn p l
+pub saved-cons : (p : ℕ) (m : Message) (l : List Message) → savedOn p (m ∷ l) ≡ same p (m .port) + savedOn p l
 saved-cons p m l = go (eqb p (m .port))
   where
     go : (b : Bool) → cond b (suc (savedOn p l)) (savedOn p l) ≡ cond b 1 0 + savedOn p l
     go true = omega arith
     go false = omega arith
-
-pub one-same : (p q : ℕ) → p ≡ q → one p q ≡ 1
-one-same p q h = rw (eq-eqb p q h)
-
-pub one-other : (p q : ℕ) → p ≢ q → one p q ≡ 0
-one-other p q h = rw (ne-eqb p q h)
 
 pub saved-append : (p : ℕ) (l r : List Message) → savedOn p (l ++ r) ≡ savedOn p l + savedOn p r
 saved-append p [] r = omega arith
@@ -71,8 +66,8 @@ pub saved-length : (p : ℕ) (l : List Message) → length (onPort p l) ≡ save
 saved-length p [] = refl
 saved-length p (m ∷ l) =
     by-eq p (m .port)
-    (λ e. rw (on-same p m l e) (let a = saved-cons p m l in let b = one-same p (m .port) e in let h = saved-length p l in omega arith))
-    (λ n. rw (on-other p m l n) (let a = saved-cons p m l in let b = one-other p (m .port) n in let h = saved-length p l in omega arith))
+    (λ e. rw (on-same p m l e) (let a = saved-cons p m l in let b = same-yes p (m .port) e in let h = saved-length p l in omega arith))
+    (λ n. rw (on-other p m l n) (let a = saved-cons p m l in let b = same-no p (m .port) n in let h = saved-length p l in omega arith))
 
 drop-one : (m : Message) (l : List Message) (n : ℕ) → 1 ≤ n → drop (n - 1) l ≡ drop n (m ∷ l)
 drop-one m l zero h = absurd (omega arith)
@@ -166,11 +161,11 @@ drop-arrive t (x ∷ l) m h =
     by-taken t (x .port)
     (λ z. stays t x (l ++ (m ∷ [])) z ∙ ap (λ (r : List Message). x ∷ r) (drop-arrive t l m (by-eq (m .port) (x .port)
     (λ e. let k : takenOn t (m .port) ≡ 0 = ap (takenOn t) e ∙ z in omega arith)
-    (λ d. let o = one-other (m .port) (x .port) d in omega arith)))
+    (λ d. let o = same-no (m .port) (x .port) d in omega arith)))
     ∙ ap (λ (r : List Message). r ++ (m ∷ [])) (sym (stays t x l z)))
     (λ g. goes t x (l ++ (m ∷ [])) g ∙ drop-arrive (oneLess t (x .port)) l m (by-eq (m .port) (x .port)
-    (λ e. let o = one-same (m .port) (x .port) e in let k : takenOn (oneLess t (x .port)) (m .port) ≡ takenOn t (m .port) - 1 = rw e (taken-less t (x .port)) in omega arith)
-    (λ d. let o = one-other (m .port) (x .port) d in let k = taken-other t (x .port) (m .port) d in omega arith))
+    (λ e. let o = same-yes (m .port) (x .port) e in let k : takenOn (oneLess t (x .port)) (m .port) ≡ takenOn t (m .port) - 1 = rw e (taken-less t (x .port)) in omega arith)
+    (λ d. let o = same-no (m .port) (x .port) d in let k = taken-other t (x .port) (m .port) d in omega arith))
     ∙ ap (λ (r : List Message). r ++ (m ∷ [])) (sym (goes t x l g)))
 
 -- ---- ports and lengths
@@ -193,16 +188,16 @@ shorter t (m ∷ l) =
     (λ z. rw (stays t m l z) (let h = shorter t l in omega arith))
     (λ g. rw (goes t m l g) (let h = shorter (oneLess t (m .port)) l in omega arith))
 
-sum-one : (q n : ℕ) → q < n → sumBelow (λ p. one p q) n ≡ 1
+sum-one : (q n : ℕ) → q < n → sumBelow (λ p. same p q) n ≡ 1
 sum-one q zero h = absurd (omega arith)
 sum-one q (suc n) h =
     by-eq n q
-    (λ e. let a = one-same n q e in let b = none q n (omega arith) in omega arith)
-    (λ k. let a = one-other n q k in let b = sum-one q n (omega arith) in omega arith)
+    (λ e. let a = same-yes n q e in let b = none q n (omega arith) in omega arith)
+    (λ k. let a = same-no n q k in let b = sum-one q n (omega arith) in omega arith)
   where
-    none : (q n : ℕ) → n ≤ q → sumBelow (λ p. one p q) n ≡ 0
+    none : (q n : ℕ) → n ≤ q → sumBelow (λ p. same p q) n ≡ 0
     none q zero h = refl
-    none q (suc n) h = let a = one-other n q (λ e. omega arith) in let b = none q n (omega arith) in omega arith
+    none q (suc n) h = let a = same-no n q (λ e. omega arith) in let b = none q n (omega arith) in omega arith
 
 sum-zero : (n : ℕ) → sumBelow (λ p. 0) n ≡ 0
 sum-zero zero = refl
@@ -213,9 +208,9 @@ pub length-by-port : (l : List Message) → onPorts l ≡ true → length l ≡ 
 length-by-port [] h = sym (sum-zero ports)
 length-by-port (m ∷ l) h =
     let p = ports-cons m l h in
-    let a : sumBelow (λ i. savedOn i (m ∷ l)) ports ≡ sumBelow (λ i. one i (m .port) + savedOn i l) ports =
-    sum-same (λ i. savedOn i (m ∷ l)) (λ i. one i (m .port) + savedOn i l) ports (λ i k. saved-cons i m l) in
-    let b = sum-add (λ i. one i (m .port)) (λ i. savedOn i l) ports in
+    let a : sumBelow (λ i. savedOn i (m ∷ l)) ports ≡ sumBelow (λ i. same i (m .port) + savedOn i l) ports =
+    sum-same (λ i. savedOn i (m ∷ l)) (λ i. same i (m .port) + savedOn i l) ports (λ i k. saved-cons i m l) in
+    let b = sum-add (λ i. same i (m .port)) (λ i. savedOn i l) ports in
     let c = sum-one (m .port) ports (p .0) in
     let d = length-by-port l (p .1) in
     omega arith

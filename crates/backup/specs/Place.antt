@@ -4,6 +4,7 @@ use mathlib.Core.Path.{_≡_}
 use mathlib.Core.Bool.{Bool, true, false}
 use mathlib.Core.List.{List, [], _∷_, map}
 use Prim.Native.Nat.{ℕ, _+_, _-_, _*_, _/_, _%_, _^_, _≤_, _<_}
+use native.Mathlib.Omega.{arith}
 use lib.Dec.{ltb}
 use lib.ListN.{length, getD, set}
 use Rattle.facts.specs.Tests.{anyBelow}
@@ -26,6 +27,13 @@ wordIn x = x % 4294967296
 
 abbrev pub unpack : ℕ → Message
 unpack x = record { port = portIn x; word = wordIn x }
+
+-- a message packed and unpacked is itself
+pub unpack-pack : (port word : ℕ) → word < 2 ^ 32 → unpack (pack port word) ≡ record { port = port; word = word }
+unpack-pack port word h =
+    let a : (port * 4294967296 + word) / 4294967296 ≡ port = omega arith in
+    let b : (port * 4294967296 + word) % 4294967296 ≡ word = omega arith in
+    λ i. record { port = a i; word = b i }
 
 -- the first n messages of a log
 abbrev pub messages : ℕ → List ℕ → List Message

@@ -25,6 +25,9 @@ use crate::place::R2;
 use crate::place::R3;
 use crate::place::SENT;
 
+// The number of a backup that is not fit.
+const UNFIT: u8 = 20;
+
 // Passive replica of a process (document 01: backup record). A message of the log is one number, port times 2^32 plus word (see
 // `pack`); the log's first len numbers count.
 pub struct Backup {
@@ -188,7 +191,7 @@ fn settled(b: Backup, number: u8, log: [u64; LOG], head: [u32; HEAD]) -> Reply
         };
     }
     Reply {
-        number: 0,
+        number: number,
         backup: closed(log, head),
     }
 }
@@ -198,7 +201,7 @@ fn unfit(b: Backup) -> Reply
     ensures { λ r. ⌜ (r .number ≡ 20) × (r .backup ≡ b) ⌝ }
 {
     Reply {
-        number: 20,
+        number: UNFIT,
         backup: b,
     }
 }
@@ -257,7 +260,7 @@ pub fn fail_over(b: Backup) -> FailOver
         };
     }
     FailOver {
-        number: 20,
+        number: UNFIT,
         promoted: new(),
     }
 }

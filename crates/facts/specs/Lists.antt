@@ -42,6 +42,19 @@ abbrev pub listed : {A : Type 0} → (ℕ → A) → ℕ → List A
 listed f zero = []
 listed f (suc n) = f zero ∷ listed (λ i. f (suc i)) n
 
+pub listed-same : {A : Type 0} (f g : ℕ → A) (n : ℕ) → ((i : ℕ) → f i ≡ g i) → listed f n ≡ listed g n
+listed-same f g zero h = refl
+listed-same f g (suc n) h = λ k. h zero k ∷ listed-same (λ i. f (suc i)) (λ i. g (suc i)) n (λ i. h (suc i)) k
+
+pub map-listed : {A B : Type 0} (f : A → B) (g : ℕ → A) (n : ℕ) → map f (listed g n) ≡ listed (λ i. f (g i)) n
+map-listed f g zero = refl
+map-listed f g (suc n) = ap (λ (r : List _). f (g zero) ∷ r) (map-listed f (λ i. g (suc i)) n)
+
+pub prefix-listed : (n : ℕ) (l : List ℕ) → prefix n l ≡ listed (λ i. getD l i 0) n
+prefix-listed zero l = refl
+prefix-listed (suc n) [] = ap (λ (r : List ℕ). 0 ∷ r) (prefix-listed n [])
+prefix-listed (suc n) (x ∷ l) = ap (λ (r : List ℕ). x ∷ r) (prefix-listed n l)
+
 -- a list of known length, written out by its elements
 pub written-out : {A : Type 0} (l : List A) (n : ℕ) (d : A) → length l ≡ n → l ≡ listed (λ i. getD l i d) n
 written-out [] zero d h = refl

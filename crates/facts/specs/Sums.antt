@@ -1,12 +1,9 @@
 -- Sums over a range, and tallies: lists of numbers that are added place by place.
 -- Assumes nothing.
 use mathlib.Core.Path.{_≡_, refl, ap, sym, _∙_}
-use mathlib.Core.Logic.{_≢_}
-use mathlib.Core.Bool.{Bool, true, false, cond}
 use mathlib.Core.List.{List, [], _∷_}
 use Prim.Native.Nat.{ℕ, zero, suc, _+_, _-_, _≤_, _<_}
 use native.Mathlib.Omega.{arith}
-use lib.Dec.{eqb}
 use lib.ListN.{length, getD, set, List·getD-eq-default}
 use lib.Seq.{getD-set-same, getD-set-other, set-out}
 use Rattle.facts.specs.Tests.{by-eq, by-lt}
@@ -23,10 +20,6 @@ sum-same f g (suc n) h = let a = h n (omega arith) in let b = sum-same f g n (λ
 pub sum-add : (f g : ℕ → ℕ) (n : ℕ) → sumBelow (λ i. f i + g i) n ≡ sumBelow f n + sumBelow g n
 sum-add f g zero = omega arith
 sum-add f g (suc n) = let h = sum-add f g n in omega arith
-
--- 1 at k, 0 elsewhere
-abbrev pub one : ℕ → ℕ → ℕ
-one k i = cond (eqb k i) 1 0
 
 -- two tallies added place by place
 abbrev pub _⊕_ : List ℕ → List ℕ → List ℕ

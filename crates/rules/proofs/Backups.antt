@@ -11,7 +11,8 @@ use borrow.Author.Tests.{lt-ltb, le-ltb, lt-leb}
 use Rattle.backup.specs.Limits.{logMost, ports, sentMost, pcMost}
 use Rattle.backup.specs.Replica.{Message, Replica, Checkpoint, Reply, onPorts, fit, arrived, arriveNumber, arrive, counted, countNumber, count, synced, syncNumber, sync, failOver, remaining}
 use Rattle.backup.specs.Laws.{shorter}
-use Rattle.backup.specs.Accepts.{parts-fit, not-lacking, fail-over-accepted}
+use Rattle.backup.specs.Accepts as accepts
+use Rattle.backup.specs.Accepts.{parts-fit, fail-over-accepted}
 use Rattle.rules.specs.Table.{Table, channelAt, codeOf, inputs, portOf}
 use Rattle.rules.specs.Machine.{Mail, Machine, Act, delivered}
 use Rattle.rules.specs.Cabinet.{Standby}
@@ -59,11 +60,10 @@ module _ (t : Table) (ok : Accepted t) (p : ℕ) (hp : p < length (t .processes)
       stands = input t ok (mail .channel) p hp reads
 
       pub arrive-number : length (r .log) < logMost → arriveNumber r (portOf t p (mail .channel)) ≡ 0
-      unfolding arriveNumber
       arrive-number room =
           let a = stands .below in
           let b = few-ports t ok p hp in
-          rw (is-fit, lt-leb ports (portOf t p (mail .channel)) (omega arith), lt-leb logMost (length (r .log)) room)
+          accepts.arrive-number r (portOf t p (mail .channel)) is-fit (omega arith) room
 
       pub arrives : length (r .log) < logMost → arrive r (portOf t p (mail .channel)) (mail .word) .replica ≡ arrived r (portOf t p (mail .channel)) (mail .word)
       unfolding arrive
@@ -87,8 +87,7 @@ module _ (t : Table) (ok : Accepted t) (p : ℕ) (hp : p < length (t .processes)
 
     -- a word of its own is transmitted
     pub count-number : countNumber r ≡ 0
-    unfolding countNumber
-    count-number = rw (is-fit, lt-leb sentMost (r .sent) few)
+    count-number = accepts.count-number r is-fit few
 
     pub counts-it : count r .replica ≡ counted r
     unfolding count
@@ -105,11 +104,11 @@ module _ (t : Table) (ok : Accepted t) (p : ℕ) (hp : p < length (t .processes)
       low-there = run-low ran (kept .low)
 
       pub sync-number : syncNumber r s ≡ 0
-      unfolding syncNumber stateOf
+      unfolding stateOf
       sync-number =
           let v = run-logged t p (few-ports t ok p hp) (r .log) ran refl (kept .on-inputs) in
           let a = low-fits low-there in
-          rw (is-fit, le-ltb pcMost (s .pc) (omega arith), is-taken, not-lacking (tally t p acts) (r .log) (λ i _. v .enough i))
+          accepts.sync-number r s is-fit (omega arith) (λ i _. rw is-taken (v .enough i))
 
       pub syncs : sync r s .replica ≡ synced r s
       unfolding sync

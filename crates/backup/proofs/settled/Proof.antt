@@ -17,7 +17,7 @@ closed-requires c κs = search needs
 
 -- src/lib.rt:112:1
 returns-2 : tie.Need-returns-2
-returns-2 c = record { number-is = sym (c .before .if1 .left); refused = λ n. absurd (n (c .before .if1 .left)); accepted = λ _. c .closed .ensures }
+returns-2 c = record { number-is = refl; refused = λ n. absurd (n (c .before .if1 .left)); accepted = λ _. c .closed .ensures }
 
 pub settled-spec : {M : Type 1} → statement M
 settled-spec = tie.close (tie.spec returns closed-requires returns-2)

@@ -1,0 +1,164 @@
+-- What the exported call promises, from what its steps do: one lemma for each kind of answer.
+-- Assumes nothing.
+use mathlib.Core.Path.{_≡_, refl, ap, sym, _∙_, subst}
+use mathlib.Core.Bool.{Bool, true, false, cond, _&&_}
+use mathlib.Core.List.{List}
+use Prim.Native.Nat.{ℕ, zero, suc}
+use native.Mathlib.Omega.{arith}
+use lib.Dec.{eqb}
+use lib.ListN.{length, getD}
+use borrow.Author.Tests.{eq-eqb, eqb-true}
+use Rattle.facts.specs.Tests.{and-left, and-right, no-way}
+use Rattle.backup.specs.Replica as value
+use Rattle.backup.specs.Replica.{Replica, initial, failOver, fit}
+use Rattle.backup.specs.Value.{view, promotedBy, Answered}
+use Rattle.backup.specs.declared.Backup.{Backup}
+use Rattle.backup.specs.declared.Reply.{Reply}
+use Rattle.backup.specs.declared.FailOver.{FailOver}
+use Rattle.backup_call.specs.Layout.{stateLength, callLength, stateView}
+use Rattle.backup_call.specs.Exported.{Asked, start, promotion, unknown, missized, byNumber, Sized, lengthsMatch, asked, answered, handedBy, Exported, Settled, HandedOver}
+
+-- ---- what is asked
+
+pub asked-by : (state call reply : List ℕ) (n : ℕ) → Sized state call reply → getD call 0 0 ≡ n → asked state call reply ≡ byNumber n call
+unfolding asked
+asked-by state call reply n s e =
+    rw (eq-eqb (length state) stateLength (s .state-is), eq-eqb (length call) callLength (s .call-is), eq-eqb (length reply) stateLength (s .reply-is), e)
+
+pub asked-missized : (state call reply : List ℕ) → (Sized state call reply → ⊥) → asked state call reply ≡ missized
+unfolding asked
+asked-missized state call reply h = go (lengthsMatch state call reply) refl
+  where
+    one : Bool
+    one = eqb (length state) stateLength
+
+    two : Bool
+    two = eqb (length call) callLength
+
+    three : Bool
+    three = eqb (length reply) stateLength
+
+    go : (t : Bool) → lengthsMatch state call reply ≡ t → asked state call reply ≡ missized
+    go false e = rw e
+    go true e =
+        absurd
+        (h
+        record {
+          state-is = eqb-true (length state) stateLength (and-left one (two && three) e);
+          call-is = eqb-true (length call) callLength (and-left two three (and-right one (two && three) e));
+          reply-is = eqb-true (length reply) stateLength (and-right two three (and-right one (two && three) e));
+        })
+
+pub no-call : (n : ℕ) (call : List ℕ) → (n ≡ 0 → ⊥) → (n ≡ 1 → ⊥) → (n ≡ 2 → ⊥) → (n ≡ 3 → ⊥) → (n ≡ 4 → ⊥) → byNumber n call ≡ unknown
+no-call zero call a b c d e = absurd (a refl)
+no-call (suc zero) call a b c d e = absurd (b refl)
+no-call (suc (suc zero)) call a b c d e = absurd (c refl)
+no-call (suc (suc (suc zero))) call a b c d e = absurd (d refl)
+no-call (suc (suc (suc (suc zero)))) call a b c d e = absurd (e refl)
+no-call (suc (suc (suc (suc (suc n))))) call a b c d e = refl
+
+-- ---- what is replied
+
+-- A reply to a call of a value: what a call by value promises, less the struct that it was made on.
+pub record Replied (v : Replica) (r : Reply) (call : Replica → value.Reply) : Type 0 where
+  pub number-is : r .number ≡ call v .number
+  pub value-is : view (r .backup) ≡ call v .replica
+  pub refused : (r .number ≡ 0 → ⊥) → call v .replica ≡ v
+  pub fit-again : fit v ≡ true → fit (view (r .backup)) ≡ true
+
+pub replied-by : (b : Backup) (v : Replica) (r : Reply) (call : Replica → value.Reply) → view b ≡ v → Answered b r call → Replied v r call
+replied-by b v r call e a =
+    subst (λ (w : Replica). Replied w r call) e record {
+      number-is = a .number-is;
+      value-is = a .value-is;
+      refused = λ k. sym (a .value-is) ∙ ap view (a .untouched k);
+      fit-again = a .fit-again;
+    }
+
+pub replied-start : (v : Replica) (r : Reply) → r .number ≡ 0 → view (r .backup) ≡ initial → Replied v r (answered start)
+unfolding answered fit
+replied-start v r n e = record { number-is = n; value-is = e; refused = λ k. absurd (k n); fit-again = λ _. ap fit e }
+
+-- ---- what is promised
+
+module _ (state call reply : List ℕ) (a : Asked) (e : asked state call reply ≡ a) where
+  no-promotion : (a ≡ promotion → ⊥) → asked state call reply ≡ promotion → ⊥
+  no-promotion p z = p (sym e ∙ z)
+
+  -- nothing is done: a number alone
+  pub exported-none : (n : ℕ) → (a ≡ promotion → ⊥) → answered a (stateView state) ≡ record { number = n; replica = stateView state }
+      → Exported state call reply n state reply
+  exported-none n p h = record {
+    number-is = rw (e, h);
+    value-is = rw (e, h);
+    fit-again = λ f. f;
+    refused = λ _. refl;
+    promoted = λ _. refl;
+    reply-is = λ z. absurd (no-promotion p z);
+    reply-same = λ _. refl;
+    state-length = refl;
+    reply-length = refl;
+  }
+
+  -- a reply is stored, unless it was refused
+  pub exported-settled : (r : Reply) (n : ℕ) (state′ : List ℕ) → (a ≡ promotion → ⊥) → length state ≡ stateLength
+      → Replied (stateView state) r (answered a) → Settled state r n state′ → Exported state call reply n state′ reply
+  exported-settled r n state′ p l q s = go n refl
+    where
+      number-so : n ≡ answered (asked state call reply) (stateView state) .number
+      number-so = s .number-is ∙ rw e (q .number-is)
+
+      go : (m : ℕ) → n ≡ m → Exported state call reply n state′ reply
+      go zero z =
+          let v : stateView state′ ≡ view (r .backup) = s .accepted z in
+          record {
+            number-is = number-so;
+            value-is = v ∙ rw e (q .value-is);
+            fit-again = λ f. ap fit v ∙ q .fit-again f;
+            refused = λ k. absurd (k z);
+            promoted = λ k. absurd (no-promotion p k);
+            reply-is = λ k. absurd (no-promotion p k);
+            reply-same = λ _. refl;
+            state-length = s .length-is ∙ sym l;
+            reply-length = refl;
+          }
+      go (suc m) z =
+          let k : n ≡ 0 → ⊥ = λ y. (let x = z in omega arith) in
+          let u : state′ ≡ state = s .refused k in
+          record {
+            number-is = number-so;
+            value-is = ap stateView u ∙ rw e (sym (q .refused (λ y. k (s .number-is ∙ y))));
+            fit-again = λ f. ap (λ (x : List ℕ). fit (stateView x)) u ∙ f;
+            refused = λ _. u;
+            promoted = λ _. u;
+            reply-is = λ y. absurd (no-promotion p y);
+            reply-same = λ _. refl;
+            state-length = ap length u;
+            reply-length = refl;
+          }
+
+-- a slice of another length
+pub exported-missized : (state call reply : List ℕ) → (Sized state call reply → ⊥) → Exported state call reply 25 state reply
+unfolding answered
+exported-missized state call reply h = exported-none state call reply missized (asked-missized state call reply h) 25 (λ z. no-way (cc)) refl
+
+-- a promotion is handed over
+pub exported-promoted : (state call reply : List ℕ) (b : Backup) (f : FailOver) (n : ℕ) (reply′ : List ℕ)
+    → asked state call reply ≡ promotion → length reply ≡ stateLength → view b ≡ stateView state → promotedBy f ≡ failOver (view b)
+    → HandedOver f n reply′ → Exported state call reply n state reply′
+unfolding answered handedBy promotedBy view
+exported-promoted state call reply b f n reply′ e l v p h =
+    let whole : handedBy n reply′ ≡ failOver (stateView state) =
+    (λ k. record { number = h .number-is k; log = h .value-is k .log; pc = h .value-is k .pc; registers = h .value-is k .registers; sent = h .value-is k .sent })
+    ∙ p ∙ ap failOver v in
+    record {
+      number-is = rw e (ap (λ (x : value.FailOver). x .number) whole);
+      value-is = rw e;
+      fit-again = λ g. g;
+      refused = λ _. refl;
+      promoted = λ _. refl;
+      reply-is = λ _. whole;
+      reply-same = λ k. absurd (k e);
+      state-length = refl;
+      reply-length = h .length-is ∙ sym l;
+    }

@@ -1,0 +1,3 @@
+-- What the proofs of the exported call share.
+pub mod Translating
+pub mod Calling

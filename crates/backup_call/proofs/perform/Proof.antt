@@ -1,0 +1,176 @@
+-- `perform`: one answer for each call, from the contract of the backup's own call.
+-- Assumes nothing.
+use mathlib.Core.Path.{refl, _∙_}
+use lib.ListN.{getD}
+use Rattle.facts.specs.Tests.{no-way}
+use Rattle.backup_call.specs.Exported.{start, unknown, answered}
+use Rattle.backup_call.proofs.Calling.{asked-by, no-call, replied-by, replied-start, exported-none, exported-settled, exported-promoted}
+use borrow.Author.Needs.{needs}
+use Rattle.backup_call.proofs.perform.Statement.{statement}
+use Rattle.backup_call.proofs.perform.Tie as tie
+
+shared-slice-read-number : tie.Need-shared-slice-read-number
+shared-slice-read-number c = search needs
+
+new-requires : tie.Need-new-requires
+new-requires c κs = search needs
+
+settle-requires : tie.Need-settle-requires
+settle-requires c κs = search needs
+
+load-requires : tie.Need-load-requires
+load-requires c κs = search needs
+
+shared-slice-read-arrive : tie.Need-shared-slice-read-arrive
+shared-slice-read-arrive c = search needs
+
+shared-slice-read-arrive-2 : tie.Need-shared-slice-read-arrive-2
+shared-slice-read-arrive-2 c = search needs
+
+arrive-requires : tie.Need-arrive-requires
+arrive-requires c κs = search needs
+
+settle-requires-2 : tie.Need-settle-requires-2
+settle-requires-2 c κs = search needs
+
+load-requires-2 : tie.Need-load-requires-2
+load-requires-2 c κs = search needs
+
+count-requires : tie.Need-count-requires
+count-requires c κs = search needs
+
+settle-requires-3 : tie.Need-settle-requires-3
+settle-requires-3 c κs = search needs
+
+load-requires-3 : tie.Need-load-requires-3
+load-requires-3 c κs = search needs
+
+checkpoint-requires : tie.Need-checkpoint-requires
+checkpoint-requires c κs = search needs
+
+sync-requires : tie.Need-sync-requires
+sync-requires c κs = search needs
+
+settle-requires-4 : tie.Need-settle-requires-4
+settle-requires-4 c κs = search needs
+
+load-requires-4 : tie.Need-load-requires-4
+load-requires-4 c κs = search needs
+
+fail-over-requires : tie.Need-fail-over-requires
+fail-over-requires c κs = search needs
+
+hand-over-requires : tie.Need-hand-over-requires
+hand-over-requires c κs = search needs
+
+same-length : tie.Need-same-length
+same-length c = search needs
+
+returns : tie.Need-returns
+unfolding answered
+returns c =
+    let x = c .before .before .before .before .before .before .before .before .before .before .args in
+    let sized = c .before .before .before .before .before .before .before .before .before .before .pre in
+    exported-settled (x .state .now) (x .call .now) (x .reply .now) start
+    (asked-by (x .state .now) (x .call .now) (x .reply .now) 0 sized (c .before .before .before .before .before .match .keys1)) _ _ _ (λ z. no-way (cc)) (sized .state-is)
+    (replied-start _ _ refl (c .before .before .before .new .ensures))
+    (c .before .before .settle .ensures)
+
+same-length-2 : tie.Need-same-length-2
+same-length-2 c = search needs
+
+returns-2 : tie.Need-returns-2
+unfolding answered
+returns-2 c =
+    let x = c .before .before .before .before .before .before .before .before .before .before .before .before .before .before .args in
+    let sized = c .before .before .before .before .before .before .before .before .before .before .before .before .before .before .pre in
+    exported-settled (x .state .now) (x .call .now) (x .reply .now) _
+    (asked-by (x .state .now) (x .call .now) (x .reply .now) 1 sized (c .before .before .before .before .before .before .before .before .before .match .keys2)) _ _ _ (λ z. no-way (cc)) (sized .state-is)
+    (replied-by _ _ _ _ (c .before .before .before .before .before .before .load .ensures) (c .before .before .before .arrive .ensures))
+    (c .before .before .settle2 .ensures)
+
+same-length-3 : tie.Need-same-length-3
+same-length-3 c = search needs
+
+returns-3 : tie.Need-returns-3
+unfolding answered
+returns-3 c =
+    let x = c .before .before .before .before .before .before .before .before .before .before .before .before .args in
+    let sized = c .before .before .before .before .before .before .before .before .before .before .before .before .pre in
+    exported-settled (x .state .now) (x .call .now) (x .reply .now) _
+    (asked-by (x .state .now) (x .call .now) (x .reply .now) 2 sized (c .before .before .before .before .before .before .before .match .keys3)) _ _ _ (λ z. no-way (cc)) (sized .state-is)
+    (replied-by _ _ _ _ (c .before .before .before .before .load2 .ensures) (c .before .before .before .count .ensures))
+    (c .before .before .settle3 .ensures)
+
+same-length-4 : tie.Need-same-length-4
+same-length-4 c = search needs
+
+returns-4 : tie.Need-returns-4
+unfolding answered
+returns-4 c =
+    let x = c .before .before .before .before .before .before .before .before .before .before .before .before .before .args in
+    let sized = c .before .before .before .before .before .before .before .before .before .before .before .before .before .pre in
+    exported-settled (x .state .now) (x .call .now) (x .reply .now) _
+    (asked-by (x .state .now) (x .call .now) (x .reply .now) 3 sized (c .before .before .before .before .before .before .before .before .match .keys4)) _ _ _ (λ z. no-way (cc)) (sized .state-is)
+    (replied-by _ _ _ _ (c .before .before .before .before .before .load3 .ensures) (rw (c .before .before .before .before .checkpoint .ensures) at (c .before .before .before .sync .ensures)))
+    (c .before .before .settle4 .ensures)
+
+same-length-5 : tie.Need-same-length-5
+same-length-5 c = search needs
+
+same-length-6 : tie.Need-same-length-6
+same-length-6 c = search needs
+
+returns-5 : tie.Need-returns-5
+unfolding answered
+returns-5 c =
+    let x = c .before .before .before .before .before .before .before .before .before .before .before .before .args in
+    let sized = c .before .before .before .before .before .before .before .before .before .before .before .before .pre in
+    exported-promoted (x .state .now) (x .call .now) (x .reply .now) _ _ _ _
+    (asked-by (x .state .now) (x .call .now) (x .reply .now) 4 sized (c .before .before .before .before .before .before .before .match .keys5)) (sized .reply-is) (c .before .before .before .before .load4 .ensures) (c .before .before .before .fail-over .ensures)
+    (c .before .before .hand-over .ensures)
+
+returns-6 : tie.Need-returns-6
+unfolding answered
+returns-6 c =
+    let x = c .before .before .before .before .before .args in
+    let none = c .match .rest in
+    exported-none (x .state .now) (x .call .now) (x .reply .now) unknown
+    (asked-by (x .state .now) (x .call .now) (x .reply .now) _ (c .before .before .before .before .before .pre) refl
+    ∙ no-call (getD (x .call .now) 0 0) (x .call .now) (none .0 .0 .0 .0 .1) (none .0 .0 .0 .1) (none .0 .0 .1) (none .0 .1) (none .1))
+    26 (λ z. no-way (cc)) refl
+
+pub perform-spec : {M : Type 1} → statement M
+perform-spec =
+    tie.close
+    (tie.spec
+    shared-slice-read-number
+    new-requires
+    settle-requires
+    load-requires
+    shared-slice-read-arrive
+    shared-slice-read-arrive-2
+    arrive-requires
+    settle-requires-2
+    load-requires-2
+    count-requires
+    settle-requires-3
+    load-requires-3
+    checkpoint-requires
+    sync-requires
+    settle-requires-4
+    load-requires-4
+    fail-over-requires
+    hand-over-requires
+    same-length
+    returns
+    same-length-2
+    returns-2
+    same-length-3
+    returns-3
+    same-length-4
+    returns-4
+    same-length-5
+    same-length-6
+    returns-5
+    returns-6)

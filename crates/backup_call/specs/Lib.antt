@@ -1,0 +1,3 @@
+-- The exported call: what its numbers stand for, and what it promises.
+pub mod Layout
+pub mod Exported

@@ -1,0 +1,87 @@
+//! The backup record, written from document 01, "The backup record", and from nothing else.
+
+/// "A value: up to 48 saved words with slots, count, place, registers."
+#[derive(Clone, Debug, PartialEq, Eq)]
+pub struct Record {
+    /// Saved words, oldest first: slot and word.
+    pub words: Vec<(u32, u32)>,
+    pub count: u32,
+    pub place: u32,
+    pub registers: [u32; 4],
+}
+
+impl Record {
+    /// "It starts with no words and the rest 0."
+    pub fn new() -> Record {
+        Record { words: Vec::new(), count: 0, place: 0, registers: [0; 4] }
+    }
+
+    /// "over 48 words, slot over 3, count over 16, place over 64"
+    pub fn unfit(&self) -> bool {
+        self.words.len() > 48 || self.words.iter().any(|&(slot, _)| slot > 3) || self.count > 16 || self.place > 64
+    }
+
+    /// How many words are saved on a slot.
+    pub fn saved(&self, slot: u32) -> u32 {
+        self.words.iter().filter(|&&(s, _)| s == slot).count() as u32
+    }
+
+    /// "Arrive: 21 slot over 3, 22 forty-eight saved."
+    pub fn arrive(&mut self, slot: u32, word: u32) -> u32 {
+        if self.unfit() {
+            return 20;
+        }
+        if slot > 3 {
+            return 21;
+        }
+        if self.words.len() == 48 {
+            return 22;
+        }
+        self.words.push((slot, word));
+        0
+    }
+
+    /// "Count: 24 at 16."
+    pub fn count(&mut self) -> u32 {
+        if self.unfit() {
+            return 20;
+        }
+        if self.count == 16 {
+            return 24;
+        }
+        self.count += 1;
+        0
+    }
+
+    /// "Sync: 21 place over 64, 23 more taken on a slot than saved." It "replaces the state in the process's backup record, drops the
+    /// oldest saved words slot by slot as taken, and zeroes the count".
+    pub fn sync(&mut self, place: u32, registers: [u32; 4], taken: [u32; 4]) -> u32 {
+        if self.unfit() {
+            return 20;
+        }
+        if place > 64 {
+            return 21;
+        }
+        if (0..4).any(|slot| taken[slot] > self.saved(slot as u32)) {
+            return 23;
+        }
+        for (slot, times) in taken.into_iter().enumerate() {
+            for _ in 0..times {
+                let oldest = self.words.iter().position(|&(s, _)| s == slot as u32).unwrap();
+                self.words.remove(oldest);
+            }
+        }
+        self.count = 0;
+        self.place = place;
+        self.registers = registers;
+        0
+    }
+
+    /// "Take over: only 20; it returns words, place, registers, count, and when refused no words and the rest 0."
+    pub fn take_over(&self) -> (u32, Record) {
+        if self.unfit() {
+            return (20, Record::new());
+        }
+        (0, self.clone())
+    }
+}
