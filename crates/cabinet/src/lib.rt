@@ -1,0 +1,2 @@
+// The cabinet in lent arrays of numbers.
+pub mod entry;
