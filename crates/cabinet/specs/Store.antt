@@ -37,14 +37,14 @@ abbrev pub processIn : Store → ℕ → Process
 processIn s p = processOf (getD (s .rows) p []) (getD (s .mails) p []) (getD (s .logs) p []) (getD (s .heads) p [])
 
 -- board b's cells
-abbrev pub firstIn : Store → ℕ → ℕ
-firstIn s b = getD (getD (s .boards) b []) 0 0
+abbrev pub firstIn : List (List ℕ) → ℕ → ℕ
+firstIn boards b = getD (getD boards b []) 0 0
 
-abbrev pub countIn : Store → ℕ → ℕ
-countIn s b = getD (getD (s .boards) b []) 1 0
+abbrev pub countIn : List (List ℕ) → ℕ → ℕ
+countIn boards b = getD (getD boards b []) 1 0
 
-abbrev pub deadIn : Store → ℕ → Bool
-deadIn s b = not (eqb (getD (getD (s .boards) b []) 2 0) 0)
+abbrev pub deadIn : List (List ℕ) → ℕ → Bool
+deadIn boards b = not (eqb (getD (getD boards b []) 2 0) 0)
 
 -- ---- entries
 
@@ -57,9 +57,9 @@ unfoldable pub blankEntry : Entry
 blankEntry = record { item = Word 0 0 }
 
 -- board b's queue, oldest entry first
-unfoldable pub outboxIn : Store → List Entry → ℕ → List rules.Item
+unfoldable pub outboxIn : List (List ℕ) → List Entry → ℕ → List rules.Item
 unfolding blankEntry
-outboxIn s entries b = map (λ (e : Entry). itemOf (e .item)) (ring blankEntry entries b (firstIn s b) (countIn s b))
+outboxIn boards entries b = map (λ (e : Entry). itemOf (e .item)) (ring blankEntry entries b (firstIn boards b) (countIn boards b))
 
 -- ---- the cabinet
 
@@ -70,12 +70,12 @@ flag b = cond b 1 0
 -- The lists hold this cabinet of table t.
 pub record Holds (t : Table) (s : Store) (entries : List Entry) (c : Cabinet) : Type 0 where
   pub processes : c .processes ≡ listed (processIn s) (length (t .processes))
-  pub outboxes : c .outboxes ≡ listed (outboxIn s entries) (t .boards)
-  pub dead : c .dead ≡ listed (deadIn s) (t .boards)
+  pub outboxes : c .outboxes ≡ listed (outboxIn (s .boards) entries) (t .boards)
+  pub dead : c .dead ≡ listed (deadIn (s .boards)) (t .boards)
   -- each process's lists are kept, and each ring is one
   pub kept : (p : ℕ) → p < length (t .processes) → Kept (getD (s .rows) p []) (getD (s .mails) p []) (getD (s .logs) p []) (getD (s .heads) p [])
-  pub first-small : (b : ℕ) → b < t .boards → firstIn s b < outboxMost
-  pub count-small : (b : ℕ) → b < t .boards → countIn s b ≤ outboxMost
+  pub first-small : (b : ℕ) → b < t .boards → firstIn (s .boards) b < outboxMost
+  pub count-small : (b : ℕ) → b < t .boards → countIn (s .boards) b ≤ outboxMost
   pub board-length : (b : ℕ) → b < t .boards → length (getD (s .boards) b []) ≡ 3
   -- the totals are what a count made afresh gives
   pub unread-is : (k : ℕ) → k < length (t .channels) → channelAt t k .reader < length (t .processes)

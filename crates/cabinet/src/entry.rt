@@ -4,8 +4,14 @@ use backup::place::Checkpoint;
 
 // Document 01: "An entry of an outgoing queue is a word or a sync".
 pub enum Item {
-    Word { channel: u32, word: u32 },
-    Sync { process: u32, checkpoint: Checkpoint },
+    Word {
+        channel: u32,
+        word: u32,
+    },
+    Sync {
+        process: u32,
+        checkpoint: Checkpoint,
+    },
 }
 
 pub struct Entry {

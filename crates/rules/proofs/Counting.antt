@@ -3,7 +3,7 @@
 use mathlib.Core.Path.{_≡_, refl, ap, sym, _∙_}
 use mathlib.Core.Bool.{cond}
 use mathlib.Core.List.{List, [], _∷_, _++_, map}
-use Prim.Native.Nat.{ℕ, _+_, _≤_}
+use Prim.Native.Nat.{_<_, ℕ, _+_, _≤_}
 use native.Mathlib.Omega.{arith}
 use lib.Dec.{eqb}
 use lib.ListN.{length, getD, set, replicate, List·getD-eq-default}
@@ -50,17 +50,23 @@ pub flight-total : (k : ℕ) (qs : List (List Item)) → inFlight k qs ≡ total
 flight-total k [] = refl
 flight-total k (q ∷ qs) = let h = flight-total k qs in omega arith
 
--- an entry joins an outbox (an outbox that isn't there changes nothing)
-pub flight-join : (k : ℕ) (qs : List (List Item)) (b : ℕ) (x : Item) → inFlight k (set qs b (getD qs b [] ++ (x ∷ []))) ≤ inFlight k qs + weight k x
-flight-join k qs b x =
-    by-lt b (length qs)
-    (λ h. let a = flight-total k qs in
+-- an entry joins an outbox
+pub flight-joined : (k : ℕ) (qs : List (List Item)) (b : ℕ) (x : Item) → b < length qs
+    → inFlight k (set qs b (getD qs b [] ++ (x ∷ []))) ≡ inFlight k qs + weight k x
+flight-joined k qs b x h =
+    let a = flight-total k qs in
     let d = flight-total k (set qs b (getD qs b [] ++ (x ∷ []))) in
     let e = total-set (queuedOn k) qs b (getD qs b [] ++ (x ∷ [])) [] h in
     let f = queued-total k (getD qs b [] ++ (x ∷ [])) in
     let g = queued-total k (getD qs b []) in
     let i = total-append (weight k) (getD qs b []) (x ∷ []) in
-    omega arith)
+    omega arith
+
+-- (an outbox that isn't there changes nothing)
+pub flight-join : (k : ℕ) (qs : List (List Item)) (b : ℕ) (x : Item) → inFlight k (set qs b (getD qs b [] ++ (x ∷ []))) ≤ inFlight k qs + weight k x
+flight-join k qs b x =
+    by-lt b (length qs)
+    (λ h. let a = flight-joined k qs b x h in omega arith)
     (λ h. rw (set-out qs b (getD qs b [] ++ (x ∷ [])) h) (omega arith))
 
 -- the oldest entry leaves an outbox

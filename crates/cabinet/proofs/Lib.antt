@@ -1,0 +1,4 @@
+-- What the moves do to the cabinet that the lists hold.
+pub mod Reading
+pub mod Changing
+pub mod Queueing
