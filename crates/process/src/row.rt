@@ -1,18 +1,33 @@
 // Where a row has its numbers: board, program counter, four registers, sends to suppress, events, receives on each port, whether it is
 // protected (1) or not (0), its backup's board, and how many unread messages its mailbox has.
 pub const BOARD: usize = 0;
+
 pub const PC: usize = 1;
+
 pub const R0: usize = 2;
+
 pub const R1: usize = 3;
+
 pub const R2: usize = 4;
+
 pub const R3: usize = 5;
+
 pub const SUPPRESS: usize = 6;
+
 pub const EVENTS: usize = 7;
+
 pub const T0: usize = 8;
+
 pub const T1: usize = 9;
+
 pub const T2: usize = 10;
+
 pub const T3: usize = 11;
+
 pub const PROTECTED: usize = 12;
+
 pub const STANDBY: usize = 13;
+
 pub const UNREAD: usize = 14;
+
 pub const ROW: usize = 15;

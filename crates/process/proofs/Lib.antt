@@ -1,0 +1,2 @@
+-- What the calls on one process do to the process that their arrays stand for.
+pub mod Mailboxes
