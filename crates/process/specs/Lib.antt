@@ -1,2 +1,5 @@
--- One process in lent arrays: how the arrays stand for the rules' process, and what is kept of them.
+-- One process in lent arrays: how the arrays stand for the rules' process, what is kept of them, and what the calls make of them.
 pub mod Row
+pub mod Mailbox
+pub mod Change
+pub mod Promotion

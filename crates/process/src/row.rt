@@ -1,3 +1,5 @@
+ghost use mathlib.Core.Path.{_≡_};
+
 // Where a row has its numbers: board, program counter, four registers, sends to suppress, events, receives on each port, whether it is
 // protected (1) or not (0), its backup's board, and how many unread messages its mailbox has.
 pub const BOARD: usize = 0;
@@ -31,3 +33,10 @@ pub const STANDBY: usize = 13;
 pub const UNREAD: usize = 14;
 
 pub const ROW: usize = 15;
+
+// A row's number as an index.
+pub fn wide(x: u32) -> usize
+    ensures { λ r. ⌜ r ≡ x ⌝ }
+{
+    x as usize
+}

@@ -1,0 +1,110 @@
+-- A call of the backup, and a delivery, as changes of one process.
+-- Assumes nothing.
+use mathlib.Core.Path.{_≡_, refl, ap, sym, _∙_}
+use mathlib.Core.Bool.{Bool, true, false, cond}
+use mathlib.Core.Option.{Option, none, some}
+use mathlib.Core.List.{List, [], _∷_, _++_}
+use Prim.Native.Nat.{ℕ, zero, suc, _+_, _≤_, _<_, _^_}
+use native.Mathlib.Omega.{arith}
+use native.Mathlib.Numerals.{add-one}
+use lib.Dec.{eqb}
+use lib.ListN.{length, getD, set, length-set}
+use borrow.Author.Tests.{eq-eqb, ne-eqb}
+use Rattle.backup.specs.Limits.{logMost}
+use Rattle.backup.specs.Replica.{Replica, Reply, Checkpoint, arrive, count, sync}
+use Rattle.backup.specs.Place.{viewIn, Sound, Called}
+use Rattle.rules.specs.Table.{Table, portOf}
+use Rattle.rules.specs.Machine.{Mail, delivered}
+use Rattle.rules.specs.Cabinet.{Process, Standby}
+use Rattle.rules.specs.Moves.{onReplica, receive, counts, keeps}
+use Rattle.process.specs.Row.{machineOf, standbyOf, processOf, mailsIn, Kept}
+use Rattle.process.specs.Mailbox.{Appended}
+use Rattle.process.specs.Change.{Became, BackupBecame, Backed, Received}
+use Rattle.process.proofs.Rows.{Words, stored, spelled}
+
+module _ (row log head : List ℕ) (call : Replica → Reply) where
+  -- no backup: nothing is called
+  pub backed-none : getD row 12 0 ≡ 0 → Backed row log head log head call
+  unfolding standbyOf
+  backed-none z = record { standby-is = λ s. rw (eq-eqb (getD row 12 0) 0 z); sound-again = λ s. s }
+
+  -- the call's promise
+  pub backed-call : (log′ head′ : List ℕ) (number : ℕ) → (getD row 12 0 ≡ 0 → ⊥) → Called log head log′ head′ number call
+      → Backed row log head log′ head′ call
+  unfolding standbyOf
+  backed-call log′ head′ number n c = record {
+    standby-is = λ s. rw (ne-eqb (getD row 12 0) 0 n, c .value-is s);
+    sound-again = c .sound-again;
+  }
+
+-- ---- calls that change the backup alone
+
+-- a process with another backup
+abbrev withBackup : Option Standby → Process → Process
+withBackup s x =
+    record { machine = x .machine; board = x .board; suppress = x .suppress; events = x .events; taken = x .taken; standby = s }
+
+backed-became : (row log head log′ head′ : List ℕ) (call : Replica → Reply) → Backed row log head log′ head′ call
+    → BackupBecame row log head log′ head′ (λ x. withBackup (onReplica call (x .standby)) x)
+unfolding processOf
+backed-became row log head log′ head′ call b mail k = record {
+  process-is = ap (λ (s : Option Standby). withBackup s (processOf row mail log head)) (b .standby-is (k .sound));
+  kept-again = record {
+    row-length = k .row-length;
+    mail-length = k .mail-length;
+    unread = k .unread;
+    words = k .words;
+    flag = k .flag;
+    sound = b .sound-again (k .sound);
+  };
+}
+
+pub counts-became : (row log head log′ head′ : List ℕ) → Backed row log head log′ head′ count → BackupBecame row log head log′ head′ counts
+unfolding counts
+counts-became row log head log′ head′ = backed-became row log head log′ head′ count
+
+pub keeps-became : (row log head log′ head′ : List ℕ) (c : Checkpoint) → Backed row log head log′ head′ (λ v. sync v c)
+    → BackupBecame row log head log′ head′ (keeps c)
+unfolding keeps
+keeps-became row log head log′ head′ c = backed-became row log head log′ head′ (λ v. sync v c)
+
+-- ---- a delivery
+
+module _ (row mail log head : List ℕ) (port channel word : ℕ) where
+  pub received-none : logMost ≤ getD row 14 0 → Received row mail log head row mail log head port channel word
+  received-none h = record { untouched = λ _. ((refl, refl), (refl, refl)); became = λ k l. absurd (omega arith) }
+
+  pub received-so : (mail′ log′ head′ : List ℕ) → getD row 14 0 < logMost → Backed row log head log′ head′ (λ v. arrive v port word)
+      → Appended mail (getD row 14 0) channel word mail′ → Received row mail log head (set row 14 (getD row 14 0 + 1)) mail′ log′ head′ port channel word
+  unfolding processOf machineOf standbyOf receive delivered
+  received-so mail′ log′ head′ h b a =
+      let n : ℕ = getD row 14 0 in
+      record {
+        untouched = λ g. absurd (omega arith);
+        became = λ k l t p e.
+            let z = k .row-length in
+            let m : mailsIn (n + 1) mail′ ≡ mailsIn n mail ++ (record { channel = channel; word = word } ∷ []) =
+            rw add-one (a .more (k .mail-length) h) in
+            let s : standbyOf row log′ head′ ≡ onReplica (λ r. arrive r (portOf t p channel) word) (standbyOf row log head) =
+            b .standby-is (k .sound) ∙ ap (λ (q : ℕ). onReplica (λ r. arrive r q word) (standbyOf row log head)) (sym e) in
+            let x : Process = processOf row mail log head in
+            record {
+              process-is = spelled row (λ (r : List ℕ). processOf (set r 14 (n + 1)) mail′ log′ head′) z
+                  ∙ (λ i. record {
+                    machine = record { registers = x .machine .registers; pc = x .machine .pc; mailbox = m i };
+                    board = x .board;
+                    suppress = x .suppress;
+                    events = x .events;
+                    taken = x .taken;
+                    standby = s i;
+                  });
+              kept-again = record {
+                row-length = length-set row 14 (n + 1) ∙ z;
+                mail-length = a .same-length ∙ k .mail-length;
+                unread = rw (spelled row (λ (r : List ℕ). getD (set r 14 (n + 1)) 14 0) z) (omega arith);
+                words = stored {l = row} 14 (n + 1) (omega arith) (record { word = k .words }) .word;
+                flag = rw (spelled row (λ (r : List ℕ). getD (set r 14 (n + 1)) 12 0) z) (k .flag);
+                sound = b .sound-again (k .sound);
+              };
+            };
+      }

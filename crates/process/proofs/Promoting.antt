@@ -1,0 +1,139 @@
+-- A promotion, and a crash, as changes of one process.
+-- Assumes nothing.
+use mathlib.Core.Path.{_≡_, refl, ap, sym, _∙_}
+use mathlib.Core.Bool.{Bool, true, false, cond, _&&_}
+use mathlib.Core.Option.{Option, none, some}
+use mathlib.Core.List.{List, [], _∷_, map}
+use Prim.Native.Nat.{ℕ, zero, suc, _%_, _≤_, _<_, _^_}
+use native.Mathlib.Omega.{arith}
+use lib.Dec.{eqb, ltb}
+use lib.ListN.{length, getD, set, length-set, length-map}
+use borrow.Author.Tests.{eq-eqb, ne-eqb, ltb-true}
+use Rattle.facts.specs.Tests.{allOf, and-left, and-right}
+use Rattle.backup.specs.Limits.{logMost, ports}
+use Rattle.backup.specs.Replica.{Message, Replica, FailOver, fit, onPorts, failOver}
+use Rattle.backup.specs.Accepts.{Fit, fit-parts}
+use Rattle.facts.specs.Lists.{prefix, length-prefix}
+use Rattle.backup.specs.Place.{unpack, messages, viewIn, Sound, promotionIn}
+use Rattle.backup.specs.declared.place.Promotion.{Promotion}
+use Rattle.rules.specs.Table.{Table, channelOn}
+use Rattle.rules.specs.Machine.{Mail}
+use Rattle.rules.specs.Cabinet.{Process, Standby, noTakes}
+use Rattle.rules.specs.Moves.{recovered, promoted, unprotected, afterCrash}
+use Rattle.process.specs.Row.{machineOf, standbyOf, processOf, mailsIn, Kept}
+use Rattle.process.specs.Change.{Became, RowBecame}
+use Rattle.process.specs.Promotion.{readdressed, Readdressed, restoredIn, Restored, standbyIn, Routes, Promoted, Crashed}
+use Rattle.process.proofs.Rows.{Words, stored, cleared, spelled}
+
+-- ---- the row
+
+pub restored-words : (row : List ℕ) (p : Promotion) → p .pc < 2 ^ 32 → p .r0 < 2 ^ 32 → p .r1 < 2 ^ 32 → p .r2 < 2 ^ 32 → p .r3 < 2 ^ 32
+    → p .sent < 2 ^ 32 → p .len < 2 ^ 32 → Words row → Words (restoredIn row p)
+unfolding restoredIn
+restored-words row p a b c d e f g h =
+    stored 14 (p .len) g (cleared 12 (cleared 11 (cleared 10 (cleared 9 (cleared 8 (cleared 7 (stored 6 (p .sent) f (stored 5 (p .r3) e
+    (stored 4 (p .r2) d (stored 3 (p .r1) c (stored 2 (p .r0) b (stored 1 (p .pc) a (stored 0 (getD row 13 0) (h .word 13) h)))))))))))))
+
+-- ---- the mailbox
+
+-- two functions that agree on what passes a test, on a list of which every element does
+map-agree : {A B : Type 0} (test : A → Bool) (f g : A → B) → ((x : A) → test x ≡ true → f x ≡ g x) → (l : List A) → allOf test l ≡ true
+    → map f l ≡ map g l
+map-agree test f g h [] k = refl
+map-agree test f g h (x ∷ l) k = λ i. h x (and-left (test x) (allOf test l) k) i ∷ map-agree test f g h l (and-right (test x) (allOf test l) k) i
+
+-- with the channels of a process's ports, what the rules put in the mailbox
+routed : (t : Table) (p : ℕ) (channels : List ℕ) → Routes t p channels → (l : List Message) → onPorts l ≡ true
+    → map (readdressed channels) l ≡ map (λ (m : Message). record { channel = channelOn t p (m .port); word = m .word }) l
+routed t p channels r =
+    map-agree (λ m. ltb (m .port) ports) (readdressed channels) _
+    (λ m e.
+    let h : m .port < ports = ltb-true (m .port) ports e in
+    let z : m .port % 4 ≡ m .port = omega arith in
+    let q : getD channels (m .port % 4) 0 ≡ channelOn t p (m .port) = rw z (sym (r (m .port) h)) in
+    λ i. record { channel = q i; word = m .word })
+
+-- ---- the process
+
+-- no log of a sound backup is longer than its array
+len-small : (log head : List ℕ) → Sound log head → getD head 0 0 ≤ logMost
+unfolding viewIn
+len-small log head s =
+    let f = fit-parts (viewIn log head) (s .is-fit) .few in
+    let a = length-map (prefix (getD head 0 0) log) unpack in
+    let b = length-prefix (getD head 0 0) log in
+    omega arith
+
+module _ (row mail log head channels : List ℕ) where
+  pub promoted-none : logMost < getD head 0 0 → Promoted row mail log head row mail channels
+  promoted-none h k t p r = absurd (let s = len-small log head (k .sound) in omega arith)
+
+  pub promoted-so : (mail′ row′ : List ℕ) → Readdressed mail log (getD head 0 0) channels mail′ → Restored row (promotionIn head) row′
+      → Promoted row mail log head row′ mail′ channels
+  unfolding processOf machineOf standbyOf promoted recovered failOver restoredIn viewIn
+  promoted-so mail′ row′ m e k t p r =
+      let z = k .row-length in
+      let v : Replica = viewIn log head in
+      let now : List Mail → Process = λ mailbox. record {
+        machine = record { registers = v .registers; pc = v .pc; mailbox = mailbox };
+        board = getD row 13 0;
+        suppress = v .sent;
+        events = 0;
+        taken = noTakes;
+        standby = none;
+      } in
+      let f : Fit (viewIn log head) = fit-parts (viewIn log head) (k .sound .is-fit) in
+      record {
+        process-is =
+            rw (e .row-is, k .sound .is-fit)
+            (spelled row (λ (r : List ℕ). processOf (restoredIn r (promotionIn head)) mail′ log head) z
+            ∙ ap now (m .mails (k .mail-length) ∙ routed t p channels r (messages (getD head 0 0) log) (f .on-ports)));
+        kept-again = record {
+          row-length = ap length (e .row-is) ∙ simp length-set z;
+          mail-length = m .same-length ∙ k .mail-length;
+          unread = rw (e .row-is, spelled row (λ (r : List ℕ). getD (restoredIn r (promotionIn head)) 14 0) z) (len-small log head (k .sound));
+          words = e .words (k .words);
+          flag = rw (e .row-is, spelled row (λ (r : List ℕ). getD (restoredIn r (promotionIn head)) 12 0) z) (omega arith);
+          sound = k .sound;
+        };
+      }
+
+-- ---- a crash
+
+module _ (row mail log head channels : List ℕ) (b : ℕ) where
+  -- where the rules make of the process what a change makes of it, the change is the crash
+  so : (row′ mail′ : List ℕ) (t : Table) (p : ℕ) (change : Process → Process)
+      → (let x : Process = processOf row mail log head in afterCrash t b p x (x .standby) ≡ change x)
+      → Became row mail log head row′ mail′ log head change → Became row mail log head row′ mail′ log head (λ x. afterCrash t b p x (x .standby))
+  so row′ mail′ t p change e h = record { process-is = h .process-is ∙ sym e; kept-again = h .kept-again }
+
+  as-it-was : Kept row mail log head → Became row mail log head row mail log head (λ x. x)
+  as-it-was k = record { process-is = refl; kept-again = k }
+
+  -- a process with no backup
+  pub crashed-none : getD row 12 0 ≡ 0 → Crashed row mail log head row mail b channels
+  unfolding processOf standbyOf afterCrash
+  crashed-none z k t p r = so row mail t p (λ x. x) (rw (eq-eqb (getD row 12 0) 0 z)) (as-it-was k)
+
+  module _ (n : getD row 12 0 ≡ 0 → ⊥) where
+    -- its board crashed
+    pub crashed-promoted : (row′ mail′ : List ℕ) → getD row 0 0 ≡ b → Promoted row mail log head row′ mail′ channels
+        → Crashed row mail log head row′ mail′ b channels
+    unfolding processOf standbyOf afterCrash
+    crashed-promoted row′ mail′ e h k t p r =
+        so row′ mail′ t p (λ x. promoted t p (standbyIn row log head)) (rw (ne-eqb (getD row 12 0) 0 n, eq-eqb b (getD row 0 0) (sym e))) (h k t p r)
+
+    module _ (m : getD row 0 0 ≡ b → ⊥) where
+      -- its backup's board crashed
+      pub crashed-unprotected : (row′ : List ℕ) → getD row 13 0 ≡ b → RowBecame row row′ unprotected → Crashed row mail log head row′ mail b channels
+      unfolding processOf standbyOf afterCrash
+      crashed-unprotected row′ e h k t p r =
+          so row′ mail t p unprotected
+          (rw (ne-eqb (getD row 12 0) 0 n, ne-eqb b (getD row 0 0) (λ z. m (sym z)), eq-eqb b (getD row 13 0) (sym e))) (h mail log head k)
+
+      -- another board crashed
+      pub crashed-elsewhere : (getD row 13 0 ≡ b → ⊥) → Crashed row mail log head row mail b channels
+      unfolding processOf standbyOf afterCrash
+      crashed-elsewhere e k t p r =
+          so row mail t p (λ x. x)
+          (rw (ne-eqb (getD row 12 0) 0 n, ne-eqb b (getD row 0 0) (λ z. m (sym z)), ne-eqb b (getD row 13 0) (λ z. e (sym z)))) (as-it-was k)

@@ -1,0 +1,73 @@
+-- Rows: a row of known length written out, after which stores at its cells compute; and what a store keeps.
+-- Assumes nothing.
+use mathlib.Core.Path.{_≡_, refl, ap, sym, _∙_}
+use mathlib.Core.List.{List, [], _∷_}
+use Prim.Native.Nat.{ℕ, zero, suc, _≤_, _<_, _^_}
+use native.Mathlib.Omega.{arith}
+use lib.ListN.{length, getD, set, length-set}
+use Rattle.facts.specs.Lists.{listed, written-out}
+use Rattle.rules.specs.Moves.{issued, unprotected}
+use Rattle.process.specs.Row.{rowLength, machineOf, standbyOf, processOf, Kept}
+use Rattle.process.specs.Change.{Became, RowBecame}
+
+-- every number of a list is a word
+pub record Words (l : List ℕ) : Type 0 where
+  pub word : (i : ℕ) → getD l i 0 < 2 ^ 32
+
+-- a store of a word
+pub stored : {l : List ℕ} (k v : ℕ) → v < 2 ^ 32 → Words l → Words (set l k v)
+stored {l} k v w h = record { word = at l k (h .word) }
+  where
+    at : (l : List ℕ) (k : ℕ) → ((i : ℕ) → getD l i 0 < 2 ^ 32) → (i : ℕ) → getD (set l k v) i 0 < 2 ^ 32
+    at [] k h i = h i
+    at (x ∷ l) zero h zero = w
+    at (x ∷ l) zero h (suc i) = h (suc i)
+    at (x ∷ l) (suc k) h zero = h zero
+    at (x ∷ l) (suc k) h (suc i) = at l k (λ j. h (suc j)) i
+
+-- a store of 0
+pub cleared : {l : List ℕ} (k : ℕ) → Words l → Words (set l k 0)
+cleared k h = stored k 0 (omega arith) h
+
+-- what is read off the stores of a row is what is read off the same stores of it written out
+pub spelled : {A : Type 0} (row : List ℕ) (f : List ℕ → A) → length row ≡ rowLength → f row ≡ f (listed (λ i. getD row i 0) rowLength)
+spelled row f h = ap f (written-out row rowLength 0 h)
+
+-- ---- issue
+
+abbrev issuedIn : List ℕ → List ℕ
+issuedIn row = set (set (set (set (set row 7 0) 8 0) 9 0) 10 0) 11 0
+
+pub issued-became : (row : List ℕ) → RowBecame row (issuedIn row) issued
+unfolding processOf machineOf standbyOf issued
+issued-became row mail log head k =
+    let l = k .row-length in
+    record {
+      process-is = spelled row (λ (r : List ℕ). processOf (issuedIn r) mail log head) l;
+      kept-again = record {
+        row-length = simp length-set l;
+        mail-length = k .mail-length;
+        unread = rw (spelled row (λ (r : List ℕ). getD (issuedIn r) 14 0) l) (k .unread);
+        words = cleared 11 (cleared 10 (cleared 9 (cleared 8 (cleared {l = row} 7 (record { word = k .words }))))) .word;
+        flag = rw (spelled row (λ (r : List ℕ). getD (issuedIn r) 12 0) l) (k .flag);
+        sound = k .sound;
+      };
+    }
+
+-- ---- unprotect
+
+pub unprotected-became : (row : List ℕ) → RowBecame row (set row 12 0) unprotected
+unfolding processOf machineOf standbyOf unprotected
+unprotected-became row mail log head k =
+    let l = k .row-length in
+    record {
+      process-is = spelled row (λ (r : List ℕ). processOf (set r 12 0) mail log head) l;
+      kept-again = record {
+        row-length = length-set row 12 0 ∙ l;
+        mail-length = k .mail-length;
+        unread = rw (spelled row (λ (r : List ℕ). getD (set r 12 0) 14 0) l) (k .unread);
+        words = cleared {l = row} 12 (record { word = k .words }) .word;
+        flag = rw (spelled row (λ (r : List ℕ). getD (set r 12 0) 12 0) l) (omega arith);
+        sound = k .sound;
+      };
+    }

@@ -1,0 +1,31 @@
+use Rattle.process.proofs.Mailboxes.{appended-at, appended-none}
+use native.Mathlib.Omega.{arith}
+use borrow.Author.Needs.{needs}
+use Rattle.process.proofs.mailbox.append.Statement.{statement}
+use Rattle.process.proofs.mailbox.append.Tie as tie
+use Rattle.process.proofs.mailbox.append.Reads as reads
+use Rattle.process.proofs.mailbox.append.Lts as lts
+use Rattle.process.proofs.mailbox.packed.Reads as packed-reads
+
+-- src/mailbox.rt:34:24
+packed-requires : tie.Need-packed-requires
+packed-requires c κs = search needs
+
+-- src/mailbox.rt:34:9
+mul-mail : tie.Need-mul-mail
+mul-mail c = search needs
+
+-- src/mailbox.rt:34:9
+element-write-mail : tie.Need-element-write-mail
+element-write-mail c = search needs
+
+-- src/mailbox.rt:30:1
+returns : tie.Need-returns
+returns c = rw (c .packed .ensures) (appended-at _ _ _ _ (c .before .before .fits .word .fits))
+
+-- src/mailbox.rt:30:1
+returns-2 : tie.Need-returns-2
+returns-2 c = appended-none _ _ _ _ (c .if1 .left)
+
+pub append-spec : {M : Type 1} → statement M
+append-spec = tie.close (tie.spec packed-requires mul-mail element-write-mail returns returns-2)

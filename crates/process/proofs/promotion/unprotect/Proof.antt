@@ -1,0 +1,18 @@
+use Rattle.process.proofs.Rows.{unprotected-became}
+use native.Mathlib.Omega.{arith}
+use borrow.Author.Needs.{needs}
+use Rattle.process.proofs.promotion.unprotect.Statement.{statement}
+use Rattle.process.proofs.promotion.unprotect.Tie as tie
+use Rattle.process.proofs.promotion.unprotect.Reads as reads
+use Rattle.process.proofs.promotion.unprotect.Lts as lts
+
+-- src/promotion.rt:87:5
+element-write-row : tie.Need-element-write-row
+element-write-row c = search needs
+
+-- src/promotion.rt:84:1
+returns : tie.Need-returns
+returns c = unprotected-became (c .args .row .now)
+
+pub unprotect-spec : {M : Type 1} → statement M
+unprotect-spec = tie.close (tie.spec element-write-row returns)

@@ -1,0 +1,37 @@
+-- What the calls on one process promise: what they make of it is what the rules make of it, and the lists are kept again.
+-- Assumes nothing.
+use mathlib.Core.Path.{_≡_}
+use mathlib.Core.List.{List}
+use Prim.Native.Nat.{ℕ, _≤_, _<_}
+use lib.ListN.{getD}
+use Rattle.backup.specs.Limits.{logMost}
+use Rattle.backup.specs.Replica.{Replica, Reply}
+use Rattle.backup.specs.Place.{Sound}
+use Rattle.rules.specs.Table.{Table, portOf}
+use Rattle.rules.specs.Cabinet.{Process}
+use Rattle.rules.specs.Moves.{onReplica, receive}
+use Rattle.process.specs.Row.{standbyOf, processOf, Kept}
+
+-- from the four lists at entry and at exit, and the rules' function
+pub record Became (row mail log head row′ mail′ log′ head′ : List ℕ) (change : Process → Process) : Type 0 where
+  pub process-is : processOf row′ mail′ log′ head′ ≡ change (processOf row mail log head)
+  pub kept-again : Kept row′ mail′ log′ head′
+
+-- of a call that changes the row alone, whatever the other lists are
+abbrev pub RowBecame : List ℕ → List ℕ → (Process → Process) → Type 0
+RowBecame row row′ change = (mail log head : List ℕ) → Kept row mail log head → Became row mail log head row′ mail log head change
+
+-- of one that changes the backup alone
+abbrev pub BackupBecame : List ℕ → List ℕ → List ℕ → List ℕ → List ℕ → (Process → Process) → Type 0
+BackupBecame row log head log′ head′ change = (mail : List ℕ) → Kept row mail log head → Became row mail log head row mail log′ head′ change
+
+-- a call of the backup: of a protected process's backup what the call makes of it, of another's nothing
+pub record Backed (row log head log′ head′ : List ℕ) (call : Replica → Reply) : Type 0 where
+  pub standby-is : Sound log head → standbyOf row log′ head′ ≡ onReplica call (standbyOf row log head)
+  pub sound-again : Sound log head → Sound log′ head′
+
+-- a word was received on a port; a full mailbox takes none, and nothing changes
+pub record Received (row mail log head row′ mail′ log′ head′ : List ℕ) (port channel word : ℕ) : Type 0 where
+  pub untouched : logMost ≤ getD row 14 0 → ((row′ ≡ row) × (mail′ ≡ mail)) × ((log′ ≡ log) × (head′ ≡ head))
+  pub became : Kept row mail log head → getD row 14 0 < logMost → (t : Table) (p : ℕ) → portOf t p channel ≡ port
+      → Became row mail log head row′ mail′ log′ head′ (receive t p (record { channel = channel; word = word }))

@@ -1,0 +1,63 @@
+// A checkpoint, in one process: what is sent, what its issue changes, and what its backup keeps when it lands.
+// Document 01: "a snapshot (registers, place, takes per slot since the last issue) joins the queue; acts become 0"; "A sync replaces the
+// state in the process's backup record, drops the oldest saved words slot by slot as taken, and zeroes the count."
+ghost use mathlib.Core.Path.{_≡_};
+ghost use mathlib.Core.List.{List};
+ghost use Prim.Native.Nat.{ℕ};
+ghost use Rattle.backup.specs.Place.{checkpointOf};
+ghost use Rattle.rules.specs.Moves.{snapshot as snapshotOf, issued, keeps};
+ghost use Rattle.process.specs.Row.{processOf};
+ghost use Rattle.process.specs.Change.{RowBecame, BackupBecame};
+use crate::mailbox::MAIL;
+use crate::row::EVENTS;
+use crate::row::PC;
+use crate::row::PROTECTED;
+use crate::row::R0;
+use crate::row::R1;
+use crate::row::R2;
+use crate::row::R3;
+use crate::row::ROW;
+use crate::row::T0;
+use crate::row::T1;
+use crate::row::T2;
+use crate::row::T3;
+use backup::place::Checkpoint;
+use backup::place::HEAD;
+use backup::place::sync_in;
+
+// The process as a checkpoint.
+pub fn snapshot(row: &[u32; ROW]) -> Checkpoint
+    ensures { λ r. ⌜ ((mail log head : List ℕ) → checkpointOf r ≡ snapshotOf (processOf (now (row .entry)) mail log head)) ⌝ }
+{
+    Checkpoint {
+        pc: row[PC],
+        r0: row[R0],
+        r1: row[R1],
+        r2: row[R2],
+        r3: row[R3],
+        t0: row[T0],
+        t1: row[T1],
+        t2: row[T2],
+        t3: row[T3],
+    }
+}
+
+// A checkpoint was issued: no events since, and no receives.
+pub fn issue(row: &mut [u32; ROW])
+    ensures { λ _. ⌜ RowBecame (now (row .entry)) (now (row .exit)) issued ⌝ }
+{
+    row[EVENTS] = 0;
+    row[T0] = 0;
+    row[T1] = 0;
+    row[T2] = 0;
+    row[T3] = 0;
+}
+
+// A checkpoint lands: the backup keeps it, if the process is protected.
+pub fn keep(row: &[u32; ROW], log: &mut [u64; MAIL], head: &mut [u32; HEAD], c: Checkpoint)
+    ensures { λ _. ⌜ BackupBecame (now (row .entry)) (now (log .entry)) (now (head .entry)) (now (log .exit)) (now (head .exit)) (keeps (checkpointOf c)) ⌝ }
+{
+    if row[PROTECTED] != 0 {
+        sync_in(log, head, c);
+    }
+}

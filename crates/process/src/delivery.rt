@@ -1,0 +1,58 @@
+// A delivery, in one process: a word reaches its reader's mailbox and its reader's backup, and its sender's backup counts it.
+// Document 01: "A word goes, in one move, to the reader's inbox, the reader's backup record, and the sender's backup record, which
+// counts it and keeps no copy."
+ghost use mathlib.Core.Path.{_≡_};
+ghost use mathlib.Core.List.{List};
+ghost use Prim.Native.Nat.{ℕ};
+ghost use Rattle.backup.specs.Replica.{arrive};
+ghost use Rattle.rules.specs.Moves.{counts as countsOf};
+ghost use Rattle.process.specs.Change.{Backed, BackupBecame, Received};
+use crate::mailbox::MAIL;
+use crate::mailbox::append;
+use crate::row::PROTECTED;
+use crate::row::ROW;
+use crate::row::UNREAD;
+use crate::row::wide;
+use backup::place::HEAD;
+use backup::place::arrive_in;
+use backup::place::count_in;
+
+// A word arrives at its backup too, if the process is protected.
+fn save(row: &[u32; ROW], log: &mut [u64; MAIL], head: &mut [u32; HEAD], port: u32, word: u32)
+    ensures { λ _. ⌜ Backed (now (row .entry)) (now (log .entry)) (now (head .entry)) (now (log .exit)) (now (head .exit)) (λ v. arrive v port word) ⌝ }
+{
+    if row[PROTECTED] != 0 {
+        arrive_in(log, head, port, word);
+    }
+}
+
+// The reader's half: a word joins the mailbox. A full mailbox takes none, and nothing changes.
+pub fn receive(
+    row: &mut [u32; ROW],
+    mail: &mut [u64; MAIL],
+    log: &mut [u64; MAIL],
+    head: &mut [u32; HEAD],
+    port: u32,
+    channel: u32,
+    word: u32,
+)
+    ensures { λ _. ⌜ Received (now (row .entry)) (now (mail .entry)) (now (log .entry)) (now (head .entry)) (now (row .exit)) (now (mail .exit)) (now (log .exit)) (now (head .exit)) port channel word ⌝ }
+{
+    let unread = row[UNREAD];
+    let end = wide(unread);
+    if end >= MAIL {
+        return;
+    }
+    save(row, log, head, port, word);
+    append(mail, end, channel, word);
+    row[UNREAD] = unread + 1;
+}
+
+// The sender's half: the backup counts the word, if the process is protected.
+pub fn counts(row: &[u32; ROW], head: &mut [u32; HEAD])
+    ensures { λ _. ⌜ ((log : List ℕ) → BackupBecame (now (row .entry)) log (now (head .entry)) log (now (head .exit)) countsOf) ⌝ }
+{
+    if row[PROTECTED] != 0 {
+        count_in(head);
+    }
+}

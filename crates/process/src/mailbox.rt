@@ -1,0 +1,92 @@
+// A mailbox in place (document 01: inbox): unread words, oldest first, each one number, channel times 2^32 plus word. These calls ask
+// nothing of their caller; a mailbox is said to hold `unread` words, and where that is more than it can hold they do nothing.
+ghost use mathlib.Core.Path.{_≡_};
+ghost use Rattle.rules.specs.Machine.{bit};
+ghost use Rattle.process.specs.Row.{packMail, mailIn};
+ghost use Rattle.process.specs.Mailbox.{names, Looks, Removed, Appended};
+
+// Words that a mailbox holds at most.
+pub const MAIL: usize = 48;
+
+pub fn packed(channel: u32, word: u32) -> u64
+    ensures { λ r. ⌜ r ≡ packMail channel word ⌝ }
+{
+    (channel as u64) * 4294967296 + (word as u64)
+}
+
+pub fn channel_of(x: u64) -> u32
+    ensures { λ r. ⌜ r ≡ mailIn x .channel ⌝ }
+{
+    (x / 4294967296) as u32
+}
+
+pub fn word_of(x: u64) -> u32
+    ensures { λ r. ⌜ r ≡ mailIn x .word ⌝ }
+{
+    (x % 4294967296) as u32
+}
+
+// A word arrives: it goes behind the others.
+pub fn append(mail: &mut [u64; MAIL], unread: usize, channel: u32, word: u32)
+    ensures { λ _. ⌜ Appended (now (mail .entry)) unread channel word (now (mail .exit)) ⌝ }
+{
+    if unread < MAIL {
+        mail[unread] = packed(channel, word);
+    }
+}
+
+// Whether a channel is in FIRST's mask.
+pub fn wanted(mask: u32, channel: u32) -> bool
+    ensures { λ r. ⌜ r ≡ bit mask channel ⌝ }
+{
+    if channel < 32 {
+        (mask >> channel) & 1 == 1
+    } else {
+        false
+    }
+}
+
+// Whether a TAKE (code 3) or a FIRST (4) names a channel.
+pub fn named(code: u32, operand: u32, channel: u32) -> bool
+    ensures { λ r. ⌜ r ≡ names code operand channel ⌝ }
+{
+    if code == 4 {
+        wanted(operand, channel)
+    } else {
+        operand == channel
+    }
+}
+
+// The place of the oldest word that a TAKE or a FIRST names; where there is none, `unread`.
+pub fn look(mail: &[u64; MAIL], unread: usize, code: u32, operand: u32) -> usize
+    ensures { λ r. ⌜ Looks (names code operand) (now (mail .entry)) unread r ⌝ }
+{
+    if unread > MAIL {
+        return unread;
+    }
+    let mut i = 0;
+    while i < unread {
+        if named(code, operand, channel_of(mail[i])) {
+            return i;
+        }
+        i += 1;
+    }
+    unread
+}
+
+// Takes the word at a place out: those behind it move one place forward.
+pub fn remove(mail: &mut [u64; MAIL], unread: usize, at: usize)
+    ensures { λ _. ⌜ Removed (now (mail .entry)) unread at (now (mail .exit)) ⌝ }
+{
+    if unread > MAIL {
+        return;
+    }
+    if at >= unread {
+        return;
+    }
+    let mut i = at + 1;
+    while i < unread {
+        mail[i - 1] = mail[i];
+        i += 1;
+    }
+}

@@ -1,0 +1,117 @@
+// A crash, in one process: it goes on as its backup, or loses its backup, or neither.
+// Document 01: a process whose board crashed "goes on at its backup board with the record's state, the saved words as inbox and the count
+// as hold-back"; "All processes that had either half there have no backup from then on."
+ghost use mathlib.Core.Path.{_≡_};
+ghost use mathlib.Core.List.{List};
+ghost use Prim.Native.Nat.{ℕ, _≤_};
+ghost use Rattle.rules.specs.Moves.{unprotected};
+ghost use Rattle.process.specs.Change.{RowBecame};
+ghost use Rattle.process.specs.Promotion.{Readdressed, Restored, Promoted, Crashed};
+use crate::mailbox::MAIL;
+use crate::mailbox::append;
+use crate::row::BOARD;
+use crate::row::EVENTS;
+use crate::row::PC;
+use crate::row::PROTECTED;
+use crate::row::R0;
+use crate::row::R1;
+use crate::row::R2;
+use crate::row::R3;
+use crate::row::ROW;
+use crate::row::STANDBY;
+use crate::row::SUPPRESS;
+use crate::row::T0;
+use crate::row::T1;
+use crate::row::T2;
+use crate::row::T3;
+use crate::row::UNREAD;
+use crate::row::wide;
+use backup::place::HEAD;
+use backup::place::Promotion;
+use backup::place::fail_over_in;
+use backup::place::port_in;
+use backup::place::word_in;
+
+// The first len messages of a log as a mailbox: each with its port's channel in the port's place.
+fn readdress(mail: &mut [u64; MAIL], log: &[u64; MAIL], len: usize, channels: [u32; 4])
+    requires { ⌜ len ≤ 48 ⌝ }
+    ensures { λ _. ⌜ Readdressed (now (mail .entry)) (now (log .entry)) len channels (now (mail .exit)) ⌝ }
+{
+    let mut i = 0;
+    while i < len {
+        let port = wide(port_in(log, i) % 4);
+        let word = word_in(log, i);
+        append(mail, i, channels[port], word);
+        i += 1;
+    }
+}
+
+// The row of a promoted process: the backup's state and board, its count to suppress, and no backup.
+fn restore(row: &mut [u32; ROW], p: Promotion)
+    ensures { λ _. ⌜ Restored (now (row .entry)) p (now (row .exit)) ⌝ }
+{
+    row[BOARD] = row[STANDBY];
+    row[PC] = p.pc;
+    row[R0] = p.r0;
+    row[R1] = p.r1;
+    row[R2] = p.r2;
+    row[R3] = p.r3;
+    row[SUPPRESS] = p.sent;
+    row[EVENTS] = 0;
+    row[T0] = 0;
+    row[T1] = 0;
+    row[T2] = 0;
+    row[T3] = 0;
+    row[PROTECTED] = 0;
+    row[UNREAD] = p.len;
+}
+
+// The process goes on as its backup, whose ports 0 to 3 have these channels. A log longer than its array is none of a sound backup, and
+// then nothing changes.
+pub fn promote(
+    row: &mut [u32; ROW],
+    mail: &mut [u64; MAIL],
+    log: &[u64; MAIL],
+    head: &[u32; HEAD],
+    channels: [u32; 4],
+)
+    ensures { λ _. ⌜ Promoted (now (row .entry)) (now (mail .entry)) (now (log .entry)) (now (head .entry)) (now (row .exit)) (now (mail .exit)) channels ⌝ }
+{
+    let p = fail_over_in(head);
+    let len = wide(p.len);
+    if len > MAIL {
+        return;
+    }
+    readdress(mail, log, len, channels);
+    restore(row, p);
+}
+
+// The process has no backup from now on.
+pub fn unprotect(row: &mut [u32; ROW])
+    ensures { λ _. ⌜ RowBecame (now (row .entry)) (now (row .exit)) unprotected ⌝ }
+{
+    row[PROTECTED] = 0;
+}
+
+// Board b crashes.
+pub fn crash(
+    row: &mut [u32; ROW],
+    mail: &mut [u64; MAIL],
+    log: &[u64; MAIL],
+    head: &[u32; HEAD],
+    b: u32,
+    channels: [u32; 4],
+)
+    ensures { λ _. ⌜ Crashed (now (row .entry)) (now (mail .entry)) (now (log .entry)) (now (head .entry)) (now (row .exit)) (now (mail .exit)) b channels ⌝ }
+{
+    if row[PROTECTED] == 0 {
+        return;
+    }
+    if row[BOARD] == b {
+        promote(row, mail, log, head, channels);
+        return;
+    }
+    if row[STANDBY] == b {
+        unprotect(row);
+    }
+}
