@@ -94,7 +94,7 @@ same-value b state h a =
     let log-same : messages (b .len) (b .log) ≡ listed (messageAt state) (getD state 0 0) =
     ap (map unpack) (prefix-listed (b .len) (b .log))
     ∙ map-listed unpack (λ i. getD (b .log) i 0) (b .len)
-    ∙ listed-same (λ i. unpack (getD (b .log) i 0)) (messageAt state) (b .len) (agree-all (b .log) state a)
+    ∙ listed-same (λ i. unpack (getD (b .log) i 0)) (messageAt state) (b .len) (λ i _. agree-all (b .log) state a i)
     ∙ ap (listed (messageAt state)) (h .len) in
     λ k. record { log = log-same k; sent = h .sent k; pc = h .pc k; registers = h .r0 k ∷ h .r1 k ∷ h .r2 k ∷ h .r3 k ∷ [] }
 

@@ -10,8 +10,8 @@ use lib.Dec.{eqb}
 use lib.ListN.{length, getD, set, length-set}
 use lib.Seq.{getD-set-same, getD-set-other}
 use Rattle.facts.specs.Tests.{by-eq}
-use Rattle.facts.specs.Lists.{listed}
-use Rattle.facts.specs.Rings.{ring, ring-push, ring-apart, ring-pop, listed-same, listed-set}
+use Rattle.facts.specs.Lists.{listed, listed-same}
+use Rattle.facts.specs.Rings.{ring, ring-push, ring-apart, ring-pop, listed-set}
 use Rattle.rules.specs.Table.{Table}
 use Rattle.rules.specs.Cabinet as rules
 use Rattle.rules.specs.Cabinet.{Cabinet, outboxMost, processAt, outboxAt, inFlight, isOn, waiting}

@@ -42,9 +42,10 @@ abbrev pub listed : {A : Type 0} → (ℕ → A) → ℕ → List A
 listed f zero = []
 listed f (suc n) = f zero ∷ listed (λ i. f (suc i)) n
 
-pub listed-same : {A : Type 0} (f g : ℕ → A) (n : ℕ) → ((i : ℕ) → f i ≡ g i) → listed f n ≡ listed g n
+pub listed-same : {A : Type 0} (f g : ℕ → A) (n : ℕ) → ((i : ℕ) → i < n → f i ≡ g i) → listed f n ≡ listed g n
 listed-same f g zero h = refl
-listed-same f g (suc n) h = λ k. h zero k ∷ listed-same (λ i. f (suc i)) (λ i. g (suc i)) n (λ i. h (suc i)) k
+listed-same f g (suc n) h =
+    λ k. h zero (omega arith) k ∷ listed-same (λ i. f (suc i)) (λ i. g (suc i)) n (λ i l. h (suc i) (omega arith)) k
 
 pub map-listed : {A B : Type 0} (f : A → B) (g : ℕ → A) (n : ℕ) → map f (listed g n) ≡ listed (λ i. f (g i)) n
 map-listed f g zero = refl

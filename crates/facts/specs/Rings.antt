@@ -9,15 +9,9 @@ use native.Mathlib.Nat.{not-suc-le-zero, le-of-suc-le-suc}
 use lib.ListN.{length, getD, set}
 use lib.Seq.{getD-set-same, getD-set-other}
 use Rattle.facts.specs.Tests.{by-eq}
-use Rattle.facts.specs.Lists.{listed}
+use Rattle.facts.specs.Lists.{listed, listed-same}
 
 -- ---- listed
-
-pub listed-same : {A : Type 0} (f g : ℕ → A) (n : ℕ) → ((i : ℕ) → i < n → f i ≡ g i) → listed f n ≡ listed g n
-listed-same f g zero h = refl
-listed-same {A} f g (suc n) h =
-    let rest : listed (λ i. f (suc i)) n ≡ listed (λ i. g (suc i)) n = listed-same (λ i. f (suc i)) (λ i. g (suc i)) n (λ i l. h (suc i) (omega arith)) in
-    ap (λ (x : A). x ∷ listed (λ i. f (suc i)) n) (h zero (omega arith)) ∙ ap (λ (l : List A). g zero ∷ l) rest
 
 pub listed-length : {A : Type 0} (f : ℕ → A) (n : ℕ) → length (listed f n) ≡ n
 listed-length f zero = refl
