@@ -2,3 +2,4 @@
 pub mod Reading
 pub mod Changing
 pub mod Queueing
+pub mod Totals
