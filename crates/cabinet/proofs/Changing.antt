@@ -6,17 +6,18 @@ use mathlib.Core.List.{List, [], _∷_}
 use Prim.Native.Nat.{ℕ, _≤_, _<_}
 use native.Mathlib.Omega.{arith}
 use lib.ListN.{length, getD, set, length-set}
-use lib.Seq.{getD-set-same, getD-set-other}
+use lib.Seq.{getD-set-same, getD-set-other, set-getD}
 use Rattle.facts.specs.Tests.{by-eq}
 use Rattle.facts.specs.Lists.{listed}
 use Rattle.facts.specs.Rings.{listed-set, getD-listed, listed-length}
 use Rattle.process.specs.Row.{processOf, Kept}
+use Rattle.process.specs.Change.{Became}
 use Rattle.rules.specs.Table.{Table, channelAt}
 use Rattle.rules.specs.Cabinet as rules
 use Rattle.rules.specs.Cabinet.{Cabinet, Process, nobody, processAt, outboxAt, unreadOn, waiting}
 use Rattle.rules.specs.Moves.{withProcess}
 use Rattle.cabinet.specs.declared.entry.Entry.{Entry}
-use Rattle.cabinet.specs.Store.{Store, Holds, processIn, outboxIn, flag}
+use Rattle.cabinet.specs.Store.{Store, storeOf, Holds, processIn, outboxIn, flag}
 use Rattle.cabinet.proofs.Reading.{at-process, how-many}
 
 -- the lists with those of process p replaced, and the unread totals with them
@@ -111,3 +112,28 @@ module _ {t : Table} {s : Store} {entries : List Entry} {c : Cabinet} (h : Holds
     waits-length = h .waits-length;
     entries-length = h .entries-length;
   }
+
+-- only the row changed: the other lists are as they were
+pub row-changed : {t : Table} {s : Store} {entries : List Entry} {c : Cabinet} (h : Holds t s entries c) (small : length (t .processes) ≤ 16)
+    (p : ℕ) (hp : p < length (t .processes)) (row : List ℕ) (change : Process → Process)
+    → Became (getD (s .rows) p []) (getD (s .mails) p []) (getD (s .logs) p []) (getD (s .heads) p []) row (getD (s .mails) p []) (getD (s .logs) p []) (getD (s .heads) p []) change
+    → ((x : Process) → change x .board ≡ x .board) → ((x : Process) → change x .machine .mailbox ≡ x .machine .mailbox)
+    → Holds t (storeOf (set (s .rows) p row) (s .mails) (s .logs) (s .heads) (s .boards) (s .unread) (s .queued) (s .waits)) entries (withProcess p (change (processAt c p)) c)
+row-changed {t} {s} {entries} {c} h small p hp row change b same-board same-mailbox =
+    let mail = getD (s .mails) p [] in
+    let log = getD (s .logs) p [] in
+    let head = getD (s .heads) p [] in
+    let is : processOf row mail log head ≡ change (processAt c p) = b .process-is ∙ ap change (sym (at-process h p hp)) in
+    let u : UnreadThen h small p hp row mail log head (s .unread) = record {
+      its = λ k l r.
+          h .unread-is k l (rw r hp) ∙ ap (λ (q : ℕ). unreadOn k (processAt c q .machine .mailbox)) r
+          ∙ ap (unreadOn k) (sym (ap (λ (x : Process). x .machine .mailbox) is ∙ same-mailbox (processAt c p)));
+      others = λ k l n. refl;
+      long = h .unread-length;
+    } in
+    let whole = changed h small p hp row mail log head (s .unread) (b .kept-again) (ap (λ (x : Process). x .board) is ∙ same-board (processAt c p)) u in
+    subst (λ (x : Process). Holds t (storeOf (set (s .rows) p row) (s .mails) (s .logs) (s .heads) (s .boards) (s .unread) (s .queued) (s .waits)) entries (withProcess p x c)) is
+    (subst (λ (l : List (List ℕ)). Holds t (storeOf (set (s .rows) p row) l (s .logs) (s .heads) (s .boards) (s .unread) (s .queued) (s .waits)) entries (withProcess p (processOf row mail log head) c)) (set-getD (s .mails) p [])
+    (subst (λ (l : List (List ℕ)). Holds t (storeOf (set (s .rows) p row) (set (s .mails) p mail) l (s .heads) (s .boards) (s .unread) (s .queued) (s .waits)) entries (withProcess p (processOf row mail log head) c)) (set-getD (s .logs) p [])
+    (subst (λ (l : List (List ℕ)). Holds t (storeOf (set (s .rows) p row) (set (s .mails) p mail) (set (s .logs) p log) l (s .boards) (s .unread) (s .queued) (s .waits)) entries (withProcess p (processOf row mail log head) c)) (set-getD (s .heads) p [])
+    whole)))

@@ -3,3 +3,6 @@ pub mod Reading
 pub mod Changing
 pub mod Queueing
 pub mod Totals
+pub mod Reaching
+pub mod Refusing
+pub mod Issuing

@@ -32,6 +32,10 @@ pub record Store : Type 0 where
   pub queued : List ℕ
   pub waits : List ℕ
 
+abbrev pub storeOf : List (List ℕ) → List (List ℕ) → List (List ℕ) → List (List ℕ) → List (List ℕ) → List ℕ → List ℕ → List ℕ → Store
+storeOf rows mails logs heads boards unread queued waits =
+    record { rows = rows; mails = mails; logs = logs; heads = heads; boards = boards; unread = unread; queued = queued; waits = waits }
+
 -- process p as the lists have it
 abbrev pub processIn : Store → ℕ → Process
 processIn s p = processOf (getD (s .rows) p []) (getD (s .mails) p []) (getD (s .logs) p []) (getD (s .heads) p [])

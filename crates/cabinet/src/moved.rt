@@ -1,0 +1,40 @@
+// What a move answers, and the entry that joins a queue by it.
+ghost use mathlib.Core.Path.{_≡_};
+ghost use Rattle.cabinet.specs.Store.{blankEntry};
+ghost use Rattle.cabinet.specs.Moved.{refusedWith};
+use crate::board::ENTRIES;
+use crate::entry::Entry;
+use crate::entry::Item;
+
+// An answer's three numbers; and the place of an entry that joins a queue, which is no place where none does.
+pub struct Moved {
+    pub code: u32,
+    pub a: u32,
+    pub word: u32,
+    pub at: usize,
+    pub entry: Entry,
+}
+
+pub fn blank() -> Entry
+    ensures { λ r. ⌜ r ≡ blankEntry ⌝ }
+{
+    Entry {
+        item: Item::Word {
+            channel: 0,
+            word: 0,
+        },
+    }
+}
+
+// A refusal repeats a with word 0.
+pub fn refused(code: u32, a: u32) -> Moved
+    ensures { λ r. ⌜ r ≡ refusedWith code a ⌝ }
+{
+    Moved {
+        code: code,
+        a: a,
+        word: 0,
+        at: ENTRIES,
+        entry: blank(),
+    }
+}
