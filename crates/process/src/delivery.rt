@@ -52,7 +52,8 @@ pub fn receive(
 pub fn counts(row: &[u32; ROW], head: &mut [u32; HEAD])
     ensures { λ _. ⌜ ((log : List ℕ) → BackupBecame (now (row .entry)) log (now (head .entry)) log (now (head .exit)) countsOf) ⌝ }
 {
-    if row[PROTECTED] != 0 {
-        count_in(head);
+    if row[PROTECTED] == 0 {
+        return;
     }
+    count_in(head);
 }

@@ -8,27 +8,29 @@ use Rattle.process.proofs.delivery.counts.Reads as reads
 use Rattle.process.proofs.delivery.counts.Lts as lts
 use Rattle.backup.proofs.place.count_in.Reads as count-in-reads
 
--- src/delivery.rt:46:8
+-- src/delivery.rt:55:8
 element-copy-out-if1 : tie.Need-element-copy-out-if1
 element-copy-out-if1 c = search needs
 
--- src/delivery.rt:47:9
+-- src/delivery.rt:56:9
+returns : tie.Need-returns
+returns c =
+    λ log.
+    let a = c .before .before .args in
+    counts-became (a .row .now) log (a .head .now) log (a .head .now) (backed-none (a .row .now) log (a .head .now) count (c .if1 .taken))
+
+-- src/delivery.rt:58:5
 count-in-requires : tie.Need-count-in-requires
 count-in-requires c κs = search needs
 
--- src/delivery.rt:43:1
-returns : tie.Need-returns
-returns c = λ log.
+-- src/delivery.rt:52:1
+returns-2 : tie.Need-returns-2
+returns-2 c =
+    λ log.
     let a = c .before .before .before .before .args in
     let k = c .count-in in
     counts-became (a .row .now) log (a .head .now) log (k .last .0)
-    (backed-call (a .row .now) log (a .head .now) count log (k .last .0) (k .result) (c .before .before .if1 .taken) (k .ensures log))
-
--- src/delivery.rt:43:1
-returns-2 : tie.Need-returns-2
-returns-2 c = λ log.
-    let a = c .before .before .args in
-    counts-became (a .row .now) log (a .head .now) log (a .head .now) (backed-none (a .row .now) log (a .head .now) count (c .if1 .left))
+    (backed-call (a .row .now) log (a .head .now) count log (k .last .0) (k .result) (c .before .before .if1 .left) (k .ensures log))
 
 pub counts-spec : {M : Type 1} → statement M
-counts-spec = tie.close (tie.spec element-copy-out-if1 count-in-requires returns returns-2)
+counts-spec = tie.close (tie.spec element-copy-out-if1 returns count-in-requires returns-2)

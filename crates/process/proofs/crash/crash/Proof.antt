@@ -1,12 +1,12 @@
 use Rattle.process.proofs.Promoting.{crashed-none, crashed-promoted, crashed-unprotected, crashed-elsewhere}
 use native.Mathlib.Omega.{arith}
 use borrow.Author.Needs.{needs}
-use Rattle.process.proofs.promotion.crash.Statement.{statement}
-use Rattle.process.proofs.promotion.crash.Tie as tie
-use Rattle.process.proofs.promotion.crash.Reads as reads
-use Rattle.process.proofs.promotion.crash.Lts as lts
+use Rattle.process.proofs.crash.crash.Statement.{statement}
+use Rattle.process.proofs.crash.crash.Tie as tie
+use Rattle.process.proofs.crash.crash.Reads as reads
+use Rattle.process.proofs.crash.crash.Lts as lts
 use Rattle.process.proofs.promotion.promote.Reads as promote-reads
-use Rattle.process.proofs.promotion.unprotect.Reads as unprotect-reads
+use Rattle.process.proofs.crash.unprotect.Reads as unprotect-reads
 
 -- src/promotion.rt:94:8
 element-copy-out-if1 : tie.Need-element-copy-out-if1

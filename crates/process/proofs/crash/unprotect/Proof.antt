@@ -1,10 +1,10 @@
 use Rattle.process.proofs.Rows.{unprotected-became}
 use native.Mathlib.Omega.{arith}
 use borrow.Author.Needs.{needs}
-use Rattle.process.proofs.promotion.unprotect.Statement.{statement}
-use Rattle.process.proofs.promotion.unprotect.Tie as tie
-use Rattle.process.proofs.promotion.unprotect.Reads as reads
-use Rattle.process.proofs.promotion.unprotect.Lts as lts
+use Rattle.process.proofs.crash.unprotect.Statement.{statement}
+use Rattle.process.proofs.crash.unprotect.Tie as tie
+use Rattle.process.proofs.crash.unprotect.Reads as reads
+use Rattle.process.proofs.crash.unprotect.Lts as lts
 
 -- src/promotion.rt:87:5
 element-write-row : tie.Need-element-write-row
