@@ -46,7 +46,7 @@ machineAfter (moved m act) = m
 abbrev pub afterInternal : ℕ → ℕ → ℕ → Machine → Machine
 afterInternal code a operand m = machineAfter (execute (instruction code a operand) m)
 
--- after a TAKE or a FIRST of the word at a place of the mailbox: the word goes into register a, of a FIRST its channel into a + 1
+-- after a TAKE or a FIRST of the word at an index of the mailbox: the word goes into register a, of a FIRST its channel into a + 1
 abbrev pub loaded : ℕ → ℕ → Mail → List ℕ → List ℕ
 loaded code a x registers = cond (eqb code 4) (set (set registers a (x .word)) (suc a) (x .channel)) (set registers a (x .word))
 
@@ -112,7 +112,7 @@ abbrev pub Room : List ℕ → ℕ → Type 0
 Room row i = getD row i 0 + 1 < 2 ^ 32
 
 -- A word was taken that had come in on a port: machine, one more event, and one more receive on the port. Nothing changes where no
--- unread word stands at the place.
+-- unread word stands there.
 pub record Takes (row mail : List ℕ) (code a at port : ℕ) (row′ mail′ : List ℕ) : Type 0 where
   pub untouched : getD row 14 0 ≤ at → (row′ ≡ row) × (mail′ ≡ mail)
   pub became : (program : List Instruction) (n operand : ℕ) (log head : List ℕ) → Kept row mail log head

@@ -28,7 +28,7 @@ pub enum Intent {
     NoMail,
     // a SET, an ADD or a JUMP
     Internal,
-    // a TAKE or a FIRST of the word at this place of the mailbox
+    // a TAKE or a FIRST of the word at this index of the mailbox
     Take { at: usize },
     // a SEND of this word to this channel
     Send { channel: u32, word: u32 },
@@ -129,6 +129,14 @@ pub fn compute(row: &mut [u32; ROW], code: u32, a: u32, operand: u32)
     }
 }
 
+// One more event, and the place moves on.
+fn event(row: &mut [u32; ROW])
+    ensures { λ _. ⌜ now (row .exit) ≡ bumped (bumped (now (row .entry)) 7) 1 ⌝ }
+{
+    bump(row, EVENTS);
+    bump(row, PC);
+}
+
 // A word goes into register a; of a FIRST its channel goes into register a + 1.
 fn load(row: &mut [u32; ROW], code: u32, a: u32, x: u64)
     ensures { λ _. ⌜ Loads (now (row .entry)) code a x (now (row .exit)) ⌝ }
@@ -139,8 +147,8 @@ fn load(row: &mut [u32; ROW], code: u32, a: u32, x: u64)
     }
 }
 
-// A TAKE or a FIRST is done: the word at a place of the mailbox leaves it, and counts as one more event and one more receive on its
-// port. Where no unread word stands at that place nothing changes.
+// A TAKE or a FIRST is done: the word at an index of the mailbox leaves it, and counts as one more event and one more receive on its
+// port. Where no unread word stands there nothing changes.
 pub fn take_word(
     row: &mut [u32; ROW],
     mail: &mut [u64; MAIL],
@@ -162,8 +170,7 @@ pub fn take_word(
     remove(mail, unread, at);
     row[UNREAD] = std::num::wrapping_sub_u32(row[UNREAD], 1);
     bump(row, T0 + wide(port % 4));
-    bump(row, EVENTS);
-    bump(row, PC);
+    event(row);
 }
 
 // A SEND is done that is to be suppressed: one less is left to suppress.
@@ -178,6 +185,5 @@ pub fn suppress_send(row: &mut [u32; ROW])
 pub fn queue_send(row: &mut [u32; ROW])
     ensures { λ _. ⌜ Queues (now (row .entry)) (now (row .exit)) ⌝ }
 {
-    bump(row, EVENTS);
-    bump(row, PC);
+    event(row);
 }
