@@ -4,3 +4,4 @@ pub mod Lists
 pub mod Indexing
 pub mod Counts
 pub mod Sums
+pub mod Walks

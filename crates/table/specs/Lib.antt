@@ -1,0 +1,2 @@
+-- What the table's code promises, in the words of document 01's definitions (rules/specs).
+pub mod Parts

@@ -1,0 +1,3 @@
+// Tables and schedules: bytes are read, judged and turned into a plan by proved code.
+mod bytes;
+mod extent;
