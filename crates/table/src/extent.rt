@@ -10,17 +10,26 @@ use crate::bytes::wide;
 
 // Where the head has its numbers, and how long it is.
 pub const VERSION: usize = 2;
+
 pub const BOARDS: usize = 3;
+
 pub const PROCESSES: usize = 4;
+
 pub const CHANNELS: usize = 5;
+
 pub const HEAD: usize = 6;
 
 // The sizes, each named once; rules/specs/Format.antt names the same numbers for the definitions.
 const TABLE_MOST: usize = 6260;
+
 const BOARDS_LEAST: u8 = 2;
+
 const BOARDS_MOST: u8 = 16;
+
 const PROCESSES_MOST: u8 = 16;
+
 const CHANNELS_MOST: u8 = 32;
+
 const PROGRAM_MOST: usize = 64;
 
 // 1: at least a head, and a length field that is at most 6,260 and the true one.
