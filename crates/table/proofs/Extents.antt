@@ -1,7 +1,7 @@
 -- Numbers 1 to 4: the tests of a table's head, and the walk over its records.
 -- Assumes nothing.
 use mathlib.Core.Path.{_≡_, refl, ap, sym, _∙_, subst}
-use mathlib.Core.Bool.{Bool, true, false, cond, _&&_}
+use mathlib.Core.Bool.{Bool, true, false, cond, _&&_, and-assoc}
 use mathlib.Core.List.{List, [], _∷_}
 use Prim.Native.Nat.{ℕ, zero, suc, _+_, _-_, _*_, _≤_, _<_}
 use native.Mathlib.Omega.{arith}
@@ -9,12 +9,12 @@ use lib.Dec.{eqb, leb}
 use lib.ListN.{length, drop, length-drop}
 use lib.Seq.{drop-drop}
 use borrow.Author.Tests.{le-leb, lt-leb, leb-true, eq-eqb, ne-eqb}
-use Rattle.facts.specs.Tests.{and-left, and-right, by-eq}
-use Rattle.facts.specs.Walks.{Along, Walk, walk-start, walk-on, walk-refused, walk-end}
+use Rattle.facts.specs.Tests.{and-right}
+use Rattle.facts.specs.Walks.{Along, Walk, walk-start, walk-on, walk-passed, walk-refused, walk-end}
 use Rattle.backup.specs.Limits.{pcMost}
 use Rattle.rules.specs.Cabinet.{isEmpty}
-use Rattle.rules.specs.Format.{lengthField, tableMost, processesIn, programLength, recordLength, recordsStart, recordBytes, lengthOk, recordsOk, extentOk}
-use Rattle.table.specs.Parts.{recordOk, recordIn}
+use Rattle.rules.specs.Format.{lengthField, tableMost, versionIn, processesIn, programLength, recordLength, recordsStart, recordBytes, orNumber, lengthOk, countsOk, recordsOk, extentOk}
+use Rattle.table.specs.Parts.{recordOk, recordIn, framing}
 
 -- ---- number 1
 
@@ -63,17 +63,13 @@ record-failed rest e = go (recordOk rest) refl
 
 -- ---- number 4, all records
 
-and-first : (a b c : Bool) → (a && (b && c)) ≡ ((a && b) && c)
-and-first true b c = refl
-and-first false b c = refl
-
 pub records-along : Along recordLength recordOk recordsOk
-records-along n l = and-first (leb (programLength l) pcMost) (leb (recordLength l) (length l)) (recordsOk n (drop (recordLength l) l))
+records-along = record { next = λ n l. sym (and-assoc (leb (programLength l) pcMost) (leb (recordLength l) (length l)) (recordsOk n (drop (recordLength l) l))) }
 
 -- p of n records have passed, and the next begins at `at`
 pub record Extending (bytes : List ℕ) (n at p : ℕ) : Type 0 where
   pub within : at ≤ length bytes
-  pub walk : Walk recordLength recordsOk n (recordBytes bytes) p (drop at bytes)
+  pub walk : Walk recordsOk n (recordBytes bytes) p (drop at bytes)
 
 -- the records end with the table, or not
 empty-at : (l : List ℕ) (at : ℕ) → at ≤ length l → isEmpty (drop at l) ≡ eqb at (length l)
@@ -87,7 +83,7 @@ module _ (bytes : List ℕ) (n : ℕ) where
   pub extending-start : (at : ℕ) → at ≡ recordsStart bytes → at ≤ length bytes → Extending bytes n at 0
   extending-start at e h = record {
     within = h;
-    walk = subst (λ (i : ℕ). Walk recordLength recordsOk n (recordBytes bytes) 0 (drop i bytes)) (sym e) (walk-start recordLength recordOk recordsOk n (recordBytes bytes));
+    walk = subst (λ (i : ℕ). Walk recordsOk n (recordBytes bytes) 0 (drop i bytes)) (sym e) (walk-start recordsOk n (recordBytes bytes));
   }
 
   module _ (at p size : ℕ) (x : Extending bytes n at p) (h : p < n) (e : size ≡ recordIn (drop at bytes)) where
@@ -100,19 +96,30 @@ module _ (bytes : List ℕ) (n : ℕ) where
         let before = x .within in
         record {
           within = omega arith;
-          walk = subst (λ (l : List ℕ). Walk recordLength recordsOk n (recordBytes bytes) (p + 1) l)
+          walk = subst (λ (l : List ℕ). Walk recordsOk n (recordBytes bytes) (p + 1) l)
               (ap (λ (i : ℕ). drop i (drop at bytes)) (sym same) ∙ drop-drop size at bytes)
-              (walk-on recordLength recordOk recordsOk n (recordBytes bytes) records-along p (drop at bytes) (x .walk) h passed);
+              (walk-on records-along (x .walk) h passed);
         }
 
     pub extending-refused : size ≡ 0 → recordsOk n (recordBytes bytes) ≡ false
     extending-refused k =
-        walk-refused recordLength recordOk recordsOk n (recordBytes bytes) records-along p (drop at bytes) (x .walk) h
+        walk-refused records-along (x .walk) h
         (record-failed (drop at bytes) (sym k ∙ e))
 
   pub extending-end : (at p : ℕ) → Extending bytes n at p → n ≤ p → recordsOk n (recordBytes bytes) ≡ eqb at (length bytes)
   extending-end at p x h =
-      walk-end recordLength recordOk recordsOk n (recordBytes bytes) records-along p (drop at bytes) (x .walk) h ∙ empty-at bytes at (x .within)
+      walk-end (x .walk) h ∙ empty-at bytes at (x .within)
+
+-- in a table that passes, the next record does
+module _ (bytes : List ℕ) (ok : extentOk bytes ≡ true) (at p : ℕ) (x : Extending bytes (processesIn bytes) at p) (h : p < processesIn bytes) where
+  next-ok : recordOk (drop at bytes) ≡ true
+  unfolding extentOk
+  next-ok = walk-passed records-along (x .walk) h (and-right (leb (recordsStart bytes) (length bytes)) _ ok)
+
+  pub extending-past : (size : ℕ) → size ≡ recordLength (drop at bytes) → Extending bytes (processesIn bytes) (at + size) (p + 1)
+  extending-past size e =
+      extending-on bytes (processesIn bytes) at p size x h
+      (e ∙ sym (ap (λ (t : Bool). cond t (recordLength (drop at bytes)) 0) next-ok)) (λ z. omega arith)
 
 -- ---- number 4
 
@@ -124,3 +131,10 @@ pub extent-says : (bytes : List ℕ) (start n : ℕ) → start ≡ recordsStart 
     → extentOk bytes ≡ recordsOk n (recordBytes bytes)
 unfolding extentOk
 extent-says bytes start n e h k = rw (le-leb (recordsStart bytes) (length bytes) (omega arith), k)
+
+-- ---- the four in order, from any tests that say the same
+
+pub framing-from : (bytes : List ℕ) {a b c d : Bool} → a ≡ lengthOk bytes → b ≡ eqb (versionIn bytes) 1 → c ≡ countsOk bytes → d ≡ extentOk bytes
+    → orNumber a 1 (orNumber b 2 (orNumber c 3 (orNumber d 4 0))) ≡ framing bytes
+unfolding framing
+framing-from bytes e f g h = rw (e, f, g, h)
