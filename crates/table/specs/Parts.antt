@@ -10,12 +10,13 @@ use Rattle.backup.specs.Limits.{pcMost}
 use Rattle.rules.specs.Table.{environment, channelAt, placementAt, codeOf, inputs, portOf, channelOn}
 use Rattle.rules.specs.Judge.{endOk, endsOk, inputsOk, boardsOk}
 use Rattle.rules.specs.Bytes.{byteAt}
-use Rattle.rules.specs.Format.{versionIn, processesIn, channelsIn, programLength, recordLength, decodeTable, orNumber, lengthOk, countsOk, extentOk}
+use Rattle.rules.specs.Format.{versionIn, boardsIn, processesIn, channelsIn, programLength, recordLength, decodeTable, orNumber, lengthOk, countsOk, extentOk}
 use Rattle.table.specs.Records.{programStart}
 use Rattle.table.specs.declared.ends.Ends.{Ends}
 use Rattle.table.specs.declared.ends.Ports.{Ports}
 use Rattle.table.specs.declared.boards.Placed.{Placed}
 use Rattle.table.specs.declared.boards.Placements.{Placements}
+use Rattle.table.specs.declared.plan.Plan.{Plan}
 
 -- ---- numbers 1 to 4
 
@@ -78,3 +79,21 @@ pub record PlacementsRead (bytes : List ℕ) (r : Placements) : Type 0 where
   pub length-at : r .ok ≡ true → (p : ℕ) → p < processesIn bytes → getD (r .length) p 0 ≡ length (codeOf (decodeTable bytes) p)
   pub primary-at : r .ok ≡ true → (p : ℕ) → p < processesIn bytes → getD (r .primary) p 0 ≡ placementAt (decodeTable bytes) p .primary
   pub standby-at : r .ok ≡ true → (p : ℕ) → p < processesIn bytes → getD (r .standby) p 0 ≡ placementAt (decodeTable bytes) p .standby
+
+-- ---- together
+
+abbrev pub planFrom : List ℕ → Ends → Ports → Placements → Plan
+planFrom bytes e w b = record {
+  boards = boardsIn bytes;
+  processes = processesIn bytes;
+  channels = channelsIn bytes;
+  start = b .start;
+  length = b .length;
+  primary = b .primary;
+  standby = b .standby;
+  sender = e .sender;
+  reader = e .reader;
+  port = w .port;
+  inputs = w .inputs;
+  arity = w .arity;
+}
