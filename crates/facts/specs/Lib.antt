@@ -4,3 +4,5 @@ pub mod Lists
 pub mod Indexing
 pub mod Counts
 pub mod Sums
+pub mod Ranges
+pub mod Bits

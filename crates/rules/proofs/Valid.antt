@@ -86,7 +86,7 @@ length-pairs : (n : ℕ) (rest : List ℕ) → length (pairs n rest) ≡ n
 length-pairs zero rest = refl
 length-pairs (suc n) rest = ap suc (length-pairs n (drop 2 rest))
 
-length-rests : (n : ℕ) (rest : List ℕ) → length (rests n rest) ≡ n
+pub length-rests : (n : ℕ) (rest : List ℕ) → length (rests n rest) ≡ n
 length-rests zero rest = refl
 length-rests (suc n) rest = ap suc (length-rests n (drop (recordLength rest) rest))
 
