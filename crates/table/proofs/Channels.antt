@@ -52,3 +52,12 @@ pub sends-is : (bytes : List ℕ) (k p : ℕ) → endIs bytes 6 k p ≡ sends (d
 sends-is bytes k p =
     end-test bytes k p (byteAt bytes (2 * k + 6)) (channelAt (decodeTable bytes) k .sender)
     (λ l. sym (ap (λ (c : Channel). c .sender) (channel-is bytes k l)))
+
+-- ---- the code's test of an end, from the numbers that it read
+
+module _ (bytes : List ℕ) (side k p channel channels : ℕ) (same : channel ≡ k) (count : channels ≡ channelsIn bytes) where
+  pub end-past : channels ≤ channel → false ≡ endIs bytes side k p
+  end-past h = rw (le-ltb k (channelsIn bytes) (omega arith))
+
+  pub end-at : channel < channels → eqb (byteAt bytes (2 * channel + side)) p ≡ endIs bytes side k p
+  end-at h = rw (same, lt-ltb k (channelsIn bytes) (omega arith))

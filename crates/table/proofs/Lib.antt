@@ -5,6 +5,7 @@ pub mod Programs
 -- number 8, from a channel's end up to the whole table:
 pub mod Channels
 pub mod Masks
--- pub mod Walk
+pub mod OneInstruction
+pub mod Walk
 -- a schedule and a run judged:
--- pub mod Judged
+pub mod Judged
