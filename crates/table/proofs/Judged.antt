@@ -82,15 +82,15 @@ inOrder table schedule answers report =
 
 in-order : (table schedule answers report : List ℕ)
     → validateRun table schedule answers report
-      ≡ inOrder (validateTable table) (validateSchedule schedule) (leb (6 * commandsIn schedule) (length answers)) (leb (20 * processesIn table) (length report))
+    ≡ inOrder (validateTable table) (validateSchedule schedule) (leb (6 * commandsIn schedule) (length answers)) (leb (20 * processesIn table) (length report))
 unfolding validateRun
 in-order table schedule answers report = refl
 
 module _ (number processes : ℕ) (judged : Judged) (answered reported : ℕ) where
   run-as : (r : ℕ)
       → ((commands : ℕ) (answers report : Bool) → (judged .number ≡ 0 → judged .records ≡ commands)
-          → (number ≡ 0 → answers ≡ leb (6 * commands) answered) → (number ≡ 0 → report ≡ leb (20 * processes) reported)
-          → r ≡ inOrder number (judged .number) answers report)
+      → (number ≡ 0 → answers ≡ leb (6 * commands) answered) → (number ≡ 0 → report ≡ leb (20 * processes) reported)
+      → r ≡ inOrder number (judged .number) answers report)
       → RunJudged number processes judged answered reported r
   run-as r h = record {
     number-is = λ table schedule answers report e f j a b.

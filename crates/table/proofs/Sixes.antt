@@ -37,7 +37,7 @@ module _ {A : Type 0} (make : ℕ → ℕ → ℕ → A) where
   -- whatever is made is made of the six numbers
   pub made-of-six : (n : ℕ) (l : List ℕ) (k : ℕ)
       → getD (sixes make n l) k (make 0 0 0)
-        ≡ make (getD (sixes six n l) k (six 0 0 0) .first) (getD (sixes six n l) k (six 0 0 0) .second) (getD (sixes six n l) k (six 0 0 0) .word)
+      ≡ make (getD (sixes six n l) k (six 0 0 0) .first) (getD (sixes six n l) k (six 0 0 0) .second) (getD (sixes six n l) k (six 0 0 0) .word)
   made-of-six zero l k = refl
   made-of-six (suc n) l zero = refl
   made-of-six (suc n) l (suc k) = made-of-six n (drop 6 l) k

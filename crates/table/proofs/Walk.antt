@@ -1,18 +1,19 @@
 -- Number 8 over programs and records: what the walk finds, place by place, is what the rules say of the whole table.
 -- Assumes nothing.
-use mathlib.Core.Path.{_≡_, refl, ap, sym, _∙_}
+use mathlib.Core.Path.{_≡_, refl, ap, ap₂, sym, _∙_}
 use mathlib.Core.Bool.{Bool, true, false, not, _&&_}
 use mathlib.Core.List.{List, []}
 use Prim.Native.Nat.{ℕ, zero, suc, _+_, _-_, _*_, _/_, _≤_, _<_}
 use native.Mathlib.Omega.{arith}
 use native.Mathlib.Numerals.{add-one}
-use lib.ListN.{length, getD, drop, length-drop}
+use lib.ListN.{length, getD, take, drop, length-drop}
+use lib.Seq.{take-all}
 use borrow.Author.Tests.{not-true, not-false}
 use Rattle.facts.specs.Tests.{allOf, allBelow, and-both}
 use Rattle.facts.specs.Ranges.{all-fails, all-same, all-and, all-listed}
 use Rattle.rules.specs.Table.{Table, Instruction, SET, codeOf}
 use Rattle.rules.specs.Bytes.{sixes}
-use Rattle.rules.specs.Format.{processesIn, recordBytes, programLength, recordLength, rests, isCode, instruction, codesIn, decodeTable, extentOk, codesOk}
+use Rattle.rules.specs.Format.{processesIn, channelsIn, recordBytes, programLength, recordLength, rests, isCode, instruction, codesIn, decodeTable, extentOk, codesOk}
 use Rattle.rules.specs.Judge.{instructionOk, instructionsOk}
 use Rattle.rules.proofs.Valid.{length-sixes, length-rests, processes-counted}
 use Rattle.table.specs.Fetch.{numbered, fetched, instructionOf}
@@ -44,6 +45,10 @@ module _ (f : ℕ → Bool) (n : ℕ) where
 
 -- ---- a program
 
+-- the instruction at place k passes
+abbrev pub placePasses : Table → ℕ → ℕ → List ℕ → ℕ → Bool
+placePasses t p n program k = passes t p n (fetched program 0 k)
+
 -- a test of n sixes by their places
 by-place : {A : Type 0} (make : ℕ → ℕ → ℕ → A) (f : A → Bool) (n : ℕ) (l : List ℕ) (d : A)
     → allOf f (sixes make n l) ≡ allBelow (λ k. f (getD (sixes make n l) k d)) n
@@ -63,7 +68,7 @@ unfolding programOk passes
 program-is t p n program room =
     let codes : ℕ → Bool = λ k. isCode (getD (sixes (λ code a operand. code) n program) k 0) in
     let instructions : ℕ → Bool = λ k. instructionOk t p n (getD (sixes instruction n program) k (SET 0 0)) in
-    all-same (λ k. passes t p n (fetched program 0 k)) (λ k. codes k && instructions k) n
+    all-same (placePasses t p n program) (λ k. codes k && instructions k) n
     (λ k l. ap (λ (x : ℕ). isCode x && instructionOk t p n (instructionOf (fetched program 0 k))) (code-fetched program k n l room)
     ∙ ap (λ (x : Instruction). codes k && instructionOk t p n x) (fetched-is program 0 k n (SET 0 0) l (omega arith)))
     ∙ all-and codes instructions n
@@ -71,6 +76,10 @@ program-is t p n program room =
     ∙ ap (λ (b : Bool). allOf isCode (sixes (λ code a operand. code) n program) && b) (sym (by-place instruction (instructionOk t p n) n program (SET 0 0)))
 
 -- ---- the table
+
+-- the record of process p passes
+abbrev pub processPasses : List ℕ → ℕ → Bool
+processPasses bytes p = recordOk (decodeTable bytes) p (drop (recordStart bytes p) bytes)
 
 -- what the rules ask of the record of process p: its codes, and then its instructions
 abbrev codesPass : List ℕ → ℕ → Bool
@@ -80,7 +89,7 @@ abbrev instructionsPass : Table → ℕ → Bool
 instructionsPass t p = allOf (instructionOk t p (length (codeOf t p))) (codeOf t p)
 
 pub record-is : (bytes : List ℕ) → extentOk bytes ≡ true → (p : ℕ) → p < processesIn bytes
-    → recordOk (decodeTable bytes) p (drop (recordStart bytes p) bytes) ≡ (codesPass bytes p && instructionsPass (decodeTable bytes) p)
+    → processPasses bytes p ≡ (codesPass bytes p && instructionsPass (decodeTable bytes) p)
 unfolding recordOk
 record-is bytes ok p h =
     let t = decodeTable bytes in
@@ -110,10 +119,60 @@ instructions-are bytes = ap (allBelow (instructionsPass (decodeTable bytes))) (s
 
 -- number 8, record by record
 pub table-is : (bytes : List ℕ) → extentOk bytes ≡ true
-    → allBelow (λ p. recordOk (decodeTable bytes) p (drop (recordStart bytes p) bytes)) (processesIn bytes) ≡ (codesOk bytes && instructionsOk (decodeTable bytes))
+    → allBelow (processPasses bytes) (processesIn bytes) ≡ (codesOk bytes && instructionsOk (decodeTable bytes))
 table-is bytes ok =
     let t = decodeTable bytes in
-    all-same (λ p. recordOk t p (drop (recordStart bytes p) bytes)) (λ p. codesPass bytes p && instructionsPass t p) (processesIn bytes) (record-is bytes ok)
+    all-same (processPasses bytes) (λ p. codesPass bytes p && instructionsPass t p) (processesIn bytes) (record-is bytes ok)
     ∙ all-and (codesPass bytes) (instructionsPass t) (processesIn bytes)
     ∙ ap (λ (b : Bool). b && allBelow (instructionsPass t) (processesIn bytes)) (codes-are bytes)
     ∙ ap (λ (b : Bool). codesOk bytes && b) (instructions-are bytes)
+
+-- ---- the walk over the records
+
+-- a part that goes on to the end is all that follows its start
+part-rest : (l : List ℕ) (at : ℕ) → take (length l - at) (drop at l) ≡ drop at l
+part-rest l at = take-all (length l - at) (drop at l) (let h = length-drop at l in omega arith)
+
+-- the program that the code lends is that of the record
+pub lent-program : (t : Table) (p n : ℕ) (rest : List ℕ) → n ≡ programLength rest → programOk t p n (take (length rest - 3) (drop 3 rest)) ≡ recordOk t p rest
+unfolding recordOk
+lent-program t p n rest e = ap₂ (programOk t p) e (part-rest rest 3)
+
+-- p records have passed, and the next begins at `at`
+pub record Going (bytes : List ℕ) (at p : ℕ) : Type 0 where
+  pub place : at ≡ recordStart bytes p
+  pub walked : Walked (processPasses bytes) (processesIn bytes) p
+
+pub going-start : (bytes : List ℕ) (channels : ℕ) → channels ≡ channelsIn bytes → Going bytes (6 + 2 * channels) 0
+going-start bytes channels e = record { place = ap (λ (c : ℕ). 6 + 2 * c) e; walked = walk-start (processPasses bytes) (processesIn bytes) }
+
+module _ (bytes : List ℕ) (ok : extentOk bytes ≡ true) where
+  pub going-end : (at p : ℕ) → Going bytes at p → processesIn bytes ≤ p → true ≡ (codesOk bytes && instructionsOk (decodeTable bytes))
+  going-end at p g h = walk-end (processPasses bytes) (processesIn bytes) p (g .walked) h ∙ table-is bytes ok
+
+  module _ (at p : ℕ) (g : Going bytes at p) (h : p < processesIn bytes) where
+    -- the table's rest that the code hands on
+    abbrev lent : List ℕ
+    lent = take (length bytes - at) (drop at bytes)
+
+    pub going-within : at + recordLength (drop at bytes) ≤ length bytes
+    going-within = rw (g .place) (record-within bytes ok p h .fits)
+
+    pub lent-fits : recordLength lent ≤ length lent
+    lent-fits = rw (part-rest bytes at) (let a = going-within in let b = length-drop at bytes in omega arith)
+
+    pub lent-size : (size : ℕ) → size ≡ recordLength lent → at + size ≤ length bytes
+    lent-size size s = let e = s ∙ ap recordLength (part-rest bytes at) in let a = going-within in omega arith
+
+    module _ (r : Bool) (found : r ≡ recordOk (decodeTable bytes) p lent) where
+      here : r ≡ processPasses bytes p
+      here = found ∙ ap (recordOk (decodeTable bytes) p) (part-rest bytes at ∙ ap (λ (i : ℕ). drop i bytes) (g .place))
+
+      pub going-fails : not r ≡ true → false ≡ (codesOk bytes && instructionsOk (decodeTable bytes))
+      going-fails n = walk-fails (processPasses bytes) (processesIn bytes) p r h here n ∙ table-is bytes ok
+
+      pub going-on : not r ≡ false → (size : ℕ) → size ≡ recordLength lent → Going bytes (at + size) (p + 1)
+      going-on n size s = record {
+        place = rw add-one (ap₂ (λ (i m : ℕ). i + m) (g .place) (s ∙ ap recordLength (part-rest bytes at ∙ ap (λ (i : ℕ). drop i bytes) (g .place))));
+        walked = walk-on (processPasses bytes) (processesIn bytes) p r (g .walked) h here n;
+      }

@@ -22,7 +22,7 @@ wide-requires c κs = search needs
 
 -- src/instructions.rt:46:9
 returns : tie.Need-returns
-returns c = 
+returns c =
     let e = c .before .wide .ensures in
     let f = c .before .before .before .wider .ensures in
     let s = c .before .before .before .before .before .args in
@@ -42,7 +42,7 @@ shared-slice-read-result c = search needs
 
 -- src/instructions.rt:40:1
 returns-2 : tie.Need-returns-2
-returns-2 c = 
+returns-2 c =
     let e = c .before .before .wide .ensures in
     let f = c .before .before .before .before .wider .ensures in
     let s = c .before .before .before .before .before .before .args in

@@ -76,7 +76,7 @@ refused-requires-5 c κs = search needs
 
 -- src/schedule.rt:55:9
 returns-5 : tie.Need-returns-5
-returns-5 c = 
+returns-5 c =
     let e = c .before .before .before .before .before .before .number16-of .ensures in
     let h = c .before .before .before .before .before .if2 .left in
     version-10 _ _
@@ -91,7 +91,7 @@ returns-5 c =
 
 -- src/schedule.rt:37:1
 returns-6 : tie.Need-returns-6
-returns-6 c = 
+returns-6 c =
     let e = c .before .before .before .before .before .number16-of .ensures in
     let h = c .before .before .before .before .if2 .left in
     accepted-0 _ _
