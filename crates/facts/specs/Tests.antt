@@ -2,8 +2,8 @@
 -- Assumes nothing.
 use mathlib.Core.Path.{_≡_, refl, ap, sym, _∙_}
 use mathlib.Core.Logic.{_≢_}
-use mathlib.Core.Bool.{Bool, true, false, not, cond, _&&_, _||_, and-false}
-use mathlib.Core.List.{List, [], _∷_, _++_, map}
+use mathlib.Core.Bool.{Bool, true, false, not, cond, _&&_, _||_}
+use mathlib.Core.List.{List, [], _∷_, _++_}
 use Prim.Native.Nat.{ℕ, zero, suc, _+_, _≤_, _<_}
 use native.Mathlib.Omega.{arith}
 use native.Mathlib.Nat.{not-suc-le-zero, le-of-suc-le-suc}
@@ -70,15 +70,6 @@ all-below f zero h j l = absurd (not-suc-le-zero l)
 all-below f (suc n) h j l =
     by-eq j n (λ e. rw e (and-left (f n) (allBelow f n) h)) (λ k. all-below f n (and-right (f n) (allBelow f n) h) j (omega arith))
 
-pub below-all : (f : ℕ → Bool) (n : ℕ) → ((j : ℕ) → j < n → f j ≡ true) → allBelow f n ≡ true
-below-all f zero h = refl
-below-all f (suc n) h = rw (h n (omega arith)) (below-all f n (λ j l. h j (omega arith)))
-
--- one that fails
-pub below-fails : (f : ℕ → Bool) (n j : ℕ) → j < n → f j ≡ false → allBelow f n ≡ false
-below-fails f zero j l h = absurd (not-suc-le-zero l)
-below-fails f (suc n) j l h = by-eq j n (λ e. rw (← e, h)) (λ k. rw (below-fails f n j (omega arith) h) (and-false (f n)))
-
 pub none-below : (f : ℕ → Bool) (n : ℕ) → anyBelow f n ≡ false → (j : ℕ) → j < n → f j ≡ false
 none-below f zero h j l = absurd (not-suc-le-zero l)
 none-below f (suc n) h j l =
@@ -103,8 +94,3 @@ all-at f (x ∷ l) (suc i) d h k = all-at f l i d (and-right (f x) (allOf f l) h
 pub any-same : (f g : ℕ → Bool) (n : ℕ) → ((i : ℕ) → i < n → f i ≡ g i) → anyBelow f n ≡ anyBelow g n
 any-same f g zero h = refl
 any-same f g (suc n) h = rw (h n (omega arith), any-same f g n (λ i l. h i (omega arith)))
-
--- a test of mapped elements
-pub all-map : {A B : Type 0} (f : B → Bool) (g : A → B) (l : List A) → allOf f (map g l) ≡ allOf (λ (x : A). f (g x)) l
-all-map f g [] = refl
-all-map f g (x ∷ l) = rw (all-map f g l)

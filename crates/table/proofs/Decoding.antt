@@ -54,7 +54,6 @@ unfolding judging
 judging-from bytes e f g h = rw (e, f, g, h)
 
 module _ (bytes : List ℕ) where
-
   pub framing-refuses : (framing bytes ≡ 0 → ⊥) → validateTable bytes ≡ framing bytes
   unfolding framing validateTable judging
   framing-refuses h = four-stop (lengthOk bytes) (eqb (versionIn bytes) 1) (countsOk bytes) (extentOk bytes) (judging bytes) h

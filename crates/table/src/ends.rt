@@ -62,8 +62,8 @@ pub fn judge_ends(table: &[u8]) -> Ends
     let mut reader = [0u32; CHANNELS_MOST];
     let mut k = 0;
     while k < channels {
-        let from = byte(table, SENDER + 2 * k);
-        let to = byte(table, READER + 2 * k);
+        let from = byte(table, 2 * k + SENDER);
+        let to = byte(table, 2 * k + READER);
         if !pair_ok(processes, from, to) {
             return Ends {
                 ok: false,
@@ -94,7 +94,7 @@ pub fn judge_ports(table: &[u8]) -> Ports
     let mut arity = [0u32; PROCESSES_MOST];
     let mut k = 0;
     while k < channels {
-        let reader = byte(table, READER + 2 * k);
+        let reader = byte(table, 2 * k + READER);
         if reader < processes {
             let p = wide(reader);
             let n = arity[p];

@@ -6,12 +6,18 @@ mod boards;
 mod bytes;
 mod ends;
 mod extent;
+pub mod fetch;
+mod instructions;
+pub mod mask;
 pub mod plan;
+pub mod schedule;
+mod six;
 
 use crate::boards::judge_boards;
 use crate::ends::judge_ends;
 use crate::ends::judge_ports;
 use crate::extent::judge_extent;
+use crate::instructions::instructions_ok;
 use crate::plan::Plan;
 use crate::plan::no_plan;
 use crate::plan::plan_of;

@@ -2,7 +2,7 @@ use borrow.Author.Tests.{not-true, not-false}
 use mathlib.Core.List.{List}
 use lib.ListN.{drop}
 use Rattle.table.specs.Parts.{PlacedIn}
-use Rattle.table.proofs.Placing.{Placing, placing-start, placing-within, placing-start-fits, placing-on, placing-refused, placing-end}
+use Rattle.table.proofs.BoardsPass.{Placing, placing-start, placing-within, placing-start-fits, placing-on, placing-refused, placing-end}
 use Rattle.facts.specs.Lists.{filled-none, part-rest}
 use Rattle.rules.proofs.Valid.{counted}
 use Rattle.rules.specs.Format.{channelsIn, processesIn, boardsIn}
@@ -52,8 +52,9 @@ returns : tie.Need-returns Inv-loop μ-loop
 returns c =
     let t = c .before .before .before .before .before .before .before .before .before .before .before .args .table .now in
     let l = c .before .before .before .before .before .loop in
-    placing-refused t (c .before .before .before .before .before .before .before .before .before .before .before .pre) (l .at) (l .p) (l .inv .1) (let a = c .before .before .before .before .loop-test .taken in let b = c .before .before .before .before .before .before .before .wide .ensures in let d = c .before .before .before .before .before .before .before .before .byte2 .ensures in omega arith) (c .before .before .placement-of .result)
-    (subst₂ (λ (b : ℕ) (r : List ℕ). PlacedIn b r (c .before .before .placement-of .result)) (c .before .before .before .before .before .before .before .before .before .byte .ensures) (part-rest t (l .at)) (c .before .before .placement-of .ensures)) (not-true _ (c .if1 .taken)) _ refl
+    let r = c .before .before .placement-of in
+    placing-refused t (c .before .before .before .before .before .before .before .before .before .before .before .pre) (l .at) (l .p) (c .before .before .before .before .before .before .before .before .before .byte .result) (l .inv .1) (let a = c .before .before .before .before .loop-test .taken in let b = c .before .before .before .before .before .before .before .wide .ensures in let d = c .before .before .before .before .before .before .before .before .byte2 .ensures in omega arith)
+    (c .before .before .before .before .before .before .before .before .before .byte .ensures) (r .result) (r .ensures) (c .if1 .taken) _ refl
 
 add-start : tie.Need-add-start Inv-loop μ-loop
 add-start c = search needs
@@ -62,9 +63,10 @@ cast-start : tie.Need-cast-start Inv-loop μ-loop
 cast-start c =
     let t = c .before .before .before .before .before .before .before .before .before .before .before .args .table .now in
     let l = c .before .before .before .before .before .loop in
+    let r = c .before .before .placement-of in
     let a =
-    placing-start-fits t (c .before .before .before .before .before .before .before .before .before .before .before .pre) (l .at) (l .p) (l .inv .1) (let a = c .before .before .before .before .loop-test .taken in let b = c .before .before .before .before .before .before .before .wide .ensures in let d = c .before .before .before .before .before .before .before .before .byte2 .ensures in omega arith) (c .before .before .placement-of .result)
-    (subst₂ (λ (b : ℕ) (r : List ℕ). PlacedIn b r (c .before .before .placement-of .result)) (c .before .before .before .before .before .before .before .before .before .byte .ensures) (part-rest t (l .at)) (c .before .before .placement-of .ensures)) in
+    placing-start-fits t (c .before .before .before .before .before .before .before .before .before .before .before .pre) (l .at) (l .p) (c .before .before .before .before .before .before .before .before .before .byte .result) (l .inv .1) (let a = c .before .before .before .before .loop-test .taken in let b = c .before .before .before .before .before .before .before .wide .ensures in let d = c .before .before .before .before .before .before .before .before .byte2 .ensures in omega arith)
+    (c .before .before .before .before .before .before .before .before .before .byte .ensures) (r .result) (r .ensures) in
     omega (arith, a)
 
 mul-start : tie.Need-mul-start Inv-loop μ-loop
@@ -104,10 +106,11 @@ loop-again : tie.Need-loop-again Inv-loop μ-loop
 loop-again c =
     let t = c .before .before .before .before .before .before .before .before .before .before .before .before .args .table .now in
     let l = c .before .before .before .before .before .before .loop in
+    let r = c .before .before .before .placement-of in
     let n = c .before .before .before .before .before .before .before .before .wide .ensures ∙ c .before .before .before .before .before .before .before .before .before .byte2 .ensures in (
       l .inv .0,
-      placing-on t (c .before .before .before .before .before .before .before .before .before .before .before .before .pre) (l .at) (l .p) (l .inv .1) (let a = c .before .before .before .before .before .loop-test .taken in omega arith) (c .before .before .before .placement-of .result)
-          (subst₂ (λ (b : ℕ) (r : List ℕ). PlacedIn b r (c .before .before .before .placement-of .result)) (c .before .before .before .before .before .before .before .before .before .before .byte .ensures) (part-rest t (l .at)) (c .before .before .before .placement-of .ensures)) (let a = l .inv .0 in omega arith) (not-false _ (c .before .if1 .left)),
+      placing-on t (c .before .before .before .before .before .before .before .before .before .before .before .before .pre) (l .at) (l .p) (c .before .before .before .before .before .before .before .before .before .before .byte .result) (l .inv .1) (let a = c .before .before .before .before .before .loop-test .taken in omega arith) (c .before .before .before .before .before .before .before .before .before .before .byte .ensures) (r .result) (r .ensures)
+          (let a = l .inv .0 in omega arith) (c .before .if1 .left),
     )
 
 returns-2 : tie.Need-returns-2 Inv-loop μ-loop

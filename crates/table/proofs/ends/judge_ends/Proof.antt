@@ -1,5 +1,5 @@
 use borrow.Author.Tests.{not-true, not-false}
-use Rattle.table.proofs.Channels.{Reading, reading-start, reading-on, reading-refused, reading-end}
+use Rattle.table.proofs.EndsPass.{Reading, reading-start, reading-on, reading-refused, reading-end}
 use Rattle.table.specs.Parts.{pairOk}
 use Rattle.facts.specs.Lists.{filled-none}
 use Rattle.rules.proofs.Valid.{counted}
@@ -58,8 +58,10 @@ returns c =
     let l = c .before .before .before .before .before .loop in
     let f = c .before .before .before .byte3 in
     let g = c .before .before .byte4 in
-    reading-refused t (l .k) (f .result) (g .result) (l .inv .1) (let a = c .before .before .before .before .loop-test .taken in let b = c .before .before .before .before .before .before .wide .ensures in let d = c .before .before .before .before .before .before .before .byte2 .ensures in omega arith) (f .ensures) (g .ensures)
-    (ap (λ (n : ℕ). pairOk n (f .result) (g .result)) (sym (c .before .before .before .before .before .before .before .before .byte .ensures)) ∙ sym (c .before .pair-ok .ensures) ∙ not-true _ (c .if1 .taken)) _ refl
+    let p = c .before .before .before .before .before .before .before .before .byte in
+    let q = c .before .pair-ok in
+    reading-refused t (l .k) (f .result) (g .result) (p .result) (q .result) (l .inv .1) (let a = c .before .before .before .before .loop-test .taken in let b = c .before .before .before .before .before .before .wide .ensures in let d = c .before .before .before .before .before .before .before .byte2 .ensures in omega arith)
+    (f .ensures) (g .ensures) (p .ensures) (q .ensures) (c .if1 .taken) _ refl
 
 word-requires : tie.Need-word-requires Inv-loop μ-loop
 word-requires c κs = search needs
@@ -91,11 +93,13 @@ loop-again c =
     let l = c .before .before .before .before .before .before .before .loop in
     let f = c .before .before .before .before .before .byte3 in
     let g = c .before .before .before .before .byte4 in
+    let p = c .before .before .before .before .before .before .before .before .before .before .byte in
+    let q = c .before .before .before .pair-ok in
     let n = c .before .before .before .before .before .before .before .before .wide .ensures ∙ c .before .before .before .before .before .before .before .before .before .byte2 .ensures in
     rw (c .word2 .ensures, c .before .word .ensures) (
       l .inv .0,
-      reading-on t (l .k) (f .result) (g .result) (l .inv .1) (let a = c .before .before .before .before .before .before .loop-test .taken in omega arith) (f .ensures) (g .ensures) (let a = l .inv .0 in omega arith)
-          (ap (λ (n : ℕ). pairOk n (f .result) (g .result)) (sym (c .before .before .before .before .before .before .before .before .before .before .byte .ensures)) ∙ sym (c .before .before .before .pair-ok .ensures) ∙ not-false _ (c .before .before .if1 .left)),
+      reading-on t (l .k) (f .result) (g .result) (p .result) (q .result) (l .inv .1) (let a = c .before .before .before .before .before .before .loop-test .taken in omega arith) (f .ensures) (g .ensures) (p .ensures) (q .ensures)
+          (let a = l .inv .0 in omega arith) (c .before .before .if1 .left),
     )
 
 returns-2 : tie.Need-returns-2 Inv-loop μ-loop

@@ -1,6 +1,6 @@
 use mathlib.Core.Logic.{⊎-elim}
 use lib.ListN.{getD}
-use Rattle.table.proofs.Inputs.{Porting, porting-start, porting-past, porting-on, porting-refused, porting-end}
+use Rattle.table.proofs.PortsPass.{Porting, porting-start, porting-past, porting-on, porting-refused, porting-end}
 use Rattle.facts.specs.Indexing.{getD-replicate-any}
 use Rattle.rules.proofs.Valid.{counted}
 use Rattle.rules.specs.Format.{channelsIn, processesIn}

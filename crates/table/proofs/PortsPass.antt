@@ -10,25 +10,29 @@ use native.Mathlib.Numerals.{add-one}
 use native.Mathlib.Nat.{not-suc-le-zero}
 use lib.Dec.{eqb, leb}
 use lib.ListN.{length, getD, set, drop, length-set, length-append, List·getD-append}
-use lib.Seq.{getD-set-same, getD-set-other, getD-append-seam}
+use lib.Seq.{getD-drop, getD-set-same, getD-set-other, getD-append-seam}
 use borrow.Author.Tests.{eq-eqb, ne-eqb, le-leb, lt-leb}
-use Rattle.facts.specs.Tests.{by-eq, by-lt, no-way, below-all, below-fails}
+use Rattle.facts.specs.Tests.{by-eq, by-lt, no-way}
+use Rattle.facts.specs.Ranges.{all-given, all-fails}
 use Rattle.backup.specs.Limits.{ports}
 use Rattle.rules.specs.Table.{Channel, channelAt, readFrom, inputs, portOf, channelOn}
 use Rattle.rules.specs.Judge.{inputsOk}
+use Rattle.rules.specs.Bytes.{byteAt}
 use Rattle.rules.specs.Format.{processesIn, channelsIn, pairs, decodeTable}
 use Rattle.rules.proofs.Valid.{length-pairs, processes-counted}
 use Rattle.rules.proofs.Tables.{port-of-channel}
 use Rattle.table.specs.Parts.{PortsRead}
 use Rattle.table.specs.declared.ends.Ports.{Ports}
-use Rattle.table.proofs.Channels.{readerIn, further, pairIn, pair-further, reader-in}
+use Rattle.table.proofs.OneChannel.{pairAt, pair-drop}
+use Rattle.table.proofs.EndsPass.{readerIn, reader-in}
 
 -- ---- one channel more
 
-pairs-more : (k : ℕ) (rest : List ℕ) → pairs (suc k) rest ≡ pairs k rest ++ (pairIn rest k ∷ [])
+pairs-more : (k : ℕ) (rest : List ℕ) → pairs (suc k) rest ≡ pairs k rest ++ (pairAt rest (2 * k) ∷ [])
 pairs-more zero rest = refl
 pairs-more (suc k) rest =
-    ap (λ (l : List Channel). pairIn rest 0 ∷ l) (pairs-more k (drop 2 rest) ∙ ap (λ (c : Channel). pairs k (drop 2 rest) ++ (c ∷ [])) (pair-further rest k))
+    ap (λ (l : List Channel). pairAt rest 0 ∷ l)
+    (pairs-more k (drop 2 rest) ∙ ap (λ (c : Channel). pairs k (drop 2 rest) ++ (c ∷ [])) (pair-drop rest 2 (2 * k) ∙ ap (pairAt rest) (omega arith)))
 
 read-append : (j : ℕ) (cs : List Channel) (c : Channel) (p : ℕ) → readFrom j (cs ++ (c ∷ [])) p ≡ readFrom j cs p ++ cond (eqb (c .reader) p) ((j + length cs) ∷ []) []
 read-append j [] c p = ap (λ (n : ℕ). cond (eqb (c .reader) p) (n ∷ []) []) (omega arith)
@@ -59,9 +63,9 @@ read-more : (bytes : List ℕ) (k p : ℕ) → readIn bytes (k + 1) p ≡ readIn
 unfolding readIn added
 read-more bytes k p =
     rw (add-one k)
-    (ap (λ (cs : List Channel). readFrom 0 cs p) (pairs-more k (drop 6 bytes)) ∙ read-append 0 (pairs k (drop 6 bytes)) (pairIn (drop 6 bytes) k) p
+    (ap (λ (cs : List Channel). readFrom 0 cs p) (pairs-more k (drop 6 bytes)) ∙ read-append 0 (pairs k (drop 6 bytes)) (pairAt (drop 6 bytes) (2 * k)) p
     ∙ ap₂ (λ (r n : ℕ). readFrom 0 (pairs k (drop 6 bytes)) p ++ cond (eqb r p) (n ∷ []) [])
-    (further 6 bytes (1 + 2 * k) (7 + 2 * k) (omega arith)) (let e = length-pairs k (drop 6 bytes) in omega arith))
+    (getD-drop 6 bytes (2 * k + 1) 0 ∙ ap (byteAt bytes) (omega arith)) (let e = length-pairs k (drop 6 bytes) in omega arith))
 
 read-own : (bytes : List ℕ) (k p : ℕ) → readerIn bytes k ≡ p → readIn bytes (k + 1) p ≡ readIn bytes k p ++ (k ∷ [])
 unfolding added
@@ -165,7 +169,7 @@ module _ (bytes port ins arity : List ℕ) (k : ℕ) (x : Porting bytes port ins
 
         refused : inputsOk (decodeTable bytes) ≡ false
         refused =
-            below-fails (λ p. leb (length (inputs (decodeTable bytes) p)) ports) (length (decodeTable bytes .processes)) b
+            all-fails (λ p. leb (length (inputs (decodeTable bytes) p)) ports) (length (decodeTable bytes .processes)) b
             (let z = processes-counted bytes in omega arith) (lt-leb (length (inputs (decodeTable bytes) b)) ports many)
 
     -- it is one of four
@@ -219,7 +223,7 @@ module _ (bytes : List ℕ) (k : ℕ) (r : Ports) (yes-ok : r .ok ≡ true) (x :
   accepted : inputsOk (decodeTable bytes) ≡ true
   unfolding inputsOk
   accepted =
-      below-all (λ p. leb (length (inputs (decodeTable bytes) p)) ports) (length (decodeTable bytes .processes))
+      all-given (λ p. leb (length (inputs (decodeTable bytes) p)) ports) (length (decodeTable bytes .processes))
       (λ p l. le-leb (length (inputs (decodeTable bytes) p)) ports (rw (← all-read p) (x .few p (let z = processes-counted bytes in omega arith))))
 
   pub porting-end : PortsRead bytes r
