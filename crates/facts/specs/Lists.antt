@@ -2,10 +2,11 @@
 -- Assumes nothing.
 use mathlib.Core.Path.{_≡_, refl, ap, sym, _∙_}
 use mathlib.Core.List.{List, [], _∷_, _++_, map}
-use Prim.Native.Nat.{ℕ, zero, suc, _+_, _≤_, _<_}
+use Prim.Native.Nat.{ℕ, zero, suc, _+_, _-_, _≤_, _<_}
 use native.Mathlib.Omega.{arith}
 use native.Mathlib.Nat.{le-of-suc-le-suc, not-suc-le-zero}
-use lib.ListN.{length, take, getD, set}
+use lib.ListN.{length, take, drop, getD, set, length-drop}
+use lib.Seq.{take-all}
 
 -- the first n numbers, 0 standing for each that lies past the end: n numbers in any case
 abbrev pub prefix : ℕ → List ℕ → List ℕ
@@ -55,3 +56,7 @@ getD-prefix (suc n) [] zero h = refl
 getD-prefix (suc n) [] (suc i) h = getD-prefix n [] i (le-of-suc-le-suc h)
 getD-prefix (suc n) (x ∷ l) zero h = refl
 getD-prefix (suc n) (x ∷ l) (suc i) h = getD-prefix n l i (le-of-suc-le-suc h)
+
+-- a part that goes on to the list's end is all that follows its start
+pub part-rest : {A : Type 0} (l : List A) (at : ℕ) → take (length l - at) (drop at l) ≡ drop at l
+part-rest l at = take-all (length l - at) (drop at l) (let h = length-drop at l in omega arith)

@@ -17,7 +17,7 @@ use Rattle.rules.specs.Machine.{bit}
 use Rattle.rules.specs.Format.{decodeTable}
 use Rattle.rules.specs.Judge.{reads, bits}
 use Rattle.table.specs.Judging.{endIs, channelsPass, maskOk}
-use Rattle.table.proofs.Channels.{reads-is}
+use Rattle.table.proofs.OneChannel.{reads-is}
 
 bits-counted : (mask n : ℕ) → bits mask n ≡ countBelow (bit mask) n
 bits-counted mask zero = refl

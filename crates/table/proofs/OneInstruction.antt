@@ -13,7 +13,7 @@ use Rattle.rules.specs.Table.{Table}
 use Rattle.rules.specs.Judge.{reads, sends, instructionOk}
 use Rattle.table.specs.Judging.{endIs, channelsPass, maskOk, passes}
 use Rattle.table.specs.declared.fetch.Instruction.{Instruction}
-use Rattle.table.proofs.Channels.{reads-is, sends-is}
+use Rattle.table.proofs.OneChannel.{reads-is, sends-is}
 
 -- a first test that passed leaves it to the second; one that failed is the answer
 pub second : (a most : ℕ) (r test : Bool) → a < most → r ≡ test → r ≡ (ltb a most && test)

@@ -7,9 +7,9 @@ use Prim.Native.Nat.{ℕ, zero, suc, _+_, _-_, _*_, _/_, _≤_, _<_}
 use native.Mathlib.Omega.{arith}
 use native.Mathlib.Numerals.{add-one}
 use lib.ListN.{length, getD, take, drop, length-drop}
-use lib.Seq.{take-all}
 use borrow.Author.Tests.{not-true, not-false}
 use Rattle.facts.specs.Tests.{allOf, allBelow, and-both}
+use Rattle.facts.specs.Lists.{part-rest}
 use Rattle.facts.specs.Ranges.{all-fails, all-same, all-and, all-listed}
 use Rattle.rules.specs.Table.{Table, Instruction, SET, codeOf}
 use Rattle.rules.specs.Bytes.{sixes}
@@ -128,10 +128,6 @@ table-is bytes ok =
     ∙ ap (λ (b : Bool). codesOk bytes && b) (instructions-are bytes)
 
 -- ---- the walk over the records
-
--- a part that goes on to the end is all that follows its start
-part-rest : (l : List ℕ) (at : ℕ) → take (length l - at) (drop at l) ≡ drop at l
-part-rest l at = take-all (length l - at) (drop at l) (let h = length-drop at l in omega arith)
 
 -- the program that the code lends is that of the record
 pub lent-program : (t : Table) (p n : ℕ) (rest : List ℕ) → n ≡ programLength rest → programOk t p n (take (length rest - 3) (drop 3 rest)) ≡ recordOk t p rest

@@ -1,6 +1,7 @@
--- Tables and schedules in bytes: how the code's data stand for what the rules say.
+-- What the code of this crate promises, in the words of document 01's definitions (rules/specs).
+pub mod Records
+pub mod Parts
 pub mod Six
 pub mod Fetch
-pub mod Records
 pub mod Judging
 pub mod Commands

@@ -6,6 +6,7 @@ ghost use mathlib.Core.Bool.{true, _&&_};
 ghost use Rattle.rules.specs.Judge.{instructionsOk};
 ghost use Rattle.rules.specs.Format.{recordsStart, recordLength, decodeTable, extentOk, codesOk};
 ghost use Rattle.table.specs.Judging.{endIs, channelsPass, maskOk, passes, programOk, recordOk};
+use crate::bytes::wide;
 use crate::fetch::Instruction;
 use crate::fetch::fetch;
 
@@ -23,12 +24,6 @@ const READER: usize = 7;
 const N: usize = 2;
 
 const PROGRAM: usize = 3;
-
-fn wide(x: u8) -> usize
-    ensures { λ r. ⌜ r ≡ x ⌝ }
-{
-    x as usize
-}
 
 fn wider(x: u32) -> usize
     ensures { λ r. ⌜ r ≡ x ⌝ }

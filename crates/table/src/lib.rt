@@ -1,4 +1,6 @@
-// Tables and schedules in bytes: read, judged and fetched from.
+// Tables and schedules: bytes are read, judged and turned into a plan by proved code.
+mod bytes;
+mod extent;
 pub mod fetch;
 mod instructions;
 pub mod mask;

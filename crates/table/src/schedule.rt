@@ -4,7 +4,7 @@ ghost use Rattle.rules.specs.Moves.{Command as CommandOf};
 ghost use Rattle.rules.specs.Schedule.{decodeSchedule, command};
 ghost use Rattle.table.specs.Commands.{commandOf, ScheduleJudged, RunJudged};
 ghost use lib.ListN.{getD};
-use crate::six::number16_of;
+use crate::bytes::pair;
 use crate::six::six_at;
 
 // Where the commands begin: behind the length's two bytes and the version.
@@ -41,7 +41,7 @@ pub fn judge_schedule(schedule: &[u8]) -> Judged
     if len < FIRST_COMMAND {
         return refused(9);
     }
-    if number16_of(schedule[0], schedule[1]) + 2 != len {
+    if pair(schedule[0], schedule[1]) + 2 != len {
         return refused(9);
     }
     let records = (len - FIRST_COMMAND) / 6;

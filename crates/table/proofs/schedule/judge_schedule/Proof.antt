@@ -8,7 +8,7 @@ use Rattle.table.proofs.schedule.judge_schedule.Tie as tie
 use Rattle.table.proofs.schedule.judge_schedule.Reads as reads
 use Rattle.table.proofs.schedule.judge_schedule.Lts as lts
 use Rattle.table.proofs.schedule.refused.Reads as refused-reads
-use Rattle.table.proofs.six.number16_of.Reads as number16-of-reads
+use Rattle.table.proofs.bytes.pair.Reads as pair-reads
 
 -- src/schedule.rt:42:9
 refused-requires : tie.Need-refused-requires
@@ -19,20 +19,20 @@ returns : tie.Need-returns
 returns c = short-9 _ _ (c .before .if1 .taken) (c .refused .ensures)
 
 -- src/schedule.rt:44:20
-shared-slice-read-number16-of : tie.Need-shared-slice-read-number16-of
-shared-slice-read-number16-of c = search needs
+shared-slice-read-pair : tie.Need-shared-slice-read-pair
+shared-slice-read-pair c = search needs
 
 -- src/schedule.rt:44:33
-shared-slice-read-number16-of-2 : tie.Need-shared-slice-read-number16-of-2
-shared-slice-read-number16-of-2 c = search needs
+shared-slice-read-pair-2 : tie.Need-shared-slice-read-pair-2
+shared-slice-read-pair-2 c = search needs
 
 -- src/schedule.rt:44:8
-number16-of-requires : tie.Need-number16-of-requires
-number16-of-requires c κs = search needs
+pair-requires : tie.Need-pair-requires
+pair-requires c κs = search needs
 
 -- src/schedule.rt:44:8
 add-if2 : tie.Need-add-if2
-add-if2 c = omega (arith, c .number16-of .ensures, c .before .shared-slice-known3 .given 0, c .before .shared-slice-known3 .given 1)
+add-if2 c = omega (arith, c .pair .ensures, c .before .shared-slice-known3 .given 0, c .before .shared-slice-known3 .given 1)
 
 -- src/schedule.rt:45:9
 refused-requires-2 : tie.Need-refused-requires-2
@@ -40,7 +40,7 @@ refused-requires-2 c κs = search needs
 
 -- src/schedule.rt:45:9
 returns-2 : tie.Need-returns-2
-returns-2 c = let e = c .before .before .number16-of .ensures in let h = c .before .if2 .taken in field-9 _ _ (λ f. h (omega arith)) (c .refused2 .ensures)
+returns-2 c = let e = c .before .before .pair .ensures in let h = c .before .if2 .taken in field-9 _ _ (λ f. h (omega arith)) (c .refused2 .ensures)
 
 -- src/schedule.rt:48:24
 mul-if3 : tie.Need-mul-if3
@@ -77,7 +77,7 @@ refused-requires-5 c κs = search needs
 -- src/schedule.rt:55:9
 returns-5 : tie.Need-returns-5
 returns-5 c =
-    let e = c .before .before .before .before .before .before .number16-of .ensures in
+    let e = c .before .before .before .before .before .before .pair .ensures in
     let h = c .before .before .before .before .before .if2 .left in
     version-10 _ _
     (record {
@@ -92,7 +92,7 @@ returns-5 c =
 -- src/schedule.rt:37:1
 returns-6 : tie.Need-returns-6
 returns-6 c =
-    let e = c .before .before .before .before .before .number16-of .ensures in
+    let e = c .before .before .before .before .before .pair .ensures in
     let h = c .before .before .before .before .if2 .left in
     accepted-0 _ _
     (record {
@@ -111,9 +111,9 @@ judge-schedule-spec =
     (tie.spec
     refused-requires
     returns
-    shared-slice-read-number16-of
-    shared-slice-read-number16-of-2
-    number16-of-requires
+    shared-slice-read-pair
+    shared-slice-read-pair-2
+    pair-requires
     add-if2
     refused-requires-2
     returns-2

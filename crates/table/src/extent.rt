@@ -1,0 +1,115 @@
+// Numbers 1 to 4 of a table: its length, its version, its counts, and where its pairs and records end.
+ghost use mathlib.Core.Path.{_≡_};
+ghost use mathlib.Core.Bool.{_&&_};
+ghost use lib.Dec.{eqb, leb};
+ghost use Rattle.rules.specs.Format.{versionIn, recordsStart, lengthOk, countsOk, extentOk};
+ghost use Rattle.table.specs.Parts.{recordIn};
+use crate::bytes::byte;
+use crate::bytes::pair;
+use crate::bytes::wide;
+
+// Where the head has its numbers, and how long it is.
+pub const VERSION: usize = 2;
+
+pub const BOARDS: usize = 3;
+
+pub const PROCESSES: usize = 4;
+
+pub const CHANNELS: usize = 5;
+
+pub const HEAD: usize = 6;
+
+// The sizes, each named once; rules/specs/Format.antt names the same numbers for the definitions.
+const TABLE_MOST: usize = 6260;
+
+const BOARDS_LEAST: u8 = 2;
+
+const BOARDS_MOST: u8 = 16;
+
+const PROCESSES_MOST: u8 = 16;
+
+const CHANNELS_MOST: u8 = 32;
+
+const PROGRAM_MOST: usize = 64;
+
+// 1: at least a head, and a length field that is at most 6,260 and the true one.
+pub fn length_ok(table: &[u8]) -> bool
+    ensures { λ r. ⌜ r ≡ lengthOk (now (table .entry)) ⌝ }
+{
+    if table.len() < HEAD {
+        return false;
+    }
+    let field = pair(byte(table, 0), byte(table, 1));
+    if field > TABLE_MOST {
+        return false;
+    }
+    2 + field == table.len()
+}
+
+// 2: the version.
+pub fn version_ok(table: &[u8]) -> bool
+    ensures { λ r. ⌜ r ≡ eqb (versionIn (now (table .entry))) 1 ⌝ }
+{
+    byte(table, VERSION) == 1
+}
+
+fn within(low: u8, n: u8, high: u8) -> bool
+    ensures { λ r. ⌜ r ≡ (leb low n && leb n high) ⌝ }
+{
+    if low <= n { n <= high } else { false }
+}
+
+// 3: the counts of boards, processes and channels.
+pub fn counts_ok(table: &[u8]) -> bool
+    ensures { λ r. ⌜ r ≡ countsOk (now (table .entry)) ⌝ }
+{
+    if within(BOARDS_LEAST, byte(table, BOARDS), BOARDS_MOST) {
+        if within(1, byte(table, PROCESSES), PROCESSES_MOST) {
+            return within(1, byte(table, CHANNELS), CHANNELS_MOST);
+        }
+    }
+    false
+}
+
+// Where the first record begins, behind the pairs.
+pub fn records_start(table: &[u8]) -> usize
+    ensures { λ r. ⌜ r ≡ recordsStart (now (table .entry)) ⌝ }
+{
+    HEAD + 2 * wide(byte(table, CHANNELS))
+}
+
+// The length of the record that begins a rest, or 0 where it has over 64 instructions or the rest ends within it.
+fn record_length(rest: &[u8]) -> usize
+    ensures { λ r. ⌜ r ≡ recordIn (now (rest .entry)) ⌝ }
+{
+    let n = wide(byte(rest, 2));
+    if n > PROGRAM_MOST {
+        return 0;
+    }
+    let length = 3 + 6 * n;
+    if length > rest.len() {
+        return 0;
+    }
+    length
+}
+
+// 4: each record has at most 64 instructions, and pairs and records end exactly with the table.
+pub fn extent_ok(table: &[u8]) -> bool
+    ensures { λ r. ⌜ r ≡ extentOk (now (table .entry)) ⌝ }
+{
+    let mut at = records_start(table);
+    if at > table.len() {
+        return false;
+    }
+    let processes = wide(byte(table, PROCESSES));
+    let mut p = 0;
+    while p < processes {
+        let length = record_length(&table[at..]);
+        if length == 0 {
+            return false;
+        }
+        at += length;
+        p += 1;
+    }
+    at == table.len()
+}
