@@ -30,9 +30,9 @@ module _ (bytes : List ℕ) (r : Judged) where
   unfolding scheduleOk
   short-9 h = fails-9 (rw (lt-leb 3 (length bytes) h))
 
-  pub field-9 : (lengthField bytes + 2 ≡ length bytes → ⊥) → (r .number ≡ 9) × (r .records ≡ 0) → ScheduleJudged bytes r
+  pub field-9 : (field : ℕ) → field ≡ lengthField bytes → (field + 2 ≡ length bytes → ⊥) → (r .number ≡ 9) × (r .records ≡ 0) → ScheduleJudged bytes r
   unfolding scheduleOk
-  field-9 h = fails-9 (and-fails (leb 3 (length bytes)) _ (rw (ne-eqb (2 + lengthField bytes) (length bytes) (λ e. h (omega arith)))))
+  field-9 field e h = fails-9 (and-fails (leb 3 (length bytes)) _ (rw (ne-eqb (2 + lengthField bytes) (length bytes) (λ z. h (omega arith)))))
 
   pub broken-9 : (3 + 6 * commandsIn bytes ≡ length bytes → ⊥) → (r .number ≡ 9) × (r .records ≡ 0) → ScheduleJudged bytes r
   unfolding scheduleOk
@@ -51,15 +51,18 @@ module _ (bytes : List ℕ) (r : Judged) where
   -- what all four tests ask
   pub record Whole : Type 0 where
     pub long : 3 ≤ length bytes
-    pub field-is : lengthField bytes + 2 ≡ length bytes
+    pub true-field : 2 + lengthField bytes ≡ length bytes
     pub whole : 3 + 6 * commandsIn bytes ≡ length bytes
     pub few : commandsIn bytes ≤ commandsMost
+
+  pub tested : (field : ℕ) → field ≡ lengthField bytes → 3 ≤ length bytes → field + 2 ≡ length bytes → 3 + 6 * commandsIn bytes ≡ length bytes → commandsIn bytes ≤ commandsMost → Whole
+  tested field e long true-field whole few = record { long = long; true-field = omega arith; whole = whole; few = few }
 
   holds : Whole → scheduleOk bytes ≡ true
   unfolding scheduleOk
   holds w =
       and-both (leb 3 (length bytes)) _ (le-leb 3 (length bytes) (w .long))
-      (and-both (eqb (2 + lengthField bytes) (length bytes)) _ (eq-eqb (2 + lengthField bytes) (length bytes) (let e = w .field-is in omega arith))
+      (and-both (eqb (2 + lengthField bytes) (length bytes)) _ (eq-eqb (2 + lengthField bytes) (length bytes) (w .true-field))
       (and-both (eqb (3 + 6 * commandsIn bytes) (length bytes)) _ (eq-eqb (3 + 6 * commandsIn bytes) (length bytes) (w .whole))
       (le-leb (commandsIn bytes) commandsMost (w .few))))
 

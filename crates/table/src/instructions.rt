@@ -7,13 +7,10 @@ ghost use Rattle.rules.specs.Judge.{instructionsOk};
 ghost use Rattle.rules.specs.Format.{recordsStart, recordLength, decodeTable, extentOk, codesOk};
 ghost use Rattle.table.specs.Judging.{endIs, channelsPass, maskOk, passes, programOk, recordOk};
 use crate::bytes::wide;
+use crate::extent::CHANNELS;
+use crate::extent::PROCESSES;
 use crate::fetch::Instruction;
 use crate::fetch::fetch;
-
-// Bytes of the table that say how many processes and channels it has.
-const PROCESSES: usize = 4;
-
-const CHANNELS: usize = 5;
 
 // A channel's pair begins at 6 plus twice its number, with the sender; the reader is behind it.
 const SENDER: usize = 6;
