@@ -1,8 +1,7 @@
 // A schedule's bytes: numbers 9 and 10, and its commands; then the numbers of a whole run.
 ghost use mathlib.Core.Path.{_≡_};
-ghost use Rattle.rules.specs.Moves.{Command as CommandOf};
 ghost use Rattle.rules.specs.Schedule.{decodeSchedule, command};
-ghost use Rattle.table.specs.Commands.{commandOf, ScheduleJudged, RunJudged};
+ghost use Rattle.table.specs.Commands.{commandOf, ScheduleJudged, judgedRun};
 ghost use lib.ListN.{getD};
 use crate::bytes::pair;
 use crate::extent::VERSION;
@@ -79,7 +78,7 @@ pub fn judge_run(
     answers: usize,
     report: usize,
 ) -> u8
-    ensures { λ r. ⌜ RunJudged «table_number» processes schedule answers report r ⌝ }
+    ensures { λ r. ⌜ r ≡ judgedRun «table_number» processes schedule answers report ⌝ }
 {
     let schedule_number = schedule.number;
     let records = schedule.records;

@@ -75,11 +75,11 @@ refused-requires-5 c κs = search needs
 
 -- src/schedule.rt:56:9
 returns-5 : tie.Need-returns-5
-returns-5 c = version-10 _ _ (tested _ _ _ (c .before .before .before .before .before .before .pair .ensures) (c .before .before .before .before .before .before .before .before .before .if1 .left) (c .before .before .before .before .if2 .left) (c .before .before .before .if3 .left) (c .before .before .if4 .left)) (c .before .if5 .taken) (c .refused5 .ensures)
+returns-5 c = version-10 _ _ (tested _ _ (c .before .before .before .before .before .before .pair .ensures) (c .before .before .before .before .before .before .before .before .before .if1 .left) (c .before .before .before .before .if2 .left) (c .before .before .before .if3 .left) (c .before .before .if4 .left)) (c .before .if5 .taken) (c .refused5 .ensures)
 
 -- src/schedule.rt:36:1
 returns-6 : tie.Need-returns-6
-returns-6 c = accepted-0 _ _ (tested _ _ _ (c .before .before .before .before .before .pair .ensures) (c .before .before .before .before .before .before .before .before .if1 .left) (c .before .before .before .if2 .left) (c .before .before .if3 .left) (c .before .if4 .left)) (c .if5 .left) refl refl
+returns-6 c = accepted-0 _ _ (tested _ _ (c .before .before .before .before .before .pair .ensures) (c .before .before .before .before .before .before .before .before .if1 .left) (c .before .before .before .if2 .left) (c .before .before .if3 .left) (c .before .if4 .left)) (c .if5 .left) refl refl
 
 pub judge-schedule-spec : {M : Type 1} → statement M
 judge-schedule-spec =
