@@ -3,13 +3,11 @@
 use mathlib.Core.Path.{_≡_}
 use mathlib.Core.Bool.{cond}
 use mathlib.Core.List.{List}
-use Prim.Native.Nat.{ℕ}
-use lib.Dec.{eqb}
-use lib.ListN.{length}
+use Prim.Native.Nat.{ℕ, _*_}
+use lib.Dec.{eqb, leb}
 use Rattle.rules.specs.Moves as rules
-use Rattle.rules.specs.Format.{processesIn, validateTable}
+use Rattle.rules.specs.Format.{orNumber}
 use Rattle.rules.specs.Schedule.{commandsIn, command, validateSchedule}
-use Rattle.rules.specs.Run.{validateRun}
 use Rattle.table.specs.declared.schedule.Command.{Command}
 use Rattle.table.specs.declared.schedule.Judged.{Judged}
 
@@ -22,7 +20,12 @@ pub record ScheduleJudged (schedule : List ℕ) (r : Judged) : Type 0 where
   pub number-is : r .number ≡ validateSchedule schedule
   pub records-is : r .records ≡ cond (eqb (validateSchedule schedule) 0) (commandsIn schedule) 0
 
--- What judging a run finds, from the table's number, its processes where it is accepted, the judged schedule and the buffers' lengths.
-pub record RunJudged (number processes : ℕ) (judged : Judged) (answered reported r : ℕ) : Type 0 where
-  pub number-is : (table schedule answers report : List ℕ) → number ≡ validateTable table → (number ≡ 0 → processes ≡ processesIn table)
-      → ScheduleJudged schedule judged → answered ≡ length answers → reported ≡ length report → r ≡ validateRun table schedule answers report
+-- 0, or the number that refuses a run: from the table's number and its processes, the judged schedule, and the buffers' lengths.
+-- (proofs/Judged.antt: of the table and the schedule that were judged it is the rules' `validateRun`.)
+unfoldable pub judgedRun : ℕ → ℕ → Judged → ℕ → ℕ → ℕ
+judgedRun number processes judged answered reported =
+    orNumber (eqb number 0) number
+    (orNumber (eqb (judged .number) 0) (judged .number)
+    (orNumber (leb (6 * judged .records) answered) 11
+    (orNumber (leb (20 * processes) reported) 12
+    0)))

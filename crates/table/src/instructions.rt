@@ -6,29 +6,18 @@ ghost use mathlib.Core.Bool.{true, _&&_};
 ghost use Rattle.rules.specs.Judge.{instructionsOk};
 ghost use Rattle.rules.specs.Format.{recordsStart, recordLength, decodeTable, extentOk, codesOk};
 ghost use Rattle.table.specs.Judging.{endIs, channelsPass, maskOk, passes, programOk, recordOk};
+use crate::bytes::wide;
+use crate::extent::CHANNELS;
+use crate::extent::PROCESSES;
+use crate::extent::READER;
+use crate::extent::SENDER;
 use crate::fetch::Instruction;
 use crate::fetch::fetch;
-
-// Bytes of the table that say how many processes and channels it has.
-const PROCESSES: usize = 4;
-
-const CHANNELS: usize = 5;
-
-// A channel's pair begins at 6 plus twice its number, with the sender; the reader is behind it.
-const SENDER: usize = 6;
-
-const READER: usize = 7;
 
 // A record's n is its byte 2, and its instructions begin at 3.
 const N: usize = 2;
 
 const PROGRAM: usize = 3;
-
-fn wide(x: u8) -> usize
-    ensures { λ r. ⌜ r ≡ x ⌝ }
-{
-    x as usize
-}
 
 fn wider(x: u32) -> usize
     ensures { λ r. ⌜ r ≡ x ⌝ }

@@ -1,16 +1,14 @@
 // A schedule's bytes: numbers 9 and 10, and its commands; then the numbers of a whole run.
 ghost use mathlib.Core.Path.{_≡_};
-ghost use Rattle.rules.specs.Moves.{Command as CommandOf};
 ghost use Rattle.rules.specs.Schedule.{decodeSchedule, command};
-ghost use Rattle.table.specs.Commands.{commandOf, ScheduleJudged, RunJudged};
+ghost use Rattle.table.specs.Commands.{commandOf, ScheduleJudged, judgedRun};
 ghost use lib.ListN.{getD};
-use crate::six::number16_of;
+use crate::bytes::pair;
+use crate::extent::VERSION;
 use crate::six::six_at;
 
 // Where the commands begin: behind the length's two bytes and the version.
 const FIRST_COMMAND: usize = 3;
-
-const VERSION: usize = 2;
 
 const COMMANDS_MOST: usize = 10000;
 
@@ -41,17 +39,19 @@ pub fn judge_schedule(schedule: &[u8]) -> Judged
     if len < FIRST_COMMAND {
         return refused(9);
     }
-    if number16_of(schedule[0], schedule[1]) + 2 != len {
+    let field = pair(schedule[0], schedule[1]);
+    let version = schedule[VERSION];
+    let records = (len - FIRST_COMMAND) / 6;
+    if field + 2 != len {
         return refused(9);
     }
-    let records = (len - FIRST_COMMAND) / 6;
     if FIRST_COMMAND + 6 * records != len {
         return refused(9);
     }
     if records > COMMANDS_MOST {
         return refused(9);
     }
-    if schedule[VERSION] != 1 {
+    if version != 1 {
         return refused(10);
     }
     Judged { number: 0, records }
@@ -78,15 +78,17 @@ pub fn judge_run(
     answers: usize,
     report: usize,
 ) -> u8
-    ensures { λ r. ⌜ RunJudged «table_number» processes schedule answers report r ⌝ }
+    ensures { λ r. ⌜ r ≡ judgedRun «table_number» processes schedule answers report ⌝ }
 {
+    let schedule_number = schedule.number;
+    let records = schedule.records;
     if table_number != 0 {
         return table_number;
     }
-    if schedule.number != 0 {
-        return schedule.number;
+    if schedule_number != 0 {
+        return schedule_number;
     }
-    if answers / 6 < schedule.records {
+    if answers / 6 < records {
         return 11;
     }
     if report / 20 < processes {

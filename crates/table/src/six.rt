@@ -1,18 +1,12 @@
 // Six bytes as document 01 lays out an instruction and a schedule record alike: two bytes and a big-endian word.
 ghost use mathlib.Core.Path.{_≡_};
-ghost use Rattle.rules.specs.Bytes.{number16, number32};
+ghost use Rattle.rules.specs.Bytes.{number32};
 ghost use Rattle.table.specs.Six.{sixAt};
 
 pub struct Six {
     pub first: u8,
     pub second: u8,
     pub word: u32,
-}
-
-pub fn number16_of(b1: u8, b0: u8) -> usize
-    ensures { λ r. ⌜ r ≡ number16 b1 b0 ⌝ }
-{
-    (b1 as usize) * 256 + (b0 as usize)
 }
 
 pub fn number32_of(b3: u8, b2: u8, b1: u8, b0: u8) -> u32
