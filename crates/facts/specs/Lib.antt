@@ -5,3 +5,6 @@ pub mod Indexing
 pub mod Counts
 pub mod Sums
 pub mod Rings
+pub mod Ranges
+pub mod Bits
+pub mod Walks
