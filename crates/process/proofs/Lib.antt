@@ -4,3 +4,7 @@ pub mod Rows
 pub mod Backups
 pub mod Readdressing
 pub mod Promoting
+pub mod Examining
+pub mod Cells
+pub mod Computing
+pub mod Taking

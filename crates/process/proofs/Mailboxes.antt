@@ -105,7 +105,7 @@ pub record Shifting (mail₀ : List ℕ) (n at : ℕ) (mail : List ℕ) (i : ℕ
 module _ (mail₀ : List ℕ) (n at : ℕ) where
   -- no such word, or too many
   pub removed-none : (n ≤ logMost → at < n → ⊥) → Removed mail₀ n at mail₀
-  removed-none h = record { same-length = refl; rest = λ l s k. absurd (h s k) }
+  removed-none h = record { untouched = λ l. refl; same-length = refl; rest = λ l s k. absurd (h s k) }
 
   pub shifting-start : n ≤ logMost → at < n → Shifting mail₀ n at mail₀ (at + 1)
   shifting-start s h = record {
@@ -139,7 +139,7 @@ module _ (mail₀ : List ℕ) (n at : ℕ) where
         }
 
     pub shifting-end : n ≤ i → Removed mail₀ n at mail
-    shifting-end h = record { same-length = p .same-length; rest = λ l s k. whole l }
+    shifting-end h = record { untouched = λ l. absurd (let a = p .first in let b = p .last in omega arith); same-length = p .same-length; rest = λ l s k. whole l }
       where
         cell : length mail₀ ≡ logMost → (k : ℕ) → k < n - 1 → getD mail k 0 ≡ getD (removeAt at (prefix n mail₀)) k 0
         cell l k z =
@@ -169,10 +169,11 @@ mail-packed channel word h =
 
 module _ (mail : List ℕ) (n channel word : ℕ) where
   pub appended-none : logMost ≤ n → Appended mail n channel word mail
-  appended-none h = record { same-length = refl; more = λ l s. absurd (omega arith) }
+  appended-none h = record { untouched = λ l. refl; same-length = refl; more = λ l s. absurd (omega arith) }
 
-  pub appended-at : word < 2 ^ 32 → Appended mail n channel word (set mail n (packMail channel word))
-  appended-at h = record {
+  pub appended-at : n < logMost → word < 2 ^ 32 → Appended mail n channel word (set mail n (packMail channel word))
+  appended-at b h = record {
+    untouched = λ l. absurd (omega arith);
     same-length = length-set mail n (packMail channel word);
     more = λ l s.
         ap (map mailIn) (prefix-push n mail (packMail channel word) (omega arith))

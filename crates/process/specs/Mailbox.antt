@@ -15,19 +15,21 @@ use Rattle.process.specs.Row.{mailIn, mailsIn}
 abbrev pub names : ℕ → ℕ → ℕ → Bool
 names code operand channel = cond (eqb code 4) (bit operand channel) (eqb operand channel)
 
--- The look for the oldest of n words on a channel that passes a test: its place r, or n where no word is on one.
+-- The look for the oldest of n words on a channel that passes a test: its index r, or n where no word is on one.
 pub record Looks (passes : ℕ → Bool) (mail : List ℕ) (n r : ℕ) : Type 0 where
   pub no-more : r ≤ n
   pub finds : n ≤ logMost → r < n → pull passes (mailsIn n mail) ≡ found (mailIn (getD mail r 0)) (removeAt r (mailsIn n mail))
   pub misses : n ≤ logMost → n ≤ r → pull passes (mailsIn n mail) ≡ nothing
 
--- of n words, the one at a place is taken out
+-- of n words, the one at an index is taken out; if no word stands there, none is
 pub record Removed (mail : List ℕ) (n at : ℕ) (mail′ : List ℕ) : Type 0 where
+  pub untouched : n ≤ at → mail′ ≡ mail
   pub same-length : length mail′ ≡ length mail
   pub rest : length mail ≡ logMost → n ≤ logMost → at < n → mailsIn (n - 1) mail′ ≡ removeAt at (mailsIn n mail)
 
--- behind n words, one more
+-- behind n words, one more; a full mailbox takes none
 pub record Appended (mail : List ℕ) (n channel word : ℕ) (mail′ : List ℕ) : Type 0 where
+  pub untouched : logMost ≤ n → mail′ ≡ mail
   pub same-length : length mail′ ≡ length mail
   pub more : length mail ≡ logMost → n < logMost
       → mailsIn (suc n) mail′ ≡ mailsIn n mail ++ (record { channel = channel; word = word } ∷ [])

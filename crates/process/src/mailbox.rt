@@ -57,7 +57,7 @@ pub fn named(code: u32, operand: u32, channel: u32) -> bool
     }
 }
 
-// The place of the oldest word that a TAKE or a FIRST names; where there is none, `unread`.
+// The index of the oldest word that a TAKE or a FIRST names; where there is none, `unread`.
 pub fn look(mail: &[u64; MAIL], unread: usize, code: u32, operand: u32) -> usize
     ensures { λ r. ⌜ Looks (names code operand) (now (mail .entry)) unread r ⌝ }
 {
@@ -74,7 +74,7 @@ pub fn look(mail: &[u64; MAIL], unread: usize, code: u32, operand: u32) -> usize
     unread
 }
 
-// Takes the word at a place out: those behind it move one place forward.
+// Takes the word at an index out: those behind it move forward by one.
 pub fn remove(mail: &mut [u64; MAIL], unread: usize, at: usize)
     ensures { λ _. ⌜ Removed (now (mail .entry)) unread at (now (mail .exit)) ⌝ }
 {

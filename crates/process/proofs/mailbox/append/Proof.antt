@@ -21,7 +21,7 @@ element-write-mail c = search needs
 
 -- src/mailbox.rt:30:1
 returns : tie.Need-returns
-returns c = rw (c .packed .ensures) (appended-at _ _ _ _ (c .before .before .fits .word .fits))
+returns c = rw (c .packed .ensures) (appended-at _ _ _ _ (c .before .if1 .taken) (c .before .before .fits .word .fits))
 
 -- src/mailbox.rt:30:1
 returns-2 : tie.Need-returns-2
