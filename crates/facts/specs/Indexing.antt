@@ -1,4 +1,4 @@
--- Elements by their index: of a mapped list, and of one whose elements all pass a test.
+-- Elements by their index: of a mapped list, and of one whose elements all pass a test; and what two functions make of such a list.
 -- Assumes nothing.
 use mathlib.Core.Path.{_≡_, refl}
 use mathlib.Core.Bool.{Bool, true, false, _&&_}
@@ -23,3 +23,9 @@ pub all-of : {A : Type 0} (f : A → Bool) (l : List A) → allOf f l ≡ true �
 all-of f [] h j d l = absurd (not-suc-le-zero l)
 all-of f (x ∷ xs) h zero d l = and-left (f x) (allOf f xs) h
 all-of f (x ∷ xs) h (suc j) d l = all-of f xs (and-right (f x) (allOf f xs) h) j d (le-of-suc-le-suc l)
+
+-- two functions that agree on what passes a test, on a list of which every element does
+pub map-agree : {A B : Type 0} (test : A → Bool) (f g : A → B) → ((x : A) → test x ≡ true → f x ≡ g x) → (l : List A) → allOf test l ≡ true
+    → map f l ≡ map g l
+map-agree test f g h [] k = refl
+map-agree test f g h (x ∷ l) k = λ i. h x (and-left (test x) (allOf test l) k) i ∷ map-agree test f g h l (and-right (test x) (allOf test l) k) i

@@ -9,7 +9,7 @@ use native.Mathlib.Omega.{arith}
 use lib.Dec.{eqb, ltb}
 use lib.ListN.{length, getD, set, length-set, length-map}
 use borrow.Author.Tests.{eq-eqb, ne-eqb, ltb-true}
-use Rattle.facts.specs.Tests.{allOf, and-left, and-right}
+use Rattle.facts.specs.Indexing.{map-agree}
 use Rattle.backup.specs.Limits.{logMost, ports}
 use Rattle.backup.specs.Replica.{Message, Replica, FailOver, fit, onPorts, failOver}
 use Rattle.backup.specs.Accepts.{Fit, fit-parts}
@@ -35,12 +35,6 @@ restored-words row p a b c d e f g h =
     (stored 4 (p .r2) d (stored 3 (p .r1) c (stored 2 (p .r0) b (stored 1 (p .pc) a (stored 0 (getD row 13 0) (h .word 13) h)))))))))))))
 
 -- ---- the mailbox
-
--- two functions that agree on what passes a test, on a list of which every element does
-map-agree : {A B : Type 0} (test : A → Bool) (f g : A → B) → ((x : A) → test x ≡ true → f x ≡ g x) → (l : List A) → allOf test l ≡ true
-    → map f l ≡ map g l
-map-agree test f g h [] k = refl
-map-agree test f g h (x ∷ l) k = λ i. h x (and-left (test x) (allOf test l) k) i ∷ map-agree test f g h l (and-right (test x) (allOf test l) k) i
 
 -- with the channels of a process's ports, what the rules put in the mailbox
 routed : (t : Table) (p : ℕ) (channels : List ℕ) → Routes t p channels → (l : List Message) → onPorts l ≡ true

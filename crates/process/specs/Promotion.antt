@@ -31,6 +31,7 @@ restoredIn row p =
     let b = set (set (set (set (set (set a 6 (p .sent)) 7 0) 8 0) 9 0) 10 0) 11 0 in
     set (set b 12 0) 14 (p .len)
 
+-- .. and words stay words
 pub record Restored (row : List ℕ) (p : Promotion) (row′ : List ℕ) : Type 0 where
   pub row-is : row′ ≡ restoredIn row p
   pub words : ((i : ℕ) → getD row i 0 < 2 ^ 32) → (i : ℕ) → getD row′ i 0 < 2 ^ 32
@@ -43,11 +44,13 @@ standbyIn row log head = record { board = getD row 13 0; replica = viewIn log he
 abbrev pub Routes : Table → ℕ → List ℕ → Type 0
 Routes t p channels = (i : ℕ) → i < ports → channelOn t p i ≡ getD channels i 0
 
+-- the process goes on as the standby that its row shows, and no list but its row and its mailbox changes
 abbrev pub Promoted : List ℕ → List ℕ → List ℕ → List ℕ → List ℕ → List ℕ → List ℕ → Type 0
 Promoted row mail log head row′ mail′ channels =
     Kept row mail log head → (t : Table) (p : ℕ) → Routes t p channels
     → Became row mail log head row′ mail′ log head (λ x. promoted t p (standbyIn row log head))
 
+-- what the crash of board b makes of it
 abbrev pub Crashed : List ℕ → List ℕ → List ℕ → List ℕ → List ℕ → List ℕ → ℕ → List ℕ → Type 0
 Crashed row mail log head row′ mail′ b channels =
     Kept row mail log head → (t : Table) (p : ℕ) → Routes t p channels
