@@ -1,20 +1,19 @@
 -- Numbers 1 to 4: the tests of a table's head, and the walk over its records.
 -- Assumes nothing.
-use mathlib.Core.Path.{_≡_, refl, ap, sym, _∙_, subst}
-use mathlib.Core.Bool.{Bool, true, false, cond, _&&_}
+use mathlib.Core.Path.{_≡_, refl, ap, ap₂, sym, _∙_}
+use mathlib.Core.Bool.{Bool, true, false, cond, _&&_, and-assoc}
 use mathlib.Core.List.{List, [], _∷_}
-use Prim.Native.Nat.{ℕ, zero, suc, _+_, _-_, _*_, _≤_, _<_}
+use Prim.Native.Nat.{ℕ, suc, _+_, _-_, _*_, _≤_, _<_}
 use native.Mathlib.Omega.{arith}
 use lib.Dec.{eqb, leb}
 use lib.ListN.{length, drop, length-drop}
 use lib.Seq.{drop-drop}
 use borrow.Author.Tests.{le-leb, lt-leb, leb-true, eq-eqb, ne-eqb}
-use Rattle.facts.specs.Tests.{and-left, and-right, by-eq}
-use Rattle.facts.specs.Walks.{Along, Walk, walk-start, walk-on, walk-refused, walk-end}
+use Rattle.facts.specs.Tests.{and-right}
 use Rattle.backup.specs.Limits.{pcMost}
 use Rattle.rules.specs.Cabinet.{isEmpty}
-use Rattle.rules.specs.Format.{lengthField, tableMost, processesIn, programLength, recordLength, recordsStart, recordBytes, lengthOk, recordsOk, extentOk}
-use Rattle.table.specs.Parts.{recordOk, recordIn}
+use Rattle.rules.specs.Format.{lengthField, tableMost, versionIn, processesIn, programLength, recordLength, recordsStart, recordBytes, orNumber, lengthOk, countsOk, recordsOk, extentOk}
+use Rattle.table.specs.Parts.{recordOk, recordIn, framing}
 
 -- ---- number 1
 
@@ -63,17 +62,11 @@ record-failed rest e = go (recordOk rest) refl
 
 -- ---- number 4, all records
 
-and-first : (a b c : Bool) → (a && (b && c)) ≡ ((a && b) && c)
-and-first true b c = refl
-and-first false b c = refl
-
-pub records-along : Along recordLength recordOk recordsOk
-records-along n l = and-first (leb (programLength l) pcMost) (leb (recordLength l) (length l)) (recordsOk n (drop (recordLength l) l))
-
--- p of n records have passed, and the next begins at `at`
+-- p of n records have passed, the next begins at `at`, and what is left decides
 pub record Extending (bytes : List ℕ) (n at p : ℕ) : Type 0 where
   pub within : at ≤ length bytes
-  pub walk : Walk recordLength recordsOk n (recordBytes bytes) p (drop at bytes)
+  pub passed : p ≤ n
+  pub left : recordsOk n (recordBytes bytes) ≡ recordsOk (n - p) (drop at bytes)
 
 -- the records end with the table, or not
 empty-at : (l : List ℕ) (at : ℕ) → at ≤ length l → isEmpty (drop at l) ≡ eqb at (length l)
@@ -85,34 +78,37 @@ empty-at l at h = go (drop at l) (length-drop at l)
 
 module _ (bytes : List ℕ) (n : ℕ) where
   pub extending-start : (at : ℕ) → at ≡ recordsStart bytes → at ≤ length bytes → Extending bytes n at 0
-  extending-start at e h = record {
-    within = h;
-    walk = subst (λ (i : ℕ). Walk recordLength recordsOk n (recordBytes bytes) 0 (drop i bytes)) (sym e) (walk-start recordLength recordOk recordsOk n (recordBytes bytes));
-  }
+  extending-start at e h =
+      record { within = h; passed = omega arith; left = ap₂ (λ (m i : ℕ). recordsOk m (drop i bytes)) (let z : n ≡ n - 0 = omega arith in z) (sym e) }
 
   module _ (at p size : ℕ) (x : Extending bytes n at p) (h : p < n) (e : size ≡ recordIn (drop at bytes)) where
+    -- the next record, and then those behind it
+    next : recordsOk n (recordBytes bytes) ≡ (recordOk (drop at bytes) && recordsOk (n - (p + 1)) (drop (recordLength (drop at bytes)) (drop at bytes)))
+    next =
+        x .left ∙ ap (λ (m : ℕ). recordsOk m (drop at bytes)) (let z : n - p ≡ suc (n - (p + 1)) = omega arith in z)
+        ∙ sym (and-assoc (leb (programLength (drop at bytes)) pcMost) (leb (recordLength (drop at bytes)) (length (drop at bytes))) _)
+
     pub extending-on : (size ≡ 0 → ⊥) → Extending bytes n (at + size) (p + 1)
     extending-on k =
-        let passed = record-passed (drop at bytes) size e k in
-        let same : size ≡ recordLength (drop at bytes) = e ∙ ap (λ (t : Bool). cond t (recordLength (drop at bytes)) 0) passed in
-        let fits = leb-true (recordLength (drop at bytes)) (length (drop at bytes)) (and-right (leb (programLength (drop at bytes)) pcMost) _ passed) in
+        let ok = record-passed (drop at bytes) size e k in
+        let same : size ≡ recordLength (drop at bytes) = e ∙ ap (λ (t : Bool). cond t (recordLength (drop at bytes)) 0) ok in
+        let fits = leb-true (recordLength (drop at bytes)) (length (drop at bytes)) (and-right (leb (programLength (drop at bytes)) pcMost) _ ok) in
         let long = length-drop at bytes in
         let before = x .within in
         record {
           within = omega arith;
-          walk = subst (λ (l : List ℕ). Walk recordLength recordsOk n (recordBytes bytes) (p + 1) l)
-              (ap (λ (i : ℕ). drop i (drop at bytes)) (sym same) ∙ drop-drop size at bytes)
-              (walk-on recordLength recordOk recordsOk n (recordBytes bytes) records-along p (drop at bytes) (x .walk) h passed);
+          passed = omega arith;
+          left = next ∙ ap (λ (t : Bool). t && recordsOk (n - (p + 1)) (drop (recordLength (drop at bytes)) (drop at bytes))) ok
+              ∙ ap (recordsOk (n - (p + 1))) (ap (λ (i : ℕ). drop i (drop at bytes)) (sym same) ∙ drop-drop size at bytes);
         }
 
     pub extending-refused : size ≡ 0 → recordsOk n (recordBytes bytes) ≡ false
     extending-refused k =
-        walk-refused recordLength recordOk recordsOk n (recordBytes bytes) records-along p (drop at bytes) (x .walk) h
-        (record-failed (drop at bytes) (sym k ∙ e))
+        next ∙ ap (λ (t : Bool). t && recordsOk (n - (p + 1)) (drop (recordLength (drop at bytes)) (drop at bytes))) (record-failed (drop at bytes) (sym k ∙ e))
 
   pub extending-end : (at p : ℕ) → Extending bytes n at p → n ≤ p → recordsOk n (recordBytes bytes) ≡ eqb at (length bytes)
   extending-end at p x h =
-      walk-end recordLength recordOk recordsOk n (recordBytes bytes) records-along p (drop at bytes) (x .walk) h ∙ empty-at bytes at (x .within)
+      x .left ∙ ap (λ (m : ℕ). recordsOk m (drop at bytes)) (let z : n - p ≡ 0 = omega arith in z) ∙ empty-at bytes at (x .within)
 
 -- ---- number 4
 
@@ -124,3 +120,10 @@ pub extent-says : (bytes : List ℕ) (start n : ℕ) → start ≡ recordsStart 
     → extentOk bytes ≡ recordsOk n (recordBytes bytes)
 unfolding extentOk
 extent-says bytes start n e h k = rw (le-leb (recordsStart bytes) (length bytes) (omega arith), k)
+
+-- ---- the four in order, from any tests that say the same
+
+pub framing-from : (bytes : List ℕ) {a b c d : Bool} → a ≡ lengthOk bytes → b ≡ eqb (versionIn bytes) 1 → c ≡ countsOk bytes → d ≡ extentOk bytes
+    → orNumber a 1 (orNumber b 2 (orNumber c 3 (orNumber d 4 0))) ≡ framing bytes
+unfolding framing
+framing-from bytes e f g h = rw (e, f, g, h)

@@ -19,10 +19,10 @@ use Rattle.rules.proofs.Valid.{channels-counted}
 use Rattle.table.specs.Judging.{endIs}
 
 -- the pair at byte i of a list
-abbrev pairAt : List ℕ → ℕ → Channel
+abbrev pub pairAt : List ℕ → ℕ → Channel
 pairAt l i = record { sender = byteAt l i; reader = byteAt l (i + 1) }
 
-pair-drop : (l : List ℕ) (at i : ℕ) → pairAt (drop at l) i ≡ pairAt l (at + i)
+pub pair-drop : (l : List ℕ) (at i : ℕ) → pairAt (drop at l) i ≡ pairAt l (at + i)
 pair-drop l at i =
     ap (λ (b : ℕ). record { sender = b; reader = byteAt (drop at l) (i + 1) }) (getD-drop at l i 0)
     ∙ ap (λ (b : ℕ). record { sender = byteAt l (at + i); reader = b }) (getD-drop at l (i + 1) 0 ∙ ap (byteAt l) (omega arith))

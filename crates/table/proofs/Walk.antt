@@ -1,16 +1,16 @@
 -- Number 8 over programs and records: what the walk finds, place by place, is what the rules say of the whole table.
 -- Assumes nothing.
-use mathlib.Core.Path.{_≡_, refl, ap, ap₂, sym, _∙_}
+use mathlib.Core.Path.{_≡_, ap, ap₂, sym, _∙_}
 use mathlib.Core.Bool.{Bool, true, false, not, _&&_}
 use mathlib.Core.List.{List, []}
-use Prim.Native.Nat.{ℕ, zero, suc, _+_, _-_, _*_, _/_, _≤_, _<_}
+use Prim.Native.Nat.{ℕ, _+_, _-_, _*_, _/_, _≤_, _<_}
 use native.Mathlib.Omega.{arith}
 use native.Mathlib.Numerals.{add-one}
 use lib.ListN.{length, getD, take, drop, length-drop}
-use borrow.Author.Tests.{not-true, not-false}
-use Rattle.facts.specs.Tests.{allOf, allBelow, and-both}
+use Rattle.facts.specs.Tests.{allOf, allBelow}
 use Rattle.facts.specs.Lists.{part-rest}
-use Rattle.facts.specs.Ranges.{all-fails, all-same, all-and, all-listed}
+use Rattle.facts.specs.Walks.{Walked, walk-start, walk-on, walk-fails, walk-end}
+use Rattle.facts.specs.Ranges.{all-same, all-and, all-listed}
 use Rattle.rules.specs.Table.{Table, Instruction, SET, codeOf}
 use Rattle.rules.specs.Bytes.{sixes}
 use Rattle.rules.specs.Format.{processesIn, channelsIn, recordBytes, programLength, recordLength, rests, isCode, instruction, codesIn, decodeTable, extentOk, codesOk}
@@ -21,27 +21,6 @@ use Rattle.table.specs.Judging.{passes, programOk, recordOk}
 use Rattle.table.specs.Records.{recordStart}
 use Rattle.table.proofs.Sixes.{six-from}
 use Rattle.table.proofs.Programs.{fetched-is, rest-is, code-is, record-within}
-
--- ---- a walk over a range that stops at the first that fails
-
--- the first k of n pass
-pub record Walked (f : ℕ → Bool) (n k : ℕ) : Type 0 where
-  pub within : k ≤ n
-  pub passed : allBelow f k ≡ true
-
-module _ (f : ℕ → Bool) (n : ℕ) where
-  pub walk-start : Walked f n 0
-  walk-start = record { within = omega arith; passed = refl }
-
-  pub walk-on : (k : ℕ) (r : Bool) → Walked f n k → k < n → r ≡ f k → not r ≡ false → Walked f n (k + 1)
-  walk-on k r w l e h =
-      record { within = omega arith; passed = rw add-one (and-both (f k) (allBelow f k) (sym e ∙ not-false r h) (w .passed)) }
-
-  pub walk-fails : (k : ℕ) (r : Bool) → k < n → r ≡ f k → not r ≡ true → false ≡ allBelow f n
-  walk-fails k r l e h = sym (all-fails f n k l (sym e ∙ not-true r h))
-
-  pub walk-end : (k : ℕ) → Walked f n k → n ≤ k → true ≡ allBelow f n
-  walk-end k w h = let l = w .within in let e : k ≡ n = omega arith in sym (ap (allBelow f) (sym e) ∙ w .passed)
 
 -- ---- a program
 

@@ -3,7 +3,7 @@ ghost use mathlib.Core.Path.{_≡_};
 ghost use mathlib.Core.Bool.{_&&_};
 ghost use lib.Dec.{eqb, leb};
 ghost use Rattle.rules.specs.Format.{versionIn, recordsStart, lengthOk, countsOk, extentOk};
-ghost use Rattle.table.specs.Parts.{recordIn};
+ghost use Rattle.table.specs.Parts.{recordIn, framing};
 use crate::bytes::byte;
 use crate::bytes::pair;
 use crate::bytes::wide;
@@ -18,6 +18,10 @@ pub const PROCESSES: usize = 4;
 pub const CHANNELS: usize = 5;
 
 pub const HEAD: usize = 6;
+// Where the pair of channel 0 has its ends; that of channel k stands 2 k further.
+pub const SENDER: usize = 6;
+
+pub const READER: usize = 7;
 
 // The sizes, each named once; rules/specs/Format.antt names the same numbers for the definitions.
 const TABLE_MOST: usize = 6260;
@@ -33,7 +37,7 @@ const CHANNELS_MOST: u8 = 32;
 const PROGRAM_MOST: usize = 64;
 
 // 1: at least a head, and a length field that is at most 6,260 and the true one.
-pub fn length_ok(table: &[u8]) -> bool
+fn length_ok(table: &[u8]) -> bool
     ensures { λ r. ⌜ r ≡ lengthOk (now (table .entry)) ⌝ }
 {
     if table.len() < HEAD {
@@ -47,7 +51,7 @@ pub fn length_ok(table: &[u8]) -> bool
 }
 
 // 2: the version.
-pub fn version_ok(table: &[u8]) -> bool
+fn version_ok(table: &[u8]) -> bool
     ensures { λ r. ⌜ r ≡ eqb (versionIn (now (table .entry))) 1 ⌝ }
 {
     byte(table, VERSION) == 1
@@ -56,19 +60,16 @@ pub fn version_ok(table: &[u8]) -> bool
 fn within(low: u8, n: u8, high: u8) -> bool
     ensures { λ r. ⌜ r ≡ (leb low n && leb n high) ⌝ }
 {
-    if low <= n { n <= high } else { false }
+    low <= n && n <= high
 }
 
 // 3: the counts of boards, processes and channels.
-pub fn counts_ok(table: &[u8]) -> bool
+fn counts_ok(table: &[u8]) -> bool
     ensures { λ r. ⌜ r ≡ countsOk (now (table .entry)) ⌝ }
 {
-    if within(BOARDS_LEAST, byte(table, BOARDS), BOARDS_MOST) {
-        if within(1, byte(table, PROCESSES), PROCESSES_MOST) {
-            return within(1, byte(table, CHANNELS), CHANNELS_MOST);
-        }
-    }
-    false
+    within(BOARDS_LEAST, byte(table, BOARDS), BOARDS_MOST)
+        && (within(1, byte(table, PROCESSES), PROCESSES_MOST)
+            && within(1, byte(table, CHANNELS), CHANNELS_MOST))
 }
 
 // Where the first record begins, behind the pairs.
@@ -94,7 +95,7 @@ fn record_length(rest: &[u8]) -> usize
 }
 
 // 4: each record has at most 64 instructions, and pairs and records end exactly with the table.
-pub fn extent_ok(table: &[u8]) -> bool
+fn extent_ok(table: &[u8]) -> bool
     ensures { λ r. ⌜ r ≡ extentOk (now (table .entry)) ⌝ }
 {
     let mut at = records_start(table);
@@ -112,4 +113,23 @@ pub fn extent_ok(table: &[u8]) -> bool
         p += 1;
     }
     at == table.len()
+}
+
+// 0 where numbers 1 to 4 hold, or the lowest that doesn't.
+pub fn judge_extent(table: &[u8]) -> u8
+    ensures { λ r. ⌜ r ≡ framing (now (table .entry)) ⌝ }
+{
+    if !length_ok(table) {
+        return 1;
+    }
+    if !version_ok(table) {
+        return 2;
+    }
+    if !counts_ok(table) {
+        return 3;
+    }
+    if !extent_ok(table) {
+        return 4;
+    }
+    0
 }

@@ -9,13 +9,10 @@ ghost use Rattle.table.specs.Judging.{endIs, channelsPass, maskOk, passe
 use crate::bytes::wide;
 use crate::extent::CHANNELS;
 use crate::extent::PROCESSES;
+use crate::extent::READER;
+use crate::extent::SENDER;
 use crate::fetch::Instruction;
 use crate::fetch::fetch;
-
-// A channel's pair begins at 6 plus twice its number, with the sender; the reader is behind it.
-const SENDER: usize = 6;
-
-const READER: usize = 7;
 
 // A record's n is its byte 2, and its instructions begin at 3.
 const N: usize = 2;

@@ -2,7 +2,8 @@ use mathlib.Core.Path.{ap, _∙_}
 use Prim.Native.Nat.{_-_}
 use Rattle.rules.specs.Format.{decodeTable}
 use Rattle.table.specs.Judging.{passes, programOk}
-use Rattle.table.proofs.Walk.{Walked, walk-start, walk-on, walk-fails, walk-end, placePasses}
+use Rattle.facts.specs.Walks.{Walked, walk-start, walk-on, walk-fails, walk-end}
+use Rattle.table.proofs.Walk.{placePasses}
 use borrow.Author.Needs.{needs}
 use native.Mathlib.Omega.{arith}
 use Rattle.table.proofs.instructions.program_ok.Statement.{statement}
