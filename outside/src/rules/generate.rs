@@ -69,8 +69,8 @@ fn channel(random: &mut Random, processes: u32, free: &[u8]) -> Channel {
     let reader = random.pick(free);
     match random.below(8) {
         0 => Channel { sender: reader, reader },
-        1..=3 => Channel { sender: OUTSIDE, reader },
-        4 => Channel { sender: some, reader: OUTSIDE },
+        1..=2 => Channel { sender: OUTSIDE, reader },
+        3..=4 => Channel { sender: some, reader: OUTSIDE },
         _ => Channel { sender: some, reader },
     }
 }
@@ -176,7 +176,7 @@ struct Habits {
 
 fn habits(random: &mut Random) -> Habits {
     let weights = [40, 3, 30, 15, 2];
-    let seldom = random.below(8) as usize;
+    let seldom = random.pick(&[0, 1, 2, 2, 2, 3, 4, 5, 5]);
     let mut habits = Habits { weights, row: random.pick(&[1, 1, 4, 12]) };
     if let Some(weight) = habits.weights.get_mut(seldom) {
         *weight = 1;
