@@ -1,15 +1,11 @@
 //! The marked cases M1 to M13 of document 01, the ninth take, buffers, schedules and refused pages.
+use super::generate::encode_schedule;
 use super::page::page;
-use super::reader::{judge_run, judge_table, Record};
+use super::reader::{judge_run, judge_schedule, judge_table, Record};
+use super::sample::{carry, crash, feed, sample_schedule, step, SAMPLE};
 use super::simulator::{run, Answer, Backup, Cabinet, Message, Outcome, Snapshot};
-use super::{generate::encode_schedule, reader::judge_schedule};
 
-/// "Sample table, hex"
-const SAMPLE: [u8; 37] = [
-    0x00, 0x23, 0x01, 0x02, 0x01, 0x02, 0xFF, 0x00, 0x00, 0xFF, 0x00, 0x01, 0x04, 0x03, 0x00, 0x00, 0x00, 0x00, 0x00, 0x02, 0x01,
-    0x00, 0x00, 0x00, 0x00, 0x05, 0x01, 0x00, 0x00, 0x00, 0x01, 0x06, 0x00, 0x00, 0x00, 0x00, 0x00,
-];
-
+/// M13.
 const PAGE: &str = "records 20
 1 4 0 5
 2 4 0 7
@@ -35,22 +31,6 @@ process 0 1 0 0 0 7 12 0 0
 quiet 1
 ";
 
-fn step(a: u8) -> Record {
-    Record { kind: 1, a, word: 0 }
-}
-
-fn carry(a: u8) -> Record {
-    Record { kind: 3, a, word: 0 }
-}
-
-fn feed(a: u8, word: u32) -> Record {
-    Record { kind: 4, a, word }
-}
-
-fn crash(a: u8) -> Record {
-    Record { kind: 5, a, word: 0 }
-}
-
 /// The answers of the sample's cabinet, or of another table's.
 fn answers(table: &[u8], records: &[Record]) -> Vec<(u8, u8, u32)> {
     let table = judge_table(table).unwrap();
@@ -63,18 +43,6 @@ fn number(at: usize, byte: u8) -> u8 {
     let mut table = SAMPLE;
     table[at] = byte;
     judge_table(&table).err().unwrap_or(0)
-}
-
-/// "feed 0 with 5, then 7; step 0 three times; carry 0; step four times; crash 0; step seven times; carry 1; step"
-fn sample_schedule() -> Vec<u8> {
-    let mut records = vec![feed(0, 5), feed(0, 7)];
-    records.extend([step(0); 3]);
-    records.push(carry(0));
-    records.extend([step(0); 4]);
-    records.push(crash(0));
-    records.extend([step(0); 7]);
-    records.extend([carry(1), step(0)]);
-    encode_schedule(&records)
 }
 
 #[test]
@@ -120,7 +88,7 @@ fn m12() {
 #[test]
 fn m13() {
     let mut input = SAMPLE.to_vec();
-    input.extend(sample_schedule());
+    input.extend(encode_schedule(&sample_schedule()));
     assert_eq!(page(&input), PAGE);
 }
 
@@ -143,7 +111,7 @@ fn eight_acts_pass() {
 
 #[test]
 fn buffers() {
-    let schedule = sample_schedule();
+    let schedule = encode_schedule(&sample_schedule());
     let number = |answers, report| judge_run(&SAMPLE, &schedule, answers, report).err().unwrap_or(0);
     assert_eq!([number(120, 20), number(119, 20), number(120, 19), number(119, 19)], [0, 11, 12, 11]);
     // Bytes beyond are untouched, and a refused run writes nothing.

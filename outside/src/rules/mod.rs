@@ -6,6 +6,7 @@ pub mod generate;
 pub mod page;
 pub mod plain;
 pub mod reader;
+pub mod sample;
 pub mod simulator;
 
 #[cfg(test)]
