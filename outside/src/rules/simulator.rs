@@ -1,7 +1,7 @@
 //! The cabinet: document 01, "The cabinet's moves" and "What each move replies", on growing lists.
 //!
 //! For each channel the total of its unread and queued words is kept, so that no move counts them.
-use super::reader::{judge_run, record, Instruction, Record, Table, OUTSIDE};
+use super::reader::{self, judge_run, record, Instruction, Record, Table, OUTSIDE};
 use std::collections::VecDeque;
 
 /// "One six-byte answer a record: code, a, word."
@@ -83,7 +83,8 @@ impl Backup {
 }
 
 #[derive(Clone, Debug)]
-pub struct Process {
+pub struct Process<'t> {
+    program: &'t [Instruction],
     pub board: u8,
     pub place: u8,
     pub registers: [u32; 4],
@@ -98,10 +99,11 @@ pub struct Process {
     pub backup: Option<Backup>,
 }
 
-impl Process {
-    fn new(primary: u8, backup: u8) -> Process {
+impl<'t> Process<'t> {
+    fn new(given: &'t reader::Process) -> Process<'t> {
         Process {
-            board: primary,
+            program: &given.program,
+            board: given.primary,
             place: 0,
             registers: [0; 4],
             inbox: VecDeque::new(),
@@ -109,8 +111,13 @@ impl Process {
             acts: 0,
             taken: [0; 4],
             waiting: false,
-            backup: Some(Backup::new(backup)),
+            backup: Some(Backup::new(given.backup)),
         }
+    }
+
+    /// The instruction at its place, if it isn't halted.
+    fn instruction(&self) -> Option<Instruction> {
+        self.program.get(self.place as usize).copied()
     }
 
     /// A word reaches the inbox and the backup record, if there is one.
@@ -151,9 +158,8 @@ struct Wire {
 
 #[derive(Clone, Debug)]
 pub struct Cabinet<'t> {
-    table: &'t Table,
     wires: Vec<Wire>,
-    pub processes: Vec<Process>,
+    pub processes: Vec<Process<'t>>,
     queues: Vec<VecDeque<Entry>>,
     /// Unread and queued words of each channel together.
     totals: Vec<u32>,
@@ -166,9 +172,8 @@ impl<'t> Cabinet<'t> {
         let slot = |k: usize| table.channels[..k].iter().filter(|ends| ends.reader == table.channels[k].reader).count();
         let wires = table.channels.iter().enumerate();
         Cabinet {
-            table,
             wires: wires.map(|(k, ends)| Wire { sender: ends.sender, reader: ends.reader, slot: slot(k) as u8 }).collect(),
-            processes: table.processes.iter().map(|p| Process::new(p.primary, p.backup)).collect(),
+            processes: table.processes.iter().map(Process::new).collect(),
             queues: vec![VecDeque::new(); table.boards as usize],
             totals: vec![0; table.channels.len()],
             crashed: None,
@@ -210,7 +215,7 @@ impl<'t> Cabinet<'t> {
     fn step(&mut self, p: usize) -> Answer {
         let refused = |code| Answer::refused(code, p);
         let process = &mut self.processes[p];
-        let Some(&instruction) = self.table.processes[p].program.get(process.place as usize) else { return refused(35) };
+        let Some(instruction) = process.instruction() else { return refused(35) };
         let answer = match instruction {
             Instruction::Set { a, word } => {
                 process.registers[a as usize] = word;
@@ -370,6 +375,7 @@ impl<'t> Cabinet<'t> {
                 self.totals[message.channel as usize] += 1;
             }
             *process = Process {
+                program: process.program,
                 board: backup.board,
                 place: backup.place,
                 registers: backup.registers,
@@ -386,13 +392,13 @@ impl<'t> Cabinet<'t> {
 
     /// "Quiet: each process is halted or would answer 36, and no queue has an entry."
     pub fn quiet(&self) -> bool {
-        let rests = |(process, given): (&Process, &super::reader::Process)| match given.program.get(process.place as usize) {
+        let rests = |process: &Process| match process.instruction() {
             None => true,
-            Some(&Instruction::Take { channel, .. }) => process.oldest(1 << channel).is_none(),
-            Some(&Instruction::First { mask, .. }) => process.oldest(mask).is_none(),
+            Some(Instruction::Take { channel, .. }) => process.oldest(1 << channel).is_none(),
+            Some(Instruction::First { mask, .. }) => process.oldest(mask).is_none(),
             Some(_) => false,
         };
-        self.queues.iter().all(VecDeque::is_empty) && self.processes.iter().zip(&self.table.processes).all(rests)
+        self.queues.iter().all(VecDeque::is_empty) && self.processes.iter().all(rests)
     }
 
     /// "The report: board, place, unread count and hold-back, a byte each, then four registers."
