@@ -1,7 +1,7 @@
 -- What the exported call promises, from what its steps do: one lemma for each kind of answer.
 -- Assumes nothing.
 use mathlib.Core.Path.{_≡_, refl, ap, sym, _∙_, subst}
-use mathlib.Core.Bool.{Bool, true, false, cond, _&&_}
+use mathlib.Core.Bool.{Bool, true, false, _&&_}
 use mathlib.Core.List.{List}
 use Prim.Native.Nat.{ℕ, zero, suc}
 use native.Mathlib.Omega.{arith}
@@ -20,12 +20,12 @@ use Rattle.backup_call.specs.Exported.{Asked, start, promotion, unknown,
 
 -- ---- what is asked
 
-pub asked-by : (state call reply : List ℕ) (n : ℕ) → Sized state call reply → getD call 0 0 ≡ n → asked state call reply ≡ byNumber n call
+asked-by : (state call reply : List ℕ) (n : ℕ) → Sized state call reply → getD call 0 0 ≡ n → asked state call reply ≡ byNumber n call
 unfolding asked
 asked-by state call reply n s e =
     rw (eq-eqb (length state) stateLength (s .state-is), eq-eqb (length call) callLength (s .call-is), eq-eqb (length reply) stateLength (s .reply-is), e)
 
-pub asked-missized : (state call reply : List ℕ) → (Sized state call reply → ⊥) → asked state call reply ≡ missized
+asked-missized : (state call reply : List ℕ) → (Sized state call reply → ⊥) → asked state call reply ≡ missized
 unfolding asked
 asked-missized state call reply h = go (lengthsMatch state call reply) refl
   where
@@ -49,7 +49,7 @@ asked-missized state call reply h = go (lengthsMatch state call reply) refl
           reply-is = eqb-true (length reply) stateLength (and-right two three (and-right one (two && three) e));
         })
 
-pub no-call : (n : ℕ) (call : List ℕ) → (n ≡ 0 → ⊥) → (n ≡ 1 → ⊥) → (n ≡ 2 → ⊥) → (n ≡ 3 → ⊥) → (n ≡ 4 → ⊥) → byNumber n call ≡ unknown
+no-call : (n : ℕ) (call : List ℕ) → (n ≡ 0 → ⊥) → (n ≡ 1 → ⊥) → (n ≡ 2 → ⊥) → (n ≡ 3 → ⊥) → (n ≡ 4 → ⊥) → byNumber n call ≡ unknown
 no-call zero call a b c d e = absurd (a refl)
 no-call (suc zero) call a b c d e = absurd (b refl)
 no-call (suc (suc zero)) call a b c d e = absurd (c refl)
@@ -86,7 +86,7 @@ module _ (state call reply : List ℕ) (a : Asked) (e : asked state call reply �
   no-promotion p z = p (sym e ∙ z)
 
   -- nothing is done: a number alone
-  pub exported-none : (n : ℕ) → (a ≡ promotion → ⊥) → answered a (stateView state) ≡ record { number = n; replica = stateView state }
+  exported-none : (n : ℕ) → (a ≡ promotion → ⊥) → answered a (stateView state) ≡ record { number = n; replica = stateView state }
       → Exported state call reply n state reply
   exported-none n p h = record {
     number-is = rw (e, h);
@@ -101,7 +101,7 @@ module _ (state call reply : List ℕ) (a : Asked) (e : asked state call reply �
   }
 
   -- a reply is stored, unless it was refused
-  pub exported-settled : (r : Reply) (n : ℕ) (state′ : List ℕ) → (a ≡ promotion → ⊥) → length state ≡ stateLength
+  exported-settled : (r : Reply) (n : ℕ) (state′ : List ℕ) → (a ≡ promotion → ⊥) → length state ≡ stateLength
       → Replied (stateView state) r (answered a) → Settled state r n state′ → Exported state call reply n state′ reply
   exported-settled r n state′ p l q s = go n refl
     where
@@ -142,23 +142,38 @@ pub exported-missized : (state call reply : List ℕ) → (Sized state call repl
 unfolding answered
 exported-missized state call reply h = exported-none state call reply missized (asked-missized state call reply h) 25 (λ z. no-way (cc)) refl
 
--- a promotion is handed over
-pub exported-promoted : (state call reply : List ℕ) (b : Backup) (f : FailOver) (n : ℕ) (reply′ : List ℕ)
-    → asked state call reply ≡ promotion → length reply ≡ stateLength → view b ≡ stateView state → promotedBy f ≡ failOver (view b)
-    → HandedOver f n reply′ → Exported state call reply n state reply′
-unfolding answered handedBy promotedBy view
-exported-promoted state call reply b f n reply′ e l v p h =
-    let whole : handedBy n reply′ ≡ failOver (stateView state) =
-    (λ k. record { number = h .number-is k; log = h .value-is k .log; pc = h .value-is k .pc; registers = h .value-is k .registers; sent = h .value-is k .sent })
-    ∙ p ∙ ap failOver v in
-    record {
-      number-is = rw e (ap (λ (x : value.FailOver). x .number) whole);
-      value-is = rw e;
-      fit-again = λ g. g;
-      refused = λ _. refl;
-      promoted = λ _. refl;
-      reply-is = λ _. whole;
-      reply-same = λ k. absurd (k e);
-      state-length = refl;
-      reply-length = h .length-is ∙ sym l;
-    }
+module _ {state call reply : List ℕ} (s : Sized state call reply) where
+  -- a call that changes the state
+  pub exported-change : (n : ℕ) → getD call 0 0 ≡ n → (byNumber n call ≡ promotion → ⊥) → {r : Reply} {number : ℕ} {state′ : List ℕ}
+      → Replied (stateView state) r (answered (byNumber n call)) → Settled state r number state′ → Exported state call reply number state′ reply
+  exported-change n e p {r} {number} {state′} q t =
+      exported-settled state call reply (byNumber n call) (asked-by state call reply n s e) r number state′ p (s .state-is) q t
+
+  -- a number that stands for no call
+  pub exported-unknown : (getD call 0 0 ≡ 0 → ⊥) → (getD call 0 0 ≡ 1 → ⊥) → (getD call 0 0 ≡ 2 → ⊥) → (getD call 0 0 ≡ 3 → ⊥) → (getD call 0 0 ≡ 4 → ⊥)
+      → Exported state call reply 26 state reply
+  unfolding answered
+  exported-unknown h₀ h₁ h₂ h₃ h₄ =
+      exported-none state call reply unknown (asked-by state call reply (getD call 0 0) s refl ∙ no-call (getD call 0 0) call h₀ h₁ h₂ h₃ h₄)
+      26 (λ z. no-way (cc)) refl
+
+  -- a promotion is handed over
+  pub exported-promoted : getD call 0 0 ≡ 4 → (b : Backup) {f : FailOver} {number : ℕ} {reply′ : List ℕ} → view b ≡ stateView state
+      → promotedBy f ≡ failOver (view b) → HandedOver f number reply′ → Exported state call reply number state reply′
+  unfolding answered handedBy promotedBy view
+  exported-promoted e b {number = n} {reply′ = reply′} v p h =
+      let a : asked state call reply ≡ promotion = asked-by state call reply 4 s e in
+      let whole : handedBy n reply′ ≡ failOver (stateView state) =
+      (λ k. record { number = h .number-is k; log = h .value-is k .log; pc = h .value-is k .pc; registers = h .value-is k .registers; sent = h .value-is k .sent })
+      ∙ p ∙ ap failOver v in
+      record {
+        number-is = rw a (ap (λ (x : value.FailOver). x .number) whole);
+        value-is = rw a;
+        fit-again = λ g. g;
+        refused = λ _. refl;
+        promoted = λ _. refl;
+        reply-is = λ _. whole;
+        reply-same = λ k. absurd (k a);
+        state-length = refl;
+        reply-length = h .length-is ∙ sym (s .reply-is);
+      }

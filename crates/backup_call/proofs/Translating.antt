@@ -2,14 +2,13 @@
 -- Assumes nothing.
 use mathlib.Core.Path.{_≡_, refl, ap, sym, _∙_}
 use mathlib.Core.List.{List, [], _∷_, map}
-use Prim.Native.Nat.{ℕ, zero, suc, _+_, _*_, _^_, _≤_, _<_}
+use Prim.Native.Nat.{ℕ, _+_, _*_, _^_, _≤_, _<_}
 use native.Mathlib.Omega.{arith}
-use lib.ListN.{length, getD, set, drop, length-set, List·getD-eq-default}
+use lib.ListN.{length, getD, set, length-set, List·getD-eq-default}
 use lib.Seq.{getD-set-same, getD-set-other}
 use Rattle.facts.specs.Tests.{by-eq, by-lt}
-use Rattle.facts.specs.Lists.{prefix, listed, listed-same, map-listed, prefix-listed}
+use Rattle.facts.specs.Lists.{listed, listed-same, map-listed, prefix-listed}
 use Rattle.backup.specs.Limits.{logMost}
-use Rattle.backup.specs.Replica.{Message, Replica}
 use Rattle.backup.specs.Place.{pack, portIn, wordIn, unpack, unpack-pack, messages}
 use Rattle.backup.specs.Value.{view}
 use Rattle.backup.specs.declared.Backup.{Backup}

@@ -1,7 +1,7 @@
 -- The lent numbers of the exported call: what a state and a call stand for.
 -- Assumes nothing.
 use mathlib.Core.List.{List, [], _∷_}
-use Prim.Native.Nat.{ℕ, zero, suc, _+_, _*_}
+use Prim.Native.Nat.{ℕ, _+_, _*_}
 use lib.ListN.{getD}
 use Rattle.facts.specs.Lists.{listed}
 use Rattle.backup.specs.Replica.{Message, Replica}

@@ -1,7 +1,7 @@
 -- `load`: between two rounds the messages packed so far are those of the state.
 -- Assumes nothing.
 use mathlib.Core.Path.{_≡_, refl, subst}
-use Prim.Native.Nat.{ℕ, _+_, _-_, _*_}
+use Prim.Native.Nat.{_+_, _-_, _*_}
 use Rattle.backup.specs.Limits.{logMost}
 use Rattle.backup_call.proofs.Translating.{Agree, agree-start, agree-loaded, same-value}
 use borrow.Author.Needs.{needs}

@@ -1,10 +1,9 @@
 -- `perform`: one answer for each call, from the contract of the backup's own call.
 -- Assumes nothing.
-use mathlib.Core.Path.{refl, _∙_}
-use lib.ListN.{getD}
+use mathlib.Core.Path.{refl}
 use Rattle.facts.specs.Tests.{no-way}
-use Rattle.backup_call.specs.Exported.{start, unknown, answered}
-use Rattle.backup_call.proofs.Calling.{asked-by, no-call, replied-by, replied-start, exported-none, exported-settled, exported-promoted}
+use Rattle.backup_call.specs.Exported.{answered}
+use Rattle.backup_call.proofs.Calling.{replied-by, replied-start, exported-change, exported-unknown, exported-promoted}
 use borrow.Author.Needs.{needs}
 use Rattle.backup_call.proofs.perform.Statement.{statement}
 use Rattle.backup_call.proofs.perform.Tie as tie
@@ -69,12 +68,7 @@ same-length c = search needs
 returns : tie.Need-returns
 unfolding answered
 returns c =
-    let x = c .before .before .before .before .before .before .before .before .before .before .args in
-    let sized = c .before .before .before .before .before .before .before .before .before .before .pre in
-    exported-settled (x .state .now) (x .call .now) (x .reply .now) start
-    (asked-by (x .state .now) (x .call .now) (x .reply .now) 0 sized (c .before .before .before .before .before .match .keys1)) _ _ _ (λ z. no-way (cc)) (sized .state-is)
-    (replied-start _ _ refl (c .before .before .before .new .ensures))
-    (c .before .before .settle .ensures)
+    exported-change (c .before .before .before .before .before .before .before .before .before .before .pre) 0 (c .before .before .before .before .before .match .keys1) (λ z. no-way (cc)) (replied-start _ _ refl (c .before .before .before .new .ensures)) (c .before .before .settle .ensures)
 
 same-length-2 : tie.Need-same-length-2
 same-length-2 c = search needs
@@ -82,12 +76,7 @@ same-length-2 c = search needs
 returns-2 : tie.Need-returns-2
 unfolding answered
 returns-2 c =
-    let x = c .before .before .before .before .before .before .before .before .before .before .before .before .before .before .args in
-    let sized = c .before .before .before .before .before .before .before .before .before .before .before .before .before .before .pre in
-    exported-settled (x .state .now) (x .call .now) (x .reply .now) _
-    (asked-by (x .state .now) (x .call .now) (x .reply .now) 1 sized (c .before .before .before .before .before .before .before .before .before .match .keys2)) _ _ _ (λ z. no-way (cc)) (sized .state-is)
-    (replied-by _ _ _ _ (c .before .before .before .before .before .before .load .ensures) (c .before .before .before .arrive .ensures))
-    (c .before .before .settle2 .ensures)
+    exported-change (c .before .before .before .before .before .before .before .before .before .before .before .before .before .before .pre) 1 (c .before .before .before .before .before .before .before .before .before .match .keys2) (λ z. no-way (cc)) (replied-by _ _ _ _ (c .before .before .before .before .before .before .load .ensures) (c .before .before .before .arrive .ensures)) (c .before .before .settle2 .ensures)
 
 same-length-3 : tie.Need-same-length-3
 same-length-3 c = search needs
@@ -95,12 +84,7 @@ same-length-3 c = search needs
 returns-3 : tie.Need-returns-3
 unfolding answered
 returns-3 c =
-    let x = c .before .before .before .before .before .before .before .before .before .before .before .before .args in
-    let sized = c .before .before .before .before .before .before .before .before .before .before .before .before .pre in
-    exported-settled (x .state .now) (x .call .now) (x .reply .now) _
-    (asked-by (x .state .now) (x .call .now) (x .reply .now) 2 sized (c .before .before .before .before .before .before .before .match .keys3)) _ _ _ (λ z. no-way (cc)) (sized .state-is)
-    (replied-by _ _ _ _ (c .before .before .before .before .load2 .ensures) (c .before .before .before .count .ensures))
-    (c .before .before .settle3 .ensures)
+    exported-change (c .before .before .before .before .before .before .before .before .before .before .before .before .pre) 2 (c .before .before .before .before .before .before .before .match .keys3) (λ z. no-way (cc)) (replied-by _ _ _ _ (c .before .before .before .before .load2 .ensures) (c .before .before .before .count .ensures)) (c .before .before .settle3 .ensures)
 
 same-length-4 : tie.Need-same-length-4
 same-length-4 c = search needs
@@ -108,12 +92,7 @@ same-length-4 c = search needs
 returns-4 : tie.Need-returns-4
 unfolding answered
 returns-4 c =
-    let x = c .before .before .before .before .before .before .before .before .before .before .before .before .before .args in
-    let sized = c .before .before .before .before .before .before .before .before .before .before .before .before .before .pre in
-    exported-settled (x .state .now) (x .call .now) (x .reply .now) _
-    (asked-by (x .state .now) (x .call .now) (x .reply .now) 3 sized (c .before .before .before .before .before .before .before .before .match .keys4)) _ _ _ (λ z. no-way (cc)) (sized .state-is)
-    (replied-by _ _ _ _ (c .before .before .before .before .before .load3 .ensures) (rw (c .before .before .before .before .checkpoint .ensures) at (c .before .before .before .sync .ensures)))
-    (c .before .before .settle4 .ensures)
+    exported-change (c .before .before .before .before .before .before .before .before .before .before .before .before .before .pre) 3 (c .before .before .before .before .before .before .before .before .match .keys4) (λ z. no-way (cc)) (replied-by _ _ _ _ (c .before .before .before .before .before .load3 .ensures) (rw (c .before .before .before .before .checkpoint .ensures) at (c .before .before .before .sync .ensures))) (c .before .before .settle4 .ensures)
 
 same-length-5 : tie.Need-same-length-5
 same-length-5 c = search needs
@@ -122,23 +101,13 @@ same-length-6 : tie.Need-same-length-6
 same-length-6 c = search needs
 
 returns-5 : tie.Need-returns-5
-unfolding answered
 returns-5 c =
-    let x = c .before .before .before .before .before .before .before .before .before .before .before .before .args in
-    let sized = c .before .before .before .before .before .before .before .before .before .before .before .before .pre in
-    exported-promoted (x .state .now) (x .call .now) (x .reply .now) _ _ _ _
-    (asked-by (x .state .now) (x .call .now) (x .reply .now) 4 sized (c .before .before .before .before .before .before .before .match .keys5)) (sized .reply-is) (c .before .before .before .before .load4 .ensures) (c .before .before .before .fail-over .ensures)
-    (c .before .before .hand-over .ensures)
+    exported-promoted (c .before .before .before .before .before .before .before .before .before .before .before .before .pre) (c .before .before .before .before .before .before .before .match .keys5) _ (c .before .before .before .before .load4 .ensures) (c .before .before .before .fail-over .ensures) (c .before .before .hand-over .ensures)
 
 returns-6 : tie.Need-returns-6
-unfolding answered
 returns-6 c =
-    let x = c .before .before .before .before .before .args in
     let none = c .match .rest in
-    exported-none (x .state .now) (x .call .now) (x .reply .now) unknown
-    (asked-by (x .state .now) (x .call .now) (x .reply .now) _ (c .before .before .before .before .before .pre) refl
-    ∙ no-call (getD (x .call .now) 0 0) (x .call .now) (none .0 .0 .0 .0 .1) (none .0 .0 .0 .1) (none .0 .0 .1) (none .0 .1) (none .1))
-    26 (λ z. no-way (cc)) refl
+    exported-unknown (c .before .before .before .before .before .pre) (none .0 .0 .0 .0 .1) (none .0 .0 .0 .1) (none .0 .0 .1) (none .0 .1) (none .1)
 
 pub perform-spec : {M : Type 1} → statement M
 perform-spec =

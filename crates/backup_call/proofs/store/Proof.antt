@@ -1,7 +1,7 @@
 -- `store`: between two rounds the pairs written so far are the messages of the log; then the seven numbers before them.
 -- Assumes nothing.
-use mathlib.Core.Path.{_≡_, refl, subst}
-use Prim.Native.Nat.{ℕ, _+_, _-_, _*_}
+use mathlib.Core.Path.{_≡_, subst}
+use Prim.Native.Nat.{_-_}
 use lib.ListN.{length-set}
 use Rattle.backup.specs.Limits.{logMost}
 use Rattle.backup_call.proofs.Translating.{Agree, agree-start, agree-stored, stored}
