@@ -4,3 +4,6 @@ pub mod Lists
 pub mod Indexing
 pub mod Counts
 pub mod Sums
+pub mod Ranges
+pub mod Bits
+pub mod Walks

@@ -2,10 +2,12 @@
 -- Assumes nothing.
 use mathlib.Core.Path.{_≡_, refl, ap, sym, _∙_}
 use mathlib.Core.List.{List, [], _∷_, _++_, map}
-use Prim.Native.Nat.{ℕ, zero, suc, _+_, _≤_, _<_}
+use Prim.Native.Nat.{ℕ, zero, suc, _+_, _-_, _≤_, _<_}
 use native.Mathlib.Omega.{arith}
 use native.Mathlib.Nat.{le-of-suc-le-suc, not-suc-le-zero}
-use lib.ListN.{length, take, getD, set}
+use lib.ListN.{length, take, drop, getD, set, length-drop, length-set}
+use lib.Seq.{take-all, getD-set-same, getD-set-other}
+use Rattle.facts.specs.Tests.{by-eq}
 
 -- the first n numbers, 0 standing for each that lies past the end: n numbers in any case
 abbrev pub prefix : ℕ → List ℕ → List ℕ
@@ -68,3 +70,25 @@ getD-prefix (suc n) [] zero h = refl
 getD-prefix (suc n) [] (suc i) h = getD-prefix n [] i (le-of-suc-le-suc h)
 getD-prefix (suc n) (x ∷ l) zero h = refl
 getD-prefix (suc n) (x ∷ l) (suc i) h = getD-prefix n l i (le-of-suc-le-suc h)
+
+-- a part that goes on to the list's end is all that follows its start
+pub part-rest : {A : Type 0} (l : List A) (at : ℕ) → take (length l - at) (drop at l) ≡ drop at l
+part-rest l at = take-all (length l - at) (drop at l) (let h = length-drop at l in omega arith)
+
+-- ---- an array of so many numbers that is written from the front: its first n are those of f
+
+pub record Filled (f : ℕ → ℕ) (size n : ℕ) (l : List ℕ) : Type 0 where
+  pub long : length l ≡ size
+  pub filled-at : (i : ℕ) → i < n → getD l i 0 ≡ f i
+
+pub filled-none : (f : ℕ → ℕ) (l : List ℕ) → Filled f (length l) 0 l
+filled-none f l = record { long = refl; filled-at = λ i h. absurd (not-suc-le-zero h) }
+
+pub filled-more : {f : ℕ → ℕ} {size n : ℕ} {l : List ℕ} → Filled f size n l → (x : ℕ) → n < size → x ≡ f n → Filled f size (n + 1) (set l n x)
+filled-more {f} {size} {n} {l} h x k e = record {
+  long = length-set l n x ∙ h .long;
+  filled-at = λ i j.
+      by-eq i n
+      (λ g. rw g (getD-set-same l n x 0 (let z = h .long in omega arith) ∙ e))
+      (λ g. getD-set-other l n i x 0 g ∙ h .filled-at i (omega arith));
+}

@@ -82,11 +82,11 @@ valid bytes h =
 
 -- ---- the counts are the lists' lengths
 
-length-pairs : (n : ℕ) (rest : List ℕ) → length (pairs n rest) ≡ n
+pub length-pairs : (n : ℕ) (rest : List ℕ) → length (pairs n rest) ≡ n
 length-pairs zero rest = refl
 length-pairs (suc n) rest = ap suc (length-pairs n (drop 2 rest))
 
-length-rests : (n : ℕ) (rest : List ℕ) → length (rests n rest) ≡ n
+pub length-rests : (n : ℕ) (rest : List ℕ) → length (rests n rest) ≡ n
 length-rests zero rest = refl
 length-rests (suc n) rest = ap suc (length-rests n (drop (recordLength rest) rest))
 
@@ -135,7 +135,7 @@ pub record Counted (bytes : List ℕ) : Type 0 where
 within : (low n high : ℕ) → (leb low n && leb n high) ≡ true → (low ≤ n) × (n ≤ high)
 within low n high h = (leb-true low n (and-left (leb low n) (leb n high) h), leb-true n high (and-right (leb low n) (leb n high) h))
 
-counted : (bytes : List ℕ) → countsOk bytes ≡ true → Counted bytes
+pub counted : (bytes : List ℕ) → countsOk bytes ≡ true → Counted bytes
 unfolding countsOk
 counted bytes h =
     let others = and-right (leb 2 (boardsIn bytes) && leb (boardsIn bytes) 16) _ h in

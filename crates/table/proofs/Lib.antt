@@ -1,0 +1,19 @@
+-- What the code of this crate stands on, and what the crates above may use of it.
+-- Six bytes at their place, the programs at theirs:
+pub mod Sixes
+pub mod Programs
+-- numbers 1 to 4:
+pub mod Extents
+-- 5, 6 and 7, a pass over the table each:
+pub mod OneChannel
+pub mod EndsPass
+pub mod PortsPass
+pub mod BoardsPass
+-- 8, from a channel's end up to the whole table:
+pub mod Masks
+pub mod OneInstruction
+pub mod Walk
+-- all eight, and the plan:
+pub mod Decoding
+-- a schedule and a run judged:
+pub mod Judged

@@ -1,0 +1,28 @@
+use Rattle.rules.specs.Machine.{bit}
+use Prim.Native.Nat.{_/_, _^_}
+use mathlib.Core.Path.{_≡_, sym, ap}
+use Prim.Native.Nat.{ℕ}
+use lib.Dec.{eqb}
+use lib.Bits.{and-mask}
+use Rattle.facts.specs.Bits.{no-digit-above}
+use native.Mathlib.Omega.{arith}
+use borrow.Author.Needs.{needs}
+use Rattle.table.proofs.mask.in_mask.Statement.{statement}
+use Rattle.table.proofs.mask.in_mask.Tie as tie
+use Rattle.table.proofs.mask.in_mask.Reads as reads
+use Rattle.table.proofs.mask.in_mask.Lts as lts
+
+-- src/mask.rt:10:9
+returns : tie.Need-returns
+returns c = sym (no-digit-above (c .before .args .mask) 32 (c .before .args .channel) (c .before .fits .mask .fits) (c .if1 .taken))
+
+-- src/mask.rt:12:6
+shr-result : tie.Need-shr-result
+shr-result c = search needs
+
+-- src/mask.rt:6:1
+returns-2 : tie.Need-returns-2
+returns-2 c = ap (λ (x : ℕ). eqb x 1) (and-mask (c .before .args .mask / 2 ^ c .before .args .channel) 1)
+
+pub in-mask-spec : {M : Type 1} → statement M
+in-mask-spec = tie.close (tie.spec returns shr-result returns-2)

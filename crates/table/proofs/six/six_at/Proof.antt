@@ -1,0 +1,100 @@
+use Rattle.table.proofs.Sixes.{no-six, whole-six}
+use native.Mathlib.Omega.{arith}
+use borrow.Author.Needs.{needs}
+use Rattle.table.proofs.six.six_at.Statement.{statement}
+use Rattle.table.proofs.six.six_at.Tie as tie
+use Rattle.table.proofs.six.six_at.Reads as reads
+use Rattle.table.proofs.six.six_at.Lts as lts
+use Rattle.table.proofs.six.number32_of.Reads as number32-of-reads
+
+-- src/six.rt:30:9
+returns : tie.Need-returns
+returns c = no-six _ (c .before .before .args .at) (c .before .before .args .k) (omega arith)
+
+-- src/six.rt:37:9
+returns-2 : tie.Need-returns-2
+returns-2 c = no-six _ (c .before .before .before .args .at) (c .before .before .before .args .k) (c .if2 .taken)
+
+-- src/six.rt:43:18
+mul-i : tie.Need-mul-i
+mul-i c = search needs
+
+-- src/six.rt:43:13
+add-i : tie.Need-add-i
+add-i c = search needs
+
+-- src/six.rt:45:16
+shared-slice-read-t10 : tie.Need-shared-slice-read-t10
+shared-slice-read-t10 c = search needs
+
+-- src/six.rt:46:23
+add-t8 : tie.Need-add-t8
+add-t8 c = search needs
+
+-- src/six.rt:46:17
+shared-slice-read-t12 : tie.Need-shared-slice-read-t12
+shared-slice-read-t12 c = search needs
+
+-- src/six.rt:47:33
+add-number32-of : tie.Need-add-number32-of
+add-number32-of c = search needs
+
+-- src/six.rt:47:27
+shared-slice-read-number32-of : tie.Need-shared-slice-read-number32-of
+shared-slice-read-number32-of c = search needs
+
+-- src/six.rt:47:47
+add-number32-of-2 : tie.Need-add-number32-of-2
+add-number32-of-2 c = search needs
+
+-- src/six.rt:47:41
+shared-slice-read-number32-of-2 : tie.Need-shared-slice-read-number32-of-2
+shared-slice-read-number32-of-2 c = search needs
+
+-- src/six.rt:47:61
+add-number32-of-3 : tie.Need-add-number32-of-3
+add-number32-of-3 c = search needs
+
+-- src/six.rt:47:55
+shared-slice-read-number32-of-3 : tie.Need-shared-slice-read-number32-of-3
+shared-slice-read-number32-of-3 c = search needs
+
+-- src/six.rt:47:75
+add-number32-of-4 : tie.Need-add-number32-of-4
+add-number32-of-4 c = search needs
+
+-- src/six.rt:47:69
+shared-slice-read-number32-of-4 : tie.Need-shared-slice-read-number32-of-4
+shared-slice-read-number32-of-4 c = search needs
+
+-- src/six.rt:47:15
+number32-of-requires : tie.Need-number32-of-requires
+number32-of-requires c κs = search needs
+
+-- src/six.rt:25:1
+returns-3 : tie.Need-returns-3
+returns-3 c = let b = c .before .before .before .before .before .before .before in
+    let s = b .before .before .before .args in
+    whole-six _ (s .at) (s .k) _ (b .if2 .left) (c .number32-of .ensures)
+
+pub six-at-spec : {M : Type 1} → statement M
+six-at-spec =
+    tie.close
+    (tie.spec
+    returns
+    returns-2
+    mul-i
+    add-i
+    shared-slice-read-t10
+    add-t8
+    shared-slice-read-t12
+    add-number32-of
+    shared-slice-read-number32-of
+    add-number32-of-2
+    shared-slice-read-number32-of-2
+    add-number32-of-3
+    shared-slice-read-number32-of-3
+    add-number32-of-4
+    shared-slice-read-number32-of-4
+    number32-of-requires
+    returns-3)

@@ -1,0 +1,8 @@
+-- What the code of this crate promises, in the words of document 01's definitions (rules/specs).
+pub mod Records
+pub mod Parts
+pub mod Plan
+pub mod Six
+pub mod Fetch
+pub mod Judging
+pub mod Commands

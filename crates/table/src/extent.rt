@@ -1,0 +1,135 @@
+// Numbers 1 to 4 of a table: its length, its version, its counts, and where its pairs and records end.
+ghost use mathlib.Core.Path.{_≡_};
+ghost use mathlib.Core.Bool.{_&&_};
+ghost use lib.Dec.{eqb, leb};
+ghost use Rattle.rules.specs.Format.{versionIn, recordsStart, lengthOk, countsOk, extentOk};
+ghost use Rattle.table.specs.Parts.{recordIn, framing};
+use crate::bytes::byte;
+use crate::bytes::pair;
+use crate::bytes::wide;
+
+// Where the head has its numbers, and how long it is.
+pub const VERSION: usize = 2;
+
+pub const BOARDS: usize = 3;
+
+pub const PROCESSES: usize = 4;
+
+pub const CHANNELS: usize = 5;
+
+pub const HEAD: usize = 6;
+// Where the pair of channel 0 has its ends; that of channel k stands 2 k further.
+pub const SENDER: usize = 6;
+
+pub const READER: usize = 7;
+
+// The sizes, each named once; rules/specs/Format.antt names the same numbers for the definitions.
+const TABLE_MOST: usize = 6260;
+
+const BOARDS_LEAST: u8 = 2;
+
+const BOARDS_MOST: u8 = 16;
+
+const PROCESSES_MOST: u8 = 16;
+
+const CHANNELS_MOST: u8 = 32;
+
+const PROGRAM_MOST: usize = 64;
+
+// 1: at least a head, and a length field that is at most 6,260 and the true one.
+fn length_ok(table: &[u8]) -> bool
+    ensures { λ r. ⌜ r ≡ lengthOk (now (table .entry)) ⌝ }
+{
+    if table.len() < HEAD {
+        return false;
+    }
+    let field = pair(byte(table, 0), byte(table, 1));
+    if field > TABLE_MOST {
+        return false;
+    }
+    2 + field == table.len()
+}
+
+// 2: the version.
+fn version_ok(table: &[u8]) -> bool
+    ensures { λ r. ⌜ r ≡ eqb (versionIn (now (table .entry))) 1 ⌝ }
+{
+    byte(table, VERSION) == 1
+}
+
+fn within(low: u8, n: u8, high: u8) -> bool
+    ensures { λ r. ⌜ r ≡ (leb low n && leb n high) ⌝ }
+{
+    low <= n && n <= high
+}
+
+// 3: the counts of boards, processes and channels.
+fn counts_ok(table: &[u8]) -> bool
+    ensures { λ r. ⌜ r ≡ countsOk (now (table .entry)) ⌝ }
+{
+    within(BOARDS_LEAST, byte(table, BOARDS), BOARDS_MOST)
+        && (within(1, byte(table, PROCESSES), PROCESSES_MOST)
+            && within(1, byte(table, CHANNELS), CHANNELS_MOST))
+}
+
+// Where the first record begins, behind the pairs.
+pub fn records_start(table: &[u8]) -> usize
+    ensures { λ r. ⌜ r ≡ recordsStart (now (table .entry)) ⌝ }
+{
+    HEAD + 2 * wide(byte(table, CHANNELS))
+}
+
+// The length of the record that begins a rest, or 0 where it has over 64 instructions or the rest ends within it.
+fn record_length(rest: &[u8]) -> usize
+    ensures { λ r. ⌜ r ≡ recordIn (now (rest .entry)) ⌝ }
+{
+    let n = wide(byte(rest, 2));
+    if n > PROGRAM_MOST {
+        return 0;
+    }
+    let length = 3 + 6 * n;
+    if length > rest.len() {
+        return 0;
+    }
+    length
+}
+
+// 4: each record has at most 64 instructions, and pairs and records end exactly with the table.
+fn extent_ok(table: &[u8]) -> bool
+    ensures { λ r. ⌜ r ≡ extentOk (now (table .entry)) ⌝ }
+{
+    let mut at = records_start(table);
+    if at > table.len() {
+        return false;
+    }
+    let processes = wide(byte(table, PROCESSES));
+    let mut p = 0;
+    while p < processes {
+        let length = record_length(&table[at..]);
+        if length == 0 {
+            return false;
+        }
+        at += length;
+        p += 1;
+    }
+    at == table.len()
+}
+
+// 0 where numbers 1 to 4 hold, or the lowest that doesn't.
+pub fn judge_extent(table: &[u8]) -> u8
+    ensures { λ r. ⌜ r ≡ framing (now (table .entry)) ⌝ }
+{
+    if !length_ok(table) {
+        return 1;
+    }
+    if !version_ok(table) {
+        return 2;
+    }
+    if !counts_ok(table) {
+        return 3;
+    }
+    if !extent_ok(table) {
+        return 4;
+    }
+    0
+}

@@ -1,0 +1,136 @@
+// Number 8: the instructions of a table of which numbers 1 to 4 hold.
+ghost use mathlib.Core.Path.{_≡_};
+ghost use Prim.Native.Nat.{_*_, _≤_};
+ghost use lib.ListN.{length};
+ghost use mathlib.Core.Bool.{true, _&&_};
+ghost use Rattle.rules.specs.Judge.{instructionsOk};
+ghost use Rattle.rules.specs.Format.{recordsStart, recordLength, decodeTable, extentOk, codesOk};
+ghost use Rattle.table.specs.Judging.{endIs, channelsPass, maskOk, passes, programOk, recordOk};
+use crate::bytes::wide;
+use crate::extent::CHANNELS;
+use crate::extent::PROCESSES;
+use crate::extent::READER;
+use crate::extent::SENDER;
+use crate::fetch::Instruction;
+use crate::fetch::fetch;
+
+// A record's n is its byte 2, and its instructions begin at 3.
+const N: usize = 2;
+
+const PROGRAM: usize = 3;
+
+fn wider(x: u32) -> usize
+    ensures { λ r. ⌜ r ≡ x ⌝ }
+{
+    x as usize
+}
+
+// Whether k is a channel of the table whose sender (side 6) or reader (side 7) is process p.
+fn end_is(table: &[u8], side: usize, k: u32, p: u8) -> bool
+    requires { ⌜ (recordsStart (now table) ≤ length (now table)) × (side ≤ 7) ⌝ }
+    ensures { λ r. ⌜ r ≡ endIs (now (table .entry)) side k p ⌝ }
+{
+    let channel = wider(k);
+    if channel >= wide(table[CHANNELS]) {
+        return false;
+    }
+    table[2 * channel + side] == p
+}
+
+// Whether process p reads every channel of a mask, lowest first.
+fn channels_pass(table: &[u8], p: u8, mask: u32) -> bool
+    requires { ⌜ recordsStart (now table) ≤ length (now table) ⌝ }
+    ensures { λ r. ⌜ r ≡ channelsPass (decodeTable (now (table .entry))) p mask ⌝ }
+{
+    let mut left = mask;
+    while left != 0 {
+        let k = u32::trailing_zeros(left);
+        if !end_is(table, READER, k, p) {
+            return false;
+        }
+        left -= 1 << k;
+    }
+    true
+}
+
+// "The mask has one to four bits set, all channels below C that this process reads."
+fn mask_ok(table: &[u8], p: u8, mask: u32) -> bool
+    requires { ⌜ recordsStart (now table) ≤ length (now table) ⌝ }
+    ensures { λ r. ⌜ r ≡ maskOk (decodeTable (now (table .entry))) p mask ⌝ }
+{
+    let ones = u32::count_ones(mask);
+    if ones < 1 {
+        return false;
+    }
+    if ones > 4 {
+        return false;
+    }
+    channels_pass(table, p, mask)
+}
+
+// One instruction of process p, whose program has n of them.
+fn instruction_ok(table: &[u8], p: u8, n: usize, i: Instruction) -> bool
+    requires { ⌜ recordsStart (now table) ≤ length (now table) ⌝ }
+    ensures { λ r. ⌜ r ≡ passes (decodeTable (now (table .entry))) p n i ⌝ }
+{
+    let code = i.code;
+    match code {
+        1 => i.a < 4,
+        2 => i.a < 4 && i.operand < 4,
+        3 => i.a < 4 && end_is(table, READER, i.operand, p),
+        4 => i.a < 3 && mask_ok(table, p, i.operand),
+        5 => i.a < 4 && end_is(table, SENDER, i.operand, p),
+        6 => i.a < 4 && wider(i.operand) <= n,
+        _ => false,
+    }
+}
+
+// A program: the n instructions that begin a part of the table.
+fn program_ok(table: &[u8], p: u8, n: usize, program: &[u8]) -> bool
+    requires { ⌜ (recordsStart (now table) ≤ length (now table)) × (6 * n ≤ length (now program)) ⌝ }
+    ensures { λ r. ⌜ r ≡ programOk (decodeTable (now (table .entry))) p n (now (program .entry)) ⌝ }
+{
+    let mut k = 0;
+    while k < n {
+        if !instruction_ok(table, p, n, fetch(program, 0, k)) {
+            return false;
+        }
+        k += 1;
+    }
+    true
+}
+
+// The program of the record that begins the table's rest.
+fn record_ok(table: &[u8], p: u8, rest: &[u8]) -> bool
+    requires { ⌜ (recordsStart (now table) ≤ length (now table)) × (recordLength (now rest) ≤ length (now rest)) ⌝ }
+    ensures { λ r. ⌜ r ≡ recordOk (decodeTable (now (table .entry))) p (now (rest .entry)) ⌝ }
+{
+    program_ok(table, p, wide(rest[N]), &rest[PROGRAM..])
+}
+
+// The bytes of the record that begins the table's rest.
+fn record_length(rest: &[u8]) -> usize
+    requires { ⌜ recordLength (now rest) ≤ length (now rest) ⌝ }
+    ensures { λ r. ⌜ r ≡ recordLength (now (rest .entry)) ⌝ }
+{
+    PROGRAM + 6 * wide(rest[N])
+}
+
+// Number 8 over the whole table, record by record: each gets the table's rest from its start on.
+pub fn instructions_ok(table: &[u8]) -> bool
+    requires { ⌜ extentOk (now table) ≡ true ⌝ }
+    ensures { λ r. ⌜ r ≡ (codesOk (now (table .entry)) && instructionsOk (decodeTable (now (table .entry)))) ⌝ }
+{
+    let processes = table[PROCESSES];
+    let mut at = SENDER + 2 * wide(table[CHANNELS]);
+    let mut p = 0;
+    while p < processes {
+        let rest = &table[at..];
+        if !record_ok(table, p, rest) {
+            return false;
+        }
+        at += record_length(rest);
+        p += 1;
+    }
+    true
+}

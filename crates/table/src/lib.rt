@@ -1,0 +1,67 @@
+// Tables and schedules: bytes are read, judged and turned into a plan by proved code.
+ghost use mathlib.Core.Path.{_≡_};
+ghost use Rattle.table.specs.Plan.{noPlan, Decodes};
+
+mod boards;
+mod bytes;
+mod ends;
+mod extent;
+pub mod fetch;
+mod instructions;
+pub mod mask;
+pub mod plan;
+pub mod schedule;
+mod six;
+
+use crate::boards::judge_boards;
+use crate::ends::judge_ends;
+use crate::ends::judge_ports;
+use crate::extent::judge_extent;
+use crate::instructions::instructions_ok;
+use crate::plan::Plan;
+use crate::plan::no_plan;
+use crate::plan::plan_of;
+
+// What decoding gives: 0 and the table's plan, or the number that refuses the table and no plan.
+pub struct Decoded {
+    pub number: u8,
+    pub plan: Plan,
+}
+
+fn refused(number: u8) -> Decoded
+    ensures { λ r. ⌜ (r .number ≡ number) × (r .plan ≡ noPlan) ⌝ }
+{
+    Decoded {
+        number: number,
+        plan: no_plan(),
+    }
+}
+
+// Reads a table: "A refused one, lowest number first". Each number is judged over the whole table before the next.
+pub fn decode(table: &[u8]) -> Decoded
+    ensures { λ r. ⌜ Decodes (now (table .entry)) r ⌝ }
+{
+    let number = judge_extent(table);
+    if number != 0 {
+        return refused(number);
+    }
+    let e = judge_ends(table);
+    if !e.ok {
+        return refused(5);
+    }
+    let w = judge_ports(table);
+    if !w.ok {
+        return refused(6);
+    }
+    let b = judge_boards(table);
+    if !b.ok {
+        return refused(7);
+    }
+    if !instructions_ok(table) {
+        return refused(8);
+    }
+    Decoded {
+        number: 0,
+        plan: plan_of(table, e, w, b),
+    }
+}
