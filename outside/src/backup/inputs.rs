@@ -1,7 +1,7 @@
 //! Random states and calls: what is fit and what is unfit in each way, arguments in and out of range, takes that are possible and not.
 use crate::call::{CALL, STATE};
 use crate::model::Record;
-use crate::random::Random;
+use outside::random::Random;
 
 /// The ways of being unfit, as bits that can be combined.
 pub const WORDS: u32 = 1;

@@ -5,13 +5,11 @@
 mod call;
 mod inputs;
 mod model;
-#[path = "../random.rs"]
-mod random;
 
 use call::{backup_call, view, CALL, STATE};
 use inputs::{Takes, TAKES};
 use model::Record;
-use random::Random;
+use outside::random::Random;
 
 const SEED: u64 = 0x9E37_79B9_7F4A_7C15;
 const CALLS: u32 = 1_000_000;

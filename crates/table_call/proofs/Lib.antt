@@ -1,0 +1,2 @@
+-- What the proof of the exported call stands on.
+pub mod Judging

@@ -1,0 +1,17 @@
+// The judging of a run for programs in other languages: one exported call on lent bytes.
+ghost use Rattle.table_call.specs.Exported.{Judges};
+use table::decode;
+use table::schedule::judge_run;
+use table::schedule::judge_schedule;
+
+// 0, or the number from 1 to 12 by which document 01 refuses the run of a table and a schedule with buffers of these lengths.
+#[no_mangle]
+pub extern "C" fn judge(table: &[u8], schedule: &[u8], answers: usize, report: usize) -> u32
+    ensures { λ n. ⌜ Judges (now (table .entry)) (now (schedule .entry)) answers report n ⌝ }
+{
+    let d = decode(table);
+    let number = d.number;
+    let processes = d.plan.processes;
+    let s = judge_schedule(schedule);
+    judge_run(number, processes, s, answers, report) as u32
+}

@@ -1,0 +1,246 @@
+//! Sound tables and schedules by a seed, and their bytes.
+use super::reader::{Channel, Instruction, Process, Record, Table, OUTSIDE};
+use super::simulator::Cabinet;
+use crate::random::Random;
+
+/// The bytes of a table.
+pub fn encode_table(table: &Table) -> Vec<u8> {
+    let mut bytes = vec![0, 0, 1, table.boards, table.processes.len() as u8, table.channels.len() as u8];
+    for ends in &table.channels {
+        bytes.extend([ends.sender, ends.reader]);
+    }
+    for process in &table.processes {
+        bytes.extend([process.primary, process.backup, process.program.len() as u8]);
+        for &instruction in &process.program {
+            let (code, a, operand) = match instruction {
+                Instruction::Set { a, word } => (1, a, word),
+                Instruction::Add { a, b } => (2, a, b as u32),
+                Instruction::Take { a, channel } => (3, a, channel as u32),
+                Instruction::First { a, mask } => (4, a, mask),
+                Instruction::Send { a, channel } => (5, a, channel as u32),
+                Instruction::Jump { a, place } => (6, a, place as u32),
+            };
+            bytes.extend([code, a]);
+            bytes.extend(operand.to_be_bytes());
+        }
+    }
+    with_length(bytes)
+}
+
+/// The bytes of a schedule.
+pub fn encode_schedule(records: &[Record]) -> Vec<u8> {
+    let mut bytes = vec![0, 0, 1];
+    for record in records {
+        bytes.extend([record.kind, record.a]);
+        bytes.extend(record.word.to_be_bytes());
+    }
+    with_length(bytes)
+}
+
+/// The same bytes with the true length in bytes 0 and 1, as far as two bytes can hold it.
+pub fn with_length(mut bytes: Vec<u8>) -> Vec<u8> {
+    let length = (bytes.len() - 2) as u16;
+    bytes[..2].copy_from_slice(&length.to_be_bytes());
+    bytes
+}
+
+/// A number from `least` to `most`: an end, a small one, or any.
+fn size(random: &mut Random, least: u32, most: u32) -> u32 {
+    match random.below(6) {
+        0 => least,
+        1 => most,
+        2 | 3 => least + random.below((most - least + 1).min(4)),
+        _ => least + random.below(most - least + 1),
+    }
+}
+
+pub fn any_word(random: &mut Random) -> u32 {
+    let words = [0, 1, u32::MAX, random.below(100), random.below(100), random.word()];
+    random.pick(&words)
+}
+
+/// A channel's ends: between two processes, from one to itself, from the outside, or to it. `free` are the processes that read fewer
+/// than four channels.
+fn channel(random: &mut Random, processes: u32, free: &[u8]) -> Channel {
+    let some = random.below(processes) as u8;
+    if free.is_empty() {
+        return Channel { sender: some, reader: OUTSIDE };
+    }
+    let reader = random.pick(free);
+    match random.below(8) {
+        0 => Channel { sender: reader, reader },
+        1..=2 => Channel { sender: OUTSIDE, reader },
+        3..=4 => Channel { sender: some, reader: OUTSIDE },
+        _ => Channel { sender: some, reader },
+    }
+}
+
+/// What a program may name: how many registers it changes, its n, the channels that it reads, and those that it sends on.
+struct Scope {
+    registers: u32,
+    n: u32,
+    reads: Vec<u8>,
+    sends: Vec<u8>,
+}
+
+fn instruction(random: &mut Random, scope: &Scope) -> Instruction {
+    let a = random.below(scope.registers) as u8;
+    let b = random.below(4) as u8;
+    match random.below(16) {
+        0..=3 if !scope.reads.is_empty() => Instruction::Take { a, channel: random.pick(&scope.reads) },
+        4..=7 if !scope.reads.is_empty() => {
+            let a = random.below(scope.registers - 1) as u8;
+            let named = 1 + random.below(scope.reads.len() as u32);
+            let mask = (0..named).fold(0, |mask, _| mask | 1 << random.pick(&scope.reads));
+            Instruction::First { a, mask }
+        }
+        0..=12 if !scope.sends.is_empty() => Instruction::Send { a: b, channel: random.pick(&scope.sends) },
+        13 => Instruction::Jump { a: b, place: random.below(scope.n + 1) as u8 },
+        14 => Instruction::Set { a, word: any_word(random) },
+        _ => Instruction::Add { a, b },
+    }
+}
+
+/// A program of any instructions, or one that goes round for ever in a loop of them, with a word taken or sent at each turn.
+fn program(random: &mut Random, reads: Vec<u8>, sends: Vec<u8>) -> Vec<Instruction> {
+    let n = match random.below(12) {
+        0 => 0,
+        1 => 64,
+        2 => random.below(65),
+        _ => 2 + random.below(10),
+    };
+    let round = n > 3 && !(reads.is_empty() && sends.is_empty()) && !random.once_in(4);
+    let scope = Scope { registers: if round { 3 } else { 4 }, n, reads, sends };
+    let mut program: Vec<Instruction> = (0..n).map(|_| instruction(random, &scope)).collect();
+    if round {
+        program[0] = Instruction::Set { a: 3, word: 1 };
+        program[1] = match scope.reads.is_empty() {
+            true => Instruction::Send { a: 0, channel: random.pick(&scope.sends) },
+            false => Instruction::First { a: 0, mask: scope.reads.iter().fold(0, |mask, k| mask | 1 << k) },
+        };
+        program[n as usize - 1] = Instruction::Jump { a: 3, place: 1 };
+    }
+    program
+}
+
+/// A sound table.
+pub fn table(random: &mut Random) -> Table {
+    let boards = size(random, 2, 16);
+    let processes = size(random, 1, 16);
+    let mut table = Table { boards: boards as u8, channels: Vec::new(), processes: Vec::new() };
+    let mut free: Vec<u8> = (0..processes as u8).collect();
+    for _ in 0..size(random, 1, 32) {
+        table.channels.push(channel(random, processes, &free));
+        free.retain(|&p| table.reads(p as usize).count() < 4);
+    }
+    // Boards shared by many processes have full queues.
+    let used = if random.once_in(2) { boards.min(3) } else { boards };
+    for p in 0..processes as usize {
+        let primary = random.below(used) as u8;
+        let backup = ((primary as u32 + 1 + random.below(used - 1)) % used) as u8;
+        let program = program(random, table.reads(p).collect(), table.sends(p).collect());
+        table.processes.push(Process { primary, backup, program });
+    }
+    table
+}
+
+/// The largest table: 16 boards, 16 processes of 64 instructions, 32 channels.
+pub fn largest(random: &mut Random) -> Table {
+    let channels = (0..32).map(|k| Channel { sender: k % 16, reader: (k / 2 + 1) % 16 }).collect();
+    let mut table = Table { boards: 16, channels, processes: Vec::new() };
+    for p in 0..16 {
+        let scope = Scope { registers: 4, n: 64, reads: table.reads(p).collect(), sends: table.sends(p).collect() };
+        let program = (0..64).map(|_| instruction(random, &scope)).collect();
+        table.processes.push(Process { primary: p as u8, backup: (p as u8 + 1) % 16, program });
+    }
+    table
+}
+
+/// A place of the list, each as often as its weight says.
+fn weighted(random: &mut Random, weights: &[u32]) -> usize {
+    let mut at = random.below(weights.iter().sum());
+    for (i, &weight) in weights.iter().enumerate() {
+        if at < weight {
+            return i;
+        }
+        at -= weight;
+    }
+    unreachable!("a number below the sum of the weights")
+}
+
+/// How often each move is tried, of all together, and how many times in a row.
+struct Habits {
+    weights: [u32; 5],
+    row: u32,
+}
+
+fn habits(random: &mut Random) -> Habits {
+    let weights = [40, 3, 30, 15, 2];
+    let seldom = random.pick(&[0, 1, 2, 2, 2, 3, 4, 5, 5]);
+    let mut habits = Habits { weights, row: random.pick(&[1, 1, 4, 12]) };
+    if let Some(weight) = habits.weights.get_mut(seldom) {
+        *weight = 1;
+    }
+    habits
+}
+
+/// A record that may well be accepted; a crash is none of these.
+fn likely(random: &mut Random, table: &Table, cabinet: &Cabinet, habits: &Habits) -> Record {
+    let p = random.below(table.processes.len() as u32) as u8;
+    let kind = weighted(random, &habits.weights) as u8 + 1;
+    match kind {
+        1 | 2 => Record { kind, a: p, word: 0 },
+        3 => Record { kind, a: cabinet.processes[p as usize].board, word: 0 },
+        4 => {
+            let outside: Vec<u8> = table.sends(OUTSIDE as usize).collect();
+            let a = if outside.is_empty() { random.below(table.channels.len() as u32) as u8 } else { random.pick(&outside) };
+            Record { kind, a, word: any_word(random) }
+        }
+        _ => garbage(random),
+    }
+}
+
+/// A record that makes no sense, most often; a crash is not among them.
+fn garbage(random: &mut Random) -> Record {
+    let kind = random.pick(&[0, 1, 2, 3, 4, 6, 7, 8, 255]);
+    let a = random.pick(&[0, 1, 15, 16, 31, 32, 255]);
+    let word = random.pick(&[0, 0, 1, u32::MAX]);
+    Record { kind, a, word }
+}
+
+/// A crash of a board that some process uses, most often.
+fn crash(random: &mut Random, table: &Table) -> Record {
+    let process = &table.processes[random.below(table.processes.len() as u32) as usize];
+    let some = random.below(table.boards as u32) as u8;
+    let a = random.pick(&[process.primary, process.primary, process.backup, some]);
+    Record { kind: 5, a, word: 0 }
+}
+
+/// As many records as asked for, most of them accepted, with one crash at some place, or several tries, or none.
+pub fn schedule(random: &mut Random, table: &Table, records: usize) -> Vec<Record> {
+    let mut cabinet = Cabinet::new(table);
+    let mut schedule = Vec::new();
+    let habits = habits(random);
+    let mut crash_at = if random.once_in(3) { records } else { random.below(records as u32 + 1) as usize };
+    while schedule.len() < records {
+        if schedule.len() >= crash_at {
+            let record = crash(random, table);
+            cabinet.answer(record);
+            schedule.push(record);
+            crash_at = if random.once_in(3) { crash_at + 1 + random.below(20) as usize } else { records };
+            continue;
+        }
+        let record = likely(random, table, &cabinet, &habits);
+        for _ in 0..1 + random.below(habits.row) {
+            // What is refused changes nothing, so it can be left out.
+            let refused = cabinet.answer(record).code >= 32;
+            if schedule.len() < records && (!refused || random.once_in(30)) {
+                schedule.push(record);
+            }
+            if refused {
+                break;
+            }
+        }
+    }
+    schedule
+}

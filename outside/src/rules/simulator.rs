@@ -1,0 +1,452 @@
+//! The cabinet: document 01, "The cabinet's moves" and "What each move replies", on growing lists.
+//!
+//! For each channel the total of its unread and queued words is kept, so that no move counts them.
+use super::reader::{self, judge_run, record, Instruction, Record, Table, OUTSIDE};
+use std::collections::VecDeque;
+
+/// "One six-byte answer a record: code, a, word."
+#[derive(Clone, Copy, Debug, PartialEq, Eq)]
+pub struct Answer {
+    pub code: u8,
+    pub a: u8,
+    pub word: u32,
+}
+
+/// "0 done (0, 0)"
+const DONE: Answer = Answer { code: 0, a: 0, word: 0 };
+
+impl Answer {
+    /// "Refusals repeat a with word 0"
+    fn refused(code: u8, a: usize) -> Answer {
+        Answer { code, a: a as u8, word: 0 }
+    }
+
+    pub fn bytes(self) -> [u8; 6] {
+        let w = self.word.to_be_bytes();
+        [self.code, self.a, w[0], w[1], w[2], w[3]]
+    }
+}
+
+/// A word that has arrived, with the slot of its channel.
+#[derive(Clone, Copy, Debug, PartialEq, Eq)]
+pub struct Message {
+    pub channel: u8,
+    pub slot: u8,
+    pub word: u32,
+}
+
+/// "a snapshot (registers, place, takes per slot since the last issue)"
+#[derive(Clone, Copy, Debug, PartialEq, Eq)]
+pub struct Snapshot {
+    pub registers: [u32; 4],
+    pub place: u8,
+    pub taken: [u32; 4],
+}
+
+/// "An entry of an outgoing queue is a word or a sync"
+#[derive(Clone, Copy, Debug, PartialEq, Eq)]
+enum Entry {
+    Word { channel: u8, word: u32 },
+    Sync { process: u8, snapshot: Snapshot },
+}
+
+/// The backup record, and the board where it is kept.
+#[derive(Clone, Debug, PartialEq, Eq)]
+pub struct Backup {
+    pub board: u8,
+    pub saved: Vec<Message>,
+    pub count: u8,
+    pub place: u8,
+    pub registers: [u32; 4],
+}
+
+impl Backup {
+    /// "It starts with no words and the rest 0."
+    pub fn new(board: u8) -> Backup {
+        Backup { board, saved: Vec::new(), count: 0, place: 0, registers: [0; 4] }
+    }
+
+    /// "A sync replaces the state in the process's backup record, drops the oldest saved words slot by slot as taken, and zeroes the
+    /// count."
+    pub fn sync(&mut self, mut snapshot: Snapshot) {
+        self.saved.retain(|message| {
+            let left = &mut snapshot.taken[message.slot as usize];
+            let drops = *left > 0;
+            *left -= drops as u32;
+            !drops
+        });
+        debug_assert_eq!(snapshot.taken, [0; 4], "more taken than saved");
+        self.place = snapshot.place;
+        self.registers = snapshot.registers;
+        self.count = 0;
+    }
+}
+
+#[derive(Clone, Debug)]
+pub struct Process<'t> {
+    program: &'t [Instruction],
+    pub board: u8,
+    pub place: u8,
+    pub registers: [u32; 4],
+    /// Unread words in order of arrival.
+    pub inbox: VecDeque<Message>,
+    pub hold_back: u8,
+    /// "takes and queued sends since its last sync was issued"
+    acts: u32,
+    taken: [u32; 4],
+    /// Whether a sync of it waits in its board's queue.
+    waiting: bool,
+    pub backup: Option<Backup>,
+}
+
+impl<'t> Process<'t> {
+    fn new(given: &'t reader::Process) -> Process<'t> {
+        Process {
+            program: &given.program,
+            board: given.primary,
+            place: 0,
+            registers: [0; 4],
+            inbox: VecDeque::new(),
+            hold_back: 0,
+            acts: 0,
+            taken: [0; 4],
+            waiting: false,
+            backup: Some(Backup::new(given.backup)),
+        }
+    }
+
+    /// The instruction at its place, if it isn't halted.
+    fn instruction(&self) -> Option<Instruction> {
+        self.program.get(self.place as usize).copied()
+    }
+
+    /// A word reaches the inbox and the backup record, if there is one.
+    fn arrive(&mut self, message: Message) {
+        self.inbox.push_back(message);
+        if let Some(backup) = &mut self.backup {
+            backup.saved.push(message);
+            debug_assert!(backup.saved.len() <= 48, "over 48 saved words");
+        }
+    }
+
+    /// Where the oldest unread word is whose channel is in the mask.
+    fn oldest(&self, mask: u32) -> Option<usize> {
+        self.inbox.iter().position(|message| mask >> message.channel & 1 == 1)
+    }
+
+    /// "37 if backed and acts are 8"
+    fn must_sync(&self) -> bool {
+        self.backup.is_some() && self.acts >= 8
+    }
+
+    /// Removes an unread word.
+    fn take(&mut self, at: usize) -> Message {
+        let message = self.inbox.remove(at).expect("an unread word");
+        self.taken[message.slot as usize] += 1;
+        self.acts += 1;
+        message
+    }
+}
+
+/// A channel's ends, and its slot at its reader.
+#[derive(Clone, Copy, Debug)]
+struct Wire {
+    sender: u8,
+    reader: u8,
+    slot: u8,
+}
+
+#[derive(Clone, Debug)]
+pub struct Cabinet<'t> {
+    wires: Vec<Wire>,
+    pub processes: Vec<Process<'t>>,
+    queues: Vec<VecDeque<Entry>>,
+    /// Unread and queued words of each channel together.
+    totals: Vec<u32>,
+    crashed: Option<u8>,
+}
+
+impl<'t> Cabinet<'t> {
+    /// "every board live, each process on its primary board, inboxes and queues empty, each backup record as it starts, all else 0"
+    pub fn new(table: &'t Table) -> Cabinet<'t> {
+        let slot = |k: usize| table.channels[..k].iter().filter(|ends| ends.reader == table.channels[k].reader).count();
+        let wires = table.channels.iter().enumerate();
+        Cabinet {
+            wires: wires.map(|(k, ends)| Wire { sender: ends.sender, reader: ends.reader, slot: slot(k) as u8 }).collect(),
+            processes: table.processes.iter().map(Process::new).collect(),
+            queues: vec![VecDeque::new(); table.boards as usize],
+            totals: vec![0; table.channels.len()],
+            crashed: None,
+        }
+    }
+
+    /// One record and its answer. What is refused changes nothing.
+    pub fn answer(&mut self, record: Record) -> Answer {
+        let a = record.a as usize;
+        let refused = |code| Answer::refused(code, a);
+        // "32 for an unknown move or a word that should be 0; 33 if a is no process, board or channel of this table"
+        let among = match record.kind {
+            1 | 2 => self.processes.len(),
+            3 | 5 => self.queues.len(),
+            4 => self.wires.len(),
+            _ => return refused(32),
+        };
+        if record.kind != 4 && record.word != 0 {
+            return refused(32);
+        }
+        if a >= among {
+            return refused(33);
+        }
+        match record.kind {
+            1 => self.step(a),
+            2 => self.sync(a),
+            3 => self.carry(a),
+            4 => self.feed(a, record.word),
+            _ => self.crash(a),
+        }
+    }
+
+    /// "A channel is held when its unread words and those in the queues are 8 or more together. A channel read by the outside is
+    /// never held."
+    fn held(&self, channel: usize) -> bool {
+        self.wires[channel].reader != OUTSIDE && self.totals[channel] >= 8
+    }
+
+    fn step(&mut self, p: usize) -> Answer {
+        let refused = |code| Answer::refused(code, p);
+        let process = &mut self.processes[p];
+        let Some(instruction) = process.instruction() else { return refused(35) };
+        let answer = match instruction {
+            Instruction::Set { a, word } => {
+                process.registers[a as usize] = word;
+                DONE
+            }
+            Instruction::Add { a, b } => {
+                process.registers[a as usize] = process.registers[a as usize].wrapping_add(process.registers[b as usize]);
+                DONE
+            }
+            Instruction::Take { a, channel } => {
+                let Some(at) = process.oldest(1 << channel) else { return refused(36) };
+                if process.must_sync() {
+                    return refused(37);
+                }
+                let message = process.take(at);
+                self.totals[channel as usize] -= 1;
+                process.registers[a as usize] = message.word;
+                Answer { code: 1, a: channel, word: message.word }
+            }
+            Instruction::First { a, mask } => {
+                let Some(at) = process.oldest(mask) else { return refused(36) };
+                if process.must_sync() {
+                    return refused(37);
+                }
+                let message = process.take(at);
+                self.totals[message.channel as usize] -= 1;
+                process.registers[a as usize] = message.word;
+                process.registers[a as usize + 1] = message.channel as u32;
+                Answer { code: 1, a: message.channel, word: message.word }
+            }
+            Instruction::Send { a, channel } => {
+                let word = process.registers[a as usize];
+                if process.hold_back > 0 {
+                    process.hold_back -= 1;
+                    Answer { code: 3, a: channel, word }
+                } else {
+                    let board = process.board as usize;
+                    if process.must_sync() {
+                        return refused(37);
+                    }
+                    if self.queues[board].len() >= 32 {
+                        return refused(38);
+                    }
+                    if self.held(channel as usize) {
+                        return refused(39);
+                    }
+                    self.queues[board].push_back(Entry::Word { channel, word });
+                    self.totals[channel as usize] += 1;
+                    self.processes[p].acts += 1;
+                    Answer { code: 2, a: channel, word }
+                }
+            }
+            Instruction::Jump { a, place } => {
+                if process.registers[a as usize] != 0 {
+                    process.place = place;
+                    return DONE;
+                }
+                DONE
+            }
+        };
+        self.processes[p].place += 1;
+        answer
+    }
+
+    fn sync(&mut self, p: usize) -> Answer {
+        let process = &mut self.processes[p];
+        let queue = &mut self.queues[process.board as usize];
+        // "Sync: 40 no backup, 41 one waiting, 38 queue full."
+        if process.backup.is_none() {
+            return Answer::refused(40, p);
+        }
+        if process.waiting {
+            return Answer::refused(41, p);
+        }
+        if queue.len() >= 32 {
+            return Answer::refused(38, p);
+        }
+        let snapshot = Snapshot { registers: process.registers, place: process.place, taken: process.taken };
+        queue.push_back(Entry::Sync { process: p as u8, snapshot });
+        process.waiting = true;
+        process.acts = 0;
+        process.taken = [0; 4];
+        DONE
+    }
+
+    fn carry(&mut self, board: usize) -> Answer {
+        // "Carry: 34 board dead, 42 queue empty."
+        if self.crashed == Some(board as u8) {
+            return Answer::refused(34, board);
+        }
+        match self.queues[board].pop_front() {
+            None => Answer::refused(42, board),
+            Some(Entry::Word { channel, word }) => {
+                let wire = self.wires[channel as usize];
+                match self.processes.get_mut(wire.reader as usize) {
+                    Some(reader) => reader.arrive(Message { channel, slot: wire.slot, word }),
+                    None => self.totals[channel as usize] -= 1,
+                }
+                if let Some(backup) = &mut self.processes[wire.sender as usize].backup {
+                    backup.count += 1;
+                    debug_assert!(backup.count <= 16, "a count over 16");
+                }
+                Answer { code: 4, a: channel, word }
+            }
+            Some(Entry::Sync { process, snapshot }) => {
+                let of = &mut self.processes[process as usize];
+                of.waiting = false;
+                let code = match &mut of.backup {
+                    Some(backup) => {
+                        backup.sync(snapshot);
+                        5
+                    }
+                    None => 6,
+                };
+                Answer { code, a: process, word: 0 }
+            }
+        }
+    }
+
+    fn feed(&mut self, channel: usize, word: u32) -> Answer {
+        let wire = self.wires[channel];
+        // "Feed: 43 sender not outside, 39 held."
+        if wire.sender != OUTSIDE {
+            return Answer::refused(43, channel);
+        }
+        if self.held(channel) {
+            return Answer::refused(39, channel);
+        }
+        self.processes[wire.reader as usize].arrive(Message { channel: channel as u8, slot: wire.slot, word });
+        self.totals[channel] += 1;
+        Answer { code: 4, a: channel as u8, word }
+    }
+
+    fn crash(&mut self, board: usize) -> Answer {
+        // "Crash: 34 already dead, 44 another board has crashed."
+        match self.crashed {
+            Some(dead) if dead as usize == board => return Answer::refused(34, board),
+            Some(_) => return Answer::refused(44, board),
+            None => self.crashed = Some(board as u8),
+        }
+        // "its queue is lost"
+        for entry in self.queues[board].drain(..) {
+            if let Entry::Word { channel, .. } = entry {
+                self.totals[channel as usize] -= 1;
+            }
+        }
+        for process in &mut self.processes {
+            let runs_there = process.board as usize == board;
+            let Some(backup) = process.backup.take_if(|backup| runs_there || backup.board as usize == board) else { continue };
+            if !runs_there {
+                continue;
+            }
+            for message in &process.inbox {
+                self.totals[message.channel as usize] -= 1;
+            }
+            for message in &backup.saved {
+                self.totals[message.channel as usize] += 1;
+            }
+            *process = Process {
+                program: process.program,
+                board: backup.board,
+                place: backup.place,
+                registers: backup.registers,
+                inbox: backup.saved.into(),
+                hold_back: backup.count,
+                acts: 0,
+                taken: [0; 4],
+                waiting: false,
+                backup: None,
+            };
+        }
+        DONE
+    }
+
+    /// "Quiet: each process is halted or would answer 36, and no queue has an entry."
+    pub fn quiet(&self) -> bool {
+        let rests = |process: &Process| match process.instruction() {
+            None => true,
+            Some(Instruction::Take { channel, .. }) => process.oldest(1 << channel).is_none(),
+            Some(Instruction::First { mask, .. }) => process.oldest(mask).is_none(),
+            Some(_) => false,
+        };
+        self.queues.iter().all(VecDeque::is_empty) && self.processes.iter().all(rests)
+    }
+
+    /// "The report: board, place, unread count and hold-back, a byte each, then four registers."
+    fn report(&self, report: &mut [u8]) {
+        for (process, bytes) in self.processes.iter().zip(report.chunks_exact_mut(20)) {
+            bytes[..4].copy_from_slice(&[process.board, process.place, process.inbox.len() as u8, process.hold_back]);
+            for (register, bytes) in process.registers.iter().zip(bytes[4..].chunks_exact_mut(4)) {
+                bytes.copy_from_slice(&register.to_be_bytes());
+            }
+        }
+    }
+}
+
+/// "An accepted run returns 0, its number of records, and whether it ended quiet. A refused one [..] returns the number alone, no
+/// records, not quiet".
+#[derive(Clone, Copy, Debug, PartialEq, Eq)]
+pub struct Outcome {
+    pub number: u8,
+    pub records: usize,
+    pub quiet: bool,
+}
+
+/// A run on lent buffers: a refused one "writes to no lent buffer", and an accepted one to no byte beyond its answers and its report.
+pub fn run_into(table: &[u8], schedule: &[u8], answers: &mut [u8], report: &mut [u8]) -> Outcome {
+    let (table, records) = match judge_run(table, schedule, answers.len(), report.len()) {
+        Ok(judged) => judged,
+        Err(number) => return Outcome { number, records: 0, quiet: false },
+    };
+    let mut cabinet = Cabinet::new(&table);
+    for (bytes, answer) in records.chunks_exact(6).zip(answers.chunks_exact_mut(6)) {
+        answer.copy_from_slice(&cabinet.answer(record(bytes)).bytes());
+    }
+    cabinet.report(report);
+    Outcome { number: 0, records: records.len() / 6, quiet: cabinet.quiet() }
+}
+
+/// A run, and what it wrote.
+#[derive(Clone, Debug, PartialEq, Eq)]
+pub struct Run {
+    pub outcome: Outcome,
+    pub answers: Vec<u8>,
+    pub report: Vec<u8>,
+}
+
+/// A run on buffers of these lengths, all 0 before.
+pub fn run(table: &[u8], schedule: &[u8], answers: usize, report: usize) -> Run {
+    let mut run =
+        Run { outcome: Outcome { number: 0, records: 0, quiet: false }, answers: vec![0; answers], report: vec![0; report] };
+    run.outcome = run_into(table, schedule, &mut run.answers, &mut run.report);
+    run
+}

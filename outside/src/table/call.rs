@@ -1,0 +1,22 @@
+//! The proved library's exported call.
+
+mod raw {
+    #[link(name = "table_call", kind = "static")]
+    extern "C" {
+        // Each slice is a pointer and a length.
+        pub fn judge(
+            table: *const u8,
+            table_len: usize,
+            schedule: *const u8,
+            schedule_len: usize,
+            answers: usize,
+            report: usize,
+        ) -> u32;
+    }
+}
+
+/// The call on any bytes and on buffers of any lengths: it asks nothing of its caller.
+pub fn judge(table: &[u8], schedule: &[u8], answers: usize, report: usize) -> u32 {
+    // SAFETY: two slices, each with its own length; the call only reads them.
+    unsafe { raw::judge(table.as_ptr(), table.len(), schedule.as_ptr(), schedule.len(), answers, report) }
+}

@@ -1,0 +1,149 @@
+//! The proved judging of tables, schedules and buffers against the reader: `table [--runs N] [--seed N]`.
+//!
+//! Document 01's sample with every length field, every change of one byte and every shorter length; then random tables and schedules,
+//! sound and damaged, with buffers of lengths around what is enough.
+mod call;
+
+use call::judge;
+use outside::random::Random;
+use outside::rules::damage::{damage_schedule, damage_table, Damage, DAMAGES};
+use outside::rules::generate::{encode_schedule, encode_table, largest, schedule, table};
+use outside::rules::reader::judge_run;
+use outside::rules::sample::{sample_schedule, SAMPLE};
+
+const SEED: u64 = 0xD1B5_4A32_D192_ED03;
+const RUNS: u32 = 200_000;
+
+/// The numbers of a run: 0, and the refusals 1 to 12.
+const NUMBERS: usize = 13;
+
+/// How often each kind of input was given each number.
+struct Seen(Vec<(String, [u32; NUMBERS])>);
+
+impl Seen {
+    /// One judgement by both, counted under its kind.
+    fn compare(&mut self, kind: &str, table: &[u8], schedule: &[u8], answers: usize, report: usize) {
+        let wanted = judge_run(table, schedule, answers, report).err().unwrap_or(0);
+        let number = judge(table, schedule, answers, report);
+        if number != wanted as u32 {
+            println!("{kind}: judged {number}, {wanted} by the reader, with buffers of {answers} and {report} bytes");
+            println!("table {}\nschedule {}", hex(table), hex(schedule));
+            println!("table: FAILED");
+            std::process::exit(1);
+        }
+        match self.0.iter_mut().find(|(name, _)| name == kind) {
+            Some((_, row)) => row[wanted as usize] += 1,
+            None => {
+                let mut row = [0; NUMBERS];
+                row[wanted as usize] = 1;
+                self.0.push((kind.to_string(), row));
+            }
+        }
+    }
+
+    /// Prints all counts; false if a number was never seen.
+    fn report(&self) -> bool {
+        let print = |name: &str, row: &[u32; NUMBERS]| {
+            print!("{name:>20}");
+            row.iter().for_each(|n| print!("{n:>8}"));
+            println!("{:>9}", row.iter().sum::<u32>());
+        };
+        let mut all = [0; NUMBERS];
+        self.0.iter().for_each(|(_, row)| (0..NUMBERS).for_each(|n| all[n] += row[n]));
+        print!("{:>20}", "");
+        (0..NUMBERS).for_each(|n| print!("{n:>8}"));
+        println!("{:>9}", "all");
+        self.0.iter().for_each(|(name, row)| print(name, row));
+        print("all", &all);
+        let missing: Vec<usize> = (0..NUMBERS).filter(|&n| all[n] == 0).collect();
+        missing.iter().for_each(|n| println!("no run was given {n}"));
+        missing.is_empty()
+    }
+}
+
+fn hex(bytes: &[u8]) -> String {
+    bytes.iter().map(|byte| format!("{byte:02X}")).collect::<Vec<_>>().join(" ")
+}
+
+/// The same bytes with every length field, with every value of each byte, and cut or lengthened to every length up to twice their own.
+fn variants(bytes: &[u8], mut each: impl FnMut(&str, &[u8])) {
+    let mut changed = bytes.to_vec();
+    for field in 0..=u16::MAX {
+        changed[..2].copy_from_slice(&field.to_be_bytes());
+        each("length field", &changed);
+    }
+    changed.copy_from_slice(bytes);
+    for at in 0..bytes.len() {
+        for byte in 0..=u8::MAX {
+            changed[at] = byte;
+            each("one byte", &changed);
+        }
+        changed[at] = bytes[at];
+    }
+    for length in 0..=2 * bytes.len() {
+        changed.clear();
+        changed.extend(bytes.iter().copied().chain(std::iter::repeat(0)).take(length));
+        each("length", &changed);
+    }
+}
+
+/// Document 01's sample, all variants of its table and of its schedule.
+fn sample(seen: &mut Seen) {
+    let schedule = encode_schedule(&sample_schedule());
+    variants(&SAMPLE, |kind, table| seen.compare(&format!("sample {kind}"), table, &schedule, 120, 20));
+    variants(&schedule, |kind, schedule| seen.compare(&format!("sample {kind}"), &SAMPLE, schedule, 246, 20));
+}
+
+/// A buffer's length where `enough` are needed.
+fn buffer(random: &mut Random, enough: usize) -> usize {
+    let some = random.below(enough as u32 + 100) as usize;
+    let lengths = [enough, enough + 1, enough.saturating_sub(1), 0, enough / 2, 2 * enough, some, usize::MAX, usize::MAX / 6];
+    random.pick(&lengths)
+}
+
+/// A sound table and schedule, then the same with each kind of damage to one of them or to both.
+fn round(random: &mut Random, seen: &mut Seen) {
+    let sound = if random.once_in(100) { largest(random) } else { table(random) };
+    let records = random.pick(&[0, 1, 5, 30]);
+    let (sound, records) = (encode_table(&sound), schedule(random, &sound, records));
+    let (answers, report) = (6 * records.len(), 20 * sound[4] as usize);
+    let records = encode_schedule(&records);
+    for how in DAMAGES {
+        let table = damage_table(random, sound.clone(), how);
+        let schedule = damage_schedule(random, records.clone(), how);
+        let enough = (answers + 60_012, report + 400);
+        if how == Damage::None {
+            let lengths = (buffer(random, answers), buffer(random, report));
+            seen.compare("sound", &sound, &records, enough.0, enough.1);
+            seen.compare("buffers", &sound, &records, lengths.0, report);
+            seen.compare("buffers", &sound, &records, answers, lengths.1);
+            seen.compare("buffers", &sound, &records, lengths.0, lengths.1);
+        } else {
+            seen.compare(&format!("table {how:?}"), &table, &records, enough.0, enough.1);
+            seen.compare(&format!("schedule {how:?}"), &sound, &schedule, enough.0, enough.1);
+            seen.compare("both", &table, &schedule, buffer(random, answers), buffer(random, report));
+        }
+    }
+}
+
+/// The value of an option, if it is given.
+fn option(name: &str) -> Option<u64> {
+    let mut arguments = std::env::args().skip_while(|argument| argument != name).skip(1);
+    arguments.next().map(|value| value.parse().unwrap_or_else(|_| panic!("{name} takes a number")))
+}
+
+fn main() {
+    let runs = option("--runs").map_or(RUNS, |runs| runs as u32);
+    let seed = option("--seed").unwrap_or(SEED);
+    println!("table: {runs} random tables and schedules, seed {seed}");
+    let mut random = Random::new(seed);
+    let mut seen = Seen(Vec::new());
+    sample(&mut seen);
+    let each = 4 + 3 * (DAMAGES.len() as u32 - 1);
+    (0..runs.div_ceil(each)).for_each(|_| round(&mut random, &mut seen));
+    if !seen.report() {
+        println!("table: FAILED, not everything was seen");
+        std::process::exit(1);
+    }
+    println!("table: ok, every number as by the reader");
+}
