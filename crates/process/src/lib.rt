@@ -4,6 +4,6 @@ pub mod checkpoint;
 pub mod crash;
 pub mod delivery;
 pub mod instruction;
-pub mod mailbox;
+mod mailbox;
 pub mod promotion;
 pub mod row;
