@@ -1,13 +1,13 @@
 -- Number 7: the pass over the records of a table.
 -- Assumes nothing.
-use mathlib.Core.Path.{_≡_, refl, ap, ap₂, sym, _∙_, subst₂}
+use mathlib.Core.Path.{_≡_, ap, ap₂, sym, _∙_, subst₂}
 use mathlib.Core.Bool.{Bool, true, false, not}
 use mathlib.Core.List.{List, []}
 use Prim.Native.Nat.{ℕ, _+_, _-_, _≤_, _<_}
 use native.Mathlib.Omega.{arith}
 use native.Mathlib.Numerals.{add-one}
-use lib.Dec.{eqb, leb}
-use lib.ListN.{length, getD, set, take, drop}
+use lib.Dec.{leb}
+use lib.ListN.{length, set, take, drop}
 use borrow.Author.Tests.{leb-true, eqb-true}
 use Rattle.facts.specs.Tests.{allBelow, and-left, and-right, no-way}
 use Rattle.facts.specs.Ranges.{all-same, all-listed}

@@ -3,12 +3,11 @@
 use mathlib.Core.Path.{_≡_, refl, ap, ap₂, sym, _∙_, subst₂, subst}
 use mathlib.Core.Bool.{Bool, true, false, _&&_}
 use mathlib.Core.List.{List}
-use Prim.Native.Nat.{ℕ, zero, suc, _+_, _*_, _≤_, _<_}
+use Prim.Native.Nat.{ℕ, _+_, _*_, _≤_, _<_}
 use native.Mathlib.Omega.{arith}
 use lib.Dec.{eqb}
 use lib.ListN.{length, getD, drop}
 use lib.Seq.{drop-drop}
-use Rattle.rules.specs.Table.{codeOf}
 use Rattle.rules.specs.Judge.{endsOk, inputsOk, boardsOk, instructionsOk}
 use Rattle.rules.specs.Bytes.{sixes}
 use Rattle.rules.specs.Format.{versionIn, processesIn, programLength, instruction, decodeTable, orNumber, lengthOk, countsOk, extentOk, codesOk, validateTable}

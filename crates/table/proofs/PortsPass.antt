@@ -15,7 +15,7 @@ use borrow.Author.Tests.{eq-eqb, ne-eqb, le-leb, lt-leb}
 use Rattle.facts.specs.Tests.{by-eq, by-lt, no-way}
 use Rattle.facts.specs.Ranges.{all-given, all-fails}
 use Rattle.backup.specs.Limits.{ports}
-use Rattle.rules.specs.Table.{Channel, channelAt, readFrom, inputs, portOf, channelOn}
+use Rattle.rules.specs.Table.{Channel, readFrom, inputs, portOf, channelOn}
 use Rattle.rules.specs.Judge.{inputsOk}
 use Rattle.rules.specs.Bytes.{byteAt}
 use Rattle.rules.specs.Format.{processesIn, channelsIn, pairs, decodeTable}

@@ -4,10 +4,14 @@ ghost use Rattle.table.specs.Parts.{twoBoards, PlacedIn, PlacementsRead,
 use crate::bytes::byte;
 use crate::bytes::wide;
 use crate::bytes::word;
-use crate::extent::BOARDS;
-use crate::extent::PROCESSES;
 use crate::extent::records_start;
-use crate::plan::PROCESSES_MOST;
+use crate::format::BOARDS;
+use crate::format::N;
+use crate::format::PRIMARY;
+use crate::format::PROCESSES;
+use crate::format::PROCESSES_MOST;
+use crate::format::PROGRAM;
+use crate::format::STANDBY;
 
 // The record of one process: whether its boards are right, and its numbers.
 struct Placed {
@@ -39,15 +43,15 @@ fn boards_ok(boards: u8, primary: u8, standby: u8) -> bool
 fn placement_of(rest: &[u8], boards: u8) -> Placed
     ensures { λ r. ⌜ PlacedIn boards (now (rest .entry)) r ⌝ }
 {
-    let primary = byte(rest, 0);
-    let standby = byte(rest, 1);
-    let n = byte(rest, 2);
+    let primary = byte(rest, PRIMARY);
+    let standby = byte(rest, STANDBY);
+    let n = byte(rest, N);
     Placed {
         ok: boards_ok(boards, primary, standby),
         primary: word(primary),
         standby: word(standby),
         n: word(n),
-        size: 3 + 6 * wide(n),
+        size: PROGRAM + 6 * wide(n),
     }
 }
 
@@ -75,7 +79,7 @@ pub fn judge_boards(table: &[u8]) -> Placements
                 standby: standby,
             };
         }
-        start[p] = (at + 3) as u32;
+        start[p] = (at + PROGRAM) as u32;
         length[p] = r.n;
         primary[p] = r.primary;
         standby[p] = r.standby;

@@ -8,17 +8,15 @@ ghost use Rattle.table.specs.Parts.{pairOk, EndsRead, PortsRead};
 use crate::bytes::byte;
 use crate::bytes::wide;
 use crate::bytes::word;
-use crate::extent::CHANNELS;
-use crate::extent::PROCESSES;
-use crate::extent::READER;
-use crate::extent::SENDER;
-use crate::plan::CHANNELS_MOST;
-use crate::plan::INPUTS_MOST;
-use crate::plan::PORTS;
-use crate::plan::PROCESSES_MOST;
-
-// An end of a channel that is no process: the environment (document 01: the outside).
-const ENVIRONMENT: u8 = 255;
+use crate::format::CHANNELS;
+use crate::format::CHANNELS_MOST;
+use crate::format::ENVIRONMENT;
+use crate::format::INPUTS_MOST;
+use crate::format::PORTS;
+use crate::format::PROCESSES;
+use crate::format::PROCESSES_MOST;
+use crate::format::READER;
+use crate::format::SENDER;
 
 // What number 5 finds: whether the ends are right, and then both ends of each channel.
 pub struct Ends {

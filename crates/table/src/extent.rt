@@ -7,34 +7,19 @@ ghost use Rattle.table.specs.Parts.{recordIn, framing};
 use crate::bytes::byte;
 use crate::bytes::pair;
 use crate::bytes::wide;
-
-// Where the head has its numbers, and how long it is.
-pub const VERSION: usize = 2;
-
-pub const BOARDS: usize = 3;
-
-pub const PROCESSES: usize = 4;
-
-pub const CHANNELS: usize = 5;
-
-pub const HEAD: usize = 6;
-// Where the pair of channel 0 has its ends; that of channel k stands 2 k further.
-pub const SENDER: usize = 6;
-
-pub const READER: usize = 7;
-
-// The sizes, each named once; rules/specs/Format.antt names the same numbers for the definitions.
-const TABLE_MOST: usize = 6260;
-
-const BOARDS_LEAST: u8 = 2;
-
-const BOARDS_MOST: u8 = 16;
-
-const PROCESSES_MOST: u8 = 16;
-
-const CHANNELS_MOST: u8 = 32;
-
-const PROGRAM_MOST: usize = 64;
+use crate::format::BOARDS;
+use crate::format::BOARDS_LEAST;
+use crate::format::BOARDS_MOST;
+use crate::format::CHANNELS;
+use crate::format::CHANNELS_MOST;
+use crate::format::HEAD;
+use crate::format::N;
+use crate::format::PROCESSES;
+use crate::format::PROCESSES_MOST;
+use crate::format::PROGRAM;
+use crate::format::PROGRAM_MOST;
+use crate::format::TABLE_MOST;
+use crate::format::VERSION;
 
 // 1: at least a head, and a length field that is at most 6,260 and the true one.
 fn length_ok(table: &[u8]) -> bool
@@ -57,7 +42,7 @@ fn version_ok(table: &[u8]) -> bool
     byte(table, VERSION) == 1
 }
 
-fn within(low: u8, n: u8, high: u8) -> bool
+fn within(low: usize, n: usize, high: usize) -> bool
     ensures { λ r. ⌜ r ≡ (leb low n && leb n high) ⌝ }
 {
     low <= n && n <= high
@@ -67,9 +52,9 @@ fn within(low: u8, n: u8, high: u8) -> bool
 fn counts_ok(table: &[u8]) -> bool
     ensures { λ r. ⌜ r ≡ countsOk (now (table .entry)) ⌝ }
 {
-    within(BOARDS_LEAST, byte(table, BOARDS), BOARDS_MOST)
-        && (within(1, byte(table, PROCESSES), PROCESSES_MOST)
-            && within(1, byte(table, CHANNELS), CHANNELS_MOST))
+    within(BOARDS_LEAST, wide(byte(table, BOARDS)), BOARDS_MOST)
+        && (within(1, wide(byte(table, PROCESSES)), PROCESSES_MOST)
+            && within(1, wide(byte(table, CHANNELS)), CHANNELS_MOST))
 }
 
 // Where the first record begins, behind the pairs.
@@ -83,11 +68,11 @@ pub fn records_start(table: &[u8]) -> usize
 fn record_length(rest: &[u8]) -> usize
     ensures { λ r. ⌜ r ≡ recordIn (now (rest .entry)) ⌝ }
 {
-    let n = wide(byte(rest, 2));
+    let n = wide(byte(rest, N));
     if n > PROGRAM_MOST {
         return 0;
     }
-    let length = 3 + 6 * n;
+    let length = PROGRAM + 6 * n;
     if length > rest.len() {
         return 0;
     }

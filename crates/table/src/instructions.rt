@@ -7,17 +7,14 @@ ghost use Rattle.rules.specs.Judge.{instructionsOk};
 ghost use Rattle.rules.specs.Format.{recordsStart, recordLength, decodeTable, extentOk, codesOk};
 ghost use Rattle.table.specs.Judging.{endIs, channelsPass, maskOk, passes, programOk, recordOk};
 use crate::bytes::wide;
-use crate::extent::CHANNELS;
-use crate::extent::PROCESSES;
-use crate::extent::READER;
-use crate::extent::SENDER;
 use crate::fetch::Instruction;
 use crate::fetch::fetch;
-
-// A record's n is its byte 2, and its instructions begin at 3.
-const N: usize = 2;
-
-const PROGRAM: usize = 3;
+use crate::format::CHANNELS;
+use crate::format::N;
+use crate::format::PROCESSES;
+use crate::format::PROGRAM;
+use crate::format::READER;
+use crate::format::SENDER;
 
 fn wider(x: u32) -> usize
     ensures { λ r. ⌜ r ≡ x ⌝ }

@@ -7,6 +7,7 @@ mod bytes;
 mod ends;
 mod extent;
 pub mod fetch;
+pub mod format;
 mod instructions;
 pub mod mask;
 pub mod plan;

@@ -7,18 +7,12 @@ use crate::bytes::byte;
 use crate::bytes::wide;
 use crate::ends::Ends;
 use crate::ends::Ports;
-use crate::extent::BOARDS;
-use crate::extent::CHANNELS;
-use crate::extent::PROCESSES;
-
-// As many processes, channels and ports as a plan has room for.
-pub const PROCESSES_MOST: usize = 16;
-
-pub const CHANNELS_MOST: usize = 32;
-
-pub const PORTS: u32 = 4;
-
-pub const INPUTS_MOST: usize = 64;
+use crate::format::BOARDS;
+use crate::format::CHANNELS;
+use crate::format::CHANNELS_MOST;
+use crate::format::INPUTS_MOST;
+use crate::format::PROCESSES;
+use crate::format::PROCESSES_MOST;
 
 // For each process: where in the table its instructions begin, how many there are, its two boards, and how many channels it reads.
 // For each channel: its ends (255 is the environment), and its port within a reader that is a process.

@@ -4,7 +4,7 @@ ghost use Rattle.rules.specs.Schedule.{decodeSchedule, command};
 ghost use Rattle.table.specs.Commands.{commandOf, ScheduleJudged, judgedRun};
 ghost use lib.ListN.{getD};
 use crate::bytes::pair;
-use crate::extent::VERSION;
+use crate::format::VERSION;
 use crate::six::six_at;
 
 // Where the commands begin: behind the length's two bytes and the version.

@@ -1,6 +1,6 @@
 use Rattle.table.proofs.Decoding.{framing-refuses, framing-passes, judging-from, decodes-refused, decodes-accepted}
 use borrow.Author.Tests.{not-true, not-false}
-use mathlib.Core.Path.{_≡_, refl, sym, _∙_}
+use mathlib.Core.Path.{refl, sym, _∙_}
 use native.Mathlib.Omega.{arith}
 use borrow.Author.Needs.{needs}
 use Rattle.table.proofs.decode.Statement.{statement}

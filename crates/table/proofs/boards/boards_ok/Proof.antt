@@ -1,6 +1,4 @@
 use borrow.Author.Tests.{lt-ltb, le-ltb}
-use borrow.Author.Needs.{needs}
-use native.Mathlib.Omega.{arith}
 use Rattle.table.proofs.boards.boards_ok.Statement.{statement}
 use Rattle.table.proofs.boards.boards_ok.Tie as tie
 

@@ -1,14 +1,8 @@
-use borrow.Author.Tests.{not-true, not-false}
-use mathlib.Core.List.{List}
-use lib.ListN.{drop}
-use Rattle.table.specs.Parts.{PlacedIn}
-use Rattle.table.proofs.BoardsPass.{Placing, placing-start, placing-within, placing-start-fits, placing-on, placing-refused, placing-end}
-use Rattle.facts.specs.Lists.{filled-none, part-rest}
+use Rattle.table.proofs.BoardsPass.{Placing, placing-start, placing-start-fits, placing-on, placing-refused, placing-end}
+use Rattle.facts.specs.Lists.{filled-none}
 use Rattle.rules.proofs.Valid.{counted}
-use Rattle.rules.specs.Format.{channelsIn, processesIn, boardsIn}
-use Prim.Native.Nat.{ℕ, _-_, _≤_}
-use mathlib.Core.Bool.{true, false}
-use mathlib.Core.Path.{_≡_, sym, _∙_, ap, subst, refl, subst₂}
+use Prim.Native.Nat.{_-_, _≤_}
+use mathlib.Core.Path.{_∙_, refl}
 use borrow.Author.Needs.{needs}
 use native.Mathlib.Omega.{arith}
 use Rattle.table.proofs.boards.judge_boards.Statement.{statement}

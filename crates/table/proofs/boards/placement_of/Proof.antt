@@ -1,5 +1,4 @@
 use mathlib.Core.Path.{_∙_}
-use native.Mathlib.Omega.{arith}
 use borrow.Author.Needs.{needs}
 use Rattle.table.proofs.boards.placement_of.Statement.{statement}
 use Rattle.table.proofs.boards.placement_of.Tie as tie

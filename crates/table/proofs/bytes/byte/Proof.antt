@@ -1,6 +1,5 @@
 use lib.ListN.{List·getD-eq-default}
 use mathlib.Core.Path.{sym}
-use native.Mathlib.Omega.{arith}
 use borrow.Author.Needs.{needs}
 use Rattle.table.proofs.bytes.byte.Statement.{statement}
 use Rattle.table.proofs.bytes.byte.Tie as tie

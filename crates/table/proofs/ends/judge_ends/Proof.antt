@@ -1,12 +1,8 @@
-use borrow.Author.Tests.{not-true, not-false}
 use Rattle.table.proofs.EndsPass.{Reading, reading-start, reading-on, reading-refused, reading-end}
-use Rattle.table.specs.Parts.{pairOk}
 use Rattle.facts.specs.Lists.{filled-none}
 use Rattle.rules.proofs.Valid.{counted}
-use Rattle.rules.specs.Format.{channelsIn, processesIn}
-use Prim.Native.Nat.{ℕ, _-_, _≤_}
-use mathlib.Core.Bool.{true, false}
-use mathlib.Core.Path.{_≡_, sym, _∙_, ap, subst, refl}
+use Prim.Native.Nat.{_-_, _≤_}
+use mathlib.Core.Path.{_∙_, refl}
 use borrow.Author.Needs.{needs}
 use native.Mathlib.Omega.{arith}
 use Rattle.table.proofs.ends.judge_ends.Statement.{statement}

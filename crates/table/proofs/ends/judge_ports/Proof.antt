@@ -3,10 +3,8 @@ use lib.ListN.{getD}
 use Rattle.table.proofs.PortsPass.{Porting, porting-start, porting-past, porting-on, porting-refused, porting-end}
 use Rattle.facts.specs.Indexing.{getD-replicate-any}
 use Rattle.rules.proofs.Valid.{counted}
-use Rattle.rules.specs.Format.{channelsIn, processesIn}
 use Prim.Native.Nat.{ℕ, _-_, _≤_}
-use mathlib.Core.Bool.{true, false}
-use mathlib.Core.Path.{_≡_, sym, _∙_, ap, subst, refl}
+use mathlib.Core.Path.{_∙_, ap, refl}
 use borrow.Author.Needs.{needs}
 use native.Mathlib.Omega.{arith}
 use Rattle.table.proofs.ends.judge_ports.Statement.{statement}

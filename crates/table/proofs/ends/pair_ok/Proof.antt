@@ -1,5 +1,4 @@
 use borrow.Author.Tests.{eq-eqb, ne-eqb}
-use native.Mathlib.Omega.{arith}
 use borrow.Author.Needs.{needs}
 use Rattle.table.proofs.ends.pair_ok.Statement.{statement}
 use Rattle.table.proofs.ends.pair_ok.Tie as tie

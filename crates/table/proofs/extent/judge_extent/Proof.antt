@@ -1,7 +1,6 @@
 use borrow.Author.Tests.{not-true, not-false}
 use Rattle.table.proofs.Extents.{framing-from}
 use mathlib.Core.Path.{refl, sym, _∙_}
-use native.Mathlib.Omega.{arith}
 use borrow.Author.Needs.{needs}
 use Rattle.table.proofs.extent.judge_extent.Statement.{statement}
 use Rattle.table.proofs.extent.judge_extent.Tie as tie

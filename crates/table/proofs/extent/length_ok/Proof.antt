@@ -1,7 +1,6 @@
 use Rattle.table.proofs.Extents.{no-head, too-long, true-length}
 use Rattle.rules.specs.Bytes.{number16}
 use mathlib.Core.Path.{ap₂, _∙_}
-use native.Mathlib.Omega.{arith}
 use borrow.Author.Needs.{needs}
 use Rattle.table.proofs.extent.length_ok.Statement.{statement}
 use Rattle.table.proofs.extent.length_ok.Tie as tie

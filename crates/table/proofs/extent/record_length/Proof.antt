@@ -1,6 +1,5 @@
 use Rattle.table.proofs.Extents.{record-big, record-cut, record-whole}
 use mathlib.Core.Path.{_∙_}
-use native.Mathlib.Omega.{arith}
 use borrow.Author.Needs.{needs}
 use Rattle.table.proofs.extent.record_length.Statement.{statement}
 use Rattle.table.proofs.extent.record_length.Tie as tie

@@ -1,4 +1,3 @@
-use native.Mathlib.Omega.{arith}
 use borrow.Author.Needs.{needs}
 use Rattle.table.proofs.extent.version_ok.Statement.{statement}
 use Rattle.table.proofs.extent.version_ok.Tie as tie

@@ -1,6 +1,4 @@
 use borrow.Author.Tests.{le-leb, lt-leb}
-use borrow.Author.Needs.{needs}
-use native.Mathlib.Omega.{arith}
 use Rattle.table.proofs.extent.within.Statement.{statement}
 use Rattle.table.proofs.extent.within.Tie as tie
 

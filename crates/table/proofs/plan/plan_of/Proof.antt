@@ -1,4 +1,3 @@
-use native.Mathlib.Omega.{arith}
 use borrow.Author.Needs.{needs}
 use Rattle.table.proofs.plan.plan_of.Statement.{statement}
 use Rattle.table.proofs.plan.plan_of.Tie as tie

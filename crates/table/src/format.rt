@@ -1,0 +1,47 @@
+// A table's layout and sizes, each named once; rules/specs/Format.antt names the same numbers for the definitions.
+
+// Of the head, behind the length's two bytes: version, boards, processes, channels.
+pub const VERSION: usize = 2;
+
+pub const BOARDS: usize = 3;
+
+pub const PROCESSES: usize = 4;
+
+pub const CHANNELS: usize = 5;
+
+pub const HEAD: usize = 6;
+
+// Of the pair of channel 0: sender and reader. Those of channel k stand 2 k further.
+pub const SENDER: usize = 6;
+
+pub const READER: usize = 7;
+
+// Of a record: primary board, backup board, n, and behind them n instructions of six bytes.
+pub const PRIMARY: usize = 0;
+
+pub const STANDBY: usize = 1;
+
+pub const N: usize = 2;
+
+pub const PROGRAM: usize = 3;
+
+// The largest length field, the counts' bounds, and the most instructions of a process.
+pub const TABLE_MOST: usize = 6260;
+
+pub const BOARDS_LEAST: usize = 2;
+
+pub const BOARDS_MOST: usize = 16;
+
+pub const PROCESSES_MOST: usize = 16;
+
+pub const CHANNELS_MOST: usize = 32;
+
+pub const PROGRAM_MOST: usize = 64;
+
+// The most channels that one process reads, and that all of them read together.
+pub const PORTS: u32 = 4;
+
+pub const INPUTS_MOST: usize = 64;
+
+// An end of a channel that is no process: the environment (document 01: the outside).
+pub const ENVIRONMENT: u8 = 255;
