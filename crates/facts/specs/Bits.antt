@@ -3,9 +3,9 @@
 use mathlib.Core.Path.{_≡_, refl, ap, sym, _∙_}
 use mathlib.Core.Logic.{_≢_}
 use mathlib.Core.Bool.{Bool, true, false, not, cond, _||_}
-use Prim.Native.Nat.{ℕ, zero, suc, _+_, _-_, _*_, _/_, _%_, _^_, _≤_, _<_}
+use Prim.Native.Nat.{ℕ, zero, suc, _+_, _-_, _/_, _%_, _^_, _≤_, _<_}
 use native.Mathlib.Omega.{arith}
-use native.Mathlib.Nat.{not-suc-le-zero, div-one, zero-div, pow-suc, div-eq-of-lt}
+use native.Mathlib.Nat.{div-one, zero-div, pow-suc, div-eq-of-lt}
 use native.Mathlib.Numerals.{add-one, one-add}
 use lib.Dec.{eqb}
 use lib.Pow.{shr-lt, shr-shr, pow-mono}

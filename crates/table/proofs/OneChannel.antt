@@ -1,7 +1,7 @@
 -- The ends of a channel in the table's bytes are those that the rules decode.
 -- Assumes nothing.
 use mathlib.Core.Path.{_≡_, refl, ap, sym, _∙_}
-use mathlib.Core.Bool.{Bool, false, _&&_}
+use mathlib.Core.Bool.{false, _&&_}
 use mathlib.Core.List.{List}
 use Prim.Native.Nat.{ℕ, zero, suc, _+_, _*_, _≤_, _<_}
 use native.Mathlib.Omega.{arith}
@@ -11,7 +11,7 @@ use lib.ListN.{length, getD, drop}
 use lib.Seq.{getD-drop}
 use borrow.Author.Tests.{lt-ltb, le-ltb}
 use Rattle.facts.specs.Tests.{by-lt}
-use Rattle.rules.specs.Table.{environment, Channel, channelAt}
+use Rattle.rules.specs.Table.{Channel, channelAt}
 use Rattle.rules.specs.Bytes.{byteAt}
 use Rattle.rules.specs.Format.{channelsIn, pairs, decodeTable}
 use Rattle.rules.specs.Judge.{reads, sends}

@@ -9,7 +9,7 @@ use Rattle.facts.specs.Tests.{allBelow}
 use Rattle.rules.specs.Table.{Table}
 use Rattle.rules.specs.Machine.{bit}
 use Rattle.rules.specs.Bytes.{byteAt}
-use Rattle.rules.specs.Format.{channelsIn, programLength, isCode, decodeTable}
+use Rattle.rules.specs.Format.{channelsIn, programLength, isCode}
 use Rattle.rules.specs.Judge.{reads, bits, instructionOk}
 use Rattle.table.specs.Fetch.{fetched, instructionOf}
 use Rattle.table.specs.declared.fetch.Instruction.{Instruction}

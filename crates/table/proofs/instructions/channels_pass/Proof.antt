@@ -1,5 +1,4 @@
 use Rattle.table.proofs.Masks.{Left, left-all, left-none, low, can-clear, clears, left-fails, left-passes}
-use mathlib.Core.Path.{_≡_, refl, sym, _∙_}
 use Rattle.rules.specs.Format.{decodeTable}
 use borrow.Author.Needs.{needs}
 use native.Mathlib.Omega.{arith}

@@ -1,7 +1,5 @@
-use Rattle.rules.specs.Machine.{bit}
-use Prim.Native.Nat.{_/_, _^_}
-use mathlib.Core.Path.{_≡_, sym, ap}
-use Prim.Native.Nat.{ℕ}
+use mathlib.Core.Path.{sym, ap}
+use Prim.Native.Nat.{ℕ, _/_, _^_}
 use lib.Dec.{eqb}
 use lib.Bits.{and-mask}
 use Rattle.facts.specs.Bits.{no-digit-above}
