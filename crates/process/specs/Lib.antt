@@ -4,3 +4,4 @@ pub mod Mailbox
 pub mod Change
 pub mod Promotion
 pub mod Instruction
+pub mod Laws

@@ -63,7 +63,7 @@ fn bump(row: &mut [u32; ROW], i: usize)
 }
 
 // A TAKE or a FIRST would take the oldest word that it names.
-fn seek(mail: &[u64; MAIL], unread: usize, code: u32, operand: u32) -> Intent
+fn seek(mail: &[u64; MAIL], unread: usize, code: u8, operand: u32) -> Intent
     ensures { λ r. ⌜ Sought (now (mail .entry)) unread code operand r ⌝ }
 {
     let at = look(mail, unread, code, operand);
@@ -79,7 +79,7 @@ pub fn examine(
     row: &[u32; ROW],
     mail: &[u64; MAIL],
     length: u32,
-    code: u32,
+    code: u8,
     a: u32,
     operand: u32,
 ) -> Intent
@@ -107,7 +107,7 @@ fn sum(row: &[u32; ROW], a: u32, b: u32) -> u32
 }
 
 // A SET, an ADD or a JUMP is done.
-pub fn compute(row: &mut [u32; ROW], code: u32, a: u32, operand: u32)
+pub fn compute(row: &mut [u32; ROW], code: u8, a: u32, operand: u32)
     ensures { λ _. ⌜ Computes (now (row .entry)) code a operand (now (row .exit)) ⌝ }
 {
     match code {
@@ -138,7 +138,7 @@ fn event(row: &mut [u32; ROW])
 }
 
 // A word goes into register a; of a FIRST its channel goes into register a + 1.
-fn load(row: &mut [u32; ROW], code: u32, a: u32, x: u64)
+fn load(row: &mut [u32; ROW], code: u8, a: u32, x: u64)
     ensures { λ _. ⌜ Loads (now (row .entry)) code a x (now (row .exit)) ⌝ }
 {
     row[cell(a)] = word_of(x);
@@ -152,7 +152,7 @@ fn load(row: &mut [u32; ROW], code: u32, a: u32, x: u64)
 pub fn take_word(
     row: &mut [u32; ROW],
     mail: &mut [u64; MAIL],
-    code: u32,
+    code: u8,
     a: u32,
     at: usize,
     port: u32,

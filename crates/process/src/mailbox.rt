@@ -47,7 +47,7 @@ pub fn wanted(mask: u32, channel: u32) -> bool
 }
 
 // Whether a TAKE (code 3) or a FIRST (4) names a channel.
-pub fn named(code: u32, operand: u32, channel: u32) -> bool
+pub fn named(code: u8, operand: u32, channel: u32) -> bool
     ensures { λ r. ⌜ r ≡ names code operand channel ⌝ }
 {
     if code == 4 {
@@ -58,7 +58,7 @@ pub fn named(code: u32, operand: u32, channel: u32) -> bool
 }
 
 // The index of the oldest word that a TAKE or a FIRST names; where there is none, `unread`.
-pub fn look(mail: &[u64; MAIL], unread: usize, code: u32, operand: u32) -> usize
+pub fn look(mail: &[u64; MAIL], unread: usize, code: u8, operand: u32) -> usize
     ensures { λ r. ⌜ Looks (names code operand) (now (mail .entry)) unread r ⌝ }
 {
     if unread > MAIL {
