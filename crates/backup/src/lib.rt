@@ -2,6 +2,7 @@
 // many it has transmitted since. Board programmers call it by value, as below; the crates above work on it in place (`place`).
 ghost use mathlib.Core.Path.{_≡_};
 ghost use Prim.Native.Nat.{_≤_};
+ghost use Rattle.backup.specs.Limits.{logMost};
 ghost use Rattle.backup.specs.Replica.{initial, arrive as arriveOf, count as countOf, sync as syncOf, failOver};
 ghost use Rattle.backup.specs.Place.{viewIn, checkpointOf};
 ghost use Rattle.backup.specs.Value.{view, promotedBy, Answered, Census, Opened, Settled};
@@ -86,7 +87,7 @@ pub fn new() -> Backup
 
 // Looks through the first len messages of a log, once.
 fn census(log: &[u64; LOG], len: usize) -> Tallies
-    requires { ⌜ len ≤ 48 ⌝ }
+    requires { ⌜ len ≤ logMost ⌝ }
     ensures { λ r. ⌜ Census (now (log .entry)) len r ⌝ }
 {
     let mut n = [0u32; 4];

@@ -5,8 +5,9 @@ ghost use mathlib.Core.Path.{_≡_};
 ghost use mathlib.Core.List.{List, [], _∷_};
 ghost use Prim.Native.Nat.{ℕ, _+_, _-_, _%_, _^_, _≤_, _<_};
 ghost use lib.ListN.{length, getD, set};
+ghost use Rattle.backup.specs.Limits.{logMost};
 ghost use Rattle.backup.specs.Replica.{arrive, count, sync};
-ghost use Rattle.backup.specs.Place.{Called, portIn, wordIn, checkpointOf, takenOf, lacksIn, restatedIn, Compacted, promotionIn};
+ghost use Rattle.backup.specs.Place.{Called, headLength, portIn, wordIn, checkpointOf, takenOf, lacksIn, restatedIn, Compacted, promotionIn};
 use crate::limits::LOG;
 use crate::limits::PC_MOST;
 use crate::limits::PORTS;
@@ -73,7 +74,7 @@ fn wide(x: u32) -> usize
 
 // One more in a cell of the head.
 fn bump(head: &mut [u32; HEAD], i: usize)
-    requires { ⌜ i < 11 ⌝ }
+    requires { ⌜ i < headLength ⌝ }
     ensures { λ _. ⌜ now (head .exit) ≡ set (now (head .entry)) i ((getD (now (head .entry)) i 0 + 1) % 2 ^ 32) ⌝ }
 {
     head[i] = std::num::wrapping_add_u32(head[i], 1);
@@ -139,7 +140,7 @@ fn lane(x: u64) -> usize
 
 // Drops the oldest messages of each port, as many as were taken on it, in one pass over the first len; says how many stay.
 fn compact(log: &mut [u64; LOG], len: usize, taken: [u32; 4]) -> usize
-    requires { ⌜ len ≤ 48 ⌝ }
+    requires { ⌜ len ≤ logMost ⌝ }
     ensures { λ r. ⌜ Compacted (now (log .entry)) len taken r (now (log .exit)) ⌝ }
 {
     let mut left = taken;
@@ -213,14 +214,14 @@ pub fn fail_over_in(head: &[u32; HEAD]) -> Promotion
 
 // The port of message i of a log; 0 where i is no index of one.
 pub fn port_in(log: &[u64; LOG], i: usize) -> u32
-    ensures { λ r. ⌜ (i < 48 → r ≡ portIn (getD (now (log .entry)) i 0)) ⌝ }
+    ensures { λ r. ⌜ (i < logMost → r ≡ portIn (getD (now (log .entry)) i 0)) ⌝ }
 {
     if i < LOG { port_of(log[i]) } else { 0 }
 }
 
 // Its word.
 pub fn word_in(log: &[u64; LOG], i: usize) -> u32
-    ensures { λ r. ⌜ (i < 48 → r ≡ wordIn (getD (now (log .entry)) i 0)) ⌝ }
+    ensures { λ r. ⌜ (i < logMost → r ≡ wordIn (getD (now (log .entry)) i 0)) ⌝ }
 {
     if i < LOG { word_of(log[i]) } else { 0 }
 }
