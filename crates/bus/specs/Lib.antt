@@ -1,0 +1,3 @@
+-- What moves 3 and 4 promise.
+pub mod Injects
+pub mod Transmits

@@ -1,0 +1,2 @@
+-- What move 5 promises.
+pub mod Crashes

@@ -1,0 +1,1 @@
+// A board crashes (move 5).

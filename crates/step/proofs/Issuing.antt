@@ -1,0 +1,207 @@
+-- Move 2 in the lists: the refusals, and a checkpoint that joins its board's queue.
+-- Assumes nothing.
+use mathlib.Core.Path.{_≡_, refl, ap, sym, _∙_, subst}
+use mathlib.Core.Logic.{_≢_}
+use mathlib.Core.Bool.{Bool, true, false, not, cond, _||_, or-false, or-true, or-assoc}
+use mathlib.Core.List.{List, [], _∷_, _++_}
+use Prim.Native.Nat.{ℕ, zero, suc, _+_, _*_, _%_, _^_, _≤_, _<_}
+use native.Mathlib.Omega.{arith}
+use lib.Dec.{eqb, leb, ltb}
+use lib.ListN.{length, getD, set, length-set}
+use lib.Seq.{getD-set-same, getD-set-other}
+use borrow.Author.Tests.{lt-ltb, eq-eqb, ne-eqb, le-leb, lt-leb}
+use Rattle.facts.specs.Tests.{by-eq}
+use Rattle.backup.specs.Replica.{Checkpoint}
+use Rattle.process.specs.Row.{processOf}
+use Rattle.process.specs.Change.{RowBecame}
+use Rattle.rules.specs.Table.{Table}
+use Rattle.rules.specs.Cabinet as rules
+use Rattle.rules.specs.Cabinet.{isCheckpointOf, Cabinet, Process, outboxMost, processAt, outboxAt, protected, waiting}
+use Rattle.rules.specs.Moves.{Command, Result, refuse, accept, guard, noBackup, syncWaits, outboxFull, refusalNumber, issue, issued, snapshot, withProcess, enqueue, done, numbers}
+use Rattle.store.specs.declared.entry.Entry.{Entry}
+use Rattle.store.specs.declared.entry.Item.the-variants.{Sync}
+use Rattle.store.specs.declared.moved.Moved.{Moved}
+use Rattle.backup.specs.declared.place.Checkpoint as code
+use Rattle.backup.specs.Place.{checkpointOf}
+use Rattle.rules.proofs.Counting.{weight, flight-joined}
+use Rattle.store.specs.Board.{placeOf, pushedIn}
+use Rattle.store.specs.Store.{itemOf, Store, storeOf, Holds, processIn, outboxIn, firstIn, countIn, flag}
+use Rattle.store.specs.Moved.{Reachable, Turned, refusedWith, answerOf}
+use Rattle.step.specs.Issues.{Issues}
+use Rattle.store.proofs.Reading.{at-process, at-outbox, how-many-boards}
+use Rattle.store.proofs.Queueing.{QueueThen, joined}
+use Rattle.store.proofs.Changing.{row-changed}
+use Rattle.store.proofs.Reaching.{bounds, protected-is, queue-length}
+use Rattle.store.proofs.Refusing.{turned-down}
+
+-- a waiting flag that is 0, or not
+flag-off : (b : Bool) (n : ℕ) → n ≡ flag b → n ≡ 0 → b ≡ false
+flag-off true n e z = absurd (omega arith)
+flag-off false n e z = refl
+
+flag-on : (b : Bool) (n : ℕ) → n ≡ flag b → (n ≡ 0 → ⊥) → b ≡ true
+flag-on true n e z = refl
+flag-on false n e z = absurd (z e)
+
+module _ {t : Table} {s : Store} {entries : List Entry} {c : Cabinet} (reach : Reachable t c) (h : Holds t s entries c) (p : ℕ) (hp : p < length (t .processes)) where
+  x-is : processAt c p ≡ processIn s p
+  x-is = at-process h p hp
+
+  pub is-protected : (b : Bool) → not (eqb (getD (getD (s .rows) p []) 12 0) 0) ≡ b → protected (processAt c p) ≡ b
+  is-protected b e = ap protected x-is ∙ protected-is _ _ _ _ ∙ e
+
+  pub board-is : processAt c p .board ≡ getD (getD (s .rows) p []) 0 0
+  unfolding processOf
+  board-is = ap (λ (x : Process). x .board) x-is
+
+  pub board-there : getD (getD (s .rows) p []) 0 0 < t .boards
+  board-there = rw (← board-is) (bounds reach p hp .board)
+
+  pub queue-is : outboxAt c (processAt c p .board) ≡ outboxIn (s .boards) entries (getD (getD (s .rows) p []) 0 0)
+  queue-is = ap (outboxAt c) board-is ∙ at-outbox h (getD (getD (s .rows) p []) 0 0) board-there
+
+  pub queue-has : length (outboxAt c (processAt c p .board)) ≡ countIn (s .boards) (getD (getD (s .rows) p []) 0 0)
+  queue-has = ap (λ (l : List _). length l) queue-is ∙ queue-length (s .boards) entries (getD (getD (s .rows) p []) 0 0)
+
+  pub refused-40 : getD (getD (s .rows) p []) 12 0 ≡ 0 → issue t c p ≡ refuse noBackup
+  unfolding issue guard
+  refused-40 z = rw (is-protected false (rw (eq-eqb _ 0 z)))
+
+  pub refused-41 : (getD (getD (s .rows) p []) 12 0 ≡ 0 → ⊥) → (getD (s .waits) p 0 ≡ 0 → ⊥) → issue t c p ≡ refuse syncWaits
+  unfolding issue guard
+  refused-41 n w = rw (is-protected true (rw (ne-eqb _ 0 n)), flag-on (waiting p (outboxAt c (processAt c p .board))) (getD (s .waits) p 0) (h .waits-is p hp) w)
+
+  pub refused-38 : (getD (getD (s .rows) p []) 12 0 ≡ 0 → ⊥) → getD (s .waits) p 0 ≡ 0 → outboxMost ≤ countIn (s .boards) (getD (getD (s .rows) p []) 0 0)
+      → issue t c p ≡ refuse outboxFull
+  unfolding issue guard
+  refused-38 n w l = rw (is-protected true (rw (ne-eqb _ 0 n)), flag-off (waiting p (outboxAt c (processAt c p .board))) (getD (s .waits) p 0) (h .waits-is p hp) w, le-leb outboxMost (length (outboxAt c (processAt c p .board))) (rw queue-has l))
+
+  pub accepted-so : (getD (getD (s .rows) p []) 12 0 ≡ 0 → ⊥) → getD (s .waits) p 0 ≡ 0 → countIn (s .boards) (getD (getD (s .rows) p []) 0 0) < outboxMost
+      → issue t c p ≡ accept (withProcess p (issued (processAt c p)) (enqueue (processAt c p .board) (rules.checkpoint p (snapshot (processAt c p))) c)) done
+  unfolding issue guard
+  accepted-so n w l = rw (is-protected true (rw (ne-eqb _ 0 n)), flag-off (waiting p (outboxAt c (processAt c p .board))) (getD (s .waits) p 0) (h .waits-is p hp) w, lt-leb outboxMost (length (outboxAt c (processAt c p .board))) (rw queue-has l))
+
+-- ---- the checkpoint joins
+
+-- a checkpoint waits in a queue that it joined, and whatever waited before waits still
+waiting-joined : (q p : ℕ) (l : List rules.Item) (x : Checkpoint) → waiting q (l ++ (rules.checkpoint p x ∷ [])) ≡ (waiting q l || eqb q p)
+waiting-joined q p [] x = or-false (eqb q p)
+waiting-joined q p (i ∷ l) x = ap (λ (b : Bool). isCheckpointOf q i || b) (waiting-joined q p l x) ∙ sym (or-assoc (isCheckpointOf q i) (waiting q l) (eqb q p))
+
+module _ {t : Table} {s : Store} {entries : List Entry} {c : Cabinet} (reach : Reachable t c) (h : Holds t s entries c) (p : ℕ) (hp : p < length (t .processes))
+    (row′ : List ℕ) (x : Entry) (k : Checkpoint) (is-item : itemOf (x .item) ≡ rules.checkpoint p k)
+    (few : countIn (s .boards) (getD (getD (s .rows) p []) 0 0) < outboxMost) where
+  abbrev b : ℕ
+  b = getD (getD (s .rows) p []) 0 0
+
+  hb : b < t .boards
+  hb = board-there reach h p hp
+
+  abbrev board : List ℕ
+  board = getD (s .boards) b []
+
+  -- the flags afterwards: p's is on
+  waits-then : (q : ℕ) → q < length (t .processes)
+      → getD (set (s .waits) p 1) q 0 ≡ flag (waiting q (getD (set (c .outboxes) b (outboxAt c b ++ (itemOf (x .item) ∷ []))) (processAt c q .board) []))
+  waits-then q hq =
+      let joined-q : List rules.Item = outboxAt c b ++ (itemOf (x .item) ∷ []) in
+      let there : b < length (c .outboxes) = rw (how-many-boards h) hb in
+      let old = h .waits-is q hq in
+      by-eq (processAt c q .board) b
+      (λ e. let same : getD (set (c .outboxes) b joined-q) (processAt c q .board) [] ≡ joined-q = rw e (getD-set-same (c .outboxes) b joined-q [] there) in
+      let now-waits : waiting q joined-q ≡ (waiting q (outboxAt c b) || eqb q p) = ap (λ (i : rules.Item). waiting q (outboxAt c b ++ (i ∷ []))) is-item ∙ waiting-joined q p (outboxAt c b) k in
+      by-eq q p
+      (λ f. rw (same, now-waits, eq-eqb q p f, or-true) (rw f (getD-set-same (s .waits) p 1 0 (let l = h .waits-length in let z = reach .accepted .processes-high in omega arith))))
+      (λ n. rw (same, now-waits, ne-eqb q p n, or-false) (getD-set-other (s .waits) p q 1 0 n ∙ old ∙ ap (λ (i : ℕ). flag (waiting q (outboxAt c i))) e)))
+      (λ n. let same : getD (set (c .outboxes) b joined-q) (processAt c q .board) [] ≡ outboxAt c (processAt c q .board) = getD-set-other (c .outboxes) b (processAt c q .board) joined-q [] n in
+      let other : q ≢ p = λ f. n (ap (λ (i : ℕ). processAt c i .board) f ∙ board-is reach h p hp) in
+      rw same (getD-set-other (s .waits) p q 1 0 other ∙ old))
+
+  queue-then : QueueThen t s c b (pushedIn board) (s .queued) (set (s .waits) p 1) (firstIn (s .boards) b) (suc (countIn (s .boards) b)) (outboxAt c b ++ (itemOf (x .item) ∷ []))
+  queue-then =
+      let l = h .board-length b hb in
+      record {
+        is-first = getD-set-other board 1 0 ((getD board 1 0 + 1) % 2 ^ 32) 0 (λ e. omega arith);
+        is-count = getD-set-same board 1 ((getD board 1 0 + 1) % 2 ^ 32) 0 (omega arith) ∙ omega arith;
+        is-dead = getD-set-other board 1 2 ((getD board 1 0 + 1) % 2 ^ 32) 0 (λ e. omega arith);
+        three = length-set board 1 _ ∙ l;
+        in-queues = λ i li.
+            let a = flight-joined i (c .outboxes) b (itemOf (x .item)) (rw (how-many-boards h) hb) in
+            let d : weight i (itemOf (x .item)) ≡ 0 = ap (weight i) is-item in
+            h .queued-is i li ∙ omega arith;
+        queued-long = h .queued-length;
+        waiting-there = waits-then;
+        waits-long = length-set (s .waits) p 1 ∙ h .waits-length;
+      }
+
+  -- the lists afterwards hold the rules' cabinet afterwards
+  pub issue-holds : RowBecame (getD (s .rows) p []) row′ issued
+      → Holds t (storeOf (set (s .rows) p row′) (s .mails) (s .logs) (s .heads) (set (s .boards) b (pushedIn board)) (s .unread) (s .queued) (set (s .waits) p 1))
+      (set entries (placeOf board b) x) (withProcess p (issued (processAt c p)) (enqueue b (itemOf (x .item)) c))
+  unfolding issued
+  issue-holds became =
+      let first = joined h (reach .accepted .boards-high) b hb (pushedIn board) (s .queued) (set (s .waits) p 1) x few queue-then in
+      row-changed first (reach .accepted .processes-high) p hp row′ issued (became _ _ _ (h .kept p hp)) (λ y. refl) (λ y. refl)
+
+-- ---- what the move promises
+
+-- of a process of the table the clamped number is the number
+pub at-its-index : {rows boards rows′ boards′ : List (List ℕ)} {waits waits′ : List ℕ} {r : Moved} (p a : ℕ) → (a < 16 → p ≡ a)
+    → (a ≡ p → Issues rows boards waits p rows′ boards′ waits′ r) → Issues rows boards waits a rows′ boards′ waits′ r
+at-its-index {rows} {boards} {rows′} {boards′} {waits} {waits′} {r} p a is-p given = record {
+  turned = λ t mails logs heads unread queued entries c command reach h f ha.
+      let e : p ≡ a = is-p (let z = reach .accepted .processes-high in omega arith) in
+      subst (λ (i : ℕ). Issues rows boards waits i rows′ boards′ waits′ r) e (given (sym e)) .turned t mails logs heads unread queued entries c command reach h f ha;
+}
+
+module _ (rows boards : List (List ℕ)) (waits : List ℕ) (p : ℕ) (r : Moved) where
+  pub issues-40 : getD (getD rows p []) 12 0 ≡ 0 → r ≡ refusedWith 40 p → Issues rows boards waits p rows boards waits r
+  unfolding refusalNumber
+  issues-40 z e = record { turned = λ t mails logs heads unread queued entries c command reach h f hp. turned-down command p noBackup h (refused-40 reach h p hp z) f e }
+
+  pub issues-41 : (getD (getD rows p []) 12 0 ≡ 0 → ⊥) → (getD waits p 0 ≡ 0 → ⊥) → r ≡ refusedWith 41 p → Issues rows boards waits p rows boards waits r
+  unfolding refusalNumber
+  issues-41 n w e = record { turned = λ t mails logs heads unread queued entries c command reach h f hp. turned-down command p syncWaits h (refused-41 reach h p hp n w) f e }
+
+  module _ (b : ℕ) (is-b : getD (getD rows p []) 0 0 < 16 → b ≡ getD (getD rows p []) 0 0) where
+    -- of lists that hold a cabinet the clamped board is the board
+    the-board : {t : Table} {mails logs heads : List (List ℕ)} {unread queued : List ℕ} {entries : List Entry} {c : Cabinet} → Reachable t c
+        → Holds t (storeOf rows mails logs heads boards unread queued waits) entries c → p < length (t .processes) → b ≡ getD (getD rows p []) 0 0
+    the-board reach h hp = is-b (let a = board-there reach h p hp in let z = reach .accepted .boards-high in omega arith)
+
+    pub issues-38 : (getD (getD rows p []) 12 0 ≡ 0 → ⊥) → getD waits p 0 ≡ 0 → outboxMost ≤ getD (getD boards b []) 1 0 → r ≡ refusedWith 38 p
+        → Issues rows boards waits p rows boards waits r
+    unfolding refusalNumber
+    issues-38 n w l e = record {
+      turned = λ t mails logs heads unread queued entries c command reach h f hp.
+          turned-down command p outboxFull h (refused-38 reach h p hp n w (rw (← the-board reach h hp) l)) f e;
+    }
+
+    pub issues-done : (row′ : List ℕ) (k : code.Checkpoint) → (getD (getD rows p []) 12 0 ≡ 0 → ⊥) → getD waits p 0 ≡ 0 → getD (getD boards b []) 1 0 < outboxMost
+        → RowBecame (getD rows p []) row′ issued → ((mail log head : List ℕ) → checkpointOf k ≡ snapshot (processOf (getD rows p []) mail log head))
+        → placeOf (getD boards b []) b < 512 → r ≡ record { answer = answerOf 0 0 0; at = placeOf (getD boards b []) b; entry = record { item = Sync p k } }
+        → Issues rows boards waits p (set rows p row′) (set boards b (pushedIn (getD boards b []))) (set waits p 1) r
+    unfolding numbers
+    issues-done row′ k n w l became snap below e = record {
+      turned = λ t mails logs heads unread queued entries c command reach h f hp.
+          let s : Store = storeOf rows mails logs heads boards unread queued waits in
+          let bb : b ≡ getD (getD rows p []) 0 0 = the-board reach h hp in
+          let x : Entry = record { item = Sync p k } in
+          let few : countIn boards (getD (getD rows p []) 0 0) < outboxMost = rw (← bb) l in
+          let item : itemOf (x .item) ≡ rules.checkpoint p (snapshot (processAt c p)) =
+          ap (rules.checkpoint p) (snap _ _ _ ∙ ap snapshot (sym (at-process h p hp))) in
+          let cab = issue-holds reach h p hp row′ x (snapshot (processAt c p)) item few became in
+          let so = accepted-so reach h p hp n w few in
+          let b0 : ℕ = getD (getD rows p []) 0 0 in
+          let y : Process = issued (processAt c p) in
+          let named = subst (λ (i : rules.Item). Holds t (storeOf (set rows p row′) mails logs heads (set boards b0 (pushedIn (getD boards b0 []))) unread queued (set waits p 1))
+          (set entries (placeOf (getD boards b0 []) b0) x) (withProcess p y (enqueue b0 i c))) item cab in
+          let its-board = subst (λ (i : ℕ). Holds t (storeOf (set rows p row′) mails logs heads (set boards b0 (pushedIn (getD boards b0 []))) unread queued (set waits p 1))
+          (set entries (placeOf (getD boards b0 []) b0) x) (withProcess p y (enqueue i (rules.checkpoint p (snapshot (processAt c p))) c))) (sym (board-is reach h p hp)) named in
+          let there = subst (λ (i : ℕ). Holds t (storeOf (set rows p row′) mails logs heads (set boards i (pushedIn (getD boards i []))) unread queued (set waits p 1))
+          (set entries (placeOf (getD boards i []) i) x) (withProcess p y (enqueue (processAt c p .board) (rules.checkpoint p (snapshot (processAt c p))) c))) (sym bb) its-board in
+          let after : Store = storeOf (set rows p row′) mails logs heads (set boards b (pushedIn (getD boards b []))) unread queued (set waits p 1) in
+          subst (λ (z : Moved). Turned t after entries c command (issue t c p) z) (sym e)
+          (subst (λ (z : Result). Turned t after entries c command z (record { answer = answerOf 0 0 0; at = placeOf (getD boards b []) b; entry = x })) (sym so)
+          (record { answer-is = refl; holds = rw (lt-ltb (placeOf (getD boards b []) b) 512 below) there }));
+    }

@@ -1,0 +1,2 @@
+-- Why moves 1 and 2 are the rules'.
+pub mod Issuing

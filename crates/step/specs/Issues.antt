@@ -1,0 +1,19 @@
+-- Move 2 (document 01: "sync process a").
+-- Assumes nothing.
+use mathlib.Core.Path.{_≡_}
+use mathlib.Core.List.{List}
+use Prim.Native.Nat.{ℕ, _<_}
+use lib.ListN.{length}
+use Rattle.rules.specs.Table.{Table}
+use Rattle.rules.specs.Cabinet.{Cabinet}
+use Rattle.rules.specs.Moves.{Command, issue}
+use Rattle.store.specs.declared.entry.Entry.{Entry}
+use Rattle.store.specs.declared.moved.Moved.{Moved}
+use Rattle.store.specs.Store.{storeOf, Holds}
+use Rattle.store.specs.Moved.{Reachable, Turned}
+
+-- whatever the lists are that it isn't lent
+pub record Issues (rows boards : List (List ℕ)) (waits : List ℕ) (a : ℕ) (rows′ boards′ : List (List ℕ)) (waits′ : List ℕ) (r : Moved) : Type 0 where
+  pub turned : (t : Table) (mails logs heads : List (List ℕ)) (unread queued : List ℕ) (entries : List Entry) (c : Cabinet) (command : Command)
+      → Reachable t c → Holds t (storeOf rows mails logs heads boards unread queued waits) entries c → command .a ≡ a → a < length (t .processes)
+      → Turned t (storeOf rows′ mails logs heads boards′ unread queued waits′) entries c command (issue t c a) r

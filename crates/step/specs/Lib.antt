@@ -1,0 +1,3 @@
+-- What moves 1 and 2 promise.
+pub mod Issues
+pub mod Steps

@@ -1,0 +1,58 @@
+// Move 2: a process's checkpoint joins its board's queue. "Sync: 40 no backup, 41 one waiting, 38 queue full."
+ghost use mathlib.Core.Path.{_≡_};
+ghost use Rattle.step.specs.Issues.{Issues};
+use process::checkpoint;
+use process::row::BOARD;
+use process::row::PROTECTED;
+use process::row::ROW;
+use store::board::BOARD_ROW;
+use store::board::COUNT;
+use store::board::QUEUE;
+use store::board::index16;
+use store::board::place;
+use store::board::push;
+use store::entry::Entry;
+use store::entry::Item;
+use store::moved::Answer;
+use store::moved::Moved;
+use store::moved::refused;
+
+pub fn issue(
+    rows: &mut [[u32; ROW]; 16],
+    boards: &mut [[u32; BOARD_ROW]; 16],
+    waits: &mut [u32; 16],
+    a: u32,
+) -> Moved
+    ensures { λ r. ⌜ Issues (now (rows .entry)) (now (boards .entry)) (now (waits .entry)) a (now (rows .exit)) (now (boards .exit)) (now (waits .exit)) r ⌝ }
+{
+    let p = index16(a);
+    if rows[p][PROTECTED] == 0 {
+        return refused(40, a);
+    }
+    if waits[p] != 0 {
+        return refused(41, a);
+    }
+    let b = index16(rows[p][BOARD]);
+    if boards[b][COUNT] >= QUEUE {
+        return refused(38, a);
+    }
+    let at = place(&boards[b], b);
+    let c = checkpoint::snapshot(&rows[p]);
+    checkpoint::issue(&mut rows[p]);
+    push(&mut boards[b]);
+    waits[p] = 1;
+    Moved {
+        answer: Answer {
+            code: 0,
+            a: 0,
+            word: 0,
+        },
+        at: at,
+        entry: Entry {
+            item: Item::Sync {
+                process: a,
+                checkpoint: c,
+            },
+        },
+    }
+}

@@ -1,0 +1,18 @@
+use native.Mathlib.Omega.{arith}
+use borrow.Author.Needs.{needs}
+use Rattle.store.proofs.moved.alone.Statement.{statement}
+use Rattle.store.proofs.moved.alone.Tie as tie
+use Rattle.store.proofs.moved.alone.Reads as reads
+use Rattle.store.proofs.moved.alone.Lts as lts
+use Rattle.store.proofs.moved.blank.Reads as blank-reads
+
+-- src/moved.rt:52:16
+blank-requires : tie.Need-blank-requires
+blank-requires c κs = search needs
+
+-- src/moved.rt:46:1
+returns : tie.Need-returns
+returns c = rw (c .blank .ensures)
+
+pub alone-spec : {M : Type 1} → statement M
+alone-spec = tie.close (tie.spec blank-requires returns)

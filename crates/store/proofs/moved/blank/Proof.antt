@@ -1,0 +1,16 @@
+use mathlib.Core.Path.{refl}
+use Rattle.store.specs.Store.{blankEntry}
+use borrow.Author.Needs.{needs}
+use native.Mathlib.Omega.{arith}
+use Rattle.store.proofs.moved.blank.Statement.{statement}
+use Rattle.store.proofs.moved.blank.Tie as tie
+use Rattle.store.proofs.moved.blank.Reads as reads
+use Rattle.store.proofs.moved.blank.Lts as lts
+
+-- src/moved.rt:18:1
+returns : tie.Need-returns
+unfolding blankEntry
+returns c = refl
+
+pub blank-spec : {M : Type 1} → statement M
+blank-spec = tie.close (tie.spec returns)
