@@ -4,6 +4,6 @@ pub mod checkpoint;
 pub mod crash;
 pub mod delivery;
 pub mod instruction;
-mod mailbox;
+pub mod mailbox;
 pub mod promotion;
 pub mod row;

@@ -117,7 +117,7 @@ module _ {t : Table} {s : Store} {entries : List Entry} {c : Cabinet} (h : Holds
 pub row-changed : {t : Table} {s : Store} {entries : List Entry} {c : Cabinet} (h : Holds t s entries c) (small : length (t .processes) ≤ 16)
     (p : ℕ) (hp : p < length (t .processes)) (row : List ℕ) (change : Process → Process)
     → Became (getD (s .rows) p []) (getD (s .mails) p []) (getD (s .logs) p []) (getD (s .heads) p []) row (getD (s .mails) p []) (getD (s .logs) p []) (getD (s .heads) p []) change
-    → ((x : Process) → change x .board ≡ x .board) → ((x : Process) → change x .machine .mailbox ≡ x .machine .mailbox)
+    → change (processAt c p) .board ≡ processAt c p .board → change (processAt c p) .machine .mailbox ≡ processAt c p .machine .mailbox
     → Holds t (storeOf (set (s .rows) p row) (s .mails) (s .logs) (s .heads) (s .boards) (s .unread) (s .queued) (s .waits)) entries (withProcess p (change (processAt c p)) c)
 row-changed {t} {s} {entries} {c} h small p hp row change b same-board same-mailbox =
     let mail = getD (s .mails) p [] in
@@ -127,11 +127,11 @@ row-changed {t} {s} {entries} {c} h small p hp row change b same-board same-mail
     let u : UnreadThen h small p hp row mail log head (s .unread) = record {
       its = λ k l r.
           h .unread-is k l (rw r hp) ∙ ap (λ (q : ℕ). unreadOn k (processAt c q .machine .mailbox)) r
-          ∙ ap (unreadOn k) (sym (ap (λ (x : Process). x .machine .mailbox) is ∙ same-mailbox (processAt c p)));
+          ∙ ap (unreadOn k) (sym (ap (λ (x : Process). x .machine .mailbox) is ∙ same-mailbox));
       others = λ k l n. refl;
       long = h .unread-length;
     } in
-    let whole = changed h small p hp row mail log head (s .unread) (b .kept-again) (ap (λ (x : Process). x .board) is ∙ same-board (processAt c p)) u in
+    let whole = changed h small p hp row mail log head (s .unread) (b .kept-again) (ap (λ (x : Process). x .board) is ∙ same-board) u in
     subst (λ (x : Process). Holds t (storeOf (set (s .rows) p row) (s .mails) (s .logs) (s .heads) (s .boards) (s .unread) (s .queued) (s .waits)) entries (withProcess p x c)) is
     (subst (λ (l : List (List ℕ)). Holds t (storeOf (set (s .rows) p row) l (s .logs) (s .heads) (s .boards) (s .unread) (s .queued) (s .waits)) entries (withProcess p (processOf row mail log head) c)) (set-getD (s .mails) p [])
     (subst (λ (l : List (List ℕ)). Holds t (storeOf (set (s .rows) p row) (set (s .mails) p mail) l (s .heads) (s .boards) (s .unread) (s .queued) (s .waits)) entries (withProcess p (processOf row mail log head) c)) (set-getD (s .logs) p [])

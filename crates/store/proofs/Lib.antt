@@ -3,5 +3,14 @@ pub mod Reading
 pub mod Changing
 pub mod Queueing
 pub mod Totals
+pub mod Backing
 pub mod Reaching
 pub mod Refusing
+-- What the moves rest on: facts of an accepted table and of every cabinet that commands reach.
+pub mod Ends
+pub mod Known
+pub mod Arrivals
+pub mod Owners
+pub mod Tallies
+pub mod Waits
+pub mod Unharmed
