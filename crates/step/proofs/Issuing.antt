@@ -141,7 +141,7 @@ module _ {t : Table} {s : Store} {entries : List Entry} {c : Cabinet} (reach : R
   unfolding issued
   issue-holds became =
       let first = joined h (reach .accepted .boards-high) b hb (pushedIn board) (s .queued) (set (s .waits) p 1) x few queue-then in
-      row-changed first (reach .accepted .processes-high) p hp row′ issued (became _ _ _ (h .kept p hp)) (λ y. refl) (λ y. refl)
+      row-changed first (reach .accepted .processes-high) p hp row′ issued (became _ _ _ (h .kept p hp)) refl refl
 
 -- ---- what the move promises
 

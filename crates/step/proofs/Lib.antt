@@ -1,2 +1,5 @@
 -- Why moves 1 and 2 are the rules'.
 pub mod Issuing
+pub mod Stepping
+pub mod Taking
+pub mod Sending

@@ -1,0 +1,311 @@
+-- A step that sends a word, in the lists: one that is suppressed, the refusals 37, 38 and 39, and the word that joins its board's queue.
+-- Assumes nothing.
+use mathlib.Core.Path.{_≡_, refl, ap, sym, _∙_, subst}
+use mathlib.Core.Bool.{Bool, true, false, _||_}
+use mathlib.Core.List.{List, [], _∷_, _++_}
+use Prim.Native.Nat.{ℕ, suc, _+_, _-_, _%_, _^_, _≤_, _<_}
+use native.Mathlib.Omega.{arith}
+use lib.Dec.{leb}
+use lib.ListN.{length, getD, set, length-set}
+use lib.Seq.{getD-set-same, getD-set-other}
+use borrow.Author.Tests.{eq-eqb, ne-eqb, lt-ltb, le-leb, lt-leb}
+use Rattle.facts.specs.Tests.{by-eq}
+use Rattle.facts.specs.Counts.{same-yes, same-no}
+use Rattle.process.specs.Row.{machineOf, processOf}
+use Rattle.process.specs.Instruction.{Intends, Suppresses, Queues, Room, afterSend}
+use Rattle.process.specs.declared.instruction.Intent.the-variants.{Send}
+use Rattle.rules.specs.Table.{Table, environment, codeOf, channelAt}
+use Rattle.rules.specs.Machine.{Mail, Machine, sent}
+use Rattle.rules.specs.Cabinet as rules
+use Rattle.rules.specs.Cabinet.{Cabinet, Process, outboxMost, isCheckpointOf, processAt, outboxAt, full, waiting, inFlight}
+use Rattle.rules.specs.Moves as moves
+use Rattle.rules.specs.Moves.{guard, refuse, accept, eventsFull, outboxFull, channelFull, refusalNumber, suppressed, numbers, advanced, step, stepFrom, withProcess, enqueue}
+use Rattle.rules.proofs.Steps.{Steps}
+use Rattle.rules.proofs.Counting.{weight, flight-joined}
+use Rattle.rules.proofs.Tables.{step-own}
+use Rattle.store.specs.declared.entry.Entry.{Entry}
+use Rattle.store.specs.declared.entry.Item.the-variants.{Word}
+use Rattle.store.specs.declared.moved.Moved.{Moved}
+use Rattle.store.specs.Board.{placeOf, pushedIn}
+use Rattle.store.specs.Store.{itemOf, Store, storeOf, Holds, firstIn, countIn, flag}
+use Rattle.store.specs.Moved.{Reachable, answerOf, aloneOf, refusedWith}
+use Rattle.store.proofs.Reading.{at-process, how-many-boards}
+use Rattle.store.proofs.Queueing.{QueueThen, joined}
+use Rattle.store.proofs.Changing.{row-changed}
+use Rattle.store.proofs.Reaching.{channel-bounds}
+use Rattle.store.proofs.Ends.{sent-inside, reader-inside}
+use Rattle.store.proofs.Tallies.{events-few}
+use Rattle.store.proofs.Refusing.{turned-down}
+use Rattle.step.specs.Parts.{spentIn, heldIn, SendTurns}
+use Rattle.step.proofs.Issuing.{board-is, board-there, queue-has}
+use Rattle.step.proofs.Stepping.{turned-to, machine-is, step-is, exhausted-is}
+
+-- a word that joins a queue is no checkpoint
+waiting-joined : (q : ℕ) (l : List rules.Item) (x : Mail) → waiting q (l ++ (rules.message x ∷ [])) ≡ waiting q l
+waiting-joined q [] x = refl
+waiting-joined q (i ∷ l) x = ap (λ (b : Bool). isCheckpointOf q i || b) (waiting-joined q l x)
+
+module _ {t : Table} {s : Store} {entries : List Entry} {c : Cabinet} (reach : Reachable t c) (h : Holds t s entries c) (p : ℕ) (hp : p < length (t .processes))
+    (n code a operand channel word : ℕ) (i : Intends (codeOf t p) (getD (s .rows) p []) (getD (s .mails) p []) n code a operand (Send channel word)) where
+  abbrev row : List ℕ
+  row = getD (s .rows) p []
+
+  abbrev mail : List ℕ
+  mail = getD (s .mails) p []
+
+  abbrev log : List ℕ
+  log = getD (s .logs) p []
+
+  abbrev head : List ℕ
+  head = getD (s .heads) p []
+
+  -- its board
+  abbrev b : ℕ
+  b = getD row 0 0
+
+  abbrev x : Mail
+  x = record { channel = channel; word = word }
+
+  abbrev m1 : Machine
+  m1 = afterSend (machineOf row mail)
+
+  went : Steps (codeOf t p) (machineOf row mail) (sent x) m1
+  went = record { is = i .outcome }
+
+  -- the process sends on that channel
+  own : channelAt t channel .sender ≡ p
+  own = step-own t (reach .accepted) p hp went
+
+  pub channel-inside : channel < length (t .channels)
+  channel-inside = sent-inside (reach .accepted) channel (rw own hp)
+
+  sends-so : (held : ℕ) → getD row 6 0 ≡ held → step t c p ≡ moves.send t c p (processAt c p) m1 x held
+  unfolding stepFrom processOf
+  sends-so held e =
+      step-is h p hp _ (i .outcome) ∙ ap (moves.send t c p (processAt c p) m1 x) (ap (λ (y : Process). y .suppress) (at-process h p hp) ∙ e)
+
+  -- ---- suppressed
+
+  abbrev suppressing : ℕ → Process → Process
+  suppressing left y = advanced m1 (y .taken) (y .events) left y
+
+  pub suppressed-so : (left : ℕ) → getD row 6 0 ≡ suc left → step t c p ≡ accept (withProcess p (suppressing left (processAt c p)) c) (suppressed x)
+  unfolding moves.send
+  suppressed-so left e = sends-so (suc left) e
+
+  same-mailbox : m1 .mailbox ≡ processAt c p .machine .mailbox
+  same-mailbox = ap (λ (m : Machine). m .mailbox) (sym (machine-is h p hp))
+
+  pub suppress-holds : (left : ℕ) (row′ : List ℕ) → getD row 6 0 ≡ suc left → Suppresses row row′
+      → Holds t (storeOf (set (s .rows) p row′) (s .mails) (s .logs) (s .heads) (s .boards) (s .unread) (s .queued) (s .waits)) entries (withProcess p (suppressing left (processAt c p)) c)
+  unfolding advanced
+  suppress-holds left row′ e became =
+      row-changed h (reach .accepted .processes-high) p hp row′ (suppressing left)
+      (became (codeOf t p) n code a operand channel word left mail log head (h .kept p hp) i e) refl same-mailbox
+
+  -- ---- the refusals
+
+  -- the channel is held where the totals say so
+  pub full-is : (reader : ℕ) → reader ≡ channelAt t channel .reader → full t c channel ≡ heldIn reader (getD (s .unread) channel 0) (getD (s .queued) channel 0)
+  unfolding full
+  full-is reader e =
+      by-eq (channelAt t channel .reader) environment
+      (λ f. rw (e, eq-eqb (channelAt t channel .reader) environment f))
+      (λ f. rw (e, ne-eqb (channelAt t channel .reader) environment f, h .unread-is channel channel-inside (reader-inside (reach .accepted) channel channel-inside f), h .queued-is channel channel-inside))
+
+  abbrev queueing : Process → Process
+  queueing y = advanced m1 (y .taken) (suc (y .events)) 0 y
+
+  abbrev then : Cabinet
+  then = withProcess p (queueing (processAt c p)) (enqueue (processAt c p .board) (rules.message x) c)
+
+  module _ (none : getD row 6 0 ≡ 0) (reader : ℕ) (is-reader : reader ≡ channelAt t channel .reader) where
+    queues-so : (b1 b2 b3 : Bool) → spentIn row ≡ b1 → leb outboxMost (countIn (s .boards) b) ≡ b2 → heldIn reader (getD (s .unread) channel 0) (getD (s .queued) channel 0) ≡ b3
+        → step t c p ≡ guard b1 eventsFull (guard b2 outboxFull (guard b3 channelFull (accept then (moves.queued x))))
+    unfolding moves.send
+    queues-so b1 b2 b3 e1 e2 e3 =
+        sends-so 0 none
+        ∙ ap (λ (z : Bool). guard z eventsFull (guard (leb outboxMost (length (outboxAt c (processAt c p .board)))) outboxFull (guard (full t c channel) channelFull (accept then (moves.queued x))))) (exhausted-is h p hp ∙ e1)
+        ∙ ap (λ (z : Bool). guard b1 eventsFull (guard z outboxFull (guard (full t c channel) channelFull (accept then (moves.queued x))))) (ap (leb outboxMost) (queue-has reach h p hp) ∙ e2)
+        ∙ ap (λ (z : Bool). guard b1 eventsFull (guard b2 outboxFull (guard z channelFull (accept then (moves.queued x))))) (full-is reader is-reader ∙ e3)
+
+    pub refused-37 : spentIn row ≡ true → step t c p ≡ refuse eventsFull
+    unfolding guard
+    refused-37 e = queues-so true _ _ e refl refl
+
+    pub refused-38 : spentIn row ≡ false → leb outboxMost (countIn (s .boards) b) ≡ true → step t c p ≡ refuse outboxFull
+    unfolding guard
+    refused-38 e f = queues-so false true _ e f refl
+
+    pub refused-39 : spentIn row ≡ false → leb outboxMost (countIn (s .boards) b) ≡ false → heldIn reader (getD (s .unread) channel 0) (getD (s .queued) channel 0) ≡ true
+        → step t c p ≡ refuse channelFull
+    unfolding guard
+    refused-39 e f g = queues-so false false true e f g
+
+    pub queued-so : spentIn row ≡ false → leb outboxMost (countIn (s .boards) b) ≡ false → heldIn reader (getD (s .unread) channel 0) (getD (s .queued) channel 0) ≡ false
+        → step t c p ≡ accept then (moves.queued x)
+    unfolding guard
+    queued-so e f g = queues-so false false false e f g
+
+  -- ---- the word joins
+
+  module _ (few : countIn (s .boards) b < outboxMost) (e : Entry) (is-item : itemOf (e .item) ≡ rules.message x) where
+    hb : b < t .boards
+    hb = board-there reach h p hp
+
+    abbrev board : List ℕ
+    board = getD (s .boards) b []
+
+    abbrev queue : List rules.Item
+    queue = outboxAt c b ++ (itemOf (e .item) ∷ [])
+
+    abbrev queued′ : List ℕ
+    queued′ = set (s .queued) channel ((getD (s .queued) channel 0 + 1) % 2 ^ 32)
+
+    -- the flags stay
+    waits-then : (q : ℕ) → q < length (t .processes) → getD (s .waits) q 0 ≡ flag (waiting q (getD (set (c .outboxes) b queue) (processAt c q .board) []))
+    waits-then q hq =
+        let there : b < length (c .outboxes) = rw (how-many-boards h) hb in
+        by-eq (processAt c q .board) b
+        (λ f. let now-is : getD (set (c .outboxes) b queue) (processAt c q .board) [] ≡ queue = rw f (getD-set-same (c .outboxes) b queue [] there) in
+        let still : waiting q queue ≡ waiting q (outboxAt c b) = ap (λ (j : rules.Item). waiting q (outboxAt c b ++ (j ∷ []))) is-item ∙ waiting-joined q (outboxAt c b) x in
+        h .waits-is q hq ∙ ap (λ (j : ℕ). flag (waiting q (outboxAt c j))) f ∙ ap flag (sym still) ∙ ap (λ (l : List rules.Item). flag (waiting q l)) (sym now-is))
+        (λ f. h .waits-is q hq ∙ ap (λ (l : List rules.Item). flag (waiting q l)) (sym (getD-set-other (c .outboxes) b (processAt c q .board) queue [] f)))
+
+    -- one word more of the channel is in the queues
+    queued-then : (k : ℕ) → k < length (t .channels) → getD queued′ k 0 ≡ inFlight k (set (c .outboxes) b queue)
+    queued-then k hk =
+        let more = flight-joined k (c .outboxes) b (itemOf (e .item)) (rw (how-many-boards h) hb) in
+        let w : weight k (itemOf (e .item)) ≡ weight k (rules.message x) = ap (weight k) is-item in
+        let was = h .queued-is k hk in
+        by-eq k channel
+        (λ f. let d = same-yes k channel f in
+        let fits = channel-bounds reach k .few in
+        let g : getD queued′ k 0 ≡ (getD (s .queued) k 0 + 1) % 2 ^ 32 =
+        rw f (getD-set-same (s .queued) channel ((getD (s .queued) channel 0 + 1) % 2 ^ 32) 0 (let l = h .queued-length in let m = reach .accepted .channels-high in let z = channel-inside in omega arith)) in
+        omega arith)
+        (λ f. let d = same-no k channel f in let g = getD-set-other (s .queued) channel k ((getD (s .queued) channel 0 + 1) % 2 ^ 32) 0 f in omega arith)
+
+    queue-then : QueueThen t s c b (pushedIn board) queued′ (s .waits) (firstIn (s .boards) b) (suc (countIn (s .boards) b)) queue
+    queue-then =
+        let l = h .board-length b hb in
+        record {
+          is-first = getD-set-other board 1 0 ((getD board 1 0 + 1) % 2 ^ 32) 0 (λ f. omega arith);
+          is-count = getD-set-same board 1 ((getD board 1 0 + 1) % 2 ^ 32) 0 (omega arith) ∙ omega arith;
+          is-dead = getD-set-other board 1 2 ((getD board 1 0 + 1) % 2 ^ 32) 0 (λ f. omega arith);
+          three = length-set board 1 _ ∙ l;
+          in-queues = queued-then;
+          queued-long = length-set (s .queued) channel _ ∙ h .queued-length;
+          waiting-there = waits-then;
+          waits-long = h .waits-length;
+        }
+
+    events-room : Room row 7
+    unfolding processOf
+    events-room =
+        let f : processAt c p .events ≡ getD row 7 0 = ap (λ (y : Process). y .events) (at-process h p hp) in
+        let g = events-few reach p in
+        omega arith
+
+    -- the lists afterwards hold the rules' cabinet afterwards
+    send-holds : (row′ : List ℕ) → getD row 6 0 ≡ 0 → Queues row row′
+        → Holds t (storeOf (set (s .rows) p row′) (s .mails) (s .logs) (s .heads) (set (s .boards) b (pushedIn board)) (s .unread) queued′ (s .waits)) (set entries (placeOf board b) e)
+        (withProcess p (queueing (processAt c p)) (enqueue b (itemOf (e .item)) c))
+    unfolding advanced
+    send-holds row′ none became =
+        let first = joined h (reach .accepted .boards-high) b hb (pushedIn board) queued′ (s .waits) e few queue-then in
+        row-changed first (reach .accepted .processes-high) p hp row′ queueing
+        (became (codeOf t p) n code a operand channel word mail log head (h .kept p hp) i none events-room) refl same-mailbox
+
+    pub send-holds-so : (row′ : List ℕ) → getD row 6 0 ≡ 0 → Queues row row′
+        → Holds t (storeOf (set (s .rows) p row′) (s .mails) (s .logs) (s .heads) (set (s .boards) b (pushedIn board)) (s .unread) queued′ (s .waits)) (set entries (placeOf board b) e) then
+    send-holds-so row′ none became =
+        let after : Store = storeOf (set (s .rows) p row′) (s .mails) (s .logs) (s .heads) (set (s .boards) b (pushedIn board)) (s .unread) queued′ (s .waits) in
+        subst (λ (j : ℕ). Holds t after (set entries (placeOf board b) e) (withProcess p (queueing (processAt c p)) (enqueue j (rules.message x) c))) (sym (board-is reach h p hp))
+        (subst (λ (j : rules.Item). Holds t after (set entries (placeOf board b) e) (withProcess p (queueing (processAt c p)) (enqueue b j c))) is-item
+        (send-holds row′ none became))
+
+-- ---- what the part promises
+
+-- of a process of the table the clamped number is the number
+pub send-at-its-index : {reader : List ℕ} {rows boards rows′ boards′ : List (List ℕ)} {unread queued queued′ : List ℕ} {channel word : ℕ} {r : Moved} (p a : ℕ) → (a < 16 → p ≡ a)
+    → (a ≡ p → SendTurns reader rows boards unread queued p channel word rows′ boards′ queued′ r) → SendTurns reader rows boards unread queued a channel word rows′ boards′ queued′ r
+send-at-its-index {reader} {rows} {boards} {rows′} {boards′} {unread} {queued} {queued′} {channel} {word} {r} p a is-p given = record {
+  turned = λ t sender port mails logs heads waits entries c command n code register operand reach wired i h f ha.
+      let e : p ≡ a = is-p (let z = reach .accepted .processes-high in omega arith) in
+      subst (λ (q : ℕ). SendTurns reader rows boards unread queued q channel word rows′ boards′ queued′ r) e (given (sym e))
+      .turned t sender port mails logs heads waits entries c command n code register operand reach wired i h f ha;
+}
+
+module _ (reader : List ℕ) (rows boards : List (List ℕ)) (unread queued : List ℕ) (p channel word : ℕ) (r : Moved) where
+  pub send-suppressed : (row′ : List ℕ) → 0 < getD (getD rows p []) 6 0 → Suppresses (getD rows p []) row′ → r ≡ aloneOf (answerOf 3 channel word)
+      → SendTurns reader rows boards unread queued p channel word (set rows p row′) boards queued r
+  unfolding numbers
+  send-suppressed row′ l became g = record {
+    turned = λ t sender port mails logs heads waits entries c command n code register operand reach wired i h f hp.
+        let left : ℕ = getD (getD rows p []) 6 0 - 1 in
+        let e : getD (getD rows p []) 6 0 ≡ suc left = omega arith in
+        turned-to entries command (aloneOf (answerOf 3 channel word)) _ (suppressed (record { channel = channel; word = word }))
+        (suppressed-so reach h p hp n code register operand channel word i left e) g refl
+        (suppress-holds reach h p hp n code register operand channel word i left row′ e became);
+  }
+
+  module _ (none : getD (getD rows p []) 6 0 ≡ 0) where
+    pub send-37 : spentIn (getD rows p []) ≡ true → r ≡ refusedWith 37 p → SendTurns reader rows boards unread queued p channel word rows boards queued r
+    unfolding refusalNumber
+    send-37 e g = record {
+      turned = λ t sender port mails logs heads waits entries c command n code register operand reach wired i h f hp.
+          turned-down command p eventsFull h (refused-37 reach h p hp n code register operand channel word i none _ refl e) f g;
+    }
+
+    module _ (fresh : spentIn (getD rows p []) ≡ false) (b : ℕ) (is-b : getD (getD rows p []) 0 0 < 16 → b ≡ getD (getD rows p []) 0 0) where
+      -- of lists that hold a cabinet the clamped board is the board
+      the-board : {t : Table} {mails logs heads : List (List ℕ)} {waits : List ℕ} {entries : List Entry} {c : Cabinet} → Reachable t c
+          → Holds t (storeOf rows mails logs heads boards unread queued waits) entries c → p < length (t .processes) → b ≡ getD (getD rows p []) 0 0
+      the-board reach h hp = is-b (let a = board-there reach h p hp in let z = reach .accepted .boards-high in omega arith)
+
+      pub send-38 : outboxMost ≤ countIn boards b → r ≡ refusedWith 38 p → SendTurns reader rows boards unread queued p channel word rows boards queued r
+      unfolding refusalNumber
+      send-38 l g = record {
+        turned = λ t sender port mails logs heads waits entries c command n code register operand reach wired i h f hp.
+            turned-down command p outboxFull h
+            (refused-38 reach h p hp n code register operand channel word i none _ refl fresh (le-leb outboxMost (countIn boards (getD (getD rows p []) 0 0)) (rw (← the-board reach h hp) l))) f g;
+      }
+
+      module _ (few : countIn boards b < outboxMost) (k : ℕ) (is-k : channel < 32 → k ≡ channel) where
+        pub send-39 : heldIn (getD reader k 0) (getD unread k 0) (getD queued k 0) ≡ true → r ≡ refusedWith 39 p
+            → SendTurns reader rows boards unread queued p channel word rows boards queued r
+        unfolding refusalNumber
+        send-39 e g = record {
+          turned = λ t sender port mails logs heads waits entries c command n code register operand reach wired i h f hp.
+              let l = channel-inside reach h p hp n code register operand channel word i in
+              let kk : k ≡ channel = is-k (let z = reach .accepted .channels-high in omega arith) in
+              let full-so : heldIn (getD reader channel 0) (getD unread channel 0) (getD queued channel 0) ≡ true = rw (← kk) e in
+              turned-down command p channelFull h
+              (refused-39 reach h p hp n code register operand channel word i none (getD reader channel 0) (wired .reader-at channel l) fresh
+              (lt-leb outboxMost (countIn boards (getD (getD rows p []) 0 0)) (rw (← the-board reach h hp) few)) full-so) f g;
+        }
+
+        pub send-queued : (row′ : List ℕ) → heldIn (getD reader k 0) (getD unread k 0) (getD queued k 0) ≡ false → Queues (getD rows p []) row′
+            → placeOf (getD boards b []) b < 512
+            → r ≡ record { answer = answerOf 2 channel word; at = placeOf (getD boards b []) b; entry = record { item = Word channel word } }
+            → SendTurns reader rows boards unread queued p channel word (set rows p row′) (set boards b (pushedIn (getD boards b []))) (set queued k ((getD queued k 0 + 1) % 2 ^ 32)) r
+        unfolding numbers
+        send-queued row′ e became below g = record {
+          turned = λ t sender port mails logs heads waits entries c command n code register operand reach wired i h f hp.
+              let l = channel-inside reach h p hp n code register operand channel word i in
+              let kk : k ≡ channel = is-k (let z = reach .accepted .channels-high in omega arith) in
+              let bb : b ≡ getD (getD rows p []) 0 0 = the-board reach h hp in
+              let b0 : ℕ = getD (getD rows p []) 0 0 in
+              let y : Entry = record { item = Word channel word } in
+              let open-so : heldIn (getD reader channel 0) (getD unread channel 0) (getD queued channel 0) ≡ false = rw (← kk) e in
+              let few0 : countIn boards b0 < outboxMost = rw (← bb) few in
+              let so = queued-so reach h p hp n code register operand channel word i none (getD reader channel 0) (wired .reader-at channel l) fresh (lt-leb outboxMost _ few0) open-so in
+              let there = send-holds-so reach h p hp n code register operand channel word i few0 y refl row′ none became in
+              let after : ℕ → ℕ → Store = λ q j. storeOf (set rows p row′) mails logs heads (set boards q (pushedIn (getD boards q []))) unread (set queued j ((getD queued j 0 + 1) % 2 ^ 32)) waits in
+              let d : Cabinet = then reach h p hp n code register operand channel word i in
+              let its-board = subst (λ (q : ℕ). Holds t (after q channel) (set entries (placeOf (getD boards q []) q) y) d) (sym bb) there in
+              let its-channel = subst (λ (j : ℕ). Holds t (after b j) (set entries (placeOf (getD boards b []) b) y) d) (sym kk) its-board in
+              turned-to entries command (record { answer = answerOf 2 channel word; at = placeOf (getD boards b []) b; entry = y }) _ (moves.queued (record { channel = channel; word = word })) so g refl
+              (rw (lt-ltb (placeOf (getD boards b []) b) 512 below) its-channel);
+        }

@@ -1,0 +1,160 @@
+-- Move 1 in the lists: which case of the rules' step it is, the refusals 35 and 36, and a SET, an ADD or a JUMP.
+-- Assumes nothing.
+use mathlib.Core.Path.{_≡_, refl, ap, sym, _∙_, subst}
+use mathlib.Core.Bool.{Bool, _&&_}
+use mathlib.Core.List.{List, []}
+use Prim.Native.Nat.{ℕ, _≤_, _<_}
+use native.Mathlib.Omega.{arith}
+use lib.Dec.{leb}
+use lib.ListN.{length, getD, set}
+use Rattle.process.specs.Row.{machineOf, processOf}
+use Rattle.process.specs.Instruction.{Intends, Fetched, Examined, Computes, afterInternal}
+use Rattle.process.specs.Laws as laws
+use Rattle.process.specs.declared.instruction.Intent.{Intent}
+use Rattle.process.specs.declared.instruction.Intent.the-variants.{Halted, NoMail, Internal, Take, Send}
+use Rattle.table.specs.Fetch.{fetched, instructionOf}
+use Rattle.table.specs.declared.fetch.Instruction.{Instruction}
+use Rattle.rules.specs.Table.{Table, codeOf}
+use Rattle.rules.specs.Machine.{Machine, Outcome, localStep, internal}
+use Rattle.rules.specs.Cabinet.{Cabinet, Process, eventsMost, processAt, exhausted}
+use Rattle.rules.specs.Moves.{Command, Result, Answer, refuse, accept, isHalted, noSuchWord, done, refusalNumber, numbers, numbered, advanced, step, stepFrom, withProcess}
+use Rattle.rules.proofs.Steps.{Steps, step-left}
+use Rattle.store.specs.declared.entry.Entry.{Entry}
+use Rattle.store.specs.declared.moved.Moved.{Moved}
+use Rattle.store.specs.Store.{Store, storeOf, Holds}
+use Rattle.store.specs.Moved.{Reachable, Turned, storedBy, answerOf, aloneOf, refusedWith}
+use Rattle.store.proofs.Reading.{at-process}
+use Rattle.store.proofs.Changing.{row-changed}
+use Rattle.store.proofs.Reaching.{protected-is}
+use Rattle.store.proofs.Refusing.{turned-down}
+use Rattle.step.specs.Parts.{spentIn, TakeTurns, SendTurns}
+use Rattle.step.specs.Steps as specs
+
+-- ---- an accepted move
+
+pub turned-to : {t : Table} {s : Store} (entries : List Entry) {c : Cabinet} (command : Command) {result : Result} {r : Moved} (m : Moved) (d : Cabinet) (x : Answer)
+    → result ≡ accept d x → r ≡ m → numbers x ≡ numbered (m .answer .code) (m .answer .a) (m .answer .word) → Holds t s (storedBy entries m) d
+    → Turned t s entries c command result r
+turned-to {t} {s} entries {c} command {result} {r} m d x e f g h =
+    subst (λ (z : Moved). Turned t s entries c command result z) (sym f)
+    (subst (λ (z : Result). Turned t s entries c command z m) (sym e) (record { answer-is = g; holds = h }))
+
+-- ---- the case of the rules' step
+
+module _ {t : Table} {s : Store} {entries : List Entry} {c : Cabinet} (h : Holds t s entries c) (p : ℕ) (hp : p < length (t .processes)) where
+  abbrev row : List ℕ
+  row = getD (s .rows) p []
+
+  abbrev mail : List ℕ
+  mail = getD (s .mails) p []
+
+  pub machine-is : processAt c p .machine ≡ machineOf row mail
+  unfolding processOf
+  machine-is = ap (λ (x : Process). x .machine) (at-process h p hp)
+
+  pub step-is : (o : Outcome) → localStep (codeOf t p) (machineOf row mail) ≡ o → step t c p ≡ stepFrom t c p (processAt c p) o
+  unfolding step
+  step-is o e = ap (λ (m : Machine). stepFrom t c p (processAt c p) (localStep (codeOf t p) m)) machine-is ∙ ap (stepFrom t c p (processAt c p)) e
+
+  pub exhausted-is : exhausted (processAt c p) ≡ spentIn row
+  unfolding exhausted processOf
+  exhausted-is = ap exhausted (at-process h p hp) ∙ ap (λ (b : Bool). b && leb eventsMost (getD row 7 0)) (protected-is row mail (getD (s .logs) p []) (getD (s .heads) p []))
+
+  module _ (n code a operand : ℕ) where
+    pub refused-35 : Intends (codeOf t p) row mail n code a operand Halted → step t c p ≡ refuse isHalted
+    unfolding stepFrom
+    refused-35 i = step-is _ (i .outcome)
+
+    pub refused-36 : Intends (codeOf t p) row mail n code a operand NoMail → step t c p ≡ refuse noSuchWord
+    unfolding stepFrom
+    refused-36 i = step-is _ (i .outcome)
+
+    module _ (i : Intends (codeOf t p) row mail n code a operand Internal) where
+      abbrev computed : Process → Process
+      computed x = advanced (afterInternal code a operand (machineOf row mail)) (x .taken) (x .events) (x .suppress) x
+
+      pub computes-so : step t c p ≡ accept (withProcess p (computed (processAt c p)) c) done
+      unfolding stepFrom
+      computes-so = step-is _ (i .outcome)
+
+      pub compute-holds : length (t .processes) ≤ 16 → (row′ : List ℕ) → Computes row code a operand row′
+          → Holds t (storeOf (set (s .rows) p row′) (s .mails) (s .logs) (s .heads) (s .boards) (s .unread) (s .queued) (s .waits)) entries (withProcess p (computed (processAt c p)) c)
+      unfolding advanced
+      compute-holds small row′ became =
+          let went : Steps (codeOf t p) (machineOf row mail) internal (afterInternal code a operand (machineOf row mail)) = record { is = i .outcome } in
+          row-changed h small p hp row′ computed (became (codeOf t p) n mail (getD (s .logs) p []) (getD (s .heads) p []) (h .kept p hp) i) refl
+          (step-left went ∙ ap (λ (m : Machine). m .mailbox) (sym machine-is))
+
+-- ---- what the move promises
+
+-- of a process of the table the clamped number is the number
+pub step-at-its-index : {table start lengths reader port : List ℕ} {rows mails boards rows′ mails′ boards′ : List (List ℕ)} {unread queued unread′ queued′ : List ℕ} {r : Moved} (p a : ℕ)
+    → (a < 16 → p ≡ a) → (a ≡ p → specs.Steps table start lengths reader port rows mails boards unread queued p rows′ mails′ boards′ unread′ queued′ r)
+    → specs.Steps table start lengths reader port rows mails boards unread queued a rows′ mails′ boards′ unread′ queued′ r
+step-at-its-index {table} {start} {lengths} {reader} {port} {rows} {mails} {boards} {rows′} {mails′} {boards′} {unread} {queued} {unread′} {queued′} {r} p a is-p given = record {
+  turned = λ t sender logs heads waits entries c command reach wired programmed h f ha.
+      let e : p ≡ a = is-p (let z = reach .accepted .processes-high in omega arith) in
+      subst (λ (q : ℕ). specs.Steps table start lengths reader port rows mails boards unread queued q rows′ mails′ boards′ unread′ queued′ r) e (given (sym e))
+      .turned t sender logs heads waits entries c command reach wired programmed h f ha;
+}
+
+module _ (table start lengths reader port : List ℕ) (rows mails boards : List (List ℕ)) (unread queued : List ℕ) (p : ℕ) (r : Moved) (j : Instruction)
+    (is-fetched : j ≡ fetched table (getD start p 0) (getD (getD rows p []) 1 0)) where
+  module _ (intent : Intent) (examined : Examined (getD rows p []) (getD mails p []) (getD lengths p 0) (j .code) (j .a) (j .operand) intent) where
+    -- the instruction fetched is the program's, so its intent is the rules'
+    intends : {t : Table} {logs heads : List (List ℕ)} {waits : List ℕ} {entries : List Entry} {c : Cabinet} → Reachable t c → specs.Programmed t table start lengths
+        → Holds t (storeOf rows mails logs heads boards unread queued waits) entries c → p < length (t .processes)
+        → Intends (codeOf t p) (getD rows p []) (getD mails p []) (getD lengths p 0) (j .code) (j .a) (j .operand) intent
+    intends {t} reach programmed h hp =
+        let here = laws.fetched t p (reach .accepted) hp (getD rows p []) (j .code) (j .a) (j .operand)
+        (λ l. sym (programmed .code-at p hp (getD (getD rows p []) 1 0) l) ∙ ap instructionOf (sym is-fetched)) in
+        examined (codeOf t p) (subst (λ (n : ℕ). Fetched (codeOf t p) (getD rows p []) n (j .code) (j .a) (j .operand)) (sym (programmed .length-at p hp)) here) (h .kept p hp .unread)
+
+  abbrev Promises : List (List ℕ) → List (List ℕ) → List (List ℕ) → List ℕ → List ℕ → Type 0
+  Promises rows′ mails′ boards′ unread′ queued′ = specs.Steps table start lengths reader port rows mails boards unread queued p rows′ mails′ boards′ unread′ queued′ r
+
+  -- what was examined is this intent
+  pub record Means (intent : Intent) : Type 0 where
+    pub seen : Intent
+    pub examined : Examined (getD rows p []) (getD mails p []) (getD lengths p 0) (j .code) (j .a) (j .operand) seen
+    pub is : seen ≡ intent
+
+  meant : (intent : Intent) → Means intent → Examined (getD rows p []) (getD mails p []) (getD lengths p 0) (j .code) (j .a) (j .operand) intent
+  meant intent m = subst (Examined (getD rows p []) (getD mails p []) (getD lengths p 0) (j .code) (j .a) (j .operand)) (m .is) (m .examined)
+
+  pub steps-35 : Means Halted → r ≡ refusedWith 35 p → Promises rows mails boards unread queued
+  unfolding refusalNumber
+  steps-35 m g = record {
+    turned = λ t sender logs heads waits entries c command reach wired programmed h f hp.
+        turned-down command p isHalted h (refused-35 h p hp _ _ _ _ (intends Halted (meant Halted m) reach programmed h hp)) f g;
+  }
+
+  pub steps-36 : Means NoMail → r ≡ refusedWith 36 p → Promises rows mails boards unread queued
+  unfolding refusalNumber
+  steps-36 m g = record {
+    turned = λ t sender logs heads waits entries c command reach wired programmed h f hp.
+        turned-down command p noSuchWord h (refused-36 h p hp _ _ _ _ (intends NoMail (meant NoMail m) reach programmed h hp)) f g;
+  }
+
+  pub steps-computed : (row′ : List ℕ) → Means Internal → Computes (getD rows p []) (j .code) (j .a) (j .operand) row′ → r ≡ aloneOf (answerOf 0 0 0)
+      → Promises (set rows p row′) mails boards unread queued
+  unfolding numbers
+  steps-computed row′ m became g = record {
+    turned = λ t sender logs heads waits entries c command reach wired programmed h f hp.
+        let i = intends Internal (meant Internal m) reach programmed h hp in
+        turned-to entries command (aloneOf (answerOf 0 0 0)) _ done (computes-so h p hp _ _ _ _ i) g refl (compute-holds h p hp _ _ _ _ i (reach .accepted .processes-high) row′ became);
+  }
+
+  pub steps-taken : (at : ℕ) {rows′ mails′ : List (List ℕ)} {unread′ : List ℕ} → Means (Take at)
+      → TakeTurns port rows mails unread p (j .code) (j .a) at rows′ mails′ unread′ r → Promises rows′ mails′ boards unread′ queued
+  steps-taken at m part = record {
+    turned = λ t sender logs heads waits entries c command reach wired programmed h f hp.
+        part .turned t sender reader logs heads boards queued waits entries c command _ _ reach wired (intends (Take at) (meant (Take at) m) reach programmed h hp) h f hp;
+  }
+
+  pub steps-sent : (channel word : ℕ) {rows′ boards′ : List (List ℕ)} {queued′ : List ℕ} → Means (Send channel word)
+      → SendTurns reader rows boards unread queued p channel word rows′ boards′ queued′ r → Promises rows′ mails boards′ unread queued′
+  steps-sent channel word m part = record {
+    turned = λ t sender logs heads waits entries c command reach wired programmed h f hp.
+        part .turned t sender port mails logs heads waits entries c command _ _ _ _ reach wired (intends (Send channel word) (meant (Send channel word) m) reach programmed h hp) h f hp;
+  }

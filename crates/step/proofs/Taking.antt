@@ -1,0 +1,204 @@
+-- A step that takes a word, in the lists: the refusal 37, and the word that leaves its mailbox.
+-- Assumes nothing.
+use mathlib.Core.Path.{_≡_, refl, ap, sym, _∙_, subst}
+use mathlib.Core.Bool.{Bool, true, false}
+use mathlib.Core.List.{List, []}
+use Prim.Native.Nat.{ℕ, zero, suc, _+_, _-_, _%_, _^_, _≤_, _<_}
+use native.Mathlib.Omega.{arith}
+use lib.ListN.{length, getD, set}
+use lib.Seq.{set-getD}
+use Rattle.facts.specs.Tests.{by-eq}
+use Rattle.facts.specs.Counts.{same, same-yes}
+use Rattle.backup.specs.Limits.{logMost, ports}
+use Rattle.process.specs.Row.{mailIn, machineOf, processOf}
+use Rattle.process.specs.Change.{Became}
+use Rattle.process.specs.Instruction.{Intends, Takes, Room, afterTake}
+use Rattle.process.specs.declared.instruction.Intent.the-variants.{Take}
+use Rattle.rules.specs.Table.{Table, codeOf, channelAt, portOf}
+use Rattle.rules.specs.Machine.{Mail, Machine, took}
+use Rattle.rules.specs.Cabinet.{Cabinet, Process, processAt, unreadOn}
+use Rattle.rules.specs.Moves.{guard, refuse, accept, eventsFull, refusalNumber, received, numbers, advanced, step, stepFrom, withProcess}
+use Rattle.rules.proofs.Steps.{Steps}
+use Rattle.rules.proofs.Counting.{step-unread}
+use Rattle.rules.proofs.Tables.{input, few-ports}
+use Rattle.store.specs.declared.entry.Entry.{Entry}
+use Rattle.store.specs.declared.moved.Moved.{Moved}
+use Rattle.store.specs.Store.{Store, storeOf, Holds}
+use Rattle.store.specs.Moved.{Reachable, Turned, answerOf, aloneOf, refusedWith}
+use Rattle.store.proofs.Reading.{at-process}
+use Rattle.store.proofs.Changing.{UnreadThen, changed}
+use Rattle.store.proofs.Totals.{unread-less}
+use Rattle.store.proofs.Ends.{read-inside}
+use Rattle.store.proofs.Owners.{unread-own}
+use Rattle.store.proofs.Tallies.{events-few, takes-few}
+use Rattle.store.proofs.Refusing.{turned-down}
+use Rattle.step.specs.Parts.{spentIn, TakeTurns}
+use Rattle.step.proofs.Stepping.{turned-to, machine-is, step-is, exhausted-is}
+
+-- a row's receives on a port
+taken-at : (row mail log head : List ℕ) (port : ℕ) → port < ports → getD row (8 + port) 0 ≡ getD (processOf row mail log head .taken) port 0
+unfolding processOf
+taken-at row mail log head zero l = refl
+taken-at row mail log head (suc zero) l = refl
+taken-at row mail log head (suc (suc zero)) l = refl
+taken-at row mail log head (suc (suc (suc zero))) l = refl
+taken-at row mail log head (suc (suc (suc (suc port)))) l = absurd (omega arith)
+
+one-less : (left was : ℕ) → (left + 1) % 2 ^ 32 ≡ was → left < 2 ^ 32 → 1 ≤ was → left ≡ was - 1
+one-less left was e l g = omega arith
+
+module _ {t : Table} {s : Store} {entries : List Entry} {c : Cabinet} (reach : Reachable t c) (h : Holds t s entries c) (p : ℕ) (hp : p < length (t .processes))
+    (n code a operand at : ℕ) (i : Intends (codeOf t p) (getD (s .rows) p []) (getD (s .mails) p []) n code a operand (Take at)) where
+  abbrev row : List ℕ
+  row = getD (s .rows) p []
+
+  abbrev mail : List ℕ
+  mail = getD (s .mails) p []
+
+  abbrev log : List ℕ
+  log = getD (s .logs) p []
+
+  abbrev head : List ℕ
+  head = getD (s .heads) p []
+
+  -- the word, and the machine without it
+  abbrev x : Mail
+  x = mailIn (getD mail at 0)
+
+  abbrev m1 : Machine
+  m1 = afterTake code a at row mail
+
+  abbrev taking : Process → Process
+  taking y = advanced m1 (set (y .taken) (portOf t p (x .channel)) (suc (getD (y .taken) (portOf t p (x .channel)) 0))) (suc (y .events)) (y .suppress) y
+
+  went : Steps (codeOf t p) (machineOf row mail) (took x) m1
+  went = record { is = i .outcome }
+
+  takes-so : (b : Bool) → spentIn row ≡ b → step t c p ≡ guard b eventsFull (accept (withProcess p (taking (processAt c p)) c) (received x))
+  unfolding stepFrom
+  takes-so b e =
+      step-is h p hp _ (i .outcome)
+      ∙ ap (λ (z : Bool). guard z eventsFull (accept (withProcess p (taking (processAt c p)) c) (received x))) (exhausted-is h p hp ∙ e)
+
+  pub take-refused : spentIn row ≡ true → step t c p ≡ refuse eventsFull
+  unfolding guard
+  take-refused e = takes-so true e
+
+  pub take-accepted : spentIn row ≡ false → step t c p ≡ accept (withProcess p (taking (processAt c p)) c) (received x)
+  unfolding guard
+  take-accepted e = takes-so false e
+
+  -- the totals: one word less, on the word's channel
+  less : (k : ℕ) → unreadOn k (processAt c p .machine .mailbox) ≡ unreadOn k (m1 .mailbox) + same k (x .channel)
+  less k = ap (λ (m : Machine). unreadOn k (m .mailbox)) (machine-is h p hp) ∙ (let e = step-unread k (took x) went in omega arith)
+
+  one-there : 1 ≤ unreadOn (x .channel) (processAt c p .machine .mailbox)
+  one-there = let e = less (x .channel) in let f = same-yes (x .channel) (x .channel) refl in omega arith
+
+  -- the process reads that channel
+  pub reads-it : channelAt t (x .channel) .reader ≡ p
+  reads-it =
+      by-eq (channelAt t (x .channel) .reader) p (λ e. e)
+      (λ f. absurd (let z = unread-own reach p hp (x .channel) f in let e = one-there in omega arith))
+
+  pub channel-inside : x .channel < length (t .channels)
+  channel-inside = read-inside (reach .accepted) (x .channel) (rw reads-it hp)
+
+  port-there : portOf t p (x .channel) < ports
+  port-there = let e = input t (reach .accepted) (x .channel) p hp reads-it .below in let f = few-ports t (reach .accepted) p hp in omega arith
+
+  events-room : Room row 7
+  unfolding processOf
+  events-room =
+      let e : processAt c p .events ≡ getD row 7 0 = ap (λ (y : Process). y .events) (at-process h p hp) in
+      let f = events-few reach p in
+      omega arith
+
+  takes-room : Room row (8 + portOf t p (x .channel))
+  takes-room =
+      let e : getD (processAt c p .taken) (portOf t p (x .channel)) 0 ≡ getD row (8 + portOf t p (x .channel)) 0 =
+      ap (λ (y : Process). getD (y .taken) (portOf t p (x .channel)) 0) (at-process h p hp) ∙ sym (taken-at row mail log head (portOf t p (x .channel)) port-there) in
+      let f = takes-few reach p (portOf t p (x .channel)) in
+      omega arith
+
+  -- the lists afterwards hold the rules' cabinet afterwards
+  module _ (row′ mail′ : List ℕ) (left : ℕ) (takes : Takes row mail code a at (portOf t p (x .channel)) row′ mail′) (is-left : (left + 1) % 2 ^ 32 ≡ getD (s .unread) (x .channel) 0) (left-fits : left < 2 ^ 32) where
+    became : Became row mail log head row′ mail′ log head taking
+    became = takes .became (codeOf t p) n operand log head (h .kept p hp) i port-there events-room takes-room
+
+    now-is : processOf row′ mail′ log head ≡ taking (processAt c p)
+    now-is = became .process-is ∙ ap taking (sym (at-process h p hp))
+
+    unread-was : getD (s .unread) (x .channel) 0 ≡ unreadOn (x .channel) (processAt c p .machine .mailbox)
+    unread-was = h .unread-is (x .channel) channel-inside (rw reads-it hp) ∙ ap (λ (q : ℕ). unreadOn (x .channel) (processAt c q .machine .mailbox)) reads-it
+
+    left-is : left ≡ getD (s .unread) (x .channel) 0 - 1
+    left-is = one-less left (getD (s .unread) (x .channel) 0) is-left left-fits (rw unread-was one-there)
+
+    unread-then : UnreadThen h (reach .accepted .processes-high) p hp row′ mail′ log head (set (s .unread) (x .channel) (getD (s .unread) (x .channel) 0 - 1))
+    unfolding advanced
+    unread-then =
+        unread-less h (reach .accepted .processes-high) p hp row′ mail′ log head (x .channel) channel-inside (reach .accepted .channels-high) reads-it
+        (λ k. less k ∙ ap (λ (y : Process). unreadOn k (y .machine .mailbox) + same k (x .channel)) (sym now-is))
+
+    pub take-holds : Holds t (storeOf (set (s .rows) p row′) (set (s .mails) p mail′) (s .logs) (s .heads) (s .boards) (set (s .unread) (x .channel) left) (s .queued) (s .waits)) entries (withProcess p (taking (processAt c p)) c)
+    unfolding advanced
+    take-holds =
+        let whole = changed h (reach .accepted .processes-high) p hp row′ mail′ log head (set (s .unread) (x .channel) (getD (s .unread) (x .channel) 0 - 1)) (became .kept-again)
+        (ap (λ (y : Process). y .board) now-is) unread-then in
+        let rows′ : List (List ℕ) = set (s .rows) p row′ in
+        let mails′ : List (List ℕ) = set (s .mails) p mail′ in
+        let now : Process = processOf row′ mail′ log head in
+        let u : List ℕ = set (s .unread) (x .channel) (getD (s .unread) (x .channel) 0 - 1) in
+        subst (λ (y : Process). Holds t (storeOf rows′ mails′ (s .logs) (s .heads) (s .boards) (set (s .unread) (x .channel) left) (s .queued) (s .waits)) entries (withProcess p y c)) now-is
+        (subst (λ (y : ℕ). Holds t (storeOf rows′ mails′ (s .logs) (s .heads) (s .boards) (set (s .unread) (x .channel) y) (s .queued) (s .waits)) entries (withProcess p now c)) (sym left-is)
+        (subst (λ (l : List (List ℕ)). Holds t (storeOf rows′ mails′ l (s .heads) (s .boards) u (s .queued) (s .waits)) entries (withProcess p now c)) (set-getD (s .logs) p [])
+        (subst (λ (l : List (List ℕ)). Holds t (storeOf rows′ mails′ (set (s .logs) p log) l (s .boards) u (s .queued) (s .waits)) entries (withProcess p now c)) (set-getD (s .heads) p [])
+        whole)))
+
+-- ---- what the part promises
+
+-- of a process of the table the clamped number is the number
+pub take-at-its-index : {port : List ℕ} {rows mails rows′ mails′ : List (List ℕ)} {unread unread′ : List ℕ} {code register at : ℕ} {r : Moved} (p a : ℕ) → (a < 16 → p ≡ a)
+    → (a ≡ p → TakeTurns port rows mails unread p code register at rows′ mails′ unread′ r) → TakeTurns port rows mails unread a code register at rows′ mails′ unread′ r
+take-at-its-index {port} {rows} {mails} {rows′} {mails′} {unread} {unread′} {code} {register} {at} {r} p a is-p given = record {
+  turned = λ t sender reader logs heads boards queued waits entries c command n operand reach wired i h f ha.
+      let e : p ≡ a = is-p (let z = reach .accepted .processes-high in omega arith) in
+      subst (λ (q : ℕ). TakeTurns port rows mails unread q code register at rows′ mails′ unread′ r) e (given (sym e))
+      .turned t sender reader logs heads boards queued waits entries c command n operand reach wired i h f ha;
+}
+
+module _ (port : List ℕ) (rows mails : List (List ℕ)) (unread : List ℕ) (p code register at : ℕ) (r : Moved) where
+  pub take-37 : spentIn (getD rows p []) ≡ true → r ≡ refusedWith 37 p → TakeTurns port rows mails unread p code register at rows mails unread r
+  unfolding refusalNumber
+  take-37 e g = record {
+    turned = λ t sender reader logs heads boards queued waits entries c command n operand reach wired i h f hp.
+        turned-down command p eventsFull h (take-refused reach h p hp n code register operand at i e) f g;
+  }
+
+  -- no word stands past the mailbox's end
+  pub take-none : logMost ≤ at → TakeTurns port rows mails unread p code register at rows mails unread r
+  take-none l = record {
+    turned = λ t sender reader logs heads boards queued waits entries c command n operand reach wired i h f hp.
+        absurd (let a = i .inside at refl in let b = h .kept p hp .unread in omega arith);
+  }
+
+  pub take-done : (k : ℕ) (row′ mail′ : List ℕ) (left : ℕ) → spentIn (getD rows p []) ≡ false → (mailIn (getD (getD mails p []) at 0) .channel < 32 → k ≡ mailIn (getD (getD mails p []) at 0) .channel)
+      → Takes (getD rows p []) (getD mails p []) code register at (getD port k 0) row′ mail′ → (left + 1) % 2 ^ 32 ≡ getD unread k 0 → left < 2 ^ 32
+      → r ≡ aloneOf (answerOf 1 (mailIn (getD (getD mails p []) at 0) .channel) (mailIn (getD (getD mails p []) at 0) .word))
+      → TakeTurns port rows mails unread p code register at (set rows p row′) (set mails p mail′) (set unread k left) r
+  unfolding numbers
+  take-done k row′ mail′ left e is-k takes is-left fits g = record {
+    turned = λ t sender reader logs heads boards queued waits entries c command n operand reach wired i h f hp.
+        let x : Mail = mailIn (getD (getD mails p []) at 0) in
+        let l = channel-inside reach h p hp n code register operand at i in
+        let its = reads-it reach h p hp n code register operand at i in
+        let kk : k ≡ x .channel = is-k (let z = reach .accepted .channels-high in omega arith) in
+        let is-port : getD port k 0 ≡ portOf t p (x .channel) =
+        ap (λ (j : ℕ). getD port j 0) kk ∙ wired .port-at (x .channel) l (rw its hp) ∙ ap (λ (q : ℕ). portOf t q (x .channel)) its in
+        let there = take-holds reach h p hp n code register operand at i row′ mail′ left
+        (subst (λ (j : ℕ). Takes (getD rows p []) (getD mails p []) code register at j row′ mail′) is-port takes) (is-left ∙ ap (λ (j : ℕ). getD unread j 0) kk) fits in
+        let after : ℕ → Store = λ j. storeOf (set rows p row′) (set mails p mail′) logs heads boards (set unread j left) queued waits in
+        subst (λ (j : ℕ). Turned t (after j) entries c command (step t c p) r) (sym kk)
+        (turned-to entries command (aloneOf (answerOf 1 (x .channel) (x .word))) _ (received x) (take-accepted reach h p hp n code register operand at i e) g refl there);
+  }

@@ -1,0 +1,45 @@
+-- The parts of move 1: what a step looks at first, and a step that takes or sends a word.
+-- Document 01: "For TAKE and FIRST: 36 no such word, then 37 if backed and acts are 8. For a SEND not held back: 37 likewise, 38 queue
+-- full, 39 held."
+-- Assumes nothing.
+use mathlib.Core.Path.{_≡_}
+use mathlib.Core.Bool.{Bool, not, _&&_}
+use mathlib.Core.List.{List, []}
+use Prim.Native.Nat.{ℕ, _+_, _<_}
+use lib.Dec.{eqb, leb}
+use lib.ListN.{length, getD}
+use Rattle.process.specs.Instruction.{Intends}
+use Rattle.process.specs.declared.instruction.Intent.the-variants.{Take, Send}
+use Rattle.rules.specs.Table.{Table, environment, codeOf}
+use Rattle.rules.specs.Cabinet.{Cabinet, eventsMost, occupancyMost}
+use Rattle.rules.specs.Moves.{Command, step}
+use Rattle.store.specs.declared.entry.Entry.{Entry}
+use Rattle.store.specs.declared.moved.Moved.{Moved}
+use Rattle.store.specs.Store.{storeOf, Holds}
+use Rattle.store.specs.Moved.{Reachable, Turned}
+use Rattle.store.specs.Wired.{Wired}
+
+-- "if backed and acts are 8", of a process's row
+abbrev pub spentIn : List ℕ → Bool
+spentIn row = not (eqb (getD row 12 0) 0) && leb eventsMost (getD row 7 0)
+
+-- "A channel is held when its unread words and those in the queues are 8 or more together. A channel read by the outside is never held."
+abbrev pub heldIn : ℕ → ℕ → ℕ → Bool
+heldIn reader unread queued = not (eqb reader environment) && leb occupancyMost (unread + queued)
+
+-- Process a's instruction takes the word at an index of its mailbox. Whatever the lists are that it isn't lent.
+pub record TakeTurns (port : List ℕ) (rows mails : List (List ℕ)) (unread : List ℕ) (a code register at : ℕ)
+    (rows′ mails′ : List (List ℕ)) (unread′ : List ℕ) (r : Moved) : Type 0 where
+  pub turned : (t : Table) (sender reader : List ℕ) (logs heads boards : List (List ℕ)) (queued waits : List ℕ) (entries : List Entry) (c : Cabinet) (command : Command)
+      (n operand : ℕ) → Reachable t c → Wired t sender reader port → Intends (codeOf t a) (getD rows a []) (getD mails a []) n code register operand (Take at)
+      → Holds t (storeOf rows mails logs heads boards unread queued waits) entries c → command .a ≡ a → a < length (t .processes)
+      → Turned t (storeOf rows′ mails′ logs heads boards unread′ queued waits) entries c command (step t c a) r
+
+-- Process a's instruction sends a word to a channel.
+pub record SendTurns (reader : List ℕ) (rows boards : List (List ℕ)) (unread queued : List ℕ) (a channel word : ℕ)
+    (rows′ boards′ : List (List ℕ)) (queued′ : List ℕ) (r : Moved) : Type 0 where
+  pub turned : (t : Table) (sender port : List ℕ) (mails logs heads : List (List ℕ)) (waits : List ℕ) (entries : List Entry) (c : Cabinet) (command : Command)
+      (n code register operand : ℕ) → Reachable t c → Wired t sender reader port
+      → Intends (codeOf t a) (getD rows a []) (getD mails a []) n code register operand (Send channel word)
+      → Holds t (storeOf rows mails logs heads boards unread queued waits) entries c → command .a ≡ a → a < length (t .processes)
+      → Turned t (storeOf rows′ mails logs heads boards′ unread queued′ waits) entries c command (step t c a) r

@@ -1,0 +1,76 @@
+// A step that sends a word: "A SEND with hold-back above 0 lowers it by one and sends nothing. Otherwise the word joins its board's
+// queue." "For a SEND not held back: 37 likewise, 38 queue full, 39 held."
+ghost use Rattle.step.specs.Parts.{SendTurns};
+use crate::guards::held;
+use crate::guards::index32;
+use crate::guards::spent;
+use process::instruction::queue_send;
+use process::instruction::suppress_send;
+use process::row::BOARD;
+use process::row::ROW;
+use process::row::SUPPRESS;
+use store::board::BOARD_ROW;
+use store::board::COUNT;
+use store::board::QUEUE;
+use store::board::index16;
+use store::board::place;
+use store::board::push;
+use store::entry::Entry;
+use store::entry::Item;
+use store::moved::Answer;
+use store::moved::Moved;
+use store::moved::alone;
+use store::moved::refused;
+
+// Process a sends a word to a channel of its own.
+pub fn send(
+    reader: &[u32; 32],
+    rows: &mut [[u32; ROW]; 16],
+    boards: &mut [[u32; BOARD_ROW]; 16],
+    unread: &[u32; 32],
+    queued: &mut [u32; 32],
+    a: u32,
+    channel: u32,
+    word: u32,
+) -> Moved
+    ensures { λ r. ⌜ SendTurns (now (reader .entry)) (now (rows .entry)) (now (boards .entry)) (now (unread .entry)) (now (queued .entry)) a channel word (now (rows .exit)) (now (boards .exit)) (now (queued .exit)) r ⌝ }
+{
+    let p = index16(a);
+    if rows[p][SUPPRESS] > 0 {
+        suppress_send(&mut rows[p]);
+        return alone(Answer {
+            code: 3,
+            a: channel,
+            word: word,
+        });
+    }
+    if spent(&rows[p]) {
+        return refused(37, a);
+    }
+    let b = index16(rows[p][BOARD]);
+    if boards[b][COUNT] >= QUEUE {
+        return refused(38, a);
+    }
+    let k = index32(channel);
+    if held(reader[k], unread[k], queued[k]) {
+        return refused(39, a);
+    }
+    let at = place(&boards[b], b);
+    queue_send(&mut rows[p]);
+    push(&mut boards[b]);
+    queued[k] = std::num::wrapping_add_u32(queued[k], 1);
+    Moved {
+        answer: Answer {
+            code: 2,
+            a: channel,
+            word: word,
+        },
+        at: at,
+        entry: Entry {
+            item: Item::Word {
+                channel: channel,
+                word: word,
+            },
+        },
+    }
+}

@@ -1,0 +1,61 @@
+// Move 1: one instruction of a process. "Step: 35 halted. For TAKE and FIRST: 36 no such word, then 37 [..]. SET, ADD and JUMP always
+// succeed."
+ghost use Rattle.step.specs.Steps.{Steps};
+use crate::send::send;
+use crate::take::take;
+use process::instruction::Intent;
+use process::instruction::compute;
+use process::instruction::examine;
+use process::mailbox::MAIL;
+use process::row::PC;
+use process::row::ROW;
+use store::board::BOARD_ROW;
+use store::board::index16;
+use store::board::wide;
+use store::moved::Answer;
+use store::moved::Moved;
+use store::moved::alone;
+use store::moved::refused;
+use table::fetch::fetch;
+
+pub fn step(
+    table: &[u8],
+    start: &[u32; 16],
+    lengths: &[u32; 16],
+    reader: &[u32; 32],
+    port: &[u32; 32],
+    rows: &mut [[u32; ROW]; 16],
+    mails: &mut [[u64; MAIL]; 16],
+    boards: &mut [[u32; BOARD_ROW]; 16],
+    unread: &mut [u32; 32],
+    queued: &mut [u32; 32],
+    a: u32,
+) -> Moved
+    ensures { λ r. ⌜ Steps (now (table .entry)) (now (start .entry)) (now (lengths .entry)) (now (reader .entry)) (now (port .entry)) (now (rows .entry)) (now (mails .entry)) (now (boards .entry)) (now (unread .entry)) (now (queued .entry)) a (now (rows .exit)) (now (mails .exit)) (now (boards .exit)) (now (unread .exit)) (now (queued .exit)) r ⌝ }
+{
+    let p = index16(a);
+    let i = fetch(table, wide(start[p]), wide(rows[p][PC]));
+    match examine(&rows[p], &mails[p], lengths[p], i.code, i.a, i.operand) {
+        Intent::Halted => refused(35, a),
+        Intent::NoMail => refused(36, a),
+        Intent::Internal => {
+            compute(&mut rows[p], i.code, i.a, i.operand);
+            alone(Answer {
+                code: 0,
+                a: 0,
+                word: 0,
+            })
+        }
+        Intent::Take { at } => take(port, rows, mails, unread, a, i.code, i.a, at),
+        Intent::Send { channel, word } => send(
+            reader,
+            rows,
+            boards,
+            unread,
+            queued,
+            a,
+            channel,
+            word,
+        ),
+    }
+}

@@ -1,0 +1,47 @@
+// A step that takes a word: "For TAKE and FIRST: [..] 37 if backed and acts are 8." The word leaves the mailbox, and its channel's unread
+// words are one less.
+ghost use Rattle.step.specs.Parts.{TakeTurns};
+use crate::guards::index32;
+use crate::guards::spent;
+use process::instruction::take_word;
+use process::mailbox::MAIL;
+use process::mailbox::channel_of;
+use process::mailbox::word_of;
+use process::row::ROW;
+use store::board::index16;
+use store::moved::Answer;
+use store::moved::Moved;
+use store::moved::alone;
+use store::moved::refused;
+
+// Process a takes the word at an index of its mailbox into a register; no word stands past the mailbox's end.
+pub fn take(
+    port: &[u32; 32],
+    rows: &mut [[u32; ROW]; 16],
+    mails: &mut [[u64; MAIL]; 16],
+    unread: &mut [u32; 32],
+    a: u32,
+    code: u8,
+    register: u32,
+    at: usize,
+) -> Moved
+    ensures { λ r. ⌜ TakeTurns (now (port .entry)) (now (rows .entry)) (now (mails .entry)) (now (unread .entry)) a code register at (now (rows .exit)) (now (mails .exit)) (now (unread .exit)) r ⌝ }
+{
+    let p = index16(a);
+    if spent(&rows[p]) {
+        return refused(37, a);
+    }
+    if at >= MAIL {
+        return refused(36, a);
+    }
+    let x = mails[p][at];
+    let channel = channel_of(x);
+    let k = index32(channel);
+    take_word(&mut rows[p], &mut mails[p], code, register, at, port[k]);
+    unread[k] = std::num::wrapping_sub_u32(unread[k], 1);
+    alone(Answer {
+        code: 1,
+        a: channel,
+        word: word_of(x),
+    })
+}
