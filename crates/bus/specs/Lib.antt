@@ -1,3 +1,8 @@
 -- What moves 3 and 4 promise.
+pub mod Delivers
+pub mod Oldest
+pub mod Syncs
+pub mod Transmitted
+pub mod Carries
 pub mod Injects
 pub mod Transmits

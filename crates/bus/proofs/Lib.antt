@@ -1,0 +1,8 @@
+-- Why moves 3 and 4 are the rules'.
+pub mod Delivering
+pub mod Syncing
+pub mod Injecting
+pub mod Backing
+pub mod Carrying
+pub mod Popping
+pub mod Transmitting

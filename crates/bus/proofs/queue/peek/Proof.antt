@@ -1,0 +1,22 @@
+use borrow.Author.Tests.{eq-eqb, ne-eqb}
+use native.Mathlib.Omega.{arith}
+use borrow.Author.Needs.{needs}
+use Rattle.bus.proofs.queue.peek.Statement.{statement}
+use Rattle.bus.proofs.queue.peek.Tie as tie
+use Rattle.bus.proofs.queue.peek.Reads as reads
+use Rattle.bus.proofs.queue.peek.Lts as lts
+
+-- src/queue.rt:32:8
+element-copy-out-if1 : tie.Need-element-copy-out-if1
+element-copy-out-if1 c = search needs
+
+-- src/queue.rt:33:9
+returns : tie.Need-returns
+returns c = rw (eq-eqb _ 0 (c .if1 .taken))
+
+-- src/queue.rt:29:1
+returns-2 : tie.Need-returns-2
+returns-2 c = rw (ne-eqb _ 0 (c .if1 .left))
+
+pub peek-spec : {M : Type 1} → statement M
+peek-spec = tie.close (tie.spec element-copy-out-if1 returns returns-2)

@@ -1,0 +1,51 @@
+use Rattle.bus.proofs.Popping.{popped}
+use native.Mathlib.Omega.{arith}
+use borrow.Author.Needs.{needs}
+use Rattle.bus.proofs.queue.pop.Statement.{statement}
+use Rattle.bus.proofs.queue.pop.Tie as tie
+use Rattle.bus.proofs.queue.pop.Reads as reads
+use Rattle.bus.proofs.queue.pop.Lts as lts
+use Rattle.std.proofs.num.wrapping_add_u32.Reads as wrapping-add-u32-reads
+use Rattle.std.proofs.num.wrapping_sub_u32.Reads as wrapping-sub-u32-reads
+
+-- src/queue.rt:43:47
+element-copy-out-wrapping-add-u32 : tie.Need-element-copy-out-wrapping-add-u32
+element-copy-out-wrapping-add-u32 c = search needs
+
+-- src/queue.rt:43:20
+wrapping-add-u32-requires : tie.Need-wrapping-add-u32-requires
+wrapping-add-u32-requires c κs = search needs
+
+-- src/queue.rt:43:5
+element-write-board : tie.Need-element-write-board
+element-write-board c = search needs
+
+-- src/queue.rt:44:47
+element-copy-out-wrapping-sub-u32 : tie.Need-element-copy-out-wrapping-sub-u32
+element-copy-out-wrapping-sub-u32 c = search needs
+
+-- src/queue.rt:44:20
+wrapping-sub-u32-requires : tie.Need-wrapping-sub-u32-requires
+wrapping-sub-u32-requires c κs = search needs
+
+-- src/queue.rt:44:5
+element-write-board-2 : tie.Need-element-write-board-2
+element-write-board-2 c = search needs
+
+-- src/queue.rt:40:1
+returns : tie.Need-returns
+returns c =
+    let s = c .before .before .before .before in
+    popped (s .args .board .now) (c .before .before .wrapping-add-u32 .result) (c .wrapping-sub-u32 .result) (c .before .before .wrapping-add-u32 .ensures) (c .wrapping-sub-u32 .ensures) (c .wrapping-sub-u32 .ok)
+
+pub pop-spec : {M : Type 1} → statement M
+pop-spec =
+    tie.close
+    (tie.spec
+    element-copy-out-wrapping-add-u32
+    wrapping-add-u32-requires
+    element-write-board
+    element-copy-out-wrapping-sub-u32
+    wrapping-sub-u32-requires
+    element-write-board-2
+    returns)

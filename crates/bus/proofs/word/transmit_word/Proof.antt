@@ -1,0 +1,106 @@
+use mathlib.Core.Path.{refl}
+use Rattle.bus.proofs.Carrying.{carries}
+use native.Mathlib.Omega.{arith}
+use borrow.Author.Needs.{needs}
+use Rattle.bus.proofs.word.transmit_word.Statement.{statement}
+use Rattle.bus.proofs.word.transmit_word.Tie as tie
+use Rattle.bus.proofs.word.transmit_word.Reads as reads
+use Rattle.bus.proofs.word.transmit_word.Lts as lts
+use Rattle.bus.proofs.channel.index32.Reads as index32-reads
+use Rattle.bus.proofs.delivery.deliver.Reads as deliver-reads
+use Rattle.process.proofs.delivery.counts.Reads as counts-reads
+use Rattle.std.proofs.num.wrapping_sub_u32.Reads as wrapping-sub-u32-reads
+use Rattle.store.proofs.board.index16.Reads as index16-reads
+
+-- src/word.rt:30:9
+index32-requires : tie.Need-index32-requires
+index32-requires c κs = search needs
+
+-- src/word.rt:31:44
+mul-wrapping-sub-u32 : tie.Need-mul-wrapping-sub-u32
+mul-wrapping-sub-u32 c = search needs
+
+-- src/word.rt:31:44
+element-copy-out-wrapping-sub-u32 : tie.Need-element-copy-out-wrapping-sub-u32
+element-copy-out-wrapping-sub-u32 c = search needs
+
+-- src/word.rt:31:17
+wrapping-sub-u32-requires : tie.Need-wrapping-sub-u32-requires
+wrapping-sub-u32-requires c κs = search needs
+
+-- src/word.rt:31:5
+mul-queued : tie.Need-mul-queued
+mul-queued c = search needs
+
+-- src/word.rt:31:5
+element-write-queued : tie.Need-element-write-queued
+element-write-queued c = search needs
+
+-- src/word.rt:32:21
+mul-index16 : tie.Need-mul-index16
+mul-index16 c = search needs
+
+-- src/word.rt:32:21
+element-copy-out-index16 : tie.Need-element-copy-out-index16
+element-copy-out-index16 c = search needs
+
+-- src/word.rt:32:9
+index16-requires : tie.Need-index16-requires
+index16-requires c κs = search needs
+
+-- src/word.rt:33:12
+mul-counts : tie.Need-mul-counts
+mul-counts c = search needs
+
+-- src/word.rt:33:12
+index-1-counts : tie.Need-index-1-counts
+index-1-counts c = search needs
+
+-- src/word.rt:33:22
+mul-counts-2 : tie.Need-mul-counts-2
+mul-counts-2 c = search needs
+
+-- src/word.rt:33:22
+index-1-counts-2 : tie.Need-index-1-counts-2
+index-1-counts-2 c = search needs
+
+-- src/word.rt:33:5
+counts-requires : tie.Need-counts-requires
+counts-requires c κs = search needs
+
+-- src/word.rt:34:5
+deliver-requires : tie.Need-deliver-requires
+deliver-requires c κs = search needs
+
+-- src/word.rt:15:1
+returns : tie.Need-returns
+returns c =
+    let s = c .before .before .before .before .before .before .before .before .before .before .before .before .before .before in
+    let k = c .before .before .before .before .before .before .before .before .before .before .before .before .before .index32 in
+    let less = c .before .before .before .before .before .before .before .before .before .before .before .wrapping-sub-u32 in
+    let p = c .before .before .before .before .before .before .before .before .before .index16 in
+    let n = c .before .before .before .before .before .before .counts in
+    let d = c .deliver in
+    carries (s .args .sender .now) (s .args .reader .now) (s .args .port .now) (s .args .rows .now) (s .args .mails .now) (s .args .logs .now) (s .args .heads .now) (s .args .unread .now) (s .args .queued .now)
+    (s .args .channel) (s .args .word) (k .result) (p .result) (less .result) (n .last .1 .0) (d .last .1 .1 .0) (d .last .1 .1 .1 .0) (d .last .1 .1 .1 .1 .0) (d .last .1 .1 .1 .1 .1 .0) (d .last .1 .1 .1 .1 .1 .1 .0) _ (k .ensures .1) (p .ensures .1) (less .ensures) (less .ok) (n .ensures) (d .ensures) refl
+
+pub transmit-word-spec : {M : Type 1} → statement M
+transmit-word-spec =
+    tie.close
+    (tie.spec
+    index32-requires
+    mul-wrapping-sub-u32
+    element-copy-out-wrapping-sub-u32
+    wrapping-sub-u32-requires
+    mul-queued
+    element-write-queued
+    mul-index16
+    element-copy-out-index16
+    index16-requires
+    mul-counts
+    index-1-counts
+    mul-counts-2
+    index-1-counts-2
+    counts-requires
+    deliver-requires
+    returns)

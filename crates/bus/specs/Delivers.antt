@@ -1,0 +1,31 @@
+-- What a delivery makes of the lists: of those that hold a cabinet, those that hold the rules' cabinet after it. Document 01: "to the reader's
+-- inbox, the reader's backup record".
+-- Assumes nothing.
+use mathlib.Core.List.{List}
+use Prim.Native.Nat.{ℕ, _<_}
+use lib.ListN.{length}
+use Rattle.backup.specs.Limits.{logMost}
+use Rattle.rules.specs.Table.{Table, channelAt}
+use Rattle.rules.specs.Judge.{Accepted}
+use Rattle.rules.specs.Machine.{Mail}
+use Rattle.rules.specs.Cabinet.{Cabinet, processAt}
+use Rattle.rules.specs.Moves.{deliver}
+use Rattle.store.specs.declared.entry.Entry.{Entry}
+use Rattle.store.specs.Store.{storeOf, Holds}
+use Rattle.store.specs.Wired.{Wired}
+
+-- a word on a channel
+abbrev pub mailOf : ℕ → ℕ → Mail
+mailOf channel word = record { channel = channel; word = word }
+
+-- a reader that is a process has room for one more word
+abbrev pub Room : Table → Cabinet → ℕ → Type 0
+Room t c k = channelAt t k .reader < length (t .processes) → length (processAt c (channelAt t k .reader) .machine .mailbox) < logMost
+
+-- whatever the lists are that it isn't lent
+pub record Delivers (reader port : List ℕ) (rows mails logs heads : List (List ℕ)) (unread : List ℕ) (channel word : ℕ)
+    (rows′ mails′ logs′ heads′ : List (List ℕ)) (unread′ : List ℕ) : Type 0 where
+  pub holds : (t : Table) (sender : List ℕ) (boards : List (List ℕ)) (queued waits : List ℕ) (entries : List Entry) (c : Cabinet)
+      → Accepted t → Wired t sender reader port → Holds t (storeOf rows mails logs heads boards unread queued waits) entries c
+      → channel < length (t .channels) → Room t c channel
+      → Holds t (storeOf rows′ mails′ logs′ heads′ boards unread′ queued waits) entries (deliver t (mailOf channel word) c)

@@ -1,0 +1,22 @@
+-- The oldest entry of a board's queue, and the board's row when it has left.
+-- Assumes nothing.
+use mathlib.Core.Bool.{cond}
+use mathlib.Core.List.{List}
+use Prim.Native.Nat.{ℕ, _+_, _%_, _^_}
+use lib.Dec.{eqb}
+use lib.ListN.{getD, set}
+use Rattle.store.specs.declared.entry.Entry.{Entry}
+use Rattle.bus.specs.declared.queue.Front.{Front}
+use Rattle.bus.specs.declared.queue.Front.the-variants.{Oldest, Empty}
+
+-- "Carry looks at the oldest entry; with none the answer is 42."
+abbrev pub frontOf : List ℕ → Entry → Front
+frontOf board oldest = cond (eqb (getD board 1 0) 0) Empty (Oldest (oldest .item))
+
+-- one less, in 32 bits
+abbrev pub lessOne : ℕ → ℕ
+lessOne n = (n + 4294967295) % 2 ^ 32
+
+-- the row after the oldest left
+abbrev pub poppedIn : List ℕ → List ℕ
+poppedIn board = set (set board 0 ((getD board 0 0 + 1) % 32)) 1 (lessOne (getD board 1 0))

@@ -1,0 +1,39 @@
+// A word reaches its reader: "to the reader's inbox, the reader's backup record"; one that the outside reads goes to no process.
+ghost use Rattle.bus.specs.Delivers.{Delivers};
+use crate::channel::MAIL;
+use crate::channel::OUTSIDE;
+use crate::channel::index32;
+use backup::place::HEAD;
+use process::delivery::receive;
+use process::row::ROW;
+use store::board::index16;
+
+pub fn deliver(
+    reader: &[u32; 32],
+    port: &[u32; 32],
+    rows: &mut [[u32; ROW]; 16],
+    mails: &mut [[u64; MAIL]; 16],
+    logs: &mut [[u64; MAIL]; 16],
+    heads: &mut [[u32; HEAD]; 16],
+    unread: &mut [u32; 32],
+    channel: u32,
+    word: u32,
+)
+    ensures { λ _. ⌜ Delivers (now (reader .entry)) (now (port .entry)) (now (rows .entry)) (now (mails .entry)) (now (logs .entry)) (now (heads .entry)) (now (unread .entry)) channel word (now (rows .exit)) (now (mails .exit)) (now (logs .exit)) (now (heads .exit)) (now (unread .exit)) ⌝ }
+{
+    let k = index32(channel);
+    if reader[k] == OUTSIDE {
+        return;
+    }
+    let p = index16(reader[k]);
+    receive(
+        &mut rows[p],
+        &mut mails[p],
+        &mut logs[p],
+        &mut heads[p],
+        port[k],
+        channel,
+        word,
+    );
+    unread[k] = std::num::wrapping_add_u32(unread[k], 1);
+}

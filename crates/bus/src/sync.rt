@@ -1,0 +1,38 @@
+// A checkpoint is carried: its process's backup keeps it, if there is one, and it waits no more.
+// "5 sync carried, 6 sync with no backup left (process, 0)".
+ghost use Rattle.bus.specs.Syncs.{Syncs};
+use crate::channel::MAIL;
+use backup::place::Checkpoint;
+use backup::place::HEAD;
+use process::checkpoint::keep;
+use process::row::PROTECTED;
+use process::row::ROW;
+use store::board::index16;
+use store::moved::Answer;
+
+pub fn transmit_sync(
+    rows: &[[u32; ROW]; 16],
+    logs: &mut [[u64; MAIL]; 16],
+    heads: &mut [[u32; HEAD]; 16],
+    waits: &mut [u32; 16],
+    process: u32,
+    checkpoint: Checkpoint,
+) -> Answer
+    ensures { λ r. ⌜ Syncs (now (rows .entry)) (now (logs .entry)) (now (heads .entry)) (now (waits .entry)) process checkpoint (now (logs .exit)) (now (heads .exit)) (now (waits .exit)) r ⌝ }
+{
+    let p = index16(process);
+    keep(&rows[p], &mut logs[p], &mut heads[p], checkpoint);
+    waits[p] = 0;
+    if rows[p][PROTECTED] == 0 {
+        return Answer {
+            code: 6,
+            a: process,
+            word: 0,
+        };
+    }
+    Answer {
+        code: 5,
+        a: process,
+        word: 0,
+    }
+}

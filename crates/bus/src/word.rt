@@ -1,0 +1,49 @@
+// A word is carried. Document 01: "A word goes, in one move, to the reader's inbox, the reader's backup record, and the sender's backup
+// record, which counts it and keeps no copy."
+ghost use Rattle.bus.specs.Carries.{Carries};
+use crate::channel::MAIL;
+use crate::channel::index32;
+use crate::delivery::deliver;
+use backup::place::HEAD;
+use process::delivery::counts;
+use process::row::ROW;
+use store::board::index16;
+use store::moved::Answer;
+
+// One less in the queues; the sender's half, and then the reader's, which may be the same process. The sender of a word in a queue is one.
+pub fn transmit_word(
+    sender: &[u32; 32],
+    reader: &[u32; 32],
+    port: &[u32; 32],
+    rows: &mut [[u32; ROW]; 16],
+    mails: &mut [[u64; MAIL]; 16],
+    logs: &mut [[u64; MAIL]; 16],
+    heads: &mut [[u32; HEAD]; 16],
+    unread: &mut [u32; 32],
+    queued: &mut [u32; 32],
+    channel: u32,
+    word: u32,
+) -> Answer
+    ensures { λ r. ⌜ Carries (now (sender .entry)) (now (reader .entry)) (now (port .entry)) (now (rows .entry)) (now (mails .entry)) (now (logs .entry)) (now (heads .entry)) (now (unread .entry)) (now (queued .entry)) channel word (now (rows .exit)) (now (mails .exit)) (now (logs .exit)) (now (heads .exit)) (now (unread .exit)) (now (queued .exit)) r ⌝ }
+{
+    let k = index32(channel);
+    queued[k] = std::num::wrapping_sub_u32(queued[k], 1);
+    let p = index16(sender[k]);
+    counts(&rows[p], &mut heads[p]);
+    deliver(
+        reader,
+        port,
+        rows,
+        mails,
+        logs,
+        heads,
+        unread,
+        channel,
+        word,
+    );
+    Answer {
+        code: 4,
+        a: channel,
+        word: word,
+    }
+}
