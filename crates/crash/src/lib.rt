@@ -1,1 +1,6 @@
 // A board crashes (move 5).
+mod bounds;
+pub mod crash;
+mod losses;
+mod processes;
+mod recount;

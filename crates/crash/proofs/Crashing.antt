@@ -1,0 +1,107 @@
+-- Move 5 in the lists: its two refusals, and the crash.
+-- Assumes nothing.
+use mathlib.Core.Path.{_≡_, refl, ap, sym, _∙_, subst}
+use mathlib.Core.Bool.{Bool, true, false, not, _&&_}
+use mathlib.Core.List.{List, []}
+use Prim.Native.Nat.{ℕ, _≤_, _<_}
+use native.Mathlib.Omega.{arith}
+use lib.Dec.{eqb}
+use lib.ListN.{length, getD, set}
+use borrow.Author.Tests.{eq-eqb, ne-eqb}
+use Rattle.facts.specs.Tests.{anyBelow, any-same}
+use Rattle.facts.specs.Rings.{listed-length}
+use Rattle.rules.specs.Table.{Table}
+use Rattle.rules.specs.Cabinet.{Cabinet, deadAt}
+use Rattle.rules.specs.Moves.{Result, refuse, accept, guard, boardDead, otherCrashed, refusalNumber, otherDead, crash, done, numbers}
+use Rattle.store.specs.declared.entry.Entry.{Entry}
+use Rattle.store.specs.declared.moved.Answer.{Answer}
+use Rattle.store.specs.Store.{Store, storeOf, Holds, deadIn}
+use Rattle.store.specs.Moved.{Reachable, Answered, refusalOf, answerOf}
+use Rattle.store.proofs.Reading.{at-dead}
+use Rattle.store.proofs.Refusing.{turned-away}
+use Rattle.crash.specs.Crashes.{Crashes}
+use Rattle.crash.specs.Losses.{runsOn, lostWords, deadApart, Zeroed, deadRow}
+use Rattle.crash.specs.Processes.{AllCrashed}
+use Rattle.crash.specs.Recount.{Recounted}
+use Rattle.crash.proofs.Holding.{crashedCabinet, crash-holds}
+
+-- ---- the rules' tests, as the lists have them
+
+module _ {t : Table} {s : Store} {entries : List Entry} {c : Cabinet} (h : Holds t s entries c) (b : ℕ) (hb : b < t .boards) where
+  other-is : otherDead c b ≡ anyBelow (deadApart (s .boards) b) (t .boards)
+  other-is =
+      ap (anyBelow (λ k. not (eqb k b) && deadAt c k)) (ap (λ (l : List Bool). length l) (h .dead) ∙ listed-length (deadIn (s .boards)) (t .boards))
+      ∙ any-same (λ k. not (eqb k b) && deadAt c k) (deadApart (s .boards) b) (t .boards) (λ k l. ap (λ (d : Bool). not (eqb k b) && d) (at-dead h k l))
+
+  dead-so : (getD (getD (s .boards) b []) 2 0 ≡ 0 → ⊥) → deadAt c b ≡ true
+  dead-so n = at-dead h b hb ∙ rw (ne-eqb (getD (getD (s .boards) b []) 2 0) 0 n)
+
+  live-so : getD (getD (s .boards) b []) 2 0 ≡ 0 → deadAt c b ≡ false
+  live-so z = at-dead h b hb ∙ rw (eq-eqb (getD (getD (s .boards) b []) 2 0) 0 z)
+
+  refused-34 : (getD (getD (s .boards) b []) 2 0 ≡ 0 → ⊥) → crash t c b ≡ refuse boardDead
+  unfolding crash guard
+  refused-34 n = rw (dead-so n)
+
+  refused-44 : getD (getD (s .boards) b []) 2 0 ≡ 0 → anyBelow (deadApart (s .boards) b) (t .boards) ≡ true → crash t c b ≡ refuse otherCrashed
+  unfolding crash guard
+  refused-44 z e = rw (live-so z, other-is ∙ e)
+
+  accepted-so : getD (getD (s .boards) b []) 2 0 ≡ 0 → anyBelow (deadApart (s .boards) b) (t .boards) ≡ false → crash t c b ≡ accept (crashedCabinet t c b) done
+  unfolding crash guard
+  accepted-so z e = rw (live-so z, other-is ∙ e)
+
+-- ---- what the move promises
+
+module _ (boards-many processes channels : ℕ) (sender reader ins arity : List ℕ) (rows mails logs heads boards : List (List ℕ)) (unread queued waits : List ℕ) (a b : ℕ)
+    (is-b : a < 16 → b ≡ a) (r : Answer) where
+  pub crashes-34 : (getD (getD boards b []) 2 0 ≡ 0 → ⊥) → r ≡ refusalOf 34 a
+      → Crashes boards-many processes channels sender reader ins arity rows mails logs heads boards unread queued waits a rows mails boards unread queued waits r
+  unfolding refusalNumber
+  crashes-34 n e = record {
+    answered = λ t port entries c command reach wired addressed eb ep ec h f ha.
+        let its : b ≡ a = is-b (let z = reach .accepted .boards-high in omega arith) in
+        turned-away command a boardDead h (refused-34 h a ha (subst (λ (i : ℕ). getD (getD boards i []) 2 0 ≡ 0 → ⊥) its n)) f e;
+  }
+
+  module _ (n : ℕ) (is-n : boards-many ≤ 16 → n ≡ boards-many) (live : getD (getD boards b []) 2 0 ≡ 0) where
+    -- the test of the other boards, of lists that hold a cabinet
+    the-test : (x : Bool) → anyBelow (deadApart boards b) n ≡ x → (t : Table) (c : Cabinet) → Reachable t c → boards-many ≡ t .boards → b ≡ a
+        → anyBelow (deadApart boards a) (t .boards) ≡ x
+    the-test x e t c reach eb its =
+        let m : n ≡ t .boards = is-n (let z = reach .accepted .boards-high in omega arith) ∙ eb in
+        sym (ap (λ (i : ℕ). anyBelow (deadApart boards i) n) its ∙ ap (anyBelow (deadApart boards a)) m) ∙ e
+
+    pub crashes-44 : (found : Bool) → found ≡ anyBelow (deadApart boards b) n → found ≡ true → r ≡ refusalOf 44 a
+        → Crashes boards-many processes channels sender reader ins arity rows mails logs heads boards unread queued waits a rows mails boards unread queued waits r
+    unfolding refusalNumber
+    crashes-44 found f-is d e = record {
+      answered = λ t port entries c command reach wired addressed eb ep ec h f ha.
+          let its : b ≡ a = is-b (let z = reach .accepted .boards-high in omega arith) in
+          turned-away command a otherCrashed h (refused-44 h a ha (subst (λ (i : ℕ). getD (getD boards i []) 2 0 ≡ 0) its live) (the-test true (sym f-is ∙ d) t c reach eb its)) f e;
+    }
+
+    pub crashes-done : (p k : ℕ) → (processes ≤ 16 → p ≡ processes) → (channels ≤ 32 → k ≡ channels)
+        → (found : Bool) → found ≡ anyBelow (deadApart boards b) n → found ≡ false
+        → (rows′ mails′ : List (List ℕ)) (unread′ queued′ waits′ row : List ℕ)
+        → Zeroed (lostWords sender rows a) k queued queued′ → Zeroed (runsOn rows a) p waits waits′ → AllCrashed p ins arity rows mails logs heads a rows′ mails′
+        → Recounted k reader rows′ mails′ unread unread′ → row ≡ deadRow (getD boards b []) → r ≡ answerOf 0 0 0
+        → Crashes boards-many processes channels sender reader ins arity rows mails logs heads boards unread queued waits a rows′ mails′ (set boards b row) unread′ queued′ waits′ r
+    unfolding numbers
+    crashes-done p k is-p is-k found f-is d rows′ mails′ unread′ queued′ waits′ row words flags all counts is-row e = record {
+      answered = λ t port entries c command reach wired addressed eb ep ec h f ha.
+          let its : b ≡ a = is-b (let z = reach .accepted .boards-high in omega arith) in
+          let ps : p ≡ length (t .processes) = is-p (let z = reach .accepted .processes-high in omega arith) ∙ ep in
+          let ks : k ≡ length (t .channels) = is-k (let z = reach .accepted .channels-high in omega arith) ∙ ec in
+          let so = accepted-so h a ha (subst (λ (i : ℕ). getD (getD boards i []) 2 0 ≡ 0) its live) (the-test false (sym f-is ∙ d) t c reach eb its) in
+          let cab = crash-holds reach h wired addressed ha
+          (subst (λ (i : ℕ). Zeroed (lostWords sender rows a) i queued queued′) ks words)
+          (subst (λ (i : ℕ). Zeroed (runsOn rows a) i waits waits′) ps flags)
+          (subst (λ (i : ℕ). AllCrashed i ins arity rows mails logs heads a rows′ mails′) ps all)
+          (subst (λ (i : ℕ). Recounted i reader rows′ mails′ unread unread′) ks counts) in
+          let there = subst (λ (l : List (List ℕ)). Holds t (storeOf rows′ mails′ logs heads l unread′ queued′ waits′) entries (crashedCabinet t c a))
+          (sym (ap (λ (x : List ℕ). set boards b x) is-row ∙ ap (λ (i : ℕ). set boards i (deadRow (getD boards i []))) its)) cab in
+          let after : Store = storeOf rows′ mails′ logs heads (set boards b row) unread′ queued′ waits′ in
+          subst (λ (z : Answer). Answered t after entries c command (crash t c a) z) (sym e)
+          (subst (λ (z : Result). Answered t after entries c command z (answerOf 0 0 0)) (sym so) (record { answer-is = refl; holds = there }));
+    }

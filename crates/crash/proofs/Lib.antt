@@ -1,0 +1,6 @@
+-- Why move 5 is the rules'.
+pub mod Losing
+pub mod Recounting
+pub mod Promoting
+pub mod Holding
+pub mod Crashing

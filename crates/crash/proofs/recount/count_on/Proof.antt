@@ -1,0 +1,78 @@
+use mathlib.Core.Logic.{⊎-elim}
+use Prim.Native.Nat.{_-_}
+use Rattle.crash.proofs.Recounting.{Counting, counting-start, counting-hit, counting-miss, counting-end}
+use borrow.Author.Needs.{needs}
+use native.Mathlib.Omega.{arith}
+use Rattle.crash.proofs.recount.count_on.Statement.{statement}
+use Rattle.crash.proofs.recount.count_on.Tie as tie
+use Rattle.crash.proofs.recount.count_on.Reads as reads
+use Rattle.crash.proofs.recount.count_on.Lts as lts
+use Rattle.crash.proofs.recount.channel_of.Reads as channel-of-reads
+use Rattle.std.proofs.num.wrapping_add_u32.Reads as wrapping-add-u32-reads
+
+abbrev Inv-loop : tie.InvT-loop
+Inv-loop mail n k count₀ i₀ count i = Counting mail n k count i
+
+abbrev μ-loop : tie.MeasureT-loop
+μ-loop mail n k count₀ i₀ count i = n - i
+
+-- src/recount.rt:24:5
+loop-holds : tie.Need-loop-holds Inv-loop μ-loop
+loop-holds c = counting-start _ _ _
+
+-- src/recount.rt:25:28
+mul-channel-of : tie.Need-mul-channel-of Inv-loop μ-loop
+mul-channel-of c = search needs
+
+-- src/recount.rt:25:28
+element-copy-out-channel-of : tie.Need-element-copy-out-channel-of Inv-loop μ-loop
+element-copy-out-channel-of c = search needs
+
+-- src/recount.rt:25:17
+channel-of-requires : tie.Need-channel-of-requires Inv-loop μ-loop
+channel-of-requires c κs = search needs
+
+-- src/recount.rt:26:13
+wrapping-add-u32-requires : tie.Need-wrapping-add-u32-requires Inv-loop μ-loop
+wrapping-add-u32-requires c κs = search needs
+
+-- src/recount.rt:28:9
+add-i : tie.Need-add-i Inv-loop μ-loop
+add-i c = search needs
+
+-- src/recount.rt:24:5
+loop-less : tie.Need-loop-less Inv-loop μ-loop
+loop-less c = search needs
+
+-- src/recount.rt:24:5
+loop-again : tie.Need-loop-again Inv-loop μ-loop
+loop-again c =
+    let s = c .before .before .before .before .before in
+    let a = s .args in
+    let l = c .before .before .before .before .loop in
+    let t = c .before .before .before .loop-test .taken in
+    let w = c .before .channel-of in
+    ⊎-elim
+    (λ h. rw (h .2) (counting-hit (a .mail .now) (a .n) (a .k) (l .count) (l .i) (l .inv) (s .pre) (w .result) _ t (w .ensures) (h .0 .taken) (h .1 .ensures)))
+    (λ h. rw (h .1) (counting-miss (a .mail .now) (a .n) (a .k) (l .count) (l .i) (l .inv) (s .pre) (w .result) t (w .ensures) (h .0 .left)))
+    (c .if1 .came)
+
+-- src/recount.rt:18:1
+returns : tie.Need-returns Inv-loop μ-loop
+returns c = let s = c .before .before in let l = c .before .loop in counting-end (s .args .mail .now) (s .args .n) (s .args .k) (l .count) (l .i) (l .inv) (s .pre) (c .loop-test .left)
+
+pub count-on-spec : {M : Type 1} → statement M
+count-on-spec =
+    tie.close
+    (tie.spec
+    Inv-loop
+    μ-loop
+    loop-holds
+    mul-channel-of
+    element-copy-out-channel-of
+    channel-of-requires
+    wrapping-add-u32-requires
+    add-i
+    loop-less
+    loop-again
+    returns)

@@ -1,0 +1,30 @@
+-- What the parts of a crash promise that make its losses: which boards and processes it concerns, and which totals become 0.
+-- Assumes nothing.
+use mathlib.Core.Path.{_≡_}
+use mathlib.Core.Bool.{Bool, not, cond, _&&_}
+use mathlib.Core.List.{List, []}
+use Prim.Native.Nat.{ℕ, _<_}
+use lib.Dec.{eqb, ltb}
+use lib.ListN.{length, getD, set}
+use Rattle.store.specs.Store.{deadIn}
+
+-- p is a process that runs on board a
+abbrev pub runsOn : List (List ℕ) → ℕ → ℕ → Bool
+runsOn rows a p = ltb p 16 && eqb (getD (getD rows p []) 0 0) a
+
+-- board k is dead, and another than b
+abbrev pub deadApart : List (List ℕ) → ℕ → ℕ → Bool
+deadApart boards b k = not (eqb k b) && deadIn boards k
+
+-- channel k has a sender that runs on board a
+abbrev pub lostWords : List ℕ → List (List ℕ) → ℕ → ℕ → Bool
+lostWords sender rows a k = runsOn rows a (getD sender k 0)
+
+-- of the first n numbers those that the test names are 0, and the others as they were
+pub record Zeroed (named : ℕ → Bool) (n : ℕ) (l l′ : List ℕ) : Type 0 where
+  pub same-length : length l′ ≡ length l
+  pub zeroed-at : (i : ℕ) → i < n → i < length l → getD l′ i 0 ≡ cond (named i) 0 (getD l i 0)
+
+-- a board's row once it is dead
+abbrev pub deadRow : List ℕ → List ℕ
+deadRow board = set (set board 1 0) 2 1

@@ -1,0 +1,27 @@
+// Counts that are clamped to what the arrays have, so that no loop runs past them.
+ghost use mathlib.Core.Path.{_≡_};
+ghost use Prim.Native.Nat.{_≤_};
+
+// Words that a mailbox holds at most.
+pub const MAIL: usize = 48;
+
+// A count of processes or boards; 16 stands for any that is more.
+pub fn most16(n: usize) -> usize
+    ensures { λ r. ⌜ (r ≤ 16) × (n ≤ 16 → r ≡ n) ⌝ }
+{
+    if n > 16 { 16 } else { n }
+}
+
+// A count of channels; 32 stands for any that is more.
+pub fn most32(n: usize) -> usize
+    ensures { λ r. ⌜ (r ≤ 32) × (n ≤ 32 → r ≡ n) ⌝ }
+{
+    if n > 32 { 32 } else { n }
+}
+
+// A count of unread words; 48 stands for any that is more.
+pub fn most48(n: usize) -> usize
+    ensures { λ r. ⌜ (r ≤ 48) × (n ≤ 48 → r ≡ n) ⌝ }
+{
+    if n > 48 { 48 } else { n }
+}

@@ -1,0 +1,59 @@
+// Move 5: "crash board a: its queue is lost." "Crash: 34 already dead, 44 another board has crashed."
+ghost use Rattle.crash.specs.Crashes.{Crashes};
+use crate::bounds::MAIL;
+use crate::bounds::most16;
+use crate::bounds::most32;
+use crate::losses::die;
+use crate::losses::lose_flags;
+use crate::losses::lose_words;
+use crate::losses::other_dead;
+use crate::processes::crash_all;
+use crate::recount::recount;
+use backup::place::HEAD;
+use process::row::ROW;
+use store::board::BOARD_ROW;
+use store::board::DEAD;
+use store::board::index16;
+use store::moved::Answer;
+use store::moved::refusal;
+
+pub fn crash(
+    boards_many: usize,
+    processes: usize,
+    channels: usize,
+    sender: &[u32; 32],
+    reader: &[u32; 32],
+    ins: &[u32; 64],
+    arity: &[u32; 16],
+    rows: &mut [[u32; ROW]; 16],
+    mails: &mut [[u64; MAIL]; 16],
+    logs: &[[u64; MAIL]; 16],
+    heads: &[[u32; HEAD]; 16],
+    boards: &mut [[u32; BOARD_ROW]; 16],
+    unread: &mut [u32; 32],
+    queued: &mut [u32; 32],
+    waits: &mut [u32; 16],
+    a: u32,
+) -> Answer
+    ensures { λ r. ⌜ Crashes «boards_many» processes channels (now (sender .entry)) (now (reader .entry)) (now (ins .entry)) (now (arity .entry)) (now (rows .entry)) (now (mails .entry)) (now (logs .entry)) (now (heads .entry)) (now (boards .entry)) (now (unread .entry)) (now (queued .entry)) (now (waits .entry)) a (now (rows .exit)) (now (mails .exit)) (now (boards .exit)) (now (unread .exit)) (now (queued .exit)) (now (waits .exit)) r ⌝ }
+{
+    let b = index16(a);
+    if boards[b][DEAD] != 0 {
+        return refusal(34, a);
+    }
+    if other_dead(most16(boards_many), boards, b) {
+        return refusal(44, a);
+    }
+    let p = most16(processes);
+    let k = most32(channels);
+    lose_words(k, sender, rows, a, queued);
+    lose_flags(p, rows, a, waits);
+    crash_all(p, ins, arity, rows, mails, logs, heads, a);
+    recount(k, reader, rows, mails, unread);
+    die(&mut boards[b]);
+    Answer {
+        code: 0,
+        a: 0,
+        word: 0,
+    }
+}

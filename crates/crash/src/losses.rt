@@ -1,0 +1,84 @@
+// What a board's crash takes with it: "its queue is lost", and with it the words and the checkpoints of the processes that run there.
+ghost use mathlib.Core.Path.{_≡_};
+ghost use Prim.Native.Nat.{_≤_, _<_};
+ghost use Rattle.facts.specs.Tests.{anyBelow};
+ghost use Rattle.crash.specs.Losses.{runsOn, deadApart, Zeroed, lostWords, deadRow};
+use process::row::BOARD;
+use process::row::ROW;
+use store::board::BOARD_ROW;
+use store::board::COUNT;
+use store::board::DEAD;
+use store::board::wide;
+
+// Whether p is a process that runs on board a.
+pub fn runs_on(rows: &[[u32; ROW]; 16], p: usize, a: u32) -> bool
+    ensures { λ r. ⌜ r ≡ runsOn (now (rows .entry)) a p ⌝ }
+{
+    if p < 16 { rows[p][BOARD] == a } else { false }
+}
+
+// Whether board k is dead and another than b.
+fn dead_apart(boards: &[[u32; BOARD_ROW]; 16], b: usize, k: usize) -> bool
+    requires { ⌜ k < 16 ⌝ }
+    ensures { λ r. ⌜ r ≡ deadApart (now (boards .entry)) b k ⌝ }
+{
+    if k == b { false } else { boards[k][DEAD] != 0 }
+}
+
+// Whether one of n boards is dead, b apart.
+pub fn other_dead(n: usize, boards: &[[u32; BOARD_ROW]; 16], b: usize) -> bool
+    requires { ⌜ n ≤ 16 ⌝ }
+    ensures { λ r. ⌜ r ≡ anyBelow (deadApart (now (boards .entry)) b) n ⌝ }
+{
+    let mut found = false;
+    let mut k = 0;
+    while k < n {
+        if dead_apart(boards, b, k) {
+            found = true;
+        }
+        k += 1;
+    }
+    found
+}
+
+// No word of a process that runs on board a is in a queue any more.
+pub fn lose_words(
+    n: usize,
+    sender: &[u32; 32],
+    rows: &[[u32; ROW]; 16],
+    a: u32,
+    queued: &mut [u32; 32],
+)
+    requires { ⌜ n ≤ 32 ⌝ }
+    ensures { λ _. ⌜ Zeroed (lostWords (now (sender .entry)) (now (rows .entry)) a) n (now (queued .entry)) (now (queued .exit)) ⌝ }
+{
+    let mut k = 0;
+    while k < n {
+        if runs_on(rows, wide(sender[k]), a) {
+            queued[k] = 0;
+        }
+        k += 1;
+    }
+}
+
+// No checkpoint of a process that runs on board a waits any more.
+pub fn lose_flags(n: usize, rows: &[[u32; ROW]; 16], a: u32, waits: &mut [u32; 16])
+    requires { ⌜ n ≤ 16 ⌝ }
+    ensures { λ _. ⌜ Zeroed (runsOn (now (rows .entry)) a) n (now (waits .entry)) (now (waits .exit)) ⌝ }
+{
+    let mut p = 0;
+    while p < n {
+        if runs_on(rows, p, a) {
+            waits[p] = 0;
+        }
+        p += 1;
+    }
+}
+
+// A board's row once it is dead: no entry is left.
+pub fn die(board: &mut [u32; BOARD_ROW])
+    ensures { λ _. ⌜ now (board .exit) ≡ deadRow (now (board .entry)) ⌝ }
+{
+    board[COUNT] = 0;
+    board[DEAD] = 1;
+}
