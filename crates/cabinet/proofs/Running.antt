@@ -1,0 +1,156 @@
+-- A whole run: the plan suits the table, the records are played, and what comes of it is the rules' run.
+-- Assumes nothing.
+use mathlib.Core.Path.{_≡_, refl, ap, sym, _∙_, subst}
+use mathlib.Core.Bool.{Bool, true, false, cond, _&&_}
+use mathlib.Core.List.{List}
+use Prim.Native.Nat.{ℕ, _+_, _*_, _≤_, _<_}
+use native.Mathlib.Omega.{arith}
+use lib.Dec.{eqb, leb}
+use lib.ListN.{length, getD, replicate}
+use borrow.Author.Tests.{eqb-true, eq-eqb, ne-eqb, leb-true}
+use Rattle.facts.specs.Tests.{and-left, and-right}
+use Rattle.table.specs.Plan.{Plans, Decodes}
+use Rattle.table.specs.Fetch.{fetched, instructionOf}
+use Rattle.table.specs.Commands.{ScheduleJudged, judgedRun}
+use Rattle.table.specs.declared.Decoded.{Decoded}
+use Rattle.table.specs.declared.plan.Plan.{Plan}
+use Rattle.table.specs.declared.schedule.Judged.{Judged}
+use Rattle.table.proofs.Programs.{fetched-code}
+use Rattle.table.proofs.Judged.{run-is}
+use Rattle.rules.specs.Table.{Table, SET, codeOf}
+use Rattle.rules.specs.Judge.{Accepted}
+use Rattle.rules.specs.Bytes.{allBytes, written}
+use Rattle.rules.specs.Format.{lengthField, processesIn, decodeTable, validateTable}
+use Rattle.rules.specs.Schedule.{commandsMost, commandsIn, command, decodeSchedule, scheduleOk, validateSchedule}
+use Rattle.rules.specs.Cabinet.{Cabinet, started, quiescent}
+use Rattle.rules.specs.Moves.{runFrom, numbers}
+use Rattle.rules.specs.Run.{Ran, answerBytes, reportBytes, validateRun, ranFrom, refusedWith, run, accepted}
+use Rattle.rules.proofs.Valid.{valid, test-passed, length-sixes, processes-counted, decoded-accepted}
+use Rattle.rules.proofs.AcceptedRun.{table-valid, schedule-valid, answers-fit, report-fits}
+use Rattle.rules.proofs.Theorem.{failure-transparency}
+use Rattle.store.specs.declared.entry.Entry.{Entry}
+use Rattle.store.specs.Store.{Store, storeOf, Holds, blankEntry}
+use Rattle.store.specs.Moved.{Reachable}
+use Rattle.cabinet.specs.Plan.{Lent, lentOf, Suits}
+use Rattle.cabinet.specs.Plays.{Played, Suited, Plays}
+use Rattle.cabinet.specs.Starts.{Fresh, Placed, Seats}
+use Rattle.cabinet.specs.Reports.{Reports}
+use Rattle.cabinet.specs.Quiets.{Quiets}
+use Rattle.cabinet.specs.Runs.{ranBy, Runs, Conducts}
+use Rattle.cabinet.specs.declared.run.Verdict.{Verdict}
+
+-- ---- the plan of an accepted table
+
+abbrev pub lentBy : List ℕ → Plan → Lent
+lentBy table plan = lentOf table (plan .boards) (plan .processes) (plan .channels) (plan .start) (plan .length) (plan .sender) (plan .reader) (plan .port) (plan .inputs) (plan .arity)
+
+suits : (table : List ℕ) (plan : Plan) → validateTable table ≡ 0 → Plans table plan → Suits (decodeTable table) (lentBy table plan)
+suits table plan ok p = record {
+  boards-is = p .boards-is;
+  processes-is = p .processes-is;
+  channels-is = p .channels-is;
+  wired = record { sender-at = p .sender-at; reader-at = p .reader-at; port-at = p .port-at };
+  programmed = record {
+    length-at = p .length-at;
+    code-at = λ q h k l.
+        ap (λ (at : ℕ). instructionOf (fetched table at k)) (p .start-at q h)
+        ∙ fetched-code table (valid table ok .extent-ok) q (rw (← processes-counted table) h) k l;
+  };
+  addressed = record { arity-at = p .arity-at; input-at = p .input-at };
+}
+
+-- ---- an accepted run
+
+commands-few : (schedule : List ℕ) → validateSchedule schedule ≡ 0 → commandsIn schedule ≤ commandsMost
+unfolding validateSchedule scheduleOk
+commands-few schedule h =
+    let a = test-passed (scheduleOk schedule) 8 _ h in
+    let few = leb (commandsIn schedule) commandsMost in
+    let whole = eqb (3 + 6 * commandsIn schedule) (length schedule) in
+    let field = eqb (2 + lengthField schedule) (length schedule) in
+    leb-true (commandsIn schedule) commandsMost (and-right whole few (and-right field (whole && few) (and-right (leb 3 (length schedule)) (field && (whole && few)) a)))
+
+commands-many : (schedule : List ℕ) → length (decodeSchedule schedule) ≡ commandsIn schedule
+unfolding decodeSchedule
+commands-many schedule = length-sixes command (commandsIn schedule) _
+
+passed : (table schedule answers report : List ℕ) → validateRun table schedule answers report ≡ 0 → accepted table schedule answers report ≡ true
+unfolding accepted ranFrom
+passed table schedule answers report h = rw h
+
+module _ (table schedule : List ℕ) (records : ℕ) (plan : Plan) (answers report answers′ report′ : List ℕ)
+    (rows rows₀ mails₀ logs₀ heads₀ boards₀ : List (List ℕ)) (unread₀ queued₀ waits₀ : List ℕ) (s : Store) (quiet : Bool)
+    (fresh : Fresh (storeOf rows₀ mails₀ logs₀ heads₀ boards₀ unread₀ queued₀ waits₀) (replicate 512 blankEntry))
+    (seats : Seats rows₀ (plan .primary) (plan .standby) (plan .processes) rows)
+    (plays : Plays (lentBy table plan) schedule records (storeOf rows mails₀ logs₀ heads₀ boards₀ unread₀ queued₀ waits₀) answers s answers′)
+    (reports : Reports (s .rows) (plan .processes) report report′)
+    (quiets : Quiets table (plan .boards) (plan .processes) (plan .start) (plan .length) (s .rows) (s .mails) (s .boards) quiet) where
+  abbrev t : Table
+  t = decodeTable table
+
+  abbrev end : Cabinet
+  end = runFrom t (started t) (decodeSchedule schedule) .cabinet
+
+  pub conducts : Conducts table schedule records plan answers report quiet answers′ report′
+  unfolding ranFrom
+  conducts = record {
+    conducted = λ ok plans many.
+        let acc = passed table schedule answers report ok in
+        let tv = table-valid table schedule answers report acc in
+        let at : Accepted t = decoded-accepted table tv in
+        let few : commandsIn schedule ≤ commandsMost = commands-few schedule (schedule-valid table schedule answers report acc) in
+        let su = suits table plan tv plans in
+        let placed : Placed t (plan .primary) (plan .standby) (plan .processes) = record { processes-is = plans .processes-is; primary-at = plans .primary-at; standby-at = plans .standby-at } in
+        let begins = seats .holds t mails₀ logs₀ heads₀ boards₀ unread₀ queued₀ waits₀ (replicate 512 blankEntry) at placed fresh in
+        let so-many : records ≡ length (decodeSchedule schedule) = many ∙ sym (commands-many schedule) in
+        let played = plays .played t (record { accepted = at; suits = su; records-is = so-many; few = rw many few; room = rw many (answers-fit table schedule answers report acc); starts = begins }) in
+        let reach : Reachable t end = record { accepted = at; commands = decodeSchedule schedule; few = rw (← so-many, many) few; is-reached = refl } in
+        let room : 20 * plan .processes ≤ length report = rw (plans .processes-is, processes-counted table) (report-fits table schedule answers report acc) in
+        let r = reports .reported t (s .mails) (s .logs) (s .heads) (s .boards) (s .unread) (s .queued) (s .waits) (plays .entries) end reach (played .holds) (plans .processes-is) room in
+        let q = quiets .answers t (s .logs) (s .heads) (s .unread) (s .queued) (s .waits) (plays .entries) end reach (su .programmed) (played .holds) (plans .boards-is) (plans .processes-is) in
+        λ i. record { number = 0; records = so-many i; quiet = q i; answers = played .answers-are i; report = r i };
+  }
+
+-- ---- the call
+
+module _ (table schedule answers report : List ℕ) (d : Decoded) (j : Judged) (is-d : Decodes table d) (is-j : ScheduleJudged schedule j) where
+  abbrev number : ℕ
+  number = judgedRun (d .number) (d .plan .processes) j (length answers) (length report)
+
+  judged : number ≡ validateRun table schedule answers report
+  judged = run-is table schedule answers report (d .number) (d .plan .processes) j (is-d .number-is) (λ z. is-d .accepted z .processes-is ∙ processes-counted table) is-j
+
+  pub refuses : (n : ℕ) → n ≡ number → (n ≡ 0 → ⊥) → Runs table schedule answers report (record { number = n; records = 0; quiet = false }) answers report
+  unfolding run refusedWith
+  refuses n e h = record {
+    ran = rw (← judged, ← e, ne-eqb n 0 h);
+    failure-transparent = λ z. absurd (h z);
+  }
+
+  pub accepts : (n : ℕ) → n ≡ number → n ≡ 0 → (quiet : Bool) (answers′ report′ : List ℕ) → Conducts table schedule (j .records) (d .plan) answers report quiet answers′ report′
+      → Runs table schedule answers report (record { number = 0; records = j .records; quiet = quiet }) answers′ report′
+  unfolding run
+  accepts n e z quiet answers′ report′ h =
+      let ok : validateRun table schedule answers report ≡ 0 = sym judged ∙ sym e ∙ z in
+      let acc = passed table schedule answers report ok in
+      let fine : d .number ≡ 0 = is-d .number-is ∙ table-valid table schedule answers report acc in
+      let sv = schedule-valid table schedule answers report acc in
+      let many : j .records ≡ commandsIn schedule = is-j .records-is ∙ ap (λ (m : ℕ). cond (eqb m 0) (commandsIn schedule) 0) sv in
+      record {
+        ran = h .conducted ok (is-d .accepted fine) many ∙ sym (ap (λ (m : ℕ). cond (eqb m 0) (ranFrom (decodeTable table) (decodeSchedule schedule) answers report) (refusedWith m answers report)) ok);
+        failure-transparent = λ _. failure-transparency table schedule answers report acc;
+      }
+
+-- ---- a run has at most 10,000 records
+
+few-of : (b : Bool) (n : ℕ) (t : Table) (schedule answers report : List ℕ) → (b ≡ true → commandsIn schedule ≤ commandsMost)
+    → cond b (ranFrom t (decodeSchedule schedule) answers report) (refusedWith n answers report) .records ≤ commandsMost
+unfolding ranFrom refusedWith
+few-of true n t schedule answers report h = rw (commands-many schedule) (h refl)
+few-of false n t schedule answers report h = omega arith
+
+pub run-few : (table schedule answers report : List ℕ) → run table schedule answers report .records ≤ commandsMost
+unfolding run
+run-few table schedule answers report =
+    few-of (eqb (validateRun table schedule answers report) 0) _ (decodeTable table) schedule answers report
+    (λ e. commands-few schedule (schedule-valid table schedule answers report (passed table schedule answers report (eqb-true _ 0 e))))

@@ -1,0 +1,41 @@
+-- A list of records, one after the other. "Each schedule record, refused or not, gets the cabinet that the last one left".
+-- Assumes nothing.
+use mathlib.Core.Path.{_≡_}
+use mathlib.Core.List.{List, map}
+use Prim.Native.Nat.{ℕ, _*_, _≤_}
+use lib.ListN.{length, take, replicate}
+use Rattle.rules.specs.Table.{Table}
+use Rattle.rules.specs.Judge.{Accepted}
+use Rattle.rules.specs.Bytes.{allBytes, written}
+use Rattle.rules.specs.Cabinet.{started}
+use Rattle.rules.specs.Moves.{Command, numbers, runFrom}
+use Rattle.rules.specs.Schedule.{commandsMost, decodeSchedule}
+use Rattle.rules.specs.Run.{answerBytes}
+use Rattle.store.specs.declared.entry.Entry.{Entry}
+use Rattle.store.specs.Store.{Store, Holds, blankEntry}
+use Rattle.cabinet.specs.Plan.{Lent, Suits}
+
+-- these commands were done: the lists hold the cabinet that they leave, and their answers are written to the buffer's front
+pub record Played (t : Table) (commands : List Command) (s : Store) (entries : List Entry) (before after : List ℕ) : Type 0 where
+  pub holds : Holds t s entries (runFrom t (started t) commands .cabinet)
+  pub answers-are : after ≡ written (allBytes answerBytes (map numbers (runFrom t (started t) commands .answers))) before
+
+-- a schedule's commands are done on lists that hold the cabinet that a table gives, the plan is the table's, and the buffer has room
+pub record Suited (t : Table) (l : Lent) (schedule : List ℕ) (records : ℕ) (s : Store) (entries : List Entry) (answers : List ℕ) : Type 0 where
+  pub accepted : Accepted t
+  pub suits : Suits t l
+  pub records-is : records ≡ length (decodeSchedule schedule)
+  pub few : records ≤ commandsMost
+  pub room : 6 * records ≤ length answers
+  pub starts : Holds t s entries (started t)
+
+-- the first i of them
+pub record Playing (l : Lent) (schedule : List ℕ) (records : ℕ) (s₀ : Store) (entries₀ : List Entry) (answers₀ : List ℕ)
+    (i : ℕ) (s : Store) (entries : List Entry) (answers : List ℕ) : Type 0 where
+  pub no-more : i ≤ records
+  pub played : (t : Table) → Suited t l schedule records s₀ entries₀ answers₀ → Played t (take i (decodeSchedule schedule)) s entries answers₀ answers
+
+-- all of them, whatever entries are left
+pub record Plays (l : Lent) (schedule : List ℕ) (records : ℕ) (s : Store) (answers : List ℕ) (s′ : Store) (answers′ : List ℕ) : Type 0 where
+  pub entries : List Entry
+  pub played : (t : Table) → Suited t l schedule records s (replicate 512 blankEntry) answers → Played t (decodeSchedule schedule) s′ entries answers answers′

@@ -1,0 +1,120 @@
+// The loop over a schedule's records. It alone holds the entries of all queues, one flat array: it hands a carry the oldest entry of a
+// board, and stores the entry by which a step or an issue ends.
+ghost use mathlib.Core.Path.{_≡_};
+ghost use Prim.Native.Nat.{_<_};
+ghost use Rattle.store.specs.Store.{storeOf};
+ghost use Rattle.cabinet.specs.Plan.{lentOf};
+ghost use Rattle.cabinet.specs.Plays.{Plays};
+use crate::answer::put;
+use crate::turn::carry;
+use crate::turn::turn;
+use backup::place::HEAD;
+use bus::transmit::oldest;
+use process::row::ROW;
+use store::board::BOARD_ROW;
+use store::board::ENTRIES;
+use store::board::index16;
+use store::moved::blank;
+use table::schedule::command_at;
+
+// A byte as a number of 32 bits.
+fn grown(x: u8) -> u32
+    ensures { λ r. ⌜ (r ≡ x) × (r < 256) ⌝ }
+{
+    x as u32
+}
+
+pub fn play(
+    table: &[u8],
+    schedule: &[u8],
+    records: usize,
+    boards_many: usize,
+    processes: usize,
+    channels: usize,
+    start: &[u32; 16],
+    lengths: &[u32; 16],
+    sender: &[u32; 32],
+    reader: &[u32; 32],
+    port: &[u32; 32],
+    ins: &[u32; 64],
+    arity: &[u32; 16],
+    rows: &mut [[u32; ROW]; 16],
+    mails: &mut [[u64; 48]; 16],
+    logs: &mut [[u64; 48]; 16],
+    heads: &mut [[u32; HEAD]; 16],
+    boards: &mut [[u32; BOARD_ROW]; 16],
+    unread: &mut [u32; 32],
+    queued: &mut [u32; 32],
+    waits: &mut [u32; 16],
+    answers: &mut [u8],
+)
+    ensures { λ _. ⌜ Plays (lentOf (now (table .entry)) «boards_many» processes channels (now (start .entry)) (now (lengths .entry)) (now (sender .entry)) (now (reader .entry)) (now (port .entry)) (now (ins .entry)) (now (arity .entry))) (now (schedule .entry)) records (storeOf (now (rows .entry)) (now (mails .entry)) (now (logs .entry)) (now (heads .entry)) (now (boards .entry)) (now (unread .entry)) (now (queued .entry)) (now (waits .entry))) (now (answers .entry)) (storeOf (now (rows .exit)) (now (mails .exit)) (now (logs .exit)) (now (heads .exit)) (now (boards .exit)) (now (unread .exit)) (now (queued .exit)) (now (waits .exit))) (now (answers .exit)) ⌝ }
+{
+    let none = blank();
+    let mut entries = [none; ENTRIES];
+    let mut i = 0;
+    while i < records {
+        let k = i;
+        i += 1;
+        let c = command_at(schedule, k);
+        let mv = c.mv;
+        let word = c.word;
+        let a = grown(c.a);
+        if mv == 3 {
+            let b = index16(a);
+            let e = entries[oldest(&boards[b], b)];
+            let r = carry(
+                boards_many,
+                processes,
+                channels,
+                sender,
+                reader,
+                port,
+                rows,
+                mails,
+                logs,
+                heads,
+                boards,
+                unread,
+                queued,
+                waits,
+                a,
+                word,
+                e,
+            );
+            put(answers, k, r);
+            continue;
+        }
+        let m = turn(
+            table,
+            boards_many,
+            processes,
+            channels,
+            start,
+            lengths,
+            sender,
+            reader,
+            port,
+            ins,
+            arity,
+            rows,
+            mails,
+            logs,
+            heads,
+            boards,
+            unread,
+            queued,
+            waits,
+            mv,
+            a,
+            word,
+        );
+        let at = m.at;
+        let e = m.entry;
+        put(answers, k, m.answer);
+        if at >= ENTRIES {
+            continue;
+        }
+        entries[at] = e;
+    }
+}

@@ -1,0 +1,116 @@
+// The public call: a table and a schedule in, answers and a report into lent buffers, and a number, how many records were run, and
+// whether the cabinet ended quiet. Document 01, "What each move replies". All state is this call's own; nothing is kept between calls.
+ghost use Rattle.cabinet.specs.Runs.{Runs, Conducts};
+use crate::play::play;
+use crate::quiet::quiescent;
+use crate::report::write_report;
+use crate::start::seat;
+use backup::place::HEAD;
+use process::row::ROW;
+use store::board::BOARD_ROW;
+use table::decode;
+use table::plan::Plan;
+use table::schedule::judge_run;
+use table::schedule::judge_schedule;
+
+// "An accepted run returns 0, its number of records, and whether it ended quiet." A refused one its number, 0 and false.
+pub struct Verdict {
+    pub number: u8,
+    pub records: usize,
+    pub quiet: bool,
+}
+
+// An accepted run: the start, the records, the report, and whether it ended quiet.
+fn conduct(
+    table: &[u8],
+    schedule: &[u8],
+    records: usize,
+    plan: Plan,
+    answers: &mut [u8],
+    report: &mut [u8],
+) -> bool
+    ensures { λ r. ⌜ Conducts (now (table .entry)) (now (schedule .entry)) records plan (now (answers .entry)) (now (report .entry)) r (now (answers .exit)) (now (report .exit)) ⌝ }
+{
+    let boards_many = plan.boards;
+    let processes = plan.processes;
+    let channels = plan.channels;
+    let start = plan.start;
+    let lengths = plan.length;
+    let primary = plan.primary;
+    let standby = plan.standby;
+    let sender = plan.sender;
+    let reader = plan.reader;
+    let port = plan.port;
+    let ins = plan.inputs;
+    let arity = plan.arity;
+    let mut rows = [[0u32; ROW]; 16];
+    let mut mails = [[0u64; 48]; 16];
+    let mut logs = [[0u64; 48]; 16];
+    let mut heads = [[0u32; HEAD]; 16];
+    let mut boards = [[0u32; BOARD_ROW]; 16];
+    let mut unread = [0u32; 32];
+    let mut queued = [0u32; 32];
+    let mut waits = [0u32; 16];
+    seat(&mut rows, &primary, &standby, processes);
+    play(
+        table,
+        schedule,
+        records,
+        boards_many,
+        processes,
+        channels,
+        &start,
+        &lengths,
+        &sender,
+        &reader,
+        &port,
+        &ins,
+        &arity,
+        &mut rows,
+        &mut mails,
+        &mut logs,
+        &mut heads,
+        &mut boards,
+        &mut unread,
+        &mut queued,
+        &mut waits,
+        answers,
+    );
+    write_report(&rows, processes, report);
+    quiescent(
+        table,
+        boards_many,
+        processes,
+        &start,
+        &lengths,
+        &rows,
+        &mails,
+        &boards,
+    )
+}
+
+// The run of a table and a schedule, whatever bytes they are.
+pub fn run(table: &[u8], schedule: &[u8], answers: &mut [u8], report: &mut [u8]) -> Verdict
+    ensures { λ r. ⌜ Runs (now (table .entry)) (now (schedule .entry)) (now (answers .entry)) (now (report .entry)) r (now (answers .exit)) (now (report .exit)) ⌝ }
+{
+    let d = decode(table);
+    let s = judge_schedule(schedule);
+    let table_number = d.number;
+    let plan = d.plan;
+    let processes = plan.processes;
+    let records = s.records;
+    let number = judge_run(table_number, processes, s, answers.len(), report.len());
+    if number != 0 {
+        return Verdict {
+            number: number,
+            records: 0,
+            quiet: false,
+        };
+    }
+    let quiet = conduct(table, schedule, records, plan, answers, report);
+    Verdict {
+        number: 0,
+        records: records,
+        quiet: quiet,
+    }
+}

@@ -1,0 +1,2 @@
+-- Why the exported call is the run.
+pub mod Packing

@@ -1,0 +1,2 @@
+-- What the exported call promises.
+pub mod Exported
