@@ -175,7 +175,8 @@ struct Habits {
 }
 
 fn habits(random: &mut Random) -> Habits {
-    let weights = [40, 3, 30, 15, 2];
+    // Now and then inboxes and saved lists are filled, and syncs wait long.
+    let weights = if random.once_in(6) { [30, 4, 1, 60, 1] } else { [40, 3, 30, 15, 2] };
     let seldom = random.pick(&[0, 1, 2, 2, 2, 3, 4, 5, 5]);
     let mut habits = Habits { weights, row: random.pick(&[1, 1, 4, 12]) };
     if let Some(weight) = habits.weights.get_mut(seldom) {
@@ -216,31 +217,70 @@ fn crash(random: &mut Random, table: &Table) -> Record {
     Record { kind: 5, a, word: 0 }
 }
 
-/// As many records as asked for, most of them accepted, with one crash at some place, or several tries, or none.
-pub fn schedule(random: &mut Random, table: &Table, records: usize) -> Vec<Record> {
-    let mut cabinet = Cabinet::new(table);
-    let mut schedule = Vec::new();
-    let habits = habits(random);
-    let mut crash_at = if random.once_in(3) { records } else { random.below(records as u32 + 1) as usize };
-    while schedule.len() < records {
-        if schedule.len() >= crash_at {
-            let record = crash(random, table);
-            cabinet.answer(record);
-            schedule.push(record);
-            crash_at = if random.once_in(3) { crash_at + 1 + random.below(20) as usize } else { records };
-            continue;
-        }
-        let record = likely(random, table, &cabinet, &habits);
-        for _ in 0..1 + random.below(habits.row) {
-            // What is refused changes nothing, so it can be left out.
-            let refused = cabinet.answer(record).code >= 32;
-            if schedule.len() < records && (!refused || random.once_in(30)) {
-                schedule.push(record);
+/// A schedule while it is written, and the cabinet that it leaves.
+struct Writing<'a, 't> {
+    table: &'t Table,
+    cabinet: Cabinet<'t>,
+    habits: Habits,
+    random: &'a mut Random,
+    schedule: Vec<Record>,
+    /// How many of the records are refused, and how many were tried and refused since one was accepted.
+    refused: usize,
+    in_vain: u32,
+}
+
+impl<'a, 't> Writing<'a, 't> {
+    fn new(random: &'a mut Random, table: &'t Table, cabinet: Cabinet<'t>) -> Writing<'a, 't> {
+        let habits = habits(random);
+        Writing { table, cabinet, habits, random, schedule: Vec::new(), refused: 0, in_vain: 0 }
+    }
+
+    /// One record, some times in a row as long as it is accepted. What is refused changes nothing, so that most of it can be left out:
+    /// one in eight is refused at most, unless hardly anything can be accepted any more.
+    fn go_on(&mut self, most: usize) {
+        let record = likely(self.random, self.table, &self.cabinet, &self.habits);
+        for _ in 0..1 + self.random.below(self.habits.row) {
+            if self.cabinet.answer(record).code < 32 {
+                self.in_vain = 0;
+                self.schedule.push(record);
+            } else {
+                self.in_vain += 1;
+                if self.random.once_in(20) && (8 * self.refused < self.schedule.len() || self.in_vain > 300) {
+                    self.refused += 1;
+                    self.schedule.push(record);
+                }
+                return;
             }
-            if refused {
-                break;
+            if self.schedule.len() >= most {
+                return;
             }
         }
     }
-    schedule
+}
+
+/// As many records as asked for, most of them accepted, with one crash at some place, or several tries, or none.
+pub fn schedule(random: &mut Random, table: &Table, records: usize) -> Vec<Record> {
+    let mut crash_at = if random.once_in(3) { records } else { random.below(records as u32 + 1) as usize };
+    let mut writing = Writing::new(random, table, Cabinet::new(table));
+    while writing.schedule.len() < records {
+        if writing.schedule.len() >= crash_at {
+            let record = crash(writing.random, table);
+            writing.cabinet.answer(record);
+            writing.schedule.push(record);
+            let again = crash_at + 1 + writing.random.below(20) as usize;
+            crash_at = if writing.random.once_in(3) { again } else { records };
+        } else {
+            writing.go_on(crash_at.min(records));
+        }
+    }
+    writing.schedule
+}
+
+/// As many records as asked for from this cabinet on, most of them accepted and none of them a crash.
+pub fn continued(random: &mut Random, table: &Table, cabinet: Cabinet, records: usize) -> Vec<Record> {
+    let mut writing = Writing::new(random, table, cabinet);
+    while writing.schedule.len() < records {
+        writing.go_on(records);
+    }
+    writing.schedule
 }

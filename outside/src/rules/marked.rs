@@ -1,9 +1,11 @@
 //! The marked cases M1 to M13 of document 01, the ninth take, buffers, schedules and refused pages.
+use super::backup::{Backup, Message, Snapshot};
 use super::generate::encode_schedule;
 use super::page::page;
 use super::reader::{judge_run, judge_schedule, judge_table, Record};
+use super::run::{run, Outcome};
 use super::sample::{carry, crash, feed, sample_schedule, step, SAMPLE};
-use super::simulator::{run, Answer, Backup, Cabinet, Message, Outcome, Snapshot};
+use super::simulator::{Answer, Cabinet};
 
 /// M13.
 const PAGE: &str = "records 20

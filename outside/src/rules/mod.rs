@@ -1,11 +1,14 @@
 //! Document 01 in Rust, written from its text and from nothing else: no line here was taken from the proved code or its definitions.
 //! Names are the document's own, so that each line can be held against its sentence.
 
+pub mod backup;
+pub mod busy;
 pub mod damage;
 pub mod generate;
 pub mod page;
 pub mod plain;
 pub mod reader;
+pub mod run;
 pub mod sample;
 pub mod simulator;
 

@@ -1,6 +1,6 @@
 //! The bench program's page: document 01, "The bench program's page".
 use super::reader::record;
-use super::simulator::run;
+use super::run::{run, Run};
 use std::fmt::Write;
 
 /// What the program prints, given its whole input.
@@ -12,7 +12,11 @@ pub fn page(input: &[u8]) -> String {
         return "refused 1\n".to_string();
     }
     let (table, schedule) = input.split_at(input.len().min(2 + length));
-    let run = run(table, schedule, 60_000, 320);
+    lines(&run(table, schedule, 60_000, 320), table.get(4).map_or(0, |&processes| processes as usize))
+}
+
+/// The page of a run on a table of so many processes, from what it returned and what it wrote.
+pub fn lines(run: &Run, processes: usize) -> String {
     if run.outcome.number != 0 {
         return format!("refused {}\n", run.outcome.number);
     }
@@ -24,7 +28,7 @@ pub fn page(input: &[u8]) -> String {
         let answer = record(bytes);
         writeln!(page, "{} {} {} {}", i + 1, answer.kind, answer.a, answer.word).unwrap();
     }
-    for (p, bytes) in run.report.chunks(20).take(table[4] as usize).enumerate() {
+    for (p, bytes) in run.report.chunks(20).take(processes).enumerate() {
         write!(page, "process {p}").unwrap();
         bytes[..4].iter().for_each(|byte| write!(page, " {byte}").unwrap());
         bytes[4..].chunks(4).for_each(|word| write!(page, " {}", u32::from_be_bytes(word.try_into().unwrap())).unwrap());

@@ -103,8 +103,8 @@ fn instruction(table: &Table, process: usize, n: usize, bytes: &[u8]) -> Option<
         2 => (operand <= 3).then_some(Instruction::Add { a, b: operand as u8 }),
         3 => reads(operand).map(|(channel, _)| Instruction::Take { a, channel }),
         4 => {
-            let named: Vec<u32> = (0..32).filter(|k| operand >> k & 1 == 1).collect();
-            let fits = (1..=4).contains(&named.len()) && named.iter().all(|&k| reads(k).is_some());
+            let mut named = (0..32).filter(|k| operand >> k & 1 == 1);
+            let fits = (1..=4).contains(&named.clone().count()) && named.all(|k| reads(k).is_some());
             fits.then_some(Instruction::First { a, mask: operand })
         }
         5 => sends(operand).map(|(channel, _)| Instruction::Send { a, channel }),
@@ -151,9 +151,11 @@ pub fn judge_table(bytes: &[u8]) -> Result<Table, u8> {
     // "8 an instruction"
     for (p, record) in records.iter().enumerate() {
         let n = record.instructions.len() / 6;
-        let program: Option<Vec<Instruction>> =
-            record.instructions.chunks(6).map(|bytes| instruction(&table, p, n, bytes)).collect();
-        table.processes.push(Process { primary: record.primary, backup: record.backup, program: program.ok_or(8)? });
+        let mut program = Vec::with_capacity(n);
+        for bytes in record.instructions.chunks_exact(6) {
+            program.push(instruction(&table, p, n, bytes).ok_or(8)?);
+        }
+        table.processes.push(Process { primary: record.primary, backup: record.backup, program });
     }
     Ok(table)
 }

@@ -1,7 +1,8 @@
 //! The cabinet: document 01, "The cabinet's moves" and "What each move replies", on growing lists.
 //!
 //! For each channel the total of its unread and queued words is kept, so that no move counts them.
-use super::reader::{self, judge_run, record, Instruction, Record, Table, OUTSIDE};
+use super::backup::{Backup, Message, Snapshot};
+use super::reader::{self, Instruction, Record, Table, OUTSIDE};
 use std::collections::VecDeque;
 
 /// "One six-byte answer a record: code, a, word."
@@ -27,59 +28,11 @@ impl Answer {
     }
 }
 
-/// A word that has arrived, with the slot of its channel.
-#[derive(Clone, Copy, Debug, PartialEq, Eq)]
-pub struct Message {
-    pub channel: u8,
-    pub slot: u8,
-    pub word: u32,
-}
-
-/// "a snapshot (registers, place, takes per slot since the last issue)"
-#[derive(Clone, Copy, Debug, PartialEq, Eq)]
-pub struct Snapshot {
-    pub registers: [u32; 4],
-    pub place: u8,
-    pub taken: [u32; 4],
-}
-
 /// "An entry of an outgoing queue is a word or a sync"
 #[derive(Clone, Copy, Debug, PartialEq, Eq)]
 enum Entry {
     Word { channel: u8, word: u32 },
     Sync { process: u8, snapshot: Snapshot },
-}
-
-/// The backup record, and the board where it is kept.
-#[derive(Clone, Debug, PartialEq, Eq)]
-pub struct Backup {
-    pub board: u8,
-    pub saved: Vec<Message>,
-    pub count: u8,
-    pub place: u8,
-    pub registers: [u32; 4],
-}
-
-impl Backup {
-    /// "It starts with no words and the rest 0."
-    pub fn new(board: u8) -> Backup {
-        Backup { board, saved: Vec::new(), count: 0, place: 0, registers: [0; 4] }
-    }
-
-    /// "A sync replaces the state in the process's backup record, drops the oldest saved words slot by slot as taken, and zeroes the
-    /// count."
-    pub fn sync(&mut self, mut snapshot: Snapshot) {
-        self.saved.retain(|message| {
-            let left = &mut snapshot.taken[message.slot as usize];
-            let drops = *left > 0;
-            *left -= drops as u32;
-            !drops
-        });
-        debug_assert_eq!(snapshot.taken, [0; 4], "more taken than saved");
-        self.place = snapshot.place;
-        self.registers = snapshot.registers;
-        self.count = 0;
-    }
 }
 
 #[derive(Clone, Debug)]
@@ -402,7 +355,7 @@ impl<'t> Cabinet<'t> {
     }
 
     /// "The report: board, place, unread count and hold-back, a byte each, then four registers."
-    fn report(&self, report: &mut [u8]) {
+    pub fn report(&self, report: &mut [u8]) {
         for (process, bytes) in self.processes.iter().zip(report.chunks_exact_mut(20)) {
             bytes[..4].copy_from_slice(&[process.board, process.place, process.inbox.len() as u8, process.hold_back]);
             for (register, bytes) in process.registers.iter().zip(bytes[4..].chunks_exact_mut(4)) {
@@ -410,43 +363,4 @@ impl<'t> Cabinet<'t> {
             }
         }
     }
-}
-
-/// "An accepted run returns 0, its number of records, and whether it ended quiet. A refused one [..] returns the number alone, no
-/// records, not quiet".
-#[derive(Clone, Copy, Debug, PartialEq, Eq)]
-pub struct Outcome {
-    pub number: u8,
-    pub records: usize,
-    pub quiet: bool,
-}
-
-/// A run on lent buffers: a refused one "writes to no lent buffer", and an accepted one to no byte beyond its answers and its report.
-pub fn run_into(table: &[u8], schedule: &[u8], answers: &mut [u8], report: &mut [u8]) -> Outcome {
-    let (table, records) = match judge_run(table, schedule, answers.len(), report.len()) {
-        Ok(judged) => judged,
-        Err(number) => return Outcome { number, records: 0, quiet: false },
-    };
-    let mut cabinet = Cabinet::new(&table);
-    for (bytes, answer) in records.chunks_exact(6).zip(answers.chunks_exact_mut(6)) {
-        answer.copy_from_slice(&cabinet.answer(record(bytes)).bytes());
-    }
-    cabinet.report(report);
-    Outcome { number: 0, records: records.len() / 6, quiet: cabinet.quiet() }
-}
-
-/// A run, and what it wrote.
-#[derive(Clone, Debug, PartialEq, Eq)]
-pub struct Run {
-    pub outcome: Outcome,
-    pub answers: Vec<u8>,
-    pub report: Vec<u8>,
-}
-
-/// A run on buffers of these lengths, all 0 before.
-pub fn run(table: &[u8], schedule: &[u8], answers: usize, report: usize) -> Run {
-    let mut run =
-        Run { outcome: Outcome { number: 0, records: 0, quiet: false }, answers: vec![0; answers], report: vec![0; report] };
-    run.outcome = run_into(table, schedule, &mut run.answers, &mut run.report);
-    run
 }

@@ -1,0 +1,363 @@
+//! The bench once more in Rust, with growing lists and nothing proved, written to be quick: what the proved run's time is held against.
+//! It reads the same bytes and writes the same answers and report into lent buffers; a channel's total of unread and queued words is kept.
+use outside::rules::reader::{judge_run, Instruction, Table, OUTSIDE};
+use std::collections::VecDeque;
+
+/// "at most 32 entries", "8 or more together", "acts are 8"
+const QUEUE: usize = 32;
+const HELD: u8 = 8;
+const ACTS: u8 = 8;
+
+#[derive(Clone, Copy)]
+struct Message {
+    word: u32,
+    channel: u8,
+    slot: u8,
+}
+
+#[derive(Clone, Copy)]
+struct Snapshot {
+    registers: [u32; 4],
+    taken: [u8; 4],
+    place: u8,
+}
+
+enum Entry {
+    Word { channel: u8, word: u32 },
+    Sync { process: u8, snapshot: Snapshot },
+}
+
+struct Backup {
+    saved: Vec<Message>,
+    registers: [u32; 4],
+    board: u8,
+    place: u8,
+    count: u8,
+}
+
+impl Backup {
+    fn sync(&mut self, snapshot: &Snapshot) {
+        let mut left = snapshot.taken;
+        let mut all: usize = left.iter().map(|&n| n as usize).sum();
+        // Only as far as the last word to be dropped; what stays before it moves up to it.
+        let (mut at, mut kept) = (0, 0);
+        while all > 0 {
+            let message = self.saved[at];
+            let of = &mut left[message.slot as usize];
+            if *of > 0 {
+                *of -= 1;
+                all -= 1;
+            } else {
+                self.saved[kept] = message;
+                kept += 1;
+            }
+            at += 1;
+        }
+        self.saved.drain(kept..at);
+        self.registers = snapshot.registers;
+        self.place = snapshot.place;
+        self.count = 0;
+    }
+}
+
+struct Process<'t> {
+    program: &'t [Instruction],
+    inbox: VecDeque<Message>,
+    registers: [u32; 4],
+    taken: [u8; 4],
+    board: u8,
+    place: u8,
+    hold_back: u8,
+    acts: u8,
+    waiting: bool,
+    backup: Option<Backup>,
+}
+
+impl Process<'_> {
+    fn arrive(&mut self, message: Message) {
+        self.inbox.push_back(message);
+        if let Some(backup) = &mut self.backup {
+            backup.saved.push(message);
+        }
+    }
+
+    fn must_sync(&self) -> bool {
+        self.acts >= ACTS && self.backup.is_some()
+    }
+
+    fn oldest(&self, mask: u32) -> Option<usize> {
+        self.inbox.iter().position(|message| mask >> message.channel & 1 == 1)
+    }
+
+    /// Removes the oldest unread word on one of these channels, or gives the refusal.
+    fn take(&mut self, mask: u32) -> Result<Message, u8> {
+        let at = self.oldest(mask).ok_or(36)?;
+        if self.must_sync() {
+            return Err(37);
+        }
+        let message = if at == 0 { self.inbox.pop_front() } else { self.inbox.remove(at) }.ok_or(36)?;
+        self.taken[message.slot as usize] = self.taken[message.slot as usize].wrapping_add(1);
+        self.act();
+        Ok(message)
+    }
+
+    /// One act more. Without a backup nobody asks for acts or takes, so that they may go round.
+    fn act(&mut self) {
+        self.acts = self.acts.wrapping_add(1);
+    }
+
+    fn at_rest(&self) -> bool {
+        match self.program.get(self.place as usize) {
+            None => true,
+            Some(&Instruction::Take { channel, .. }) => self.oldest(1 << channel).is_none(),
+            Some(&Instruction::First { mask, .. }) => self.oldest(mask).is_none(),
+            Some(_) => false,
+        }
+    }
+}
+
+#[derive(Clone, Copy)]
+struct Channel {
+    sender: u8,
+    reader: u8,
+    slot: u8,
+    /// Unread and queued words together.
+    total: u8,
+}
+
+impl Channel {
+    fn held(self) -> bool {
+        self.total >= HELD && self.reader != OUTSIDE
+    }
+}
+
+/// An answer's code, a and word, or a refusal's code.
+type Answer = Result<(u8, u8, u32), u8>;
+const DONE: Answer = Ok((0, 0, 0));
+
+struct Cabinet<'t> {
+    channels: Vec<Channel>,
+    processes: Vec<Process<'t>>,
+    queues: Vec<VecDeque<Entry>>,
+    crashed: Option<usize>,
+}
+
+impl<'t> Cabinet<'t> {
+    fn new(table: &'t Table) -> Cabinet<'t> {
+        let slot = |k: usize| table.channels[..k].iter().filter(|ends| ends.reader == table.channels[k].reader).count() as u8;
+        let channel = |(k, ends): (usize, &outside::rules::reader::Channel)| Channel {
+            sender: ends.sender,
+            reader: ends.reader,
+            slot: slot(k),
+            total: 0,
+        };
+        let process = |given: &'t outside::rules::reader::Process| Process {
+            program: &given.program,
+            inbox: VecDeque::new(),
+            registers: [0; 4],
+            taken: [0; 4],
+            board: given.primary,
+            place: 0,
+            hold_back: 0,
+            acts: 0,
+            waiting: false,
+            backup: Some(Backup { saved: Vec::new(), registers: [0; 4], board: given.backup, place: 0, count: 0 }),
+        };
+        Cabinet {
+            channels: table.channels.iter().enumerate().map(channel).collect(),
+            processes: table.processes.iter().map(process).collect(),
+            queues: (0..table.boards).map(|_| VecDeque::new()).collect(),
+            crashed: None,
+        }
+    }
+
+    fn answer(&mut self, kind: u8, a: usize, word: u32) -> Answer {
+        if !(1..=5).contains(&kind) || (word != 0 && kind != 4) {
+            return Err(32);
+        }
+        match kind {
+            1 if a < self.processes.len() => self.step(a),
+            2 if a < self.processes.len() => self.sync(a),
+            3 if a < self.queues.len() => self.carry(a),
+            4 if a < self.channels.len() => self.feed(a, word),
+            5 if a < self.queues.len() => self.crash(a),
+            _ => Err(33),
+        }
+    }
+
+    fn step(&mut self, p: usize) -> Answer {
+        let process = &mut self.processes[p];
+        let Some(&instruction) = process.program.get(process.place as usize) else { return Err(35) };
+        let answer = match instruction {
+            Instruction::Set { a, word } => {
+                process.registers[a as usize] = word;
+                (0, 0, 0)
+            }
+            Instruction::Add { a, b } => {
+                process.registers[a as usize] = process.registers[a as usize].wrapping_add(process.registers[b as usize]);
+                (0, 0, 0)
+            }
+            Instruction::Take { a, channel } => {
+                let message = process.take(1 << channel)?;
+                process.registers[a as usize] = message.word;
+                self.channels[channel as usize].total -= 1;
+                (1, channel, message.word)
+            }
+            Instruction::First { a, mask } => {
+                let message = process.take(mask)?;
+                process.registers[a as usize] = message.word;
+                process.registers[a as usize + 1] = message.channel as u32;
+                self.channels[message.channel as usize].total -= 1;
+                (1, message.channel, message.word)
+            }
+            Instruction::Send { a, channel } => {
+                let word = process.registers[a as usize];
+                if process.hold_back > 0 {
+                    process.hold_back -= 1;
+                    (3, channel, word)
+                } else {
+                    let queue = &mut self.queues[process.board as usize];
+                    let to = &mut self.channels[channel as usize];
+                    if process.must_sync() {
+                        return Err(37);
+                    }
+                    if queue.len() >= QUEUE {
+                        return Err(38);
+                    }
+                    if to.held() {
+                        return Err(39);
+                    }
+                    queue.push_back(Entry::Word { channel, word });
+                    to.total += 1;
+                    process.act();
+                    (2, channel, word)
+                }
+            }
+            Instruction::Jump { a, place } => {
+                process.place = if process.registers[a as usize] != 0 { place } else { process.place + 1 };
+                return DONE;
+            }
+        };
+        process.place += 1;
+        Ok(answer)
+    }
+
+    fn sync(&mut self, p: usize) -> Answer {
+        let process = &mut self.processes[p];
+        let queue = &mut self.queues[process.board as usize];
+        if process.backup.is_none() {
+            return Err(40);
+        }
+        if process.waiting {
+            return Err(41);
+        }
+        if queue.len() >= QUEUE {
+            return Err(38);
+        }
+        let snapshot = Snapshot { registers: process.registers, taken: process.taken, place: process.place };
+        queue.push_back(Entry::Sync { process: p as u8, snapshot });
+        process.waiting = true;
+        process.acts = 0;
+        process.taken = [0; 4];
+        DONE
+    }
+
+    fn carry(&mut self, board: usize) -> Answer {
+        if self.crashed == Some(board) {
+            return Err(34);
+        }
+        match self.queues[board].pop_front() {
+            None => Err(42),
+            Some(Entry::Word { channel: k, word }) => {
+                let channel = &mut self.channels[k as usize];
+                match self.processes.get_mut(channel.reader as usize) {
+                    Some(reader) => reader.arrive(Message { word, channel: k, slot: channel.slot }),
+                    None => channel.total -= 1,
+                }
+                if let Some(backup) = &mut self.processes[channel.sender as usize].backup {
+                    backup.count += 1;
+                }
+                Ok((4, k, word))
+            }
+            Some(Entry::Sync { process: p, snapshot }) => {
+                let process = &mut self.processes[p as usize];
+                process.waiting = false;
+                let Some(backup) = &mut process.backup else { return Ok((6, p, 0)) };
+                backup.sync(&snapshot);
+                Ok((5, p, 0))
+            }
+        }
+    }
+
+    fn feed(&mut self, k: usize, word: u32) -> Answer {
+        let channel = &mut self.channels[k];
+        if channel.sender != OUTSIDE {
+            return Err(43);
+        }
+        if channel.held() {
+            return Err(39);
+        }
+        channel.total += 1;
+        self.processes[channel.reader as usize].arrive(Message { word, channel: k as u8, slot: channel.slot });
+        Ok((4, k as u8, word))
+    }
+
+    fn crash(&mut self, board: usize) -> Answer {
+        match self.crashed {
+            Some(dead) if dead == board => return Err(34),
+            Some(_) => return Err(44),
+            None => self.crashed = Some(board),
+        }
+        for entry in self.queues[board].drain(..) {
+            if let Entry::Word { channel, .. } = entry {
+                self.channels[channel as usize].total -= 1;
+            }
+        }
+        for process in &mut self.processes {
+            let runs_there = process.board as usize == board;
+            let Some(backup) = process.backup.take_if(|backup| runs_there || backup.board as usize == board) else { continue };
+            if runs_there {
+                process.inbox.iter().for_each(|message| self.channels[message.channel as usize].total -= 1);
+                backup.saved.iter().for_each(|message| self.channels[message.channel as usize].total += 1);
+                process.inbox = backup.saved.into();
+                process.registers = backup.registers;
+                process.board = backup.board;
+                process.place = backup.place;
+                process.hold_back = backup.count;
+                process.waiting = false;
+            }
+        }
+        DONE
+    }
+
+    fn quiet(&self) -> bool {
+        self.queues.iter().all(VecDeque::is_empty) && self.processes.iter().all(Process::at_rest)
+    }
+
+    fn report(&self, report: &mut [u8]) {
+        for (process, line) in self.processes.iter().zip(report.chunks_exact_mut(20)) {
+            line[..4].copy_from_slice(&[process.board, process.place, process.inbox.len() as u8, process.hold_back]);
+            for (register, bytes) in process.registers.iter().zip(line[4..].chunks_exact_mut(4)) {
+                bytes.copy_from_slice(&register.to_be_bytes());
+            }
+        }
+    }
+}
+
+/// The whole run, returned as the proved call returns it.
+pub fn run(table: &[u8], schedule: &[u8], answers: &mut [u8], report: &mut [u8]) -> u64 {
+    let (table, records) = match judge_run(table, schedule, answers.len(), report.len()) {
+        Ok(judged) => judged,
+        Err(number) => return number as u64,
+    };
+    let mut cabinet = Cabinet::new(&table);
+    for (record, bytes) in records.chunks_exact(6).zip(answers.chunks_exact_mut(6)) {
+        let &[kind, a, w0, w1, w2, w3] = record else { unreachable!("six bytes") };
+        let answer = cabinet.answer(kind, a as usize, u32::from_be_bytes([w0, w1, w2, w3]));
+        let (code, a, word) = answer.unwrap_or_else(|code| (code, a, 0));
+        let [w0, w1, w2, w3] = word.to_be_bytes();
+        bytes.copy_from_slice(&[code, a, w0, w1, w2, w3]);
+    }
+    cabinet.report(report);
+    (records.len() as u64 / 6) << 32 | (cabinet.quiet() as u64) << 8
+}

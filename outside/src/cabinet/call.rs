@@ -1,0 +1,36 @@
+//! The proved library's exported call.
+
+mod raw {
+    #[link(name = "cabinet_call", kind = "static")]
+    extern "C" {
+        // Each slice is a pointer and a length.
+        pub fn cabinet_run(
+            table: *const u8,
+            table_len: usize,
+            schedule: *const u8,
+            schedule_len: usize,
+            answers: *mut u8,
+            answers_len: usize,
+            report: *mut u8,
+            report_len: usize,
+        ) -> u64;
+    }
+}
+
+/// The run of any schedule on any table with any lent buffers: it asks nothing of its caller.
+pub fn cabinet_run(table: &[u8], schedule: &[u8], answers: &mut [u8], report: &mut [u8]) -> u64 {
+    let (answers_len, report_len) = (answers.len(), report.len());
+    // SAFETY: four slices that don't overlap, each with its own length; the first two are only read.
+    unsafe {
+        raw::cabinet_run(
+            table.as_ptr(),
+            table.len(),
+            schedule.as_ptr(),
+            schedule.len(),
+            answers.as_mut_ptr(),
+            answers_len,
+            report.as_mut_ptr(),
+            report_len,
+        )
+    }
+}

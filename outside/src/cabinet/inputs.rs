@@ -1,0 +1,131 @@
+//! The kinds of input, each compared: sound runs of any length, a crash at every place, garbage, damage, and buffers of other lengths.
+use crate::compare::Comparison;
+use crate::seen::SOUND;
+use outside::random::Random;
+use outside::rules::busy::busy;
+use outside::rules::damage::{damage_schedule, damage_table, Damage, DAMAGES};
+use outside::rules::generate::{any_word, continued, encode_schedule, encode_table, largest, schedule, table};
+use outside::rules::reader::{Record, Table};
+use outside::rules::sample::crash;
+use outside::rules::simulator::Cabinet;
+
+/// What the largest schedule needs, and more.
+const ENOUGH: (usize, usize) = (60_012, 400);
+
+/// A run with buffers as long as needed, or longer.
+fn compare(comparison: &mut Comparison, random: &mut Random, kind: &'static str, table: &[u8], records: &[Record]) {
+    let beyond = random.pick(&[0, 0, 1, 7, 40]);
+    let needed = (6 * records.len(), 20 * table[4] as usize);
+    comparison.run(kind, table, &encode_schedule(records), needed.0 + beyond, needed.1 + random.pick(&[0, 0, 1, 19, 20]));
+}
+
+/// A sound table: any, the largest, or one whose programs go round for ever.
+fn some_table(random: &mut Random) -> Table {
+    match random.below(40) {
+        0 => largest(random),
+        1..=19 => {
+            let (boards, processes) = (2 + random.below(15) as u8, 1 + random.below(16) as u8);
+            busy(random, boards, processes)
+        }
+        _ => table(random),
+    }
+}
+
+/// A sound table and a schedule most of whose records are accepted.
+pub fn sound(comparison: &mut Comparison, random: &mut Random) {
+    let table = some_table(random);
+    let length = random.pick(&[0, 1, 5, 20, 60, 60, 300, 300, 1000]);
+    let records = schedule(random, &table, length);
+    compare(comparison, random, SOUND[0], &encode_table(&table), &records);
+}
+
+/// As sound, and 10,000 records or next to it.
+pub fn long(comparison: &mut Comparison, random: &mut Random) {
+    let table = some_table(random);
+    let length = random.pick(&[10_000, 10_000, 9_999]);
+    let records = schedule(random, &table, length);
+    compare(comparison, random, SOUND[2], &encode_table(&table), &records);
+}
+
+/// The cabinet after some records.
+fn after<'t>(table: &'t Table, records: &[Record]) -> Cabinet<'t> {
+    let mut cabinet = Cabinet::new(table);
+    records.iter().for_each(|&record| {
+        cabinet.answer(record);
+    });
+    cabinet
+}
+
+/// A schedule with a crash put at each of its places, for each board; then the records that come after go on as they were, and others
+/// follow that suit the cabinet as it is then.
+pub fn crash_at_every_place(comparison: &mut Comparison, random: &mut Random) {
+    let table = some_table(random);
+    let bytes = encode_table(&table);
+    let length = random.pick(&[5, 10, 20, 30]);
+    // The crash comes after records that fill queues, inboxes and backup records.
+    let lead = random.pick(&[0, 40, 120]);
+    let lead = continued(random, &table, Cabinet::new(&table), lead);
+    let rest = continued(random, &table, after(&table, &lead), length);
+    for place in 0..=length {
+        for board in 0..table.boards {
+            let mut records = lead.clone();
+            records.extend(&rest[..place]);
+            records.push(crash(board));
+            if !random.once_in(3) {
+                records.extend(&rest[place..]);
+            }
+            let more = random.pick(&[0, 10, 40]);
+            records.extend(continued(random, &table, after(&table, &records), more));
+            compare(comparison, random, SOUND[1], &bytes, &records);
+        }
+    }
+}
+
+/// Any bytes as records, and records of any kind with any a, with a sound table.
+pub fn garbage(comparison: &mut Comparison, random: &mut Random) {
+    let table = table(random);
+    let length = random.below(60);
+    let records: Vec<Record> = (0..length)
+        .map(|_| match random.below(3) {
+            0 => Record { kind: random.below(256) as u8, a: random.below(256) as u8, word: random.word() },
+            1 => Record { kind: random.below(8) as u8, a: random.below(34) as u8, word: any_word(random) },
+            _ => Record { kind: 1 + random.below(5) as u8, a: random.below(16) as u8, word: 0 },
+        })
+        .collect();
+    compare(comparison, random, "garbage", &encode_table(&table), &records);
+}
+
+/// Each kind of damage to a sound table, to a schedule, and to both.
+pub fn damaged(comparison: &mut Comparison, random: &mut Random) {
+    let sound = table(random);
+    let length = random.pick(&[0, 1, 5, 30]);
+    let records = encode_schedule(&schedule(random, &sound, length));
+    let sound = encode_table(&sound);
+    for how in DAMAGES.into_iter().filter(|&how| how != Damage::None) {
+        let table = damage_table(random, sound.clone(), how);
+        let schedule = damage_schedule(random, records.clone(), how);
+        comparison.run("damaged table", &table, &records, ENOUGH.0, ENOUGH.1);
+        comparison.run("damaged schedule", &sound, &schedule, ENOUGH.0, ENOUGH.1);
+        comparison.run("both damaged", &table, &schedule, buffer(random, records.len()), buffer(random, 20 * sound[4] as usize));
+    }
+}
+
+/// A buffer's length where `needed` are needed.
+fn buffer(random: &mut Random, needed: usize) -> usize {
+    let some = random.below(needed as u32 + 100) as usize;
+    random.pick(&[needed, needed + 1, needed.saturating_sub(1), 0, needed / 2, 2 * needed, some])
+}
+
+/// Buffers too short by one or by more, just enough, and longer, for one run.
+pub fn buffers(comparison: &mut Comparison, random: &mut Random) {
+    let sound = table(random);
+    let length = random.pick(&[0, 1, 5, 30]);
+    let records = encode_schedule(&schedule(random, &sound, length));
+    let sound = encode_table(&sound);
+    let (answers, report) = (6 * length, 20 * sound[4] as usize);
+    let lengths = (buffer(random, answers), buffer(random, report));
+    comparison.run("other buffers", &sound, &records, answers, report);
+    comparison.run("other buffers", &sound, &records, lengths.0, report);
+    comparison.run("other buffers", &sound, &records, answers, lengths.1);
+    comparison.run("other buffers", &sound, &records, lengths.0, lengths.1);
+}

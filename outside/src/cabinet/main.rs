@@ -1,0 +1,70 @@
+//! The proved run of a schedule against the simulator, on generated tables and schedules: `cabinet [--runs N] [--seed N]`.
+//!
+//! First the service desk's cases, with lines written by hand; then these and document 01's sample, cut after each record and with each
+//! board pulled at each place; then random runs of every kind of input.
+mod call;
+mod compare;
+mod desk;
+mod inputs;
+mod seen;
+
+use compare::Comparison;
+use outside::random::Random;
+use outside::rules::generate::encode_schedule;
+use outside::rules::reader::Record;
+use outside::rules::sample::{crash, sample_schedule, SAMPLE};
+
+const SEED: u64 = 0xA076_1D64_78BD_642F;
+const RUNS: u64 = 60_000;
+
+/// A schedule and each of its beginnings, and the same with a crash of each board put at each place.
+fn pulled(comparison: &mut Comparison, kind: &'static str, table: &[u8], records: &[Record]) {
+    let buffers = (6 * records.len() + 6, 20 * table[4] as usize);
+    for place in 0..=records.len() {
+        comparison.run(kind, table, &encode_schedule(&records[..place]), buffers.0, buffers.1);
+        for board in 0..table[3] {
+            let crashed = [&records[..place], &[crash(board)], &records[place..]].concat();
+            comparison.run(kind, table, &encode_schedule(&crashed), buffers.0, buffers.1);
+        }
+    }
+}
+
+/// Some runs of each kind.
+fn round(comparison: &mut Comparison, random: &mut Random) {
+    (0..60).for_each(|_| inputs::sound(comparison, random));
+    inputs::crash_at_every_place(comparison, random);
+    (0..10).for_each(|_| inputs::garbage(comparison, random));
+    inputs::damaged(comparison, random);
+    (0..4).for_each(|_| inputs::buffers(comparison, random));
+    if random.once_in(4) {
+        inputs::long(comparison, random);
+    }
+}
+
+/// The value of an option, if it is given.
+fn option(name: &str) -> Option<u64> {
+    let mut arguments = std::env::args().skip_while(|argument| argument != name).skip(1);
+    arguments.next().map(|value| value.parse().unwrap_or_else(|_| panic!("{name} takes a number")))
+}
+
+fn main() {
+    let runs = option("--runs").unwrap_or(RUNS);
+    let seed = option("--seed").unwrap_or(SEED);
+    let mut comparison = Comparison::new(seed);
+    let desk = desk::check();
+    println!("cabinet: {runs} runs or more, seed {seed}");
+    let mut random = Random::new(seed);
+    pulled(&mut comparison, "sample", &SAMPLE, &sample_schedule());
+    for case in desk::cases() {
+        pulled(&mut comparison, "service desk", &case.table, &case.records);
+    }
+    while comparison.seen.runs < runs {
+        round(&mut comparison, &mut random);
+    }
+    let met = comparison.seen.report();
+    if !desk || !met {
+        println!("cabinet: FAILED, {}", if desk { "not everything was met" } else { "another line at the service desk" });
+        std::process::exit(1);
+    }
+    println!("cabinet: ok, {} runs, every number and every byte as by the simulator", comparison.seen.runs);
+}

@@ -1,0 +1,149 @@
+//! What the runs met: answers, refusals, kinds of input, and traits of the tables. Everything listed must have been met.
+use outside::rules::reader::{judge_table, Instruction, Table, OUTSIDE};
+use outside::rules::run::Run;
+use std::collections::BTreeMap;
+
+/// The answers of document 01: 0 to 6, and the refusals of a record.
+const ANSWERS: [u8; 20] = [0, 1, 2, 3, 4, 5, 6, 32, 33, 34, 35, 36, 37, 38, 39, 40, 41, 42, 43, 44];
+
+/// The kinds whose schedules are written so that most records are accepted.
+pub const SOUND: [&str; 3] = ["sound", "crash at every place", "10,000 records"];
+
+/// A kind of input: how many runs, their records and how many of those were accepted, and how many runs were refused or ended quiet,
+/// had a crash that was done, or ended with hold-back left.
+#[derive(Default)]
+struct Kind {
+    name: &'static str,
+    runs: u64,
+    records: u64,
+    accepted: u64,
+    refused: u64,
+    quiet: u64,
+    crashed: u64,
+    hold_back: u64,
+}
+
+/// What a table may have, as a test of it.
+type Trait = (&'static str, fn(&Table) -> bool);
+
+const TRAITS: [Trait; 10] = [
+    ("one process", |t| t.processes.len() == 1),
+    ("16 processes", |t| t.processes.len() == 16),
+    ("2 boards", |t| t.boards == 2),
+    ("16 boards", |t| t.boards == 16),
+    ("32 channels", |t| t.channels.len() == 32),
+    ("a self-channel", |t| t.channels.iter().any(|ends| ends.sender == ends.reader)),
+    ("a channel to the outside", |t| t.channels.iter().any(|ends| ends.reader == OUTSIDE)),
+    ("FIRST over several channels", |t| any(t, |_, i| matches!(i, Instruction::First { mask, .. } if mask.count_ones() > 1))),
+    ("a jump back", |t| any(t, |at, i| matches!(i, Instruction::Jump { place, .. } if (place as usize) <= at))),
+    ("a program that must halt", |t| {
+        t.processes.iter().any(|p| !p.program.iter().any(|i| matches!(i, Instruction::Jump { .. })))
+    }),
+];
+
+fn any(table: &Table, mut test: impl FnMut(usize, Instruction) -> bool) -> bool {
+    table.processes.iter().any(|process| process.program.iter().enumerate().any(|(at, &i)| test(at, i)))
+}
+
+#[derive(Default)]
+pub struct Seen {
+    pub runs: u64,
+    answers: BTreeMap<u8, u64>,
+    numbers: [u64; 13],
+    kinds: Vec<Kind>,
+    traits: [u64; TRAITS.len()],
+    /// The table that was looked at last, so that a sweep looks once.
+    last: Vec<u8>,
+    most_records: usize,
+    most_unread: u8,
+    most_hold_back: u8,
+}
+
+impl Seen {
+    /// Counts a run; the schedule is sound where the run was accepted.
+    pub fn count(&mut self, kind: &'static str, table: &[u8], schedule: &[u8], run: &Run) {
+        let at = self.kinds.iter().position(|k| k.name == kind).unwrap_or_else(|| {
+            self.kinds.push(Kind { name: kind, ..Kind::default() });
+            self.kinds.len() - 1
+        });
+        let kind = &mut self.kinds[at];
+        kind.runs += 1;
+        self.numbers[run.outcome.number as usize] += 1;
+        if run.outcome.number != 0 {
+            kind.refused += 1;
+            return;
+        }
+        kind.quiet += run.outcome.quiet as u64;
+        kind.records += run.outcome.records as u64;
+        let mut crashed = false;
+        for (answer, record) in run.answers.chunks_exact(6).zip(schedule[3..].chunks_exact(6)) {
+            *self.answers.entry(answer[0]).or_default() += 1;
+            kind.accepted += (answer[0] < 32) as u64;
+            crashed |= record[0] == 5 && answer[0] == 0;
+        }
+        kind.crashed += crashed as u64;
+        let lines = run.report.chunks_exact(20).take(table[4] as usize);
+        kind.hold_back += lines.clone().any(|line| line[3] > 0) as u64;
+        self.most_records = self.most_records.max(run.outcome.records);
+        self.most_unread = self.most_unread.max(lines.clone().map(|line| line[2]).max().unwrap_or(0));
+        self.most_hold_back = self.most_hold_back.max(lines.map(|line| line[3]).max().unwrap_or(0));
+        if self.last != table {
+            self.last = table.to_vec();
+            let table = judge_table(table).expect("the table of an accepted run");
+            TRAITS.iter().zip(&mut self.traits).for_each(|((_, test), n)| *n += test(&table) as u64);
+        }
+    }
+
+    /// Prints all counts; false if something was never met.
+    pub fn report(&self) -> bool {
+        println!(
+            "{:<22}{:>8}{:>10}{:>10}{:>9}{:>8}{:>9}{:>11}",
+            "", "runs", "records", "accepted", "refused", "quiet", "crashed", "hold-back"
+        );
+        let mut all = Kind { name: "all", ..Kind::default() };
+        for k in &self.kinds {
+            print_kind(k);
+            all.runs += k.runs;
+            all.records += k.records;
+            all.accepted += k.accepted;
+            all.refused += k.refused;
+            all.quiet += k.quiet;
+            all.crashed += k.crashed;
+            all.hold_back += k.hold_back;
+        }
+        print_kind(&all);
+        let sound =
+            self.kinds.iter().filter(|k| SOUND.contains(&k.name)).fold((0, 0), |(n, m), k| (n + k.accepted, m + k.records));
+        println!("of the {} records of sound runs {:.1}% were accepted", sound.1, percent(sound.0, sound.1));
+        println!(
+            "longest schedule {} records; at an end at most {} unread words and {} hold-back",
+            self.most_records, self.most_unread, self.most_hold_back
+        );
+        let tables: Vec<String> = TRAITS.iter().zip(&self.traits).map(|((name, _), n)| format!("{name} {n}")).collect();
+        println!("tables with: {}", tables.join(", "));
+        let answers: Vec<String> = self.answers.iter().map(|(code, times)| format!("{code}: {times}")).collect();
+        println!("answers {}", answers.join(", "));
+        let numbers: Vec<String> = self.numbers.iter().enumerate().map(|(n, times)| format!("{n}: {times}")).collect();
+        println!("numbers {}", numbers.join(", "));
+        let mut missing: Vec<String> = Vec::new();
+        missing.extend(ANSWERS.iter().filter(|code| !self.answers.contains_key(code)).map(|code| format!("answer {code}")));
+        missing.extend((0..13).filter(|&n| self.numbers[n] == 0).map(|n| format!("number {n}")));
+        missing.extend(
+            TRAITS.iter().zip(&self.traits).filter(|(_, &n)| n == 0).map(|((name, _), _)| format!("a table with {name}")),
+        );
+        missing.iter().for_each(|what| println!("never met: {what}"));
+        missing.is_empty()
+    }
+}
+
+fn percent(part: u64, all: u64) -> f64 {
+    100.0 * part as f64 / all.max(1) as f64
+}
+
+fn print_kind(k: &Kind) {
+    let share = percent(k.accepted, k.records);
+    println!(
+        "{:<22}{:>8}{:>10}{:>9.1}%{:>9}{:>8}{:>9}{:>11}",
+        k.name, k.runs, k.records, share, k.refused, k.quiet, k.crashed, k.hold_back
+    );
+}
