@@ -1,5 +1,5 @@
 -- Document 01 as definitions: read Table, Machine, Reference, Cabinet and Moves in this order, then Transparent; for the bytes
--- Bytes, Format, Schedule, Run and Transparency.
+-- Bytes, Format, Schedule, Run and Transparency, and Page.
 pub mod Table
 pub mod Machine
 pub mod Reference
@@ -13,3 +13,4 @@ pub mod Format
 pub mod Schedule
 pub mod Run
 pub mod Transparency
+pub mod Page
