@@ -19,7 +19,7 @@ use Rattle.bus.specs.Delivers.{Delivers}
 use Rattle.bus.specs.Oldest.{lessOne}
 use Rattle.bus.specs.Transmitted.{transmittedOf}
 use Rattle.bus.specs.Carries.{countedAt, Carries}
-use Rattle.bus.proofs.Backing.{backup-changed}
+use Rattle.store.proofs.Backing.{backup-changed}
 
 -- a number one less in 32 bits
 pub is-less : (n less : ℕ) → (less + 1) % 2 ^ 32 ≡ n → less < 2 ^ 32 → less ≡ lessOne n

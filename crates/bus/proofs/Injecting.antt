@@ -21,18 +21,16 @@ use Rattle.store.proofs.Refusing.{turned-away}
 use Rattle.store.proofs.Ends.{reader-inside}
 use Rattle.store.proofs.Arrivals.{room-for-feed}
 use Rattle.bus.specs.Delivers.{mailOf, Delivers}
-use Rattle.bus.specs.Transmitted.{heldIn, transmittedOf}
+use Rattle.bus.specs.Transmitted.{transmittedOf}
+use Rattle.store.specs.Channel.{heldIn}
+use Rattle.store.proofs.Held.{full-is}
 use Rattle.bus.specs.Injects.{Injects}
 
 module _ {t : Table} {s : Store} {entries : List Entry} {c : Cabinet} {sender reader port : List ℕ} (reach : Reachable t c) (wired : Wired t sender reader port)
     (h : Holds t s entries c) (k word : ℕ) (hk : k < length (t .channels)) where
   -- the totals say whether a channel is held
-  full-is : full t c k ≡ heldIn (getD reader k 0) (getD (s .unread) k 0) (getD (s .queued) k 0)
-  unfolding full
-  full-is =
-      by-eq (channelAt t k .reader) environment
-      (λ e. rw (wired .reader-at k hk, eq-eqb (channelAt t k .reader) environment e))
-      (λ n. rw (wired .reader-at k hk, ne-eqb (channelAt t k .reader) environment n, h .unread-is k hk (reader-inside (reach .accepted) k hk n), h .queued-is k hk))
+  held-is : full t c k ≡ heldIn (getD reader k 0) (getD (s .unread) k 0) (getD (s .queued) k 0)
+  held-is = full-is reach h k hk (getD reader k 0) (wired .reader-at k hk)
 
   refused-43 : getD sender k 0 ≢ environment → inject t c (mailOf k word) ≡ refuse notOutside
   unfolding inject guard
@@ -40,12 +38,12 @@ module _ {t : Table} {s : Store} {entries : List Entry} {c : Cabinet} {sender re
 
   refused-39 : getD sender k 0 ≡ environment → heldIn (getD reader k 0) (getD (s .unread) k 0) (getD (s .queued) k 0) ≡ true → inject t c (mailOf k word) ≡ refuse channelFull
   unfolding inject guard
-  refused-39 e b = rw (eq-eqb (channelAt t k .sender) environment (sym (wired .sender-at k hk) ∙ e), full-is ∙ b)
+  refused-39 e b = rw (eq-eqb (channelAt t k .sender) environment (sym (wired .sender-at k hk) ∙ e), held-is ∙ b)
 
   accepted-so : getD sender k 0 ≡ environment → heldIn (getD reader k 0) (getD (s .unread) k 0) (getD (s .queued) k 0) ≡ false
       → inject t c (mailOf k word) ≡ accept (deliver t (mailOf k word) c) (transmitted (mailOf k word))
   unfolding inject guard
-  accepted-so e b = rw (eq-eqb (channelAt t k .sender) environment (sym (wired .sender-at k hk) ∙ e), full-is ∙ b)
+  accepted-so e b = rw (eq-eqb (channelAt t k .sender) environment (sym (wired .sender-at k hk) ∙ e), held-is ∙ b)
 
 -- ---- what the move promises
 
@@ -83,7 +81,7 @@ module _ (sender reader port : List ℕ) (rows mails logs heads : List (List ℕ
         let free : heldIn (getD reader a 0) (getD unread a 0) (getD queued a 0) ≡ false = ap (λ (i : ℕ). heldIn (getD reader i 0) (getD unread i 0) (getD queued i 0)) (sym same) ∙ b in
         let so = accepted-so reach wired h a word l (ap (λ (i : ℕ). getD sender i 0) (sym same) ∙ n) free in
         let after : Store = storeOf rows′ mails′ logs′ heads′ boards unread′ queued waits in
-        let done = d .holds t sender boards queued waits entries c (reach .accepted) wired h l (room-for-feed reach a (full-is reach wired h a word l ∙ free)) in
+        let done = d .holds t sender boards queued waits entries c (reach .accepted) wired h l (room-for-feed reach a (held-is reach wired h a word l ∙ free)) in
         subst (λ (z : Answer). Answered t after entries c command (inject t c (mailOf a word)) z) (sym e)
         (subst (λ (z : Result). Answered t after entries c command z (transmittedOf a word)) (sym so)
         (record { answer-is = refl; holds = done }));

@@ -2,7 +2,6 @@
 pub mod Delivering
 pub mod Syncing
 pub mod Injecting
-pub mod Backing
 pub mod Carrying
 pub mod Popping
 pub mod Transmitting

@@ -8,10 +8,6 @@ use Rattle.rules.specs.Cabinet.{occupancyMost}
 use Rattle.store.specs.declared.moved.Answer.{Answer}
 use Rattle.store.specs.Moved.{answerOf}
 
--- "A channel is held when its unread words and those in the queues are 8 or more together. A channel read by the outside is never held."
-abbrev pub heldIn : ℕ → ℕ → ℕ → Bool
-heldIn reader unread queued = not (eqb reader environment) && leb occupancyMost (unread + queued)
-
 -- "4 word on the bus (channel, word)"
 abbrev pub transmittedOf : ℕ → ℕ → Answer
 transmittedOf channel word = answerOf 4 channel word

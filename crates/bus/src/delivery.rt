@@ -1,12 +1,12 @@
 // A word reaches its reader: "to the reader's inbox, the reader's backup record"; one that the outside reads goes to no process.
 ghost use Rattle.bus.specs.Delivers.{Delivers};
-use crate::channel::MAIL;
-use crate::channel::OUTSIDE;
-use crate::channel::index32;
 use backup::place::HEAD;
 use process::delivery::receive;
+use process::mail::MAIL;
 use process::row::ROW;
 use store::board::index16;
+use store::channel::ENVIRONMENT;
+use store::channel::index32;
 
 pub fn deliver(
     reader: &[u32; 32],
@@ -22,7 +22,7 @@ pub fn deliver(
     ensures { λ _. ⌜ Delivers (now (reader .entry)) (now (port .entry)) (now (rows .entry)) (now (mails .entry)) (now (logs .entry)) (now (heads .entry)) (now (unread .entry)) channel word (now (rows .exit)) (now (mails .exit)) (now (logs .exit)) (now (heads .exit)) (now (unread .exit)) ⌝ }
 {
     let k = index32(channel);
-    if reader[k] == OUTSIDE {
+    if reader[k] == ENVIRONMENT {
         return;
     }
     let p = index16(reader[k]);

@@ -1,5 +1,4 @@
 // What happens on the bus: the oldest entry of a board's queue is carried (move 3), and a word comes in from outside (move 4).
-mod channel;
 mod delivery;
 pub mod inject;
 mod queue;

@@ -1,10 +1,10 @@
 // A checkpoint is carried: its process's backup keeps it, if there is one, and it waits no more.
 // "5 sync carried, 6 sync with no backup left (process, 0)".
 ghost use Rattle.bus.specs.Syncs.{Syncs};
-use crate::channel::MAIL;
 use backup::place::Checkpoint;
 use backup::place::HEAD;
 use process::checkpoint::keep;
+use process::mail::MAIL;
 use process::row::PROTECTED;
 use process::row::ROW;
 use store::board::index16;

@@ -1,13 +1,13 @@
 // A word is carried. Document 01: "A word goes, in one move, to the reader's inbox, the reader's backup record, and the sender's backup
 // record, which counts it and keeps no copy."
 ghost use Rattle.bus.specs.Carries.{Carries};
-use crate::channel::MAIL;
-use crate::channel::index32;
 use crate::delivery::deliver;
 use backup::place::HEAD;
 use process::delivery::counts;
+use process::mail::MAIL;
 use process::row::ROW;
 use store::board::index16;
+use store::channel::index32;
 use store::moved::Answer;
 
 // One less in the queues; the sender's half, and then the reader's, which may be the same process. The sender of a word in a queue is one.

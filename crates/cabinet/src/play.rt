@@ -10,6 +10,7 @@ use crate::turn::carry;
 use crate::turn::turn;
 use backup::place::HEAD;
 use bus::transmit::oldest;
+use process::mail::MAIL;
 use process::row::ROW;
 use store::board::BOARD_ROW;
 use store::board::ENTRIES;
@@ -39,8 +40,8 @@ pub fn play(
     ins: &[u32; 64],
     arity: &[u32; 16],
     rows: &mut [[u32; ROW]; 16],
-    mails: &mut [[u64; 48]; 16],
-    logs: &mut [[u64; 48]; 16],
+    mails: &mut [[u64; MAIL]; 16],
+    logs: &mut [[u64; MAIL]; 16],
     heads: &mut [[u32; HEAD]; 16],
     boards: &mut [[u32; BOARD_ROW]; 16],
     unread: &mut [u32; 32],

@@ -4,6 +4,7 @@ ghost use Rattle.cabinet.specs.Quiets.{restsOf, Rests, AllRest, AllEmpty
 use crate::report::at_most_16;
 use process::instruction::Intent;
 use process::instruction::examine;
+use process::mail::MAIL;
 use process::row::PC;
 use process::row::ROW;
 use store::board::BOARD_ROW;
@@ -38,7 +39,7 @@ fn all_rest(
     start: &[u32; 16],
     lengths: &[u32; 16],
     rows: &[[u32; ROW]; 16],
-    mails: &[[u64; 48]; 16],
+    mails: &[[u64; MAIL]; 16],
 ) -> bool
     ensures { λ r. ⌜ AllRest (now (table .entry)) processes (now (start .entry)) (now (lengths .entry)) (now (rows .entry)) (now (mails .entry)) r ⌝ }
 {
@@ -74,7 +75,7 @@ pub fn quiescent(
     start: &[u32; 16],
     lengths: &[u32; 16],
     rows: &[[u32; ROW]; 16],
-    mails: &[[u64; 48]; 16],
+    mails: &[[u64; MAIL]; 16],
     boards: &[[u32; BOARD_ROW]; 16],
 ) -> bool
     ensures { λ r. ⌜ Quiets (now (table .entry)) «boards_many» processes (now (start .entry)) (now (lengths .entry)) (now (rows .entry)) (now (mails .entry)) (now (boards .entry)) r ⌝ }

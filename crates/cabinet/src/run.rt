@@ -6,6 +6,7 @@ use crate::quiet::quiescent;
 use crate::report::write_report;
 use crate::start::seat;
 use backup::place::HEAD;
+use process::mail::MAIL;
 use process::row::ROW;
 use store::board::BOARD_ROW;
 use table::decode;
@@ -44,8 +45,8 @@ fn conduct(
     let ins = plan.inputs;
     let arity = plan.arity;
     let mut rows = [[0u32; ROW]; 16];
-    let mut mails = [[0u64; 48]; 16];
-    let mut logs = [[0u64; 48]; 16];
+    let mut mails = [[0u64; MAIL]; 16];
+    let mut logs = [[0u64; MAIL]; 16];
     let mut heads = [[0u32; HEAD]; 16];
     let mut boards = [[0u32; BOARD_ROW]; 16];
     let mut unread = [0u32; 32];

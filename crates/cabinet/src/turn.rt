@@ -8,6 +8,7 @@ use backup::place::HEAD;
 use bus::inject::inject;
 use bus::transmit::transmit;
 use crash::crash::crash;
+use process::mail::MAIL;
 use process::row::ROW;
 use step::issue::issue;
 use step::step::step;
@@ -72,8 +73,8 @@ pub fn turn(
     ins: &[u32; 64],
     arity: &[u32; 16],
     rows: &mut [[u32; ROW]; 16],
-    mails: &mut [[u64; 48]; 16],
-    logs: &mut [[u64; 48]; 16],
+    mails: &mut [[u64; MAIL]; 16],
+    logs: &mut [[u64; MAIL]; 16],
     heads: &mut [[u32; HEAD]; 16],
     boards: &mut [[u32; BOARD_ROW]; 16],
     unread: &mut [u32; 32],
@@ -148,8 +149,8 @@ pub fn carry(
     reader: &[u32; 32],
     port: &[u32; 32],
     rows: &mut [[u32; ROW]; 16],
-    mails: &mut [[u64; 48]; 16],
-    logs: &mut [[u64; 48]; 16],
+    mails: &mut [[u64; MAIL]; 16],
+    logs: &mut [[u64; MAIL]; 16],
     heads: &mut [[u32; HEAD]; 16],
     boards: &mut [[u32; BOARD_ROW]; 16],
     unread: &mut [u32; 32],

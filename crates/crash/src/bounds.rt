@@ -2,9 +2,6 @@
 ghost use mathlib.Core.Path.{_≡_};
 ghost use Prim.Native.Nat.{_≤_};
 
-// Words that a mailbox holds at most.
-pub const MAIL: usize = 48;
-
 // A count of processes or boards; 16 stands for any that is more.
 pub fn most16(n: usize) -> usize
     ensures { λ r. ⌜ (r ≤ 16) × (n ≤ 16 → r ≡ n) ⌝ }

@@ -1,6 +1,5 @@
 // Move 5: "crash board a: its queue is lost." "Crash: 34 already dead, 44 another board has crashed."
 ghost use Rattle.crash.specs.Crashes.{Crashes};
-use crate::bounds::MAIL;
 use crate::bounds::most16;
 use crate::bounds::most32;
 use crate::losses::die;
@@ -10,6 +9,7 @@ use crate::losses::other_dead;
 use crate::processes::crash_all;
 use crate::recount::recount;
 use backup::place::HEAD;
+use process::mail::MAIL;
 use process::row::ROW;
 use store::board::BOARD_ROW;
 use store::board::DEAD;

@@ -2,9 +2,9 @@
 ghost use mathlib.Core.Path.{_≡_};
 ghost use Prim.Native.Nat.{_≤_, _<_};
 ghost use Rattle.crash.specs.Processes.{inputIn, AllCrashed};
-use crate::bounds::MAIL;
 use backup::place::HEAD;
 use process::crash::crash;
+use process::mail::MAIL;
 use process::row::ROW;
 use store::board::wide;
 

@@ -4,18 +4,19 @@ ghost use Prim.Native.Nat.{_≤_, _<_};
 ghost use Rattle.rules.specs.Cabinet.{unreadOn};
 ghost use Rattle.process.specs.Row.{mailIn, mailsIn};
 ghost use Rattle.crash.specs.Recount.{UnreadHere, Recounted};
-use crate::bounds::MAIL;
 use crate::bounds::most48;
+use process::mail::MAIL;
+use process::mail::channel_of;
 use process::row::ROW;
 use process::row::UNREAD;
 use store::board::index16;
 use store::board::wide;
 
 // The channel of a word of a mailbox.
-fn channel_of(x: u64) -> usize
+fn channel_at(x: u64) -> usize
     ensures { λ r. ⌜ r ≡ mailIn x .channel ⌝ }
 {
-    (x / 4294967296) as usize
+    wide(channel_of(x))
 }
 
 // How many of a mailbox's first n words are on channel k.
@@ -26,7 +27,7 @@ fn count_on(mail: &[u64; MAIL], n: usize, k: usize) -> u32
     let mut count = 0;
     let mut i = 0;
     while i < n {
-        if channel_of(mail[i]) == k {
+        if channel_at(mail[i]) == k {
             count = std::num::wrapping_add_u32(count, 1);
         }
         i += 1;

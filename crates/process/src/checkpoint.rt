@@ -8,7 +8,7 @@ ghost use Rattle.backup.specs.Place.{checkpointOf};
 ghost use Rattle.rules.specs.Moves.{snapshot as snapshotOf, issued, keeps};
 ghost use Rattle.process.specs.Row.{processOf};
 ghost use Rattle.process.specs.Change.{RowBecame, BackupBecame};
-use crate::mailbox::MAIL;
+use crate::mail::MAIL;
 use crate::row::EVENTS;
 use crate::row::PC;
 use crate::row::PROTECTED;

@@ -5,7 +5,7 @@ ghost use Prim.Native.Nat.{ℕ};
 ghost use Rattle.rules.specs.Moves.{unprotected};
 ghost use Rattle.process.specs.Change.{RowBecame};
 ghost use Rattle.process.specs.Promotion.{Crashed};
-use crate::mailbox::MAIL;
+use crate::mail::MAIL;
 use crate::promotion::promote;
 use crate::row::BOARD;
 use crate::row::PROTECTED;

@@ -7,7 +7,7 @@ ghost use Prim.Native.Nat.{ℕ};
 ghost use Rattle.backup.specs.Replica.{arrive};
 ghost use Rattle.rules.specs.Moves.{counts as countsOf};
 ghost use Rattle.process.specs.Change.{Backed, BackupBecame, Received};
-use crate::mailbox::MAIL;
+use crate::mail::MAIL;
 use crate::mailbox::append;
 use crate::row::PROTECTED;
 use crate::row::ROW;

@@ -4,6 +4,7 @@ pub mod checkpoint;
 pub mod crash;
 pub mod delivery;
 pub mod instruction;
-pub mod mailbox;
+pub mod mail;
+mod mailbox;
 pub mod promotion;
 pub mod row;

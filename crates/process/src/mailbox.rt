@@ -2,29 +2,10 @@
 // nothing of their caller; a mailbox is said to hold `unread` words, and where that is more than it can hold they do nothing.
 ghost use mathlib.Core.Path.{_≡_};
 ghost use Rattle.rules.specs.Machine.{bit};
-ghost use Rattle.process.specs.Row.{packMail, mailIn};
 ghost use Rattle.process.specs.Mailbox.{names, Looks, Removed, Appended};
-
-// Words that a mailbox holds at most.
-pub const MAIL: usize = 48;
-
-pub fn packed(channel: u32, word: u32) -> u64
-    ensures { λ r. ⌜ r ≡ packMail channel word ⌝ }
-{
-    (channel as u64) * 4294967296 + (word as u64)
-}
-
-pub fn channel_of(x: u64) -> u32
-    ensures { λ r. ⌜ r ≡ mailIn x .channel ⌝ }
-{
-    (x / 4294967296) as u32
-}
-
-pub fn word_of(x: u64) -> u32
-    ensures { λ r. ⌜ r ≡ mailIn x .word ⌝ }
-{
-    (x % 4294967296) as u32
-}
+use crate::mail::MAIL;
+use crate::mail::channel_of;
+use crate::mail::packed;
 
 // A word arrives: it goes behind the others.
 pub fn append(mail: &mut [u64; MAIL], unread: usize, channel: u32, word: u32)

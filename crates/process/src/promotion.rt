@@ -4,7 +4,7 @@ ghost use mathlib.Core.Path.{_≡_};
 ghost use mathlib.Core.List.{List};
 ghost use Prim.Native.Nat.{ℕ, _≤_};
 ghost use Rattle.process.specs.Promotion.{Readdressed, Restored, Promoted};
-use crate::mailbox::MAIL;
+use crate::mail::MAIL;
 use crate::mailbox::append;
 use crate::row::BOARD;
 use crate::row::EVENTS;

@@ -36,7 +36,9 @@ use Rattle.store.proofs.Reaching.{channel-bounds}
 use Rattle.store.proofs.Ends.{sent-inside, reader-inside}
 use Rattle.store.proofs.Tallies.{events-few}
 use Rattle.store.proofs.Refusing.{turned-down}
-use Rattle.step.specs.Parts.{spentIn, heldIn, SendTurns}
+use Rattle.step.specs.Parts.{spentIn, SendTurns}
+use Rattle.store.specs.Channel.{heldIn}
+use Rattle.store.proofs.Held.{full-is}
 use Rattle.step.proofs.Issuing.{board-is, board-there, queue-has}
 use Rattle.step.proofs.Stepping.{turned-to, machine-is, step-is, exhausted-is}
 
@@ -105,14 +107,6 @@ module _ {t : Table} {s : Store} {entries : List Entry} {c : Cabinet} (reach : R
 
   -- ---- the refusals
 
-  -- the channel is held where the totals say so
-  pub full-is : (reader : ℕ) → reader ≡ channelAt t channel .reader → full t c channel ≡ heldIn reader (getD (s .unread) channel 0) (getD (s .queued) channel 0)
-  unfolding full
-  full-is reader e =
-      by-eq (channelAt t channel .reader) environment
-      (λ f. rw (e, eq-eqb (channelAt t channel .reader) environment f))
-      (λ f. rw (e, ne-eqb (channelAt t channel .reader) environment f, h .unread-is channel channel-inside (reader-inside (reach .accepted) channel channel-inside f), h .queued-is channel channel-inside))
-
   abbrev queueing : Process → Process
   queueing y = advanced m1 (y .taken) (suc (y .events)) 0 y
 
@@ -127,7 +121,7 @@ module _ {t : Table} {s : Store} {entries : List Entry} {c : Cabinet} (reach : R
         sends-so 0 none
         ∙ ap (λ (z : Bool). guard z eventsFull (guard (leb outboxMost (length (outboxAt c (processAt c p .board)))) outboxFull (guard (full t c channel) channelFull (accept then (moves.queued x))))) (exhausted-is h p hp ∙ e1)
         ∙ ap (λ (z : Bool). guard b1 eventsFull (guard z outboxFull (guard (full t c channel) channelFull (accept then (moves.queued x))))) (ap (leb outboxMost) (queue-has reach h p hp) ∙ e2)
-        ∙ ap (λ (z : Bool). guard b1 eventsFull (guard b2 outboxFull (guard z channelFull (accept then (moves.queued x))))) (full-is reader is-reader ∙ e3)
+        ∙ ap (λ (z : Bool). guard b1 eventsFull (guard b2 outboxFull (guard z channelFull (accept then (moves.queued x))))) (full-is reach h channel channel-inside reader is-reader ∙ e3)
 
     pub refused-37 : spentIn row ≡ true → step t c p ≡ refuse eventsFull
     unfolding guard

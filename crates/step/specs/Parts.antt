@@ -10,8 +10,8 @@ use lib.Dec.{eqb, leb}
 use lib.ListN.{length, getD}
 use Rattle.process.specs.Instruction.{Intends}
 use Rattle.process.specs.declared.instruction.Intent.the-variants.{Take, Send}
-use Rattle.rules.specs.Table.{Table, environment, codeOf}
-use Rattle.rules.specs.Cabinet.{Cabinet, eventsMost, occupancyMost}
+use Rattle.rules.specs.Table.{Table, codeOf}
+use Rattle.rules.specs.Cabinet.{Cabinet, eventsMost}
 use Rattle.rules.specs.Moves.{Command, step}
 use Rattle.store.specs.declared.entry.Entry.{Entry}
 use Rattle.store.specs.declared.moved.Moved.{Moved}
@@ -22,10 +22,6 @@ use Rattle.store.specs.Wired.{Wired}
 -- "if backed and acts are 8", of a process's row
 abbrev pub spentIn : List ℕ → Bool
 spentIn row = not (eqb (getD row 12 0) 0) && leb eventsMost (getD row 7 0)
-
--- "A channel is held when its unread words and those in the queues are 8 or more together. A channel read by the outside is never held."
-abbrev pub heldIn : ℕ → ℕ → ℕ → Bool
-heldIn reader unread queued = not (eqb reader environment) && leb occupancyMost (unread + queued)
 
 -- Process a's instruction takes the word at an index of its mailbox. Whatever the lists are that it isn't lent.
 pub record TakeTurns (port : List ℕ) (rows mails : List (List ℕ)) (unread : List ℕ) (a code register at : ℕ)

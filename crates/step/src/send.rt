@@ -1,8 +1,6 @@
 // A step that sends a word: "A SEND with hold-back above 0 lowers it by one and sends nothing. Otherwise the word joins its board's
 // queue." "For a SEND not held back: 37 likewise, 38 queue full, 39 held."
 ghost use Rattle.step.specs.Parts.{SendTurns};
-use crate::guards::held;
-use crate::guards::index32;
 use crate::guards::spent;
 use process::instruction::queue_send;
 use process::instruction::suppress_send;
@@ -15,6 +13,8 @@ use store::board::QUEUE;
 use store::board::index16;
 use store::board::place;
 use store::board::push;
+use store::channel::held;
+use store::channel::index32;
 use store::entry::Entry;
 use store::entry::Item;
 use store::moved::Answer;

@@ -6,7 +6,7 @@ use crate::take::take;
 use process::instruction::Intent;
 use process::instruction::compute;
 use process::instruction::examine;
-use process::mailbox::MAIL;
+use process::mail::MAIL;
 use process::row::PC;
 use process::row::ROW;
 use store::board::BOARD_ROW;

@@ -1,14 +1,14 @@
 // A step that takes a word: "For TAKE and FIRST: [..] 37 if backed and acts are 8." The word leaves the mailbox, and its channel's unread
 // words are one less.
 ghost use Rattle.step.specs.Parts.{TakeTurns};
-use crate::guards::index32;
 use crate::guards::spent;
 use process::instruction::take_word;
-use process::mailbox::MAIL;
-use process::mailbox::channel_of;
-use process::mailbox::word_of;
+use process::mail::MAIL;
+use process::mail::channel_of;
+use process::mail::word_of;
 use process::row::ROW;
 use store::board::index16;
+use store::channel::index32;
 use store::moved::Answer;
 use store::moved::Moved;
 use store::moved::alone;

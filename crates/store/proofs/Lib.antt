@@ -14,3 +14,4 @@ pub mod Owners
 pub mod Tallies
 pub mod Waits
 pub mod Unharmed
+pub mod Held

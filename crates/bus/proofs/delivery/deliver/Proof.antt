@@ -5,7 +5,7 @@ use Rattle.bus.proofs.delivery.deliver.Statement.{statement}
 use Rattle.bus.proofs.delivery.deliver.Tie as tie
 use Rattle.bus.proofs.delivery.deliver.Reads as reads
 use Rattle.bus.proofs.delivery.deliver.Lts as lts
-use Rattle.bus.proofs.channel.index32.Reads as index32-reads
+use Rattle.store.proofs.channel.index32.Reads as index32-reads
 use Rattle.process.proofs.delivery.receive.Reads as receive-reads
 use Rattle.std.proofs.num.wrapping_add_u32.Reads as wrapping-add-u32-reads
 use Rattle.store.proofs.board.index16.Reads as index16-reads

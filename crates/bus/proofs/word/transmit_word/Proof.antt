@@ -6,7 +6,7 @@ use Rattle.bus.proofs.word.transmit_word.Statement.{statement}
 use Rattle.bus.proofs.word.transmit_word.Tie as tie
 use Rattle.bus.proofs.word.transmit_word.Reads as reads
 use Rattle.bus.proofs.word.transmit_word.Lts as lts
-use Rattle.bus.proofs.channel.index32.Reads as index32-reads
+use Rattle.store.proofs.channel.index32.Reads as index32-reads
 use Rattle.bus.proofs.delivery.deliver.Reads as deliver-reads
 use Rattle.process.proofs.delivery.counts.Reads as counts-reads
 use Rattle.std.proofs.num.wrapping_sub_u32.Reads as wrapping-sub-u32-reads

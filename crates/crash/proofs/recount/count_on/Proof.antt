@@ -7,7 +7,7 @@ use Rattle.crash.proofs.recount.count_on.Statement.{statement}
 use Rattle.crash.proofs.recount.count_on.Tie as tie
 use Rattle.crash.proofs.recount.count_on.Reads as reads
 use Rattle.crash.proofs.recount.count_on.Lts as lts
-use Rattle.crash.proofs.recount.channel_of.Reads as channel-of-reads
+use Rattle.crash.proofs.recount.channel_at.Reads as channel-at-reads
 use Rattle.std.proofs.num.wrapping_add_u32.Reads as wrapping-add-u32-reads
 
 abbrev Inv-loop : tie.InvT-loop
@@ -21,16 +21,16 @@ loop-holds : tie.Need-loop-holds Inv-loop μ-loop
 loop-holds c = counting-start _ _ _
 
 -- src/recount.rt:25:28
-mul-channel-of : tie.Need-mul-channel-of Inv-loop μ-loop
-mul-channel-of c = search needs
+mul-channel-at : tie.Need-mul-channel-at Inv-loop μ-loop
+mul-channel-at c = search needs
 
 -- src/recount.rt:25:28
-element-copy-out-channel-of : tie.Need-element-copy-out-channel-of Inv-loop μ-loop
-element-copy-out-channel-of c = search needs
+element-copy-out-channel-at : tie.Need-element-copy-out-channel-at Inv-loop μ-loop
+element-copy-out-channel-at c = search needs
 
 -- src/recount.rt:25:17
-channel-of-requires : tie.Need-channel-of-requires Inv-loop μ-loop
-channel-of-requires c κs = search needs
+channel-at-requires : tie.Need-channel-at-requires Inv-loop μ-loop
+channel-at-requires c κs = search needs
 
 -- src/recount.rt:26:13
 wrapping-add-u32-requires : tie.Need-wrapping-add-u32-requires Inv-loop μ-loop
@@ -51,7 +51,7 @@ loop-again c =
     let a = s .args in
     let l = c .before .before .before .before .loop in
     let t = c .before .before .before .loop-test .taken in
-    let w = c .before .channel-of in
+    let w = c .before .channel-at in
     ⊎-elim
     (λ h. rw (h .2) (counting-hit (a .mail .now) (a .n) (a .k) (l .count) (l .i) (l .inv) (s .pre) (w .result) _ t (w .ensures) (h .0 .taken) (h .1 .ensures)))
     (λ h. rw (h .1) (counting-miss (a .mail .now) (a .n) (a .k) (l .count) (l .i) (l .inv) (s .pre) (w .result) t (w .ensures) (h .0 .left)))
@@ -68,9 +68,9 @@ count-on-spec =
     Inv-loop
     μ-loop
     loop-holds
-    mul-channel-of
-    element-copy-out-channel-of
-    channel-of-requires
+    mul-channel-at
+    element-copy-out-channel-at
+    channel-at-requires
     wrapping-add-u32-requires
     add-i
     loop-less

@@ -8,8 +8,8 @@ use Rattle.process.proofs.instruction.load.Reads as reads
 use Rattle.process.proofs.instruction.load.Lts as lts
 use Rattle.process.proofs.instruction.cell.Reads as cell-reads
 use Rattle.process.proofs.instruction.next_cell.Reads as next-cell-reads
-use Rattle.process.proofs.mailbox.channel_of.Reads as channel-of-reads
-use Rattle.process.proofs.mailbox.word_of.Reads as word-of-reads
+use Rattle.process.proofs.mail.channel_of.Reads as channel-of-reads
+use Rattle.process.proofs.mail.word_of.Reads as word-of-reads
 
 -- src/instruction.rt:126:20
 word-of-requires : tie.Need-word-of-requires

@@ -7,7 +7,7 @@ use Rattle.process.proofs.mailbox.look.Statement.{statement}
 use Rattle.process.proofs.mailbox.look.Tie as tie
 use Rattle.process.proofs.mailbox.look.Reads as reads
 use Rattle.process.proofs.mailbox.look.Lts as lts
-use Rattle.process.proofs.mailbox.channel_of.Reads as channel-of-reads
+use Rattle.process.proofs.mail.channel_of.Reads as channel-of-reads
 use Rattle.process.proofs.mailbox.named.Reads as named-reads
 
 abbrev Inv-loop : tie.InvT-loop

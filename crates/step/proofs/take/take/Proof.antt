@@ -7,10 +7,10 @@ use Rattle.step.proofs.take.take.Tie as tie
 use Rattle.step.proofs.take.take.Reads as reads
 use Rattle.step.proofs.take.take.Lts as lts
 use Rattle.process.proofs.instruction.take_word.Reads as take-word-reads
-use Rattle.process.proofs.mailbox.channel_of.Reads as channel-of-reads
-use Rattle.process.proofs.mailbox.word_of.Reads as word-of-reads
+use Rattle.process.proofs.mail.channel_of.Reads as channel-of-reads
+use Rattle.process.proofs.mail.word_of.Reads as word-of-reads
 use Rattle.std.proofs.num.wrapping_sub_u32.Reads as wrapping-sub-u32-reads
-use Rattle.step.proofs.guards.index32.Reads as index32-reads
+use Rattle.store.proofs.channel.index32.Reads as index32-reads
 use Rattle.step.proofs.guards.spent.Reads as spent-reads
 use Rattle.store.proofs.board.index16.Reads as index16-reads
 use Rattle.store.proofs.moved.alone.Reads as alone-reads

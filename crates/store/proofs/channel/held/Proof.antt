@@ -1,29 +1,29 @@
 use borrow.Author.Tests.{eq-eqb, ne-eqb}
 use native.Mathlib.Omega.{arith}
 use borrow.Author.Needs.{needs}
-use Rattle.step.proofs.guards.held.Statement.{statement}
-use Rattle.step.proofs.guards.held.Tie as tie
-use Rattle.step.proofs.guards.held.Reads as reads
-use Rattle.step.proofs.guards.held.Lts as lts
+use Rattle.store.proofs.channel.held.Statement.{statement}
+use Rattle.store.proofs.channel.held.Tie as tie
+use Rattle.store.proofs.channel.held.Reads as reads
+use Rattle.store.proofs.channel.held.Lts as lts
 use Rattle.store.proofs.board.wide.Reads as wide-reads
 
--- src/guards.rt:36:30
+-- src/channel.rt
 wide-requires : tie.Need-wide-requires
 wide-requires c κs = search needs
 
--- src/guards.rt:36:45
+-- src/channel.rt
 wide-requires-2 : tie.Need-wide-requires-2
 wide-requires-2 c κs = search needs
 
--- src/guards.rt:36:30
+-- src/channel.rt
 add-result : tie.Need-add-result
 add-result c = search needs
 
--- src/guards.rt:33:1
+-- src/channel.rt
 returns : tie.Need-returns
 returns c = rw (ne-eqb _ 255 (c .before .before .if1 .taken), c .before .wide .ensures .0, c .wide2 .ensures .0)
 
--- src/guards.rt:33:1
+-- src/channel.rt
 returns-2 : tie.Need-returns-2
 returns-2 c = rw (eq-eqb _ 255 (c .if1 .left))
 
