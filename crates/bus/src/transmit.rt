@@ -23,10 +23,9 @@ use store::moved::refusal;
 
 // Where board b's oldest entry stands, if it has one.
 pub fn oldest(board: &[u32; BOARD_ROW], b: usize) -> usize
-    requires { ⌜ b < 16 ⌝ }
-    ensures { λ r. ⌜ (r < 512) × (r ≡ 32 * b + getD (now (board .entry)) 0 0 % 32) ⌝ }
+    ensures { λ r. ⌜ (r < 512) × (b < 16 → r ≡ 32 * b + getD (now (board .entry)) 0 0 % 32) ⌝ }
 {
-    32 * b + wide(board[FIRST]) % 32
+    32 * (b % 16) + wide(board[FIRST]) % 32
 }
 
 // `oldest` is what stands where the board's oldest entry does, if it has one.

@@ -32,10 +32,9 @@ pub fn index16(x: u32) -> usize
 
 // Where the entry that joins board b's queue next is put.
 pub fn place(board: &[u32; BOARD_ROW], b: usize) -> usize
-    requires { ⌜ b < 16 ⌝ }
-    ensures { λ r. ⌜ (r < 512) × (r ≡ placeOf (now (board .entry)) b) ⌝ }
+    ensures { λ r. ⌜ (r < 512) × (b < 16 → r ≡ placeOf (now (board .entry)) b) ⌝ }
 {
-    32 * b + (wide(board[FIRST]) + wide(board[COUNT])) % 32
+    32 * (b % 16) + (wide(board[FIRST]) + wide(board[COUNT])) % 32
 }
 
 // An entry joined.

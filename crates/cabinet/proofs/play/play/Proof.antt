@@ -89,7 +89,7 @@ loop-less c = search needs
 loop-again : tie.Need-loop-again Inv-loop μ-loop
 loop-again c = let s = c .before .before .before .before .before .before .before .before .before .before .before .before .before .before .before .before .before .before .before .before .before .before .before .before .before .before .args in let p = c .before .before .before .before .before .before .before .before .before .before .before .before .before .before .before .before .before .before .before .before .before .loop in let x = c .before .before .before .before .before .before .before .before .before .before .before .before .before .before .before .before .before .before .before .command-at in let g = c .before .before .before .before .before .before .before .before .before .before .before .before .before .before .before .before .before .before .grown in let r = c .before .before .before .before .carry in let w = c .before .before .put in let o = c .before .before .before .before .before .before .before .before .before .before .before .before .before .before .oldest in let b = c .before .before .before .before .before .before .before .before .before .before .before .before .before .before .before .before .index16 in (
   on-by-carry (lentOf (s .table .now) (s .boards-many) (s .processes) (s .channels) (s .start .now) (s .lengths .now) (s .sender .now) (s .reader .now) (s .port .now) (s .ins .now) (s .arity .now)) (s .schedule .now) (s .records) (storeOf (s .rows .now) (s .mails .now) (s .logs .now) (s .heads .now) (s .boards .now) (s .unread .now) (s .queued .now) (s .waits .now)) _ (s .answers .now) (p .i) (storeOf (p .rows) (p .mails) (p .logs) (p .heads) (p .boards) (p .unread) (p .queued) (p .waits)) _ (p .entries) (p .entries) (p .answers) _ (p .inv .0) (c .before .before .before .before .before .before .before .before .before .before .before .before .before .before .before .before .before .before .before .before .loop-test .taken) (x .result) (x .ensures) (g .result) (g .ensures .0) (g .ensures .1) (r .result) (w .ensures)
-      (s .boards-many) (s .processes) (s .channels) (s .sender .now) (s .reader .now) (s .port .now) _ _ (o .result) refl refl refl refl (c .before .before .before .before .before .before .before .before .before .before .before .before .before .before .before .before .before .if1 .taken) refl (o .ensures .0) (λ h. o .ensures .1 ∙ ap (λ (k : ℕ). 32 * k + getD (getD (p .boards) k []) 0 0 % 32) (b .ensures .1 h)) refl (r .ensures),
+      (s .boards-many) (s .processes) (s .channels) (s .sender .now) (s .reader .now) (s .port .now) _ _ (o .result) refl refl refl refl (c .before .before .before .before .before .before .before .before .before .before .before .before .before .before .before .before .before .if1 .taken) refl (o .ensures .0) (λ h. o .ensures .1 (b .ensures .0) ∙ ap (λ (k : ℕ). 32 * k + getD (getD (p .boards) k []) 0 0 % 32) (b .ensures .1 h)) refl (r .ensures),
   w .ensures .same-length ∙ p .inv .1,
 )
 

@@ -241,8 +241,8 @@ returns-5 c =
     send-at-its-index (p .result) (s .args .a) (p .ensures .1)
     (λ e. rw (c .before .before .push .ensures, c .wrapping-add-u32 .ensures)
     (send-queued (s .args .reader .now) (s .args .rows .now) (s .args .boards .now) (s .args .unread .now) (s .args .queued .now) (p .result) (s .args .channel) (s .args .word) _ (omega arith) (sym (c .before .before .before .before .before .before .before .before .before .before .before .before .before .before .before .before .before .before .before .spent .ensures) ∙ c .before .before .before .before .before .before .before .before .before .before .before .before .before .before .before .before .before .before .if2 .left) (b .result) (b .ensures .1) (c .before .before .before .before .before .before .before .before .before .before .before .before .before .before .if3 .left) (k .result) (k .ensures .1) (c .before .before .before .before .queue-send .last .0) (sym (c .before .before .before .before .before .before .before .before .before .held .ensures) ∙ c .before .before .before .before .before .before .before .before .if4 .left) (c .before .before .before .before .queue-send .ensures)
-    (rw (← at .ensures .1) (at .ensures .0))
-    (λ i. record { answer = record { code = 2; a = s .args .channel; word = s .args .word }; at = at .ensures .1 i; entry = record { item = Word (s .args .channel) (s .args .word) } })))
+    (rw (← at .ensures .1 (b .ensures .0)) (at .ensures .0))
+    (λ i. record { answer = record { code = 2; a = s .args .channel; word = s .args .word }; at = at .ensures .1 (b .ensures .0) i; entry = record { item = Word (s .args .channel) (s .args .word) } })))
 
 pub send-spec : {M : Type 1} → statement M
 send-spec =
