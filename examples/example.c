@@ -2,10 +2,13 @@
  * same in Rust; both print examples/example.out.
  *
  *     cc -I include examples/example.c target/staticlib/lib{cabinet,table,backup}_call.a -o example
+ *
+ * What is lent has a piece of memory of its own, as long as needed and no longer, so that valgrind would see a byte beyond it touched.
  */
 #include "kunzeastylus.h"
 
 #include <stdio.h>
+#include <stdlib.h>
 #include <string.h>
 
 /* Document 01's sample table. */
@@ -22,10 +25,39 @@ static const uint8_t moves[20] = {
     KS_CRASH, KS_STEP, KS_STEP, KS_STEP, KS_STEP, KS_STEP, KS_STEP, KS_STEP, KS_CARRY, KS_STEP,
 };
 
-/* The bytes of the sample schedule's first records; gives how many bytes they are. */
-static size_t first_records(uint8_t *schedule, size_t records) {
+static void *memory(size_t size) {
+    void *lent = calloc(1, size);
+    if (lent == NULL) {
+        fputs("no memory\n", stderr);
+        exit(1);
+    }
+    return lent;
+}
+
+/* A piece of bytes, lent or to be lent. */
+struct piece {
+    uint8_t *at;
+    size_t len;
+};
+
+static struct piece piece(size_t len) {
+    struct piece p = {memory(len), len};
+    return p;
+}
+
+/* The sample table with another byte as its version. */
+static struct piece table_of_version(uint8_t version) {
+    struct piece p = piece(sizeof table);
+    memcpy(p.at, table, sizeof table);
+    p.at[2] = version;
+    return p;
+}
+
+/* The sample schedule's first records. */
+static struct piece first_records(size_t records) {
     size_t length = 1 + KS_RECORD * records;
-    memset(schedule, 0, 2 + length);
+    struct piece p = piece(2 + length);
+    uint8_t *schedule = p.at;
     schedule[0] = (uint8_t)(length >> 8);
     schedule[1] = (uint8_t)length;
     schedule[2] = 1;
@@ -35,7 +67,11 @@ static size_t first_records(uint8_t *schedule, size_t records) {
         record[1] = i == 18;
         record[5] = i == 0 ? 5 : i == 1 ? 7 : 0;
     }
-    return 2 + length;
+    return p;
+}
+
+static uint64_t run(struct piece t, struct piece schedule, struct piece answers, struct piece report) {
+    return cabinet_run(t.at, t.len, schedule.at, schedule.len, answers.at, answers.len, report.at, report.len);
 }
 
 static void show_record(const char *name, const uint32_t *state) {
@@ -52,7 +88,7 @@ static void board_programmer(void) {
         {KS_NEW}, {KS_ARRIVE, 0, 10}, {KS_ARRIVE, 1, 11}, {KS_ARRIVE, 0, 12}, {KS_COUNT},
         {KS_ARRIVE, 4, 13}, {KS_BACKUP_SYNC, 5, 1, 2, 3, 4, 0, 0, 1, 0}, {KS_BACKUP_SYNC, 5, 1, 2, 3, 4, 1, 0, 0, 0}, {KS_ARRIVE, 3, 14},
     };
-    uint32_t state[KS_STATE] = {0}, reply[KS_STATE] = {0};
+    uint32_t *state = memory(KS_STATE * sizeof *state), *reply = memory(KS_STATE * sizeof *reply);
     printf("board programmer\nreplies");
     for (size_t i = 0; i < sizeof calls / sizeof calls[0]; i++) {
         printf(" %u", backup_call(state, KS_STATE, calls[i], KS_CALL, reply, KS_STATE));
@@ -62,46 +98,54 @@ static void board_programmer(void) {
     static const uint32_t take_over[KS_CALL] = {KS_TAKE_OVER};
     printf("reply %u\n", backup_call(state, KS_STATE, take_over, KS_CALL, reply, KS_STATE));
     show_record("taken over", reply);
+    free(state);
+    free(reply);
 }
 
 /* A table and a schedule are judged before they are run, and then run: the page. */
 static void driver_bench(void) {
-    uint8_t schedule[3 + KS_RECORD * 20], answers[KS_RECORD * 20], report[KS_REPORT];
-    uint8_t other[sizeof table];
-    size_t length = first_records(schedule, 20);
-    memcpy(other, table, sizeof table);
-    other[2] = 9;
-    printf("driver bench\njudged %u %u %u %u\n", judge(table, sizeof table, schedule, length, sizeof answers, sizeof report),
-           judge(other, sizeof other, schedule, length, sizeof answers, sizeof report),
-           judge(table, sizeof table, schedule, length, sizeof answers - 1, sizeof report),
-           judge(table, sizeof table, schedule, length, sizeof answers, sizeof report - 1));
-    uint64_t result = cabinet_run(other, sizeof other, schedule, length, answers, sizeof answers, report, sizeof report);
-    printf("refused %u\n", (unsigned)ks_number(result));
-    result = cabinet_run(table, sizeof table, schedule, length, answers, sizeof answers, report, sizeof report);
+    struct piece sound = table_of_version(1), other = table_of_version(9), schedule = first_records(20);
+    struct piece answers = piece(KS_RECORD * 20), report = piece(KS_REPORT);
+    printf("driver bench\njudged %u", judge(sound.at, sound.len, schedule.at, schedule.len, answers.len, report.len));
+    printf(" %u", judge(other.at, other.len, schedule.at, schedule.len, answers.len, report.len));
+    printf(" %u", judge(sound.at, sound.len, schedule.at, schedule.len, answers.len - 1, report.len));
+    printf(" %u\n", judge(sound.at, sound.len, schedule.at, schedule.len, answers.len, report.len - 1));
+    printf("refused %u\n", (unsigned)ks_number(run(other, schedule, answers, report)));
+    uint64_t result = run(sound, schedule, answers, report);
     printf("records %u\n", ks_records(result));
     for (size_t i = 0; i < ks_records(result); i++) {
-        printf("%zu %u %u %u\n", i + 1, (unsigned)ks_code(answers, i), ks_a(answers, i), ks_answer_word(answers, i));
+        printf("%zu %u %u %u\n", i + 1, (unsigned)ks_code(answers.at, i), ks_a(answers.at, i), ks_answer_word(answers.at, i));
     }
-    printf("process 0 %u %u %u %u", ks_board(report, 0), ks_place(report, 0), ks_unread(report, 0), ks_hold_back(report, 0));
+    const uint8_t *lines = report.at;
+    printf("process 0 %u %u %u %u", ks_board(lines, 0), ks_place(lines, 0), ks_unread(lines, 0), ks_hold_back(lines, 0));
     for (size_t r = 0; r < 4; r++) {
-        printf(" %u", ks_register(report, 0, r));
+        printf(" %u", ks_register(lines, 0, r));
     }
     printf("\nquiet %d\n", ks_quiet(result));
+    free(sound.at);
+    free(other.at);
+    free(schedule.at);
+    free(answers.at);
+    free(report.at);
 }
 
 /* A board is pulled: what is on the bus until then, and with how much unread and held back the stand-by begins. */
 static void service_desk(void) {
-    uint8_t schedule[3 + KS_RECORD * 20], answers[KS_RECORD * 20], report[KS_REPORT];
-    size_t length = first_records(schedule, 11);
-    uint64_t result = cabinet_run(table, sizeof table, schedule, length, answers, sizeof answers, report, sizeof report);
+    struct piece sound = table_of_version(1), schedule = first_records(11);
+    struct piece answers = piece(KS_RECORD * 11), report = piece(KS_REPORT);
+    uint64_t result = run(sound, schedule, answers, report);
     printf("service desk\non the bus");
     for (size_t i = 0; i < ks_records(result); i++) {
-        if (ks_code(answers, i) == KS_ON_THE_BUS) {
-            printf(" %u:%u", ks_a(answers, i), ks_answer_word(answers, i));
+        if (ks_code(answers.at, i) == KS_ON_THE_BUS) {
+            printf(" %u:%u", ks_a(answers.at, i), ks_answer_word(answers.at, i));
         }
     }
-    printf("\nprocess 0 on board %u at place %u, unread %u, hold-back %u, quiet %d\n", ks_board(report, 0), ks_place(report, 0),
-           ks_unread(report, 0), ks_hold_back(report, 0), ks_quiet(result));
+    printf("\nprocess 0 on board %u at place %u, unread %u, hold-back %u, quiet %d\n", ks_board(report.at, 0), ks_place(report.at, 0),
+           ks_unread(report.at, 0), ks_hold_back(report.at, 0), ks_quiet(result));
+    free(sound.at);
+    free(schedule.at);
+    free(answers.at);
+    free(report.at);
 }
 
 int main(void) {
