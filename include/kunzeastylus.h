@@ -4,7 +4,8 @@
  *     rt staticlib table_call          judge           target/staticlib/libtable_call.a
  *     rt staticlib backup_call         backup_call     target/staticlib/libbackup_call.a
  *
- * All numbers are those of document 01. The calls keep nothing between them, allocate nothing and may be used from several threads at once.
+ * All numbers are those of document 01. The calls keep nothing between them, allocate nothing and may be used from several threads at once;
+ * cabinet_run uses some 40 KB of stack, the others less than 3.
  * Each lent piece of memory is a pointer and a length. Its pointer is not null, not even where the length is 0, and what is lent to be
  * written overlaps nothing else that is lent. Otherwise the calls ask nothing of their caller: any bytes, any lengths.
  */

@@ -1,9 +1,11 @@
 //! The proved calls for programs in Rust: the run of a schedule ([`run`]), the judging of its input ([`judge`]) and the backup record
 //! ([`Backup`]). They borrow slices, allocate nothing, keep nothing between calls and ask nothing of their caller. All numbers are
 //! document 01's.
+#![deny(unsafe_code)]
 
 mod answer;
 mod backup;
+#[allow(unsafe_code)]
 mod calls;
 mod numbers;
 mod record;
