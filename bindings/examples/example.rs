@@ -1,0 +1,106 @@
+//! The three proved calls from Rust, as board programmers, the driver bench and the service desk use them. examples/example.c is the same
+//! in C; both print examples/example.out.
+use kunzeastylus::{judge, run, Backup, BackupRefusal, Code, Record, Refusal, Snapshot};
+
+/// Document 01's sample table.
+const TABLE: [u8; 37] = [
+    0x00, 0x23, 1, 2, 1, 2, // length, version, two boards, one process, two channels
+    255, 0, 0, 255, // channel 0 from the outside to process 0, channel 1 the other way
+    0, 1, 4, // process 0: board 0, backup board 1, four instructions
+    3, 0, 0, 0, 0, 0, // TAKE register 0 from channel 0
+    2, 1, 0, 0, 0, 0, // ADD register 0 to register 1
+    5, 1, 0, 0, 0, 1, // SEND register 1 to channel 1
+    6, 0, 0, 0, 0, 0, // JUMP to place 0 if register 0 is not 0
+];
+
+/// Document 01's sample schedule.
+fn records() -> Vec<Record> {
+    let step = Record::step(0);
+    let mut records = vec![Record::feed(0, 5), Record::feed(0, 7), step, step, step, Record::carry(0), step, step, step, step];
+    records.push(Record::crash(0));
+    records.extend([step; 7]);
+    records.extend([Record::carry(1), step]);
+    records
+}
+
+fn show_record(name: &str, backup: &Backup) {
+    let [r0, r1, r2, r3] = backup.registers();
+    print!("{name}: place {}, registers {r0} {r1} {r2} {r3}, count {}, words", backup.place(), backup.count());
+    backup.words().for_each(|(slot, word)| print!(" {slot}:{word}"));
+    println!();
+}
+
+/// A stand-by that is kept by hand: three words arrive, one of the process is carried, and a sync lands that has taken one on slot 0.
+fn board_programmer() {
+    let snapshot = |taken| Snapshot { place: 5, registers: [1, 2, 3, 4], taken };
+    let mut backup = Backup::new();
+    let replies = [
+        Ok(()),
+        backup.arrive(0, 10),
+        backup.arrive(1, 11),
+        backup.arrive(0, 12),
+        backup.count_one(),
+        backup.arrive(4, 13),
+        backup.sync(&snapshot([0, 0, 1, 0])),
+        backup.sync(&snapshot([1, 0, 0, 0])),
+        backup.arrive(3, 14),
+    ];
+    print!("board programmer\nreplies");
+    replies.iter().for_each(|reply| print!(" {}", reply.map_or_else(BackupRefusal::number, |()| 0)));
+    println!();
+    show_record("saved", &backup);
+    let taken_over = backup.take_over();
+    println!("reply {}", taken_over.map_or_else(BackupRefusal::number, |_| 0));
+    show_record("taken over", &taken_over.unwrap());
+}
+
+/// A table and a schedule are judged before they are run, and then run: the page.
+fn driver_bench() {
+    let schedule = Record::schedule(&records());
+    let mut other = TABLE;
+    other[2] = 9;
+    let judged = [
+        judge(&TABLE, &schedule, 120, 20),
+        judge(&other, &schedule, 120, 20),
+        judge(&TABLE, &schedule, 119, 20),
+        judge(&TABLE, &schedule, 120, 19),
+    ];
+    print!("driver bench\njudged");
+    judged.iter().for_each(|judged| print!(" {}", judged.map_or_else(Refusal::number, |()| 0)));
+    println!();
+    let (mut answers, mut report) = ([0; 120], [0; 20]);
+    println!("refused {}", run(&other, &schedule, &mut answers, &mut report).unwrap_err().number());
+    let run = run(&TABLE, &schedule, &mut answers, &mut report).unwrap();
+    println!("records {}", run.records());
+    for (i, answer) in run.answers().enumerate() {
+        println!("{} {} {} {}", i + 1, answer.code.number(), answer.a, answer.word);
+    }
+    for (p, end) in run.processes().enumerate() {
+        let [r0, r1, r2, r3] = end.registers;
+        println!("process {p} {} {} {} {} {r0} {r1} {r2} {r3}", end.board, end.place, end.unread, end.hold_back);
+    }
+    println!("quiet {}", run.quiet as u8);
+}
+
+/// A board is pulled: what is on the bus until then, and with how much unread and held back the stand-by begins.
+fn service_desk() {
+    let schedule = Record::schedule(&records()[..11]);
+    let (mut answers, mut report) = ([0; 120], [0; 20]);
+    let run = run(&TABLE, &schedule, &mut answers, &mut report).unwrap();
+    print!("service desk\non the bus");
+    run.answers().filter(|answer| answer.code == Code::OnTheBus).for_each(|answer| print!(" {}:{}", answer.a, answer.word));
+    println!();
+    for (p, end) in run.processes().enumerate() {
+        let (board, place, unread, hold_back) = (end.board, end.place, end.unread, end.hold_back);
+        println!(
+            "process {p} on board {board} at place {place}, unread {unread}, hold-back {hold_back}, quiet {}",
+            run.quiet as u8
+        );
+    }
+}
+
+fn main() {
+    board_programmer();
+    driver_bench();
+    service_desk();
+}

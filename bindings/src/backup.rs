@@ -1,0 +1,112 @@
+//! The backup record: document 01, "The backup record".
+use crate::calls;
+use crate::numbers::numbers;
+
+/// How many numbers a record is laid out in: how many words are saved, count, place, four registers, then 48 pairs of slot and word.
+pub const STATE: usize = 103;
+
+numbers! {
+    /// Why a call of the record is refused. The record is then as it was.
+    BackupRefusal {
+        /// Unfit on entry: over 48 words, slot over 3, count over 16, place over 64.
+        Unfit = 20,
+        /// An arrival's slot over 3, or a sync's place over 64.
+        Bad = 21,
+        /// Forty-eight saved.
+        Full = 22,
+        /// More taken on a slot than saved.
+        Taken = 23,
+        /// The count is 16.
+        Count = 24,
+        /// Of `backup_call` alone: a lent slice has another length than it should. Never met here.
+        Missized = 25,
+        /// Of `backup_call` alone: no such call. Never met here.
+        Unknown = 26,
+    }
+}
+
+/// What a sync brings: the state at its issue, and how many words were taken on each slot since the last.
+#[derive(Clone, Copy, Debug, Default, PartialEq, Eq, Hash)]
+pub struct Snapshot {
+    pub place: u32,
+    pub registers: [u32; 4],
+    pub taken: [u32; 4],
+}
+
+/// A backup record. It may be unfit when made from any numbers; every call then says so.
+#[derive(Clone, Copy, Debug, PartialEq, Eq, Hash)]
+pub struct Backup {
+    numbers: [u32; STATE],
+}
+
+impl Default for Backup {
+    fn default() -> Backup {
+        Backup::new()
+    }
+}
+
+impl Backup {
+    /// As it starts: no words, and the rest 0.
+    pub fn new() -> Backup {
+        let mut backup = Backup { numbers: [0; STATE] };
+        backup.call([0; 10], &mut [0; STATE]).expect("a new record is not refused");
+        backup
+    }
+
+    /// Any numbers as a record.
+    pub fn from_numbers(numbers: [u32; STATE]) -> Backup {
+        Backup { numbers }
+    }
+
+    pub fn numbers(&self) -> &[u32; STATE] {
+        &self.numbers
+    }
+
+    /// The saved words with their slots, oldest first; 48 at most are there to be shown.
+    pub fn words(&self) -> impl Iterator<Item = (u32, u32)> + '_ {
+        self.numbers[7..].chunks_exact(2).take(self.numbers[0] as usize).map(|pair| (pair[0], pair[1]))
+    }
+
+    pub fn count(&self) -> u32 {
+        self.numbers[1]
+    }
+
+    pub fn place(&self) -> u32 {
+        self.numbers[2]
+    }
+
+    pub fn registers(&self) -> [u32; 4] {
+        [3, 4, 5, 6].map(|at| self.numbers[at])
+    }
+
+    /// A word arrives on a slot and is saved.
+    pub fn arrive(&mut self, slot: u32, word: u32) -> Result<(), BackupRefusal> {
+        self.call([1, slot, word, 0, 0, 0, 0, 0, 0, 0], &mut [0; STATE])
+    }
+
+    /// A word of the process was carried.
+    pub fn count_one(&mut self) -> Result<(), BackupRefusal> {
+        self.call([2, 0, 0, 0, 0, 0, 0, 0, 0, 0], &mut [0; STATE])
+    }
+
+    /// A sync is carried.
+    pub fn sync(&mut self, snapshot: &Snapshot) -> Result<(), BackupRefusal> {
+        let Snapshot { place, registers: [r0, r1, r2, r3], taken: [t0, t1, t2, t3] } = *snapshot;
+        self.call([3, place, r0, r1, r2, r3, t0, t1, t2, t3], &mut [0; STATE])
+    }
+
+    /// Takes over: words, place, registers and count, as a record. This one stays as it is.
+    pub fn take_over(&self) -> Result<Backup, BackupRefusal> {
+        let mut reply = [0; STATE];
+        let mut same = *self;
+        same.call([4, 0, 0, 0, 0, 0, 0, 0, 0, 0], &mut reply)?;
+        Ok(Backup { numbers: reply })
+    }
+
+    fn call(&mut self, call: [u32; 10], reply: &mut [u32; STATE]) -> Result<(), BackupRefusal> {
+        match calls::backup_call(&mut self.numbers, &call, reply) {
+            0 => Ok(()),
+            number => Err(u8::try_from(number).ok().and_then(BackupRefusal::of).expect("the record's numbers are 20 to 26")),
+        }
+    }
+}

@@ -1,0 +1,98 @@
+//! The enums have document 01's numbers, all of them and no others, here and in include/kunzeastylus.h; and the calls hand them on.
+use kunzeastylus::{judge, run, Backup, BackupRefusal, Code, Instruction, Move, Record, Refusal, Snapshot, STATE};
+
+const HEADER: &str = include_str!("../../include/kunzeastylus.h");
+
+/// A process with no instructions, which reads a channel from the outside.
+const TABLE: [u8; 11] = [0, 9, 1, 2, 1, 1, 255, 0, 0, 1, 0];
+
+/// The numbers of an enum of the header, ascending.
+fn header(name: &str) -> Vec<u8> {
+    let start = HEADER.find(&format!("enum {name} {{")).expect("an enum of the header");
+    let body = HEADER[start..].split('{').nth(1).unwrap().split('}').next().unwrap();
+    let mut numbers: Vec<u8> = body
+        .split('=')
+        .skip(1)
+        .map(|rest| rest.trim_start().chars().take_while(char::is_ascii_digit).collect::<String>().parse().unwrap())
+        .collect();
+    numbers.sort();
+    numbers
+}
+
+/// An enum's cases are these numbers, both ways, and the header's are the same.
+macro_rules! numbered {
+    ($name:ident, $header:literal, $wanted:expr) => {
+        let wanted: Vec<u8> = $wanted.collect();
+        assert_eq!($name::ALL.iter().map(|case| case.number()).collect::<Vec<_>>(), wanted);
+        for number in 0..=255 {
+            assert_eq!($name::of(number).map($name::number), wanted.contains(&number).then_some(number));
+        }
+        assert_eq!(header($header).into_iter().filter(|&number| number != 0 || wanted.contains(&0)).collect::<Vec<_>>(), wanted);
+    };
+}
+
+#[test]
+fn numbers() {
+    numbered!(Refusal, "ks_refusal", 1..=12);
+    numbered!(Code, "ks_answer", (0..=6).chain(32..=44));
+    numbered!(BackupRefusal, "ks_backup_reply", 20..=26);
+    numbered!(Move, "ks_move", 1..=5);
+    numbered!(Instruction, "ks_instruction", 1..=6);
+    assert!(Code::ALL.iter().all(|code| code.refused() == (code.number() >= 32)));
+}
+
+#[test]
+fn records_as_bytes() {
+    assert_eq!(Record::feed(3, 0x0102_0304).bytes(), [4, 3, 1, 2, 3, 4]);
+    assert_eq!(Record::schedule(&[]), [0, 1, 1]);
+    assert_eq!(Record::schedule(&[Record::crash(2)]), [0, 7, 1, 5, 2, 0, 0, 0, 0]);
+    assert_eq!(Record::schedule(&[Record::step(0); 10_000]).len(), 60_003);
+    // However many there are, too many are too many.
+    for records in [10_001, 10_922, 10_923, 20_000] {
+        let schedule = Record::schedule(&vec![Record::step(0); records]);
+        assert_eq!(judge(&TABLE, &schedule, usize::MAX, usize::MAX), Err(Refusal::ScheduleLength));
+    }
+}
+
+#[test]
+fn a_refused_run_writes_nothing() {
+    let schedule = Record::schedule(&[Record::feed(0, 9), Record::step(0)]);
+    let (mut answers, mut report) = ([0xEE; 14], [0xEE; 22]);
+    assert_eq!(run(&TABLE, &[], &mut answers, &mut report), Err(Refusal::ScheduleLength));
+    assert_eq!(run(&[], &schedule, &mut [], &mut []), Err(Refusal::TableLength));
+    assert_eq!(run(&TABLE, &schedule, &mut answers[..11], &mut report), Err(Refusal::AnswersShort));
+    assert_eq!(run(&TABLE, &schedule, &mut answers, &mut report[..19]), Err(Refusal::ReportShort));
+    assert!(answers.iter().chain(&report).all(|&byte| byte == 0xEE));
+    let accepted = run(&TABLE, &schedule, &mut answers, &mut report).unwrap();
+    assert_eq!(
+        accepted.answers().map(|answer| (answer.code, answer.a, answer.word)).collect::<Vec<_>>(),
+        [(Code::OnTheBus, 0, 9), (Code::Halted, 0, 0)]
+    );
+    assert_eq!(accepted.processes().map(|end| (end.board, end.unread, end.registers)).collect::<Vec<_>>(), [(0, 1, [0; 4])]);
+    assert!(accepted.quiet && accepted.records() == 2);
+    assert!(answers[12..].iter().chain(&report[20..]).all(|&byte| byte == 0xEE));
+}
+
+#[test]
+fn the_record() {
+    let mut backup = Backup::new();
+    assert_eq!(backup, Backup::from_numbers([0; STATE]));
+    (0..48).for_each(|i| assert_eq!(backup.arrive(i % 4, i), Ok(())));
+    assert_eq!(backup.arrive(0, 0), Err(BackupRefusal::Full));
+    assert_eq!(backup.arrive(4, 0), Err(BackupRefusal::Bad));
+    (0..16).for_each(|_| assert_eq!(backup.count_one(), Ok(())));
+    assert_eq!(backup.count_one(), Err(BackupRefusal::Count));
+    let snapshot = |place, taken| Snapshot { place, registers: [1, 2, 3, 4], taken };
+    let before = backup;
+    assert_eq!(backup.sync(&snapshot(65, [0; 4])), Err(BackupRefusal::Bad));
+    assert_eq!(backup.sync(&snapshot(64, [13, 0, 0, 0])), Err(BackupRefusal::Taken));
+    assert_eq!(backup, before);
+    assert_eq!(backup.take_over().map(|taken| (taken.count(), taken.words().count())), Ok((16, 48)));
+    assert_eq!(backup.sync(&snapshot(64, [12, 12, 12, 11])), Ok(()));
+    assert_eq!((backup.words().collect::<Vec<_>>(), backup.count(), backup.place()), (vec![(3, 47)], 0, 64));
+    let mut unfit = *backup.numbers();
+    unfit[0] = u32::MAX;
+    let mut unfit = Backup::from_numbers(unfit);
+    assert_eq!((unfit.arrive(0, 0), unfit.take_over()), (Err(BackupRefusal::Unfit), Err(BackupRefusal::Unfit)));
+    assert_eq!(unfit.words().count(), 48);
+}

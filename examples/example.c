@@ -1,0 +1,156 @@
+/* The three proved calls from C, as board programmers, the driver bench and the service desk use them. bindings/examples/example.rs is the
+ * same in Rust; both print examples/example.out.
+ *
+ *     cc -I include examples/example.c target/staticlib/lib{cabinet,table,backup}_call.a -o example
+ *
+ * What is lent has a piece of memory of its own, as long as needed and no longer, so that valgrind would see a byte beyond it touched.
+ */
+#include "kunzeastylus.h"
+
+#include <stdio.h>
+#include <stdlib.h>
+#include <string.h>
+
+/* Document 01's sample table. */
+static const uint8_t table[] = {
+    0x00, 0x23, 1, 2, 1, 2,              /* length, version, two boards, one process, two channels */
+    KS_OUTSIDE, 0, 0, KS_OUTSIDE,        /* channel 0 from the outside to process 0, channel 1 the other way */
+    0, 1, 4,                             /* process 0: board 0, backup board 1, four instructions */
+    KS_TAKE, 0, 0, 0, 0, 0, KS_ADD, 1, 0, 0, 0, 0, KS_SEND, 1, 0, 0, 0, 1, KS_JUMP, 0, 0, 0, 0, 0,
+};
+
+/* Document 01's sample schedule as moves; a is 0 but for carry 1, and the word is 0 but in a feed. */
+static const uint8_t moves[20] = {
+    KS_FEED, KS_FEED, KS_STEP, KS_STEP, KS_STEP, KS_CARRY, KS_STEP, KS_STEP, KS_STEP, KS_STEP,
+    KS_CRASH, KS_STEP, KS_STEP, KS_STEP, KS_STEP, KS_STEP, KS_STEP, KS_STEP, KS_CARRY, KS_STEP,
+};
+
+static void *memory(size_t size) {
+    void *lent = calloc(1, size);
+    if (lent == NULL) {
+        fputs("no memory\n", stderr);
+        exit(1);
+    }
+    return lent;
+}
+
+/* A piece of bytes, lent or to be lent. */
+struct piece {
+    uint8_t *at;
+    size_t len;
+};
+
+static struct piece piece(size_t len) {
+    struct piece p = {memory(len), len};
+    return p;
+}
+
+/* The sample table with another byte as its version. */
+static struct piece table_of_version(uint8_t version) {
+    struct piece p = piece(sizeof table);
+    memcpy(p.at, table, sizeof table);
+    p.at[2] = version;
+    return p;
+}
+
+/* The sample schedule's first records. */
+static struct piece first_records(size_t records) {
+    size_t length = 1 + KS_RECORD * records;
+    struct piece p = piece(2 + length);
+    uint8_t *schedule = p.at;
+    schedule[0] = (uint8_t)(length >> 8);
+    schedule[1] = (uint8_t)length;
+    schedule[2] = 1;
+    for (size_t i = 0; i < records; i++) {
+        uint8_t *record = schedule + 3 + KS_RECORD * i;
+        record[0] = moves[i];
+        record[1] = i == 18;
+        record[5] = i == 0 ? 5 : i == 1 ? 7 : 0;
+    }
+    return p;
+}
+
+static uint64_t run(struct piece t, struct piece schedule, struct piece answers, struct piece report) {
+    return cabinet_run(t.at, t.len, schedule.at, schedule.len, answers.at, answers.len, report.at, report.len);
+}
+
+static void show_record(const char *name, const uint32_t *state) {
+    printf("%s: place %u, registers %u %u %u %u, count %u, words", name, state[2], state[3], state[4], state[5], state[6], state[1]);
+    for (size_t i = 0; i < state[0]; i++) {
+        printf(" %u:%u", ks_slot(state, i), ks_saved(state, i));
+    }
+    printf("\n");
+}
+
+/* A stand-by that is kept by hand: three words arrive, one of the process is carried, and a sync lands that has taken one on slot 0. */
+static void board_programmer(void) {
+    static const uint32_t calls[][KS_CALL] = {
+        {KS_NEW}, {KS_ARRIVE, 0, 10}, {KS_ARRIVE, 1, 11}, {KS_ARRIVE, 0, 12}, {KS_COUNT},
+        {KS_ARRIVE, 4, 13}, {KS_BACKUP_SYNC, 5, 1, 2, 3, 4, 0, 0, 1, 0}, {KS_BACKUP_SYNC, 5, 1, 2, 3, 4, 1, 0, 0, 0}, {KS_ARRIVE, 3, 14},
+    };
+    uint32_t *state = memory(KS_STATE * sizeof *state), *reply = memory(KS_STATE * sizeof *reply);
+    printf("board programmer\nreplies");
+    for (size_t i = 0; i < sizeof calls / sizeof calls[0]; i++) {
+        printf(" %u", backup_call(state, KS_STATE, calls[i], KS_CALL, reply, KS_STATE));
+    }
+    printf("\n");
+    show_record("saved", state);
+    static const uint32_t take_over[KS_CALL] = {KS_TAKE_OVER};
+    printf("reply %u\n", backup_call(state, KS_STATE, take_over, KS_CALL, reply, KS_STATE));
+    show_record("taken over", reply);
+    free(state);
+    free(reply);
+}
+
+/* A table and a schedule are judged before they are run, and then run: the page. */
+static void driver_bench(void) {
+    struct piece sound = table_of_version(1), other = table_of_version(9), schedule = first_records(20);
+    struct piece answers = piece(KS_RECORD * 20), report = piece(KS_REPORT);
+    printf("driver bench\njudged %u", judge(sound.at, sound.len, schedule.at, schedule.len, answers.len, report.len));
+    printf(" %u", judge(other.at, other.len, schedule.at, schedule.len, answers.len, report.len));
+    printf(" %u", judge(sound.at, sound.len, schedule.at, schedule.len, answers.len - 1, report.len));
+    printf(" %u\n", judge(sound.at, sound.len, schedule.at, schedule.len, answers.len, report.len - 1));
+    printf("refused %u\n", (unsigned)ks_number(run(other, schedule, answers, report)));
+    uint64_t result = run(sound, schedule, answers, report);
+    printf("records %u\n", ks_records(result));
+    for (size_t i = 0; i < ks_records(result); i++) {
+        printf("%zu %u %u %u\n", i + 1, (unsigned)ks_code(answers.at, i), ks_a(answers.at, i), ks_answer_word(answers.at, i));
+    }
+    const uint8_t *lines = report.at;
+    printf("process 0 %u %u %u %u", ks_board(lines, 0), ks_place(lines, 0), ks_unread(lines, 0), ks_hold_back(lines, 0));
+    for (size_t r = 0; r < 4; r++) {
+        printf(" %u", ks_register(lines, 0, r));
+    }
+    printf("\nquiet %d\n", ks_quiet(result));
+    free(sound.at);
+    free(other.at);
+    free(schedule.at);
+    free(answers.at);
+    free(report.at);
+}
+
+/* A board is pulled: what is on the bus until then, and with how much unread and held back the stand-by begins. */
+static void service_desk(void) {
+    struct piece sound = table_of_version(1), schedule = first_records(11);
+    struct piece answers = piece(KS_RECORD * 11), report = piece(KS_REPORT);
+    uint64_t result = run(sound, schedule, answers, report);
+    printf("service desk\non the bus");
+    for (size_t i = 0; i < ks_records(result); i++) {
+        if (ks_code(answers.at, i) == KS_ON_THE_BUS) {
+            printf(" %u:%u", ks_a(answers.at, i), ks_answer_word(answers.at, i));
+        }
+    }
+    printf("\nprocess 0 on board %u at place %u, unread %u, hold-back %u, quiet %d\n", ks_board(report.at, 0), ks_place(report.at, 0),
+           ks_unread(report.at, 0), ks_hold_back(report.at, 0), ks_quiet(result));
+    free(sound.at);
+    free(schedule.at);
+    free(answers.at);
+    free(report.at);
+}
+
+int main(void) {
+    board_programmer();
+    driver_bench();
+    service_desk();
+    return 0;
+}

@@ -1,0 +1,150 @@
+/* The proved calls for programs in C and C++: the run of a schedule, the judging of its input, and the backup record.
+ *
+ *     rt staticlib cabinet_call        cabinet_run     target/staticlib/libcabinet_call.a
+ *     rt staticlib table_call          judge           target/staticlib/libtable_call.a
+ *     rt staticlib backup_call         backup_call     target/staticlib/libbackup_call.a
+ *
+ * All numbers are those of document 01. The calls keep nothing between them, allocate nothing and may be used from several threads at once;
+ * cabinet_run uses some 40 KB of stack, the others less than 3.
+ * Each lent piece of memory is a pointer and a length. Its pointer is not null, not even where the length is 0, and what is lent to be
+ * written overlaps nothing else that is lent. Otherwise the calls ask nothing of their caller: any bytes, any lengths.
+ */
+#ifndef KUNZEASTYLUS_H
+#define KUNZEASTYLUS_H
+
+#include <stddef.h>
+#include <stdint.h>
+
+#ifdef __cplusplus
+extern "C" {
+#endif
+
+/* ---- sizes, in bytes unless said */
+
+#define KS_TABLE_MOST 6262      /* the longest table: its length field at most 6,260, and that field */
+#define KS_SCHEDULE_MOST 60003  /* the longest schedule: 10,000 records */
+#define KS_RECORDS_MOST 10000
+#define KS_PROCESSES_MOST 16
+#define KS_RECORD 6             /* a schedule's record, and an answer: code, a, word */
+#define KS_REPORT 20            /* of each process */
+#define KS_STATE 103            /* a backup record, in numbers of 32 bits */
+#define KS_CALL 10              /* a call of the backup record, in numbers of 32 bits */
+
+/* ---- a table's instructions and a schedule's moves */
+
+enum ks_instruction { KS_SET = 1, KS_ADD = 2, KS_TAKE = 3, KS_FIRST = 4, KS_SEND = 5, KS_JUMP = 6 };
+enum ks_move { KS_STEP = 1, KS_SYNC = 2, KS_CARRY = 3, KS_FEED = 4, KS_CRASH = 5 };
+enum { KS_OUTSIDE = 255 }; /* as the sender or the reader of a channel */
+
+/* ---- why a run is refused, the lowest number first; 0 is accepted */
+
+enum ks_refusal {
+    KS_ACCEPTED = 0,
+    KS_TABLE_LENGTH = 1,      /* table under 6 bytes, length field over 6,260 or not the true one */
+    KS_TABLE_VERSION = 2,
+    KS_TABLE_COUNTS = 3,      /* boards, processes or channels */
+    KS_TABLE_EXTENT = 4,      /* n over 64, or pairs and records not ending exactly with the table */
+    KS_CHANNEL_ENDS = 5,
+    KS_CHANNELS_READ = 6,     /* more than four channels read */
+    KS_BOARDS = 7,            /* a board not below B, or primary equal to backup */
+    KS_INSTRUCTION = 8,
+    KS_SCHEDULE_LENGTH = 9,   /* schedule under 3 bytes, wrong length field, broken record or over 10,000 */
+    KS_SCHEDULE_VERSION = 10,
+    KS_ANSWERS_SHORT = 11,    /* answer buffer under six bytes a record */
+    KS_REPORT_SHORT = 12      /* report buffer under 20 bytes a process */
+};
+
+/* ---- the answer to a record */
+
+enum ks_answer {
+    KS_DONE = 0,              /* (0, 0) */
+    KS_TOOK = 1,              /* (channel, word), as the three below */
+    KS_QUEUED = 2,
+    KS_HELD_BACK = 3,
+    KS_ON_THE_BUS = 4,
+    KS_SYNC_CARRIED = 5,      /* (process, 0) */
+    KS_SYNC_UNBACKED = 6,     /* (process, 0): no backup left */
+    /* refusals: the record's a, and word 0 */
+    KS_BAD_RECORD = 32,       /* unknown move, or a word that should be 0 */
+    KS_BAD_INDEX = 33,        /* a is no process, board or channel of this table */
+    KS_BOARD_DEAD = 34,
+    KS_HALTED = 35,
+    KS_NO_WORD = 36,
+    KS_OWES_SYNC = 37,        /* backed, and acts are 8 */
+    KS_QUEUE_FULL = 38,
+    KS_CHANNEL_HELD = 39,
+    KS_NO_BACKUP = 40,
+    KS_SYNC_WAITING = 41,
+    KS_QUEUE_EMPTY = 42,
+    KS_NOT_FROM_OUTSIDE = 43,
+    KS_OTHER_CRASHED = 44     /* another board has crashed */
+};
+
+/* ---- what the backup record replies */
+
+enum ks_backup_reply {
+    KS_BACKUP_OK = 0,
+    KS_BACKUP_UNFIT = 20,     /* on entry: over 48 words, slot over 3, count over 16, place over 64 */
+    KS_BACKUP_BAD = 21,       /* arrive: slot over 3; sync: place over 64 */
+    KS_BACKUP_FULL = 22,      /* forty-eight saved */
+    KS_BACKUP_TAKEN = 23,     /* more taken on a slot than saved */
+    KS_BACKUP_COUNT = 24,     /* count at 16 */
+    KS_BACKUP_MISSIZED = 25,  /* a lent length is not KS_STATE, KS_CALL, KS_STATE */
+    KS_BACKUP_UNKNOWN = 26    /* no such call */
+};
+
+enum ks_backup_call { KS_NEW = 0, KS_ARRIVE = 1, KS_COUNT = 2, KS_BACKUP_SYNC = 3, KS_TAKE_OVER = 4 };
+
+/* ---- the calls */
+
+/* The run of a schedule on a table. The result is unpacked by ks_number, ks_quiet and ks_records. An accepted run writes six bytes a record
+ * to answers and 20 bytes a process to report, and nothing beyond those; a refused one writes nothing at all. */
+uint64_t cabinet_run(const uint8_t *table, size_t table_len, const uint8_t *schedule, size_t schedule_len, uint8_t *answers,
+                     size_t answers_len, uint8_t *report, size_t report_len);
+
+/* By which number a run of these would be refused with buffers of these lengths, or 0. Nothing is run. */
+uint32_t judge(const uint8_t *table, size_t table_len, const uint8_t *schedule, size_t schedule_len, size_t answers_len,
+               size_t report_len);
+
+/* A call of the backup record. state is KS_STATE numbers: how many words are saved, count, place, four registers, then 48 pairs of slot and
+ * word. call is KS_CALL numbers, its own and its arguments:
+ *     KS_NEW                                                    state becomes the record as it starts
+ *     KS_ARRIVE       slot, word
+ *     KS_COUNT
+ *     KS_BACKUP_SYNC  place, four registers, four numbers taken (a slot each)
+ *     KS_TAKE_OVER                                              state stays, reply (KS_STATE numbers) becomes what is handed over
+ * A refused call leaves state as it was; but for KS_TAKE_OVER, reply is left as it was. */
+uint32_t backup_call(uint32_t *state, size_t state_len, const uint32_t *call, size_t call_len, uint32_t *reply, size_t reply_len);
+
+/* ---- helpers */
+
+/* cabinet_run's result is number + 256 * quiet + 2^32 * records. */
+static inline enum ks_refusal ks_number(uint64_t result) { return (enum ks_refusal)(result & 255); }
+static inline int ks_quiet(uint64_t result) { return (int)(result >> 8 & 1); }
+static inline uint32_t ks_records(uint64_t result) { return (uint32_t)(result >> 32); }
+
+static inline uint32_t ks_word(const uint8_t *bytes) {
+    return (uint32_t)bytes[0] << 24 | (uint32_t)bytes[1] << 16 | (uint32_t)bytes[2] << 8 | (uint32_t)bytes[3];
+}
+
+/* The answer to record i, from 0. */
+static inline enum ks_answer ks_code(const uint8_t *answers, size_t i) { return (enum ks_answer)answers[KS_RECORD * i]; }
+static inline uint8_t ks_a(const uint8_t *answers, size_t i) { return answers[KS_RECORD * i + 1]; }
+static inline uint32_t ks_answer_word(const uint8_t *answers, size_t i) { return ks_word(answers + KS_RECORD * i + 2); }
+
+/* What the report says of process p. */
+static inline uint8_t ks_board(const uint8_t *report, size_t p) { return report[KS_REPORT * p]; }
+static inline uint8_t ks_place(const uint8_t *report, size_t p) { return report[KS_REPORT * p + 1]; }
+static inline uint8_t ks_unread(const uint8_t *report, size_t p) { return report[KS_REPORT * p + 2]; }
+static inline uint8_t ks_hold_back(const uint8_t *report, size_t p) { return report[KS_REPORT * p + 3]; }
+static inline uint32_t ks_register(const uint8_t *report, size_t p, size_t r) { return ks_word(report + KS_REPORT * p + 4 + 4 * r); }
+
+/* The slot and the word of message i of a backup record's state, i below state[0]. */
+static inline uint32_t ks_slot(const uint32_t *state, size_t i) { return state[7 + 2 * i]; }
+static inline uint32_t ks_saved(const uint32_t *state, size_t i) { return state[8 + 2 * i]; }
+
+#ifdef __cplusplus
+}
+#endif
+
+#endif
