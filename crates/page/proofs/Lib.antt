@@ -1,0 +1,4 @@
+-- Why a page is the rules'.
+pub mod Putting
+pub mod Spelling
+pub mod Lining
