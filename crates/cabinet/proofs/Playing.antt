@@ -27,12 +27,12 @@ use Rattle.store.specs.declared.moved.Moved.{Moved}
 use Rattle.store.specs.Store.{Store, Holds, blankEntry}
 use Rattle.store.specs.Moved.{Reachable, Answered, Turned, storedBy}
 use Rattle.bus.specs.Transmits.{oldestPlace}
-use Rattle.cabinet.specs.Plan.{Lent, Suits}
-use Rattle.cabinet.specs.Written.{sixBytes, Puts}
-use Rattle.cabinet.specs.Turns.{Turns, Carries}
+use Rattle.turn.specs.Plan.{Lent, Suits}
+use Rattle.edges.specs.Written.{sixBytes, Puts}
+use Rattle.turn.specs.Turns.{Turns, Carries}
 use Rattle.cabinet.specs.Plays.{Played, Suited, Playing, Plays}
-use Rattle.cabinet.proofs.Writing.{written-length, written-more}
-use Rattle.cabinet.proofs.Answers.{answer-fits}
+use Rattle.edges.proofs.Writing.{written-length, written-more}
+use Rattle.edges.proofs.Answers.{answer-fits}
 
 -- ---- one command more
 

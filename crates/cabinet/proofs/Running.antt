@@ -31,11 +31,11 @@ use Rattle.rules.proofs.Theorem.{failure-transparency}
 use Rattle.store.specs.declared.entry.Entry.{Entry}
 use Rattle.store.specs.Store.{Store, storeOf, Holds, blankEntry}
 use Rattle.store.specs.Moved.{Reachable}
-use Rattle.cabinet.specs.Plan.{Lent, lentOf, Suits}
+use Rattle.turn.specs.Plan.{Lent, lentOf, Suits}
 use Rattle.cabinet.specs.Plays.{Played, Suited, Plays}
-use Rattle.cabinet.specs.Starts.{Fresh, Placed, Seats}
-use Rattle.cabinet.specs.Reports.{Reports}
-use Rattle.cabinet.specs.Quiets.{Quiets}
+use Rattle.edges.specs.Starts.{Fresh, Placed, Seats}
+use Rattle.edges.specs.Reports.{Reports}
+use Rattle.edges.specs.Quiets.{Quiets}
 use Rattle.cabinet.specs.Runs.{ranBy, Runs, Conducts}
 use Rattle.cabinet.specs.declared.run.Verdict.{Verdict}
 

@@ -1,9 +1,3 @@
--- What the run promises, from its records up.
-pub mod Plan
-pub mod Turns
-pub mod Written
-pub mod Starts
+-- What the records one after the other promise, and the run.
 pub mod Plays
-pub mod Reports
-pub mod Quiets
 pub mod Runs

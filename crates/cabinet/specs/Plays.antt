@@ -13,7 +13,7 @@ use Rattle.rules.specs.Schedule.{commandsMost, decodeSchedule}
 use Rattle.rules.specs.Run.{answerBytes}
 use Rattle.store.specs.declared.entry.Entry.{Entry}
 use Rattle.store.specs.Store.{Store, Holds, blankEntry}
-use Rattle.cabinet.specs.Plan.{Lent, Suits}
+use Rattle.turn.specs.Plan.{Lent, Suits}
 
 -- these commands were done: the lists hold the cabinet that they leave, and their answers are written to the buffer's front
 pub record Played (t : Table) (commands : List Command) (s : Store) (entries : List Entry) (before after : List ℕ) : Type 0 where

@@ -1,8 +1,3 @@
-// The whole run: a table and a schedule in, answers and a report out. `run` is the public call; the other modules are its parts.
-pub mod answer;
+// The whole run: a table and a schedule in, answers and a report out. `run::run` is the public call.
 pub mod play;
-pub mod quiet;
-pub mod report;
 pub mod run;
-pub mod start;
-pub mod turn;

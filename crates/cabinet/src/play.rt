@@ -3,13 +3,11 @@
 ghost use mathlib.Core.Path.{_≡_};
 ghost use Prim.Native.Nat.{_<_};
 ghost use Rattle.store.specs.Store.{storeOf};
-ghost use Rattle.cabinet.specs.Plan.{lentOf};
+ghost use Rattle.turn.specs.Plan.{lentOf};
 ghost use Rattle.cabinet.specs.Plays.{Plays};
-use crate::answer::put;
-use crate::turn::carry;
-use crate::turn::turn;
 use backup::place::HEAD;
 use bus::transmit::oldest;
+use edges::answer::put;
 use process::mail::MAIL;
 use process::row::ROW;
 use store::board::BOARD_ROW;
@@ -17,6 +15,8 @@ use store::board::ENTRIES;
 use store::board::index16;
 use store::moved::blank;
 use table::schedule::command_at;
+use turn::turn::carry;
+use turn::turn::turn;
 
 // A byte as a number of 32 bits.
 fn grown(x: u8) -> u32

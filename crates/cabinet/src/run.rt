@@ -2,10 +2,10 @@
 // whether the cabinet ended quiet. Document 01, "What each move replies". All state is this call's own; nothing is kept between calls.
 ghost use Rattle.cabinet.specs.Runs.{Runs, Conducts};
 use crate::play::play;
-use crate::quiet::quiescent;
-use crate::report::write_report;
-use crate::start::seat;
 use backup::place::HEAD;
+use edges::quiet::quiescent;
+use edges::report::write_report;
+use edges::start::seat;
 use process::mail::MAIL;
 use process::row::ROW;
 use store::board::BOARD_ROW;

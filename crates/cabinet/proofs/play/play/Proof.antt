@@ -3,7 +3,7 @@ use mathlib.Core.List.{[]}
 use Prim.Native.Nat.{ℕ, _+_, _-_, _*_, _%_}
 use lib.ListN.{length, getD, replicate}
 use Rattle.store.specs.Store.{storeOf}
-use Rattle.cabinet.specs.Plan.{lentOf}
+use Rattle.turn.specs.Plan.{lentOf}
 use Rattle.cabinet.specs.Plays.{Playing}
 use Rattle.cabinet.proofs.Playing.{at-first, on-by-carry, on-by-turn, at-last, stored-none, stored-one}
 use borrow.Author.Needs.{needs}
@@ -13,10 +13,10 @@ use Rattle.cabinet.proofs.play.play.Tie as tie
 use Rattle.cabinet.proofs.play.play.Reads as reads
 use Rattle.cabinet.proofs.play.play.Lts as lts
 use Rattle.bus.proofs.transmit.oldest.Reads as oldest-reads
-use Rattle.cabinet.proofs.answer.put.Reads as put-reads
+use Rattle.edges.proofs.answer.put.Reads as put-reads
 use Rattle.cabinet.proofs.play.grown.Reads as grown-reads
-use Rattle.cabinet.proofs.turn.carry.Reads as carry-reads
-use Rattle.cabinet.proofs.turn.turn.Reads as turn-reads
+use Rattle.turn.proofs.turn.carry.Reads as carry-reads
+use Rattle.turn.proofs.turn.turn.Reads as turn-reads
 use Rattle.store.proofs.board.index16.Reads as index16-reads
 use Rattle.store.proofs.moved.blank.Reads as blank-reads
 use Rattle.table.proofs.schedule.command_at.Reads as command-at-reads

@@ -1,5 +1,5 @@
 use mathlib.Core.Path.{refl}
-use Rattle.cabinet.proofs.Starting.{fresh-made}
+use Rattle.edges.proofs.Starting.{fresh-made}
 use Rattle.cabinet.proofs.Running.{conducts}
 use native.Mathlib.Omega.{arith}
 use borrow.Author.Needs.{needs}
@@ -8,9 +8,9 @@ use Rattle.cabinet.proofs.run.conduct.Tie as tie
 use Rattle.cabinet.proofs.run.conduct.Reads as reads
 use Rattle.cabinet.proofs.run.conduct.Lts as lts
 use Rattle.cabinet.proofs.play.play.Reads as play-reads
-use Rattle.cabinet.proofs.quiet.quiescent.Reads as quiescent-reads
-use Rattle.cabinet.proofs.report.write_report.Reads as write-report-reads
-use Rattle.cabinet.proofs.start.seat.Reads as seat-reads
+use Rattle.edges.proofs.quiet.quiescent.Reads as quiescent-reads
+use Rattle.edges.proofs.report.write_report.Reads as write-report-reads
+use Rattle.edges.proofs.start.seat.Reads as seat-reads
 
 -- src/run.rt:54:5
 seat-requires : tie.Need-seat-requires

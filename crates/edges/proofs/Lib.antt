@@ -1,0 +1,7 @@
+-- What is written:
+pub mod Writing
+pub mod Answers
+pub mod Reporting
+-- the start, and quiet:
+pub mod Starting
+pub mod Quieting

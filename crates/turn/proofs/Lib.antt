@@ -1,0 +1,3 @@
+-- Why one record is the rules'.
+pub mod Judging
+pub mod Turning

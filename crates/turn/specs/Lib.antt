@@ -1,0 +1,3 @@
+-- What one record of a schedule promises.
+pub mod Plan
+pub mod Turns
