@@ -3,5 +3,3 @@ pub mod InPlace
 pub mod Arriving
 pub mod Compacting
 pub mod Syncing
-pub mod Looking
-pub mod ByValue

@@ -4,4 +4,3 @@ pub mod Replica
 pub mod Laws
 pub mod Accepts
 pub mod Place
-pub mod Value

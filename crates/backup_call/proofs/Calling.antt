@@ -11,10 +11,10 @@ use borrow.Author.Tests.{eq-eqb, eqb-true}
 use Rattle.facts.specs.Tests.{and-left, and-right, no-way}
 use Rattle.backup.specs.Replica as value
 use Rattle.backup.specs.Replica.{Replica, initial, failOver, fit}
-use Rattle.backup.specs.Value.{view, promotedBy, Answered}
-use Rattle.backup.specs.declared.Backup.{Backup}
-use Rattle.backup.specs.declared.Reply.{Reply}
-use Rattle.backup.specs.declared.FailOver.{FailOver}
+use Rattle.backup_value.specs.Value.{view, promotedBy, Answered}
+use Rattle.backup_value.specs.declared.Backup.{Backup}
+use Rattle.backup_value.specs.declared.Reply.{Reply}
+use Rattle.backup_value.specs.declared.FailOver.{FailOver}
 use Rattle.backup_call.specs.Layout.{stateLength, callLength, stateView}
 use Rattle.backup_call.specs.Exported.{Asked, start, promotion, unknown, missized, byNumber, Sized, lengthsMatch, asked, answered, handedBy, Exported, Settled, HandedOver}
 

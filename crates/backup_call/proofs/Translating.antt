@@ -10,8 +10,8 @@ use Rattle.facts.specs.Tests.{by-eq, by-lt}
 use Rattle.facts.specs.Lists.{listed, listed-same, map-listed, prefix-listed}
 use Rattle.backup.specs.Limits.{logMost}
 use Rattle.backup.specs.Place.{pack, portIn, wordIn, unpack, unpack-pack, messages}
-use Rattle.backup.specs.Value.{view}
-use Rattle.backup.specs.declared.Backup.{Backup}
+use Rattle.backup_value.specs.Value.{view}
+use Rattle.backup_value.specs.declared.Backup.{Backup}
 use Rattle.backup_call.specs.Layout.{stateLength, messageAt, stateView}
 use Rattle.backup_call.specs.Exported.{Stored}
 

@@ -10,10 +10,10 @@ use lib.ListN.{length, getD}
 use Rattle.backup.specs.Replica as value
 use Rattle.backup.specs.Replica.{Replica, initial, arrive, count, sync, failOver, fit}
 use Rattle.backup.specs.Place.{checkpointOf}
-use Rattle.backup.specs.Value.{view}
-use Rattle.backup.specs.declared.Backup.{Backup}
-use Rattle.backup.specs.declared.Reply.{Reply}
-use Rattle.backup.specs.declared.FailOver.{FailOver}
+use Rattle.backup_value.specs.Value.{view}
+use Rattle.backup_value.specs.declared.Backup.{Backup}
+use Rattle.backup_value.specs.declared.Reply.{Reply}
+use Rattle.backup_value.specs.declared.FailOver.{FailOver}
 use Rattle.backup_call.specs.Layout.{stateLength, callLength, stateView, checkpointAt}
 
 -- ---- what is asked

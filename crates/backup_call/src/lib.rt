@@ -2,21 +2,21 @@
 // is made by value, and what it leaves is stored back.
 ghost use mathlib.Core.Path.{_≡_};
 ghost use lib.ListN.{length};
-ghost use Rattle.backup.specs.Value.{view};
+ghost use Rattle.backup_value.specs.Value.{view};
 ghost use Rattle.backup_call.specs.Layout.{stateLength, callLength, stateView, checkpointAt};
 ghost use Rattle.backup_call.specs.Exported.{Sized, Exported, Stored, Settled, HandedOver};
-use backup::Backup;
-use backup::FailOver;
-use backup::Reply;
-use backup::arrive;
-use backup::count;
-use backup::fail_over;
-use backup::new;
 use backup::pack::packed;
 use backup::pack::port_of;
 use backup::pack::word_of;
 use backup::place::Checkpoint;
-use backup::sync;
+use backup_value::Backup;
+use backup_value::FailOver;
+use backup_value::Reply;
+use backup_value::arrive;
+use backup_value::count;
+use backup_value::fail_over;
+use backup_value::new;
+use backup_value::sync;
 
 // Where a state has its numbers: the log's length, the count, the program counter, four registers, then a pair (port, word) for each
 // of 48 messages.

@@ -1,9 +1,9 @@
 // Cases of the backup record, run and compared with stdout: M12 of document 01, the forty-ninth arrival, every refusal of every call
 // and its place in the order, take over of a full and of an empty record, and syncs that take everything, nothing, or one slot's oldest.
-use backup::Backup;
-use backup::FailOver;
-use backup::Reply;
 use backup::place::Checkpoint;
+use backup_value::Backup;
+use backup_value::FailOver;
+use backup_value::Reply;
 use libc::STDOUT_FILENO;
 
 fn text(s: &[u8]) {
@@ -56,19 +56,19 @@ fn promoted(case: &[u8], f: FailOver) {
 
 // Two words on slots 0 and 2, one on slot 1 between them.
 fn three() -> Backup {
-    let a = backup::arrive(backup::new(), 0, 10).backup;
-    let b = backup::arrive(a, 1, 11).backup;
-    backup::arrive(b, 0, 12).backup
+    let a = backup_value::arrive(backup_value::new(), 0, 10).backup;
+    let b = backup_value::arrive(a, 1, 11).backup;
+    backup_value::arrive(b, 0, 12).backup
 }
 
 // n words on slots 0, 1, 2, 3, 0, ..; the last reply.
 fn filled(n: u32) -> Reply {
     let mut r = Reply {
         number: 0,
-        backup: backup::new(),
+        backup: backup_value::new(),
     };
     for i in 0..n {
-        r = backup::arrive(r.backup, i % 4, i);
+        r = backup_value::arrive(r.backup, i % 4, i);
     }
     r
 }
@@ -77,10 +77,10 @@ fn filled(n: u32) -> Reply {
 fn counted(n: u32) -> Reply {
     let mut r = Reply {
         number: 0,
-        backup: backup::new(),
+        backup: backup_value::new(),
     };
     for _ in 0..n {
-        r = backup::count(r.backup);
+        r = backup_value::count(r.backup);
     }
     r
 }
@@ -102,7 +102,7 @@ fn checkpoint(pc: u32, t0: u32, t1: u32, t2: u32, t3: u32) -> Checkpoint {
 fn arrivals() {
     reply(
         b"arrive on an empty record",
-        backup::arrive(backup::new(), 3, 4294967295),
+        backup_value::arrive(backup_value::new(), 3, 4294967295),
     );
     reply(
         b"M12's record",
@@ -113,98 +113,104 @@ fn arrivals() {
     );
     reply(b"forty-eight arrivals", filled(48));
     reply(b"the forty-ninth", filled(49));
-    reply(b"slot 4", backup::arrive(three(), 4, 9));
+    reply(b"slot 4", backup_value::arrive(three(), 4, 9));
     reply(
         b"slot 4 into a full record",
-        backup::arrive(filled(48).backup, 4, 9),
+        backup_value::arrive(filled(48).backup, 4, 9),
     );
 }
 
 fn counts() {
-    reply(b"count", backup::count(three()));
+    reply(b"count", backup_value::count(three()));
     reply(b"sixteen counts", counted(16));
     reply(b"the seventeenth", counted(17));
 }
 
 fn syncs() {
-    reply(b"M12", backup::sync(three(), checkpoint(5, 1, 0, 0, 0)));
+    reply(
+        b"M12",
+        backup_value::sync(three(), checkpoint(5, 1, 0, 0, 0)),
+    );
     reply(
         b"nothing taken",
-        backup::sync(three(), checkpoint(64, 0, 0, 0, 0)),
+        backup_value::sync(three(), checkpoint(64, 0, 0, 0, 0)),
     );
     reply(
         b"everything taken",
-        backup::sync(three(), checkpoint(0, 2, 1, 0, 0)),
+        backup_value::sync(three(), checkpoint(0, 2, 1, 0, 0)),
     );
     reply(
         b"everything of a full record",
-        backup::sync(filled(48).backup, checkpoint(7, 12, 12, 12, 12)),
+        backup_value::sync(filled(48).backup, checkpoint(7, 12, 12, 12, 12)),
     );
     reply(
         b"slot by slot",
-        backup::sync(filled(9).backup, checkpoint(7, 1, 2, 0, 1)),
+        backup_value::sync(filled(9).backup, checkpoint(7, 1, 2, 0, 1)),
     );
     reply(
         b"the count goes to 0",
-        backup::sync(counted(16).backup, checkpoint(1, 0, 0, 0, 0)),
+        backup_value::sync(counted(16).backup, checkpoint(1, 0, 0, 0, 0)),
     );
     reply(
         b"place 65",
-        backup::sync(three(), checkpoint(65, 0, 0, 0, 0)),
+        backup_value::sync(three(), checkpoint(65, 0, 0, 0, 0)),
     );
     reply(
         b"place 65 and too many taken",
-        backup::sync(three(), checkpoint(65, 9, 9, 9, 9)),
+        backup_value::sync(three(), checkpoint(65, 9, 9, 9, 9)),
     );
     reply(
         b"three taken on slot 0",
-        backup::sync(three(), checkpoint(1, 3, 0, 0, 0)),
+        backup_value::sync(three(), checkpoint(1, 3, 0, 0, 0)),
     );
     reply(
         b"two taken on slot 1",
-        backup::sync(three(), checkpoint(1, 0, 2, 0, 0)),
+        backup_value::sync(three(), checkpoint(1, 0, 2, 0, 0)),
     );
     reply(
         b"one taken on slot 2",
-        backup::sync(three(), checkpoint(1, 0, 0, 1, 0)),
+        backup_value::sync(three(), checkpoint(1, 0, 0, 1, 0)),
     );
     reply(
         b"one taken on slot 3",
-        backup::sync(three(), checkpoint(1, 0, 0, 0, 1)),
+        backup_value::sync(three(), checkpoint(1, 0, 0, 0, 1)),
     );
 }
 
 fn promotions() {
     promoted(
         b"take over of an empty record",
-        backup::fail_over(backup::new()),
+        backup_value::fail_over(backup_value::new()),
     );
     promoted(
         b"take over of three words",
-        backup::fail_over(
-            backup::sync(backup::count(three()).backup, checkpoint(3, 1, 0, 0, 0)).backup,
+        backup_value::fail_over(
+            backup_value::sync(
+                backup_value::count(three()).backup,
+                checkpoint(3, 1, 0, 0, 0),
+            ).backup,
         ),
     );
     promoted(
         b"take over of a full record",
-        backup::fail_over(filled(48).backup),
+        backup_value::fail_over(filled(48).backup),
     );
     promoted(
         b"take over with sixteen counted",
-        backup::fail_over(counted(16).backup),
+        backup_value::fail_over(counted(16).backup),
     );
 }
 
 // Every call on a record that is unfit in one way: 20 before the call's own numbers.
 fn unfit(case: &[u8], b: Backup) {
     text(case);
-    number(backup::arrive(b, 4, 0).number as u64);
-    number(backup::arrive(b, 0, 0).number as u64);
-    number(backup::count(b).number as u64);
-    number(backup::sync(b, checkpoint(65, 9, 9, 9, 9)).number as u64);
-    number(backup::sync(b, checkpoint(0, 0, 0, 0, 0)).number as u64);
-    promoted(b" then", backup::fail_over(b));
-    reply(b"  and it comes back", backup::arrive(b, 0, 0));
+    number(backup_value::arrive(b, 4, 0).number as u64);
+    number(backup_value::arrive(b, 0, 0).number as u64);
+    number(backup_value::count(b).number as u64);
+    number(backup_value::sync(b, checkpoint(65, 9, 9, 9, 9)).number as u64);
+    number(backup_value::sync(b, checkpoint(0, 0, 0, 0, 0)).number as u64);
+    promoted(b" then", backup_value::fail_over(b));
+    reply(b"  and it comes back", backup_value::arrive(b, 0, 0));
 }
 
 fn unfits() {
@@ -224,7 +230,7 @@ fn unfits() {
     b.log[3] = 4 * 4294967296;
     reply(
         b"what lies beyond the length doesn't matter",
-        backup::arrive(b, 2, 13),
+        backup_value::arrive(b, 2, 13),
     );
 }
 
@@ -233,7 +239,7 @@ fn main() {
         b"new",
         Reply {
             number: 0,
-            backup: backup::new(),
+            backup: backup_value::new(),
         },
     );
     arrivals();

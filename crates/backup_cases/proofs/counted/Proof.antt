@@ -5,8 +5,8 @@ use Rattle.backup_cases.proofs.counted.Statement.{statement}
 use Rattle.backup_cases.proofs.counted.Tie as tie
 use Rattle.backup_cases.proofs.counted.Reads as reads
 use Rattle.backup_cases.proofs.counted.Lts as lts
-use Rattle.backup.proofs.count.Reads as count-reads
-use Rattle.backup.proofs.new.Reads as new-reads
+use Rattle.backup_value.proofs.count.Reads as count-reads
+use Rattle.backup_value.proofs.new.Reads as new-reads
 
 abbrev Inv-loop : tie.InvT-loop
 Inv-loop n r₀ counter₀ r counter = counter ≤ n

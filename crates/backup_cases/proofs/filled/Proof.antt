@@ -5,8 +5,8 @@ use Rattle.backup_cases.proofs.filled.Statement.{statement}
 use Rattle.backup_cases.proofs.filled.Tie as tie
 use Rattle.backup_cases.proofs.filled.Reads as reads
 use Rattle.backup_cases.proofs.filled.Lts as lts
-use Rattle.backup.proofs.arrive.Reads as arrive-reads
-use Rattle.backup.proofs.new.Reads as new-reads
+use Rattle.backup_value.proofs.arrive.Reads as arrive-reads
+use Rattle.backup_value.proofs.new.Reads as new-reads
 
 abbrev Inv-loop : tie.InvT-loop
 Inv-loop n r₀ i₀ r i = i ≤ n

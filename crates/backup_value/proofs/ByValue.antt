@@ -9,18 +9,18 @@ use lib.Dec.{leb}
 use lib.ListN.{length, getD}
 use borrow.Author.Tests.{lt-leb, le-leb}
 use Rattle.facts.specs.Tests.{no-way}
 use Rattle.backup.specs.Limits.{logMost, ports, sentMost, pcMost}
 use Rattle.backup.specs.Replica as value
 use Rattle.backup.specs.Replica.{Message, Replica, fit, onPorts, savedOn}
 use Rattle.backup.specs.Accepts.{Fit, fit-parts, parts-fit}
 use Rattle.backup.specs.Place.{messages, viewIn, tallyIn, headLength, Sound, Called}
-use Rattle.backup.specs.Value.{view, promotedBy, Answered, Census, Opened, Settled}
-use Rattle.backup.specs.declared.Backup.{Backup}
-use Rattle.backup.specs.declared.Reply.{Reply}
-use Rattle.backup.specs.declared.FailOver.{FailOver}
-use Rattle.backup.specs.declared.Tallies.{Tallies}
-use Rattle.backup.specs.declared.Head.{Head}
+use Rattle.backup_value.specs.Value.{view, promotedBy, Answered, Census, Opened, Settled}
+use Rattle.backup_value.specs.declared.Backup.{Backup}
+use Rattle.backup_value.specs.declared.Reply.{Reply}
+use Rattle.backup_value.specs.declared.FailOver.{FailOver}
+use Rattle.backup_value.specs.declared.Tallies.{Tallies}
+use Rattle.backup_value.specs.declared.Head.{Head}
 use Rattle.backup.proofs.Compacting.{messages-length}
 
 -- ---- laid out
 

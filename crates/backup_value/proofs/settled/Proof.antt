@@ -1,11 +1,11 @@
 use mathlib.Core.Path.{refl, sym}
 use native.Mathlib.Omega.{arith}
 use borrow.Author.Needs.{needs}
-use Rattle.backup.proofs.settled.Statement.{statement}
-use Rattle.backup.proofs.settled.Tie as tie
-use Rattle.backup.proofs.settled.Reads as reads
-use Rattle.backup.proofs.settled.Lts as lts
-use Rattle.backup.proofs.closed.Reads as closed-reads
+use Rattle.backup_value.proofs.settled.Statement.{statement}
+use Rattle.backup_value.proofs.settled.Tie as tie
+use Rattle.backup_value.proofs.settled.Reads as reads
+use Rattle.backup_value.proofs.settled.Lts as lts
+use Rattle.backup_value.proofs.closed.Reads as closed-reads
 
 -- src/lib.rt:116:9
 returns : tie.Need-returns

@@ -1,12 +1,12 @@
 use mathlib.Core.Path.{refl}
-use Rattle.backup.proofs.ByValue.{opened-unfit, opened-fit, too-long, too-many-sent, pc-too-far, off-ports}
+use Rattle.backup_value.proofs.ByValue.{opened-unfit, opened-fit, too-long, too-many-sent, pc-too-far, off-ports}
 use native.Mathlib.Omega.{arith}
 use borrow.Author.Needs.{needs}
-use Rattle.backup.proofs.opened.Statement.{statement}
-use Rattle.backup.proofs.opened.Tie as tie
-use Rattle.backup.proofs.opened.Reads as reads
-use Rattle.backup.proofs.opened.Lts as lts
-use Rattle.backup.proofs.census.Reads as census-reads
+use Rattle.backup_value.proofs.opened.Statement.{statement}
+use Rattle.backup_value.proofs.opened.Tie as tie
+use Rattle.backup_value.proofs.opened.Reads as reads
+use Rattle.backup_value.proofs.opened.Lts as lts
+use Rattle.backup_value.proofs.census.Reads as census-reads
 
 -- src/lib.rt:86:15
 cast-len : tie.Need-cast-len

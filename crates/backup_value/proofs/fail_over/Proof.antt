@@ -1,16 +1,16 @@
 use mathlib.Core.Path.{refl, sym, _∙_}
 use Rattle.backup.specs.Replica.{initial}
 use Rattle.backup.specs.Accepts.{fail-over-accepted, fail-over-unfit}
-use Rattle.backup.specs.Value.{view}
-use Rattle.backup.proofs.ByValue.{promoted-is}
+use Rattle.backup_value.specs.Value.{view}
+use Rattle.backup_value.proofs.ByValue.{promoted-is}
 use native.Mathlib.Omega.{arith}
 use borrow.Author.Needs.{needs}
-use Rattle.backup.proofs.fail_over.Statement.{statement}
-use Rattle.backup.proofs.fail_over.Tie as tie
-use Rattle.backup.proofs.fail_over.Reads as reads
-use Rattle.backup.proofs.fail_over.Lts as lts
-use Rattle.backup.proofs.new.Reads as new-reads
-use Rattle.backup.proofs.opened.Reads as opened-reads
+use Rattle.backup_value.proofs.fail_over.Statement.{statement}
+use Rattle.backup_value.proofs.fail_over.Tie as tie
+use Rattle.backup_value.proofs.fail_over.Reads as reads
+use Rattle.backup_value.proofs.fail_over.Lts as lts
+use Rattle.backup_value.proofs.new.Reads as new-reads
+use Rattle.backup_value.proofs.opened.Reads as opened-reads
 
 -- src/lib.rt:167:9
 opened-requires : tie.Need-opened-requires

@@ -1,16 +1,16 @@
 use Rattle.backup.specs.Accepts.{sync-unfit}
-use Rattle.backup.specs.Value.{view}
+use Rattle.backup_value.specs.Value.{view}
 use Rattle.backup.specs.Place.{checkpointOf}
-use Rattle.backup.proofs.ByValue.{answered-20, answered-so}
+use Rattle.backup_value.proofs.ByValue.{answered-20, answered-so}
 use native.Mathlib.Omega.{arith}
 use borrow.Author.Needs.{needs}
-use Rattle.backup.proofs.sync.Statement.{statement}
-use Rattle.backup.proofs.sync.Tie as tie
-use Rattle.backup.proofs.sync.Reads as reads
-use Rattle.backup.proofs.sync.Lts as lts
-use Rattle.backup.proofs.opened.Reads as opened-reads
+use Rattle.backup_value.proofs.sync.Statement.{statement}
+use Rattle.backup_value.proofs.sync.Tie as tie
+use Rattle.backup_value.proofs.sync.Reads as reads
+use Rattle.backup_value.proofs.sync.Lts as lts
+use Rattle.backup_value.proofs.opened.Reads as opened-reads
 use Rattle.backup.proofs.place.sync_in.Reads as sync-in-reads
-use Rattle.backup.proofs.settled.Reads as settled-reads
+use Rattle.backup_value.proofs.settled.Reads as settled-reads
 
 -- src/lib.rt:153:9
 opened-requires : tie.Need-opened-requires

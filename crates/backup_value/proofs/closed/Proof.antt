@@ -1,12 +1,12 @@
 use mathlib.Core.Path.{refl}
-use Rattle.backup.specs.Value.{view}
+use Rattle.backup_value.specs.Value.{view}
 use Rattle.backup.specs.Place.{viewIn}
 use native.Mathlib.Omega.{arith}
 use borrow.Author.Needs.{needs}
-use Rattle.backup.proofs.closed.Statement.{statement}
-use Rattle.backup.proofs.closed.Tie as tie
-use Rattle.backup.proofs.closed.Reads as reads
-use Rattle.backup.proofs.closed.Lts as lts
+use Rattle.backup_value.proofs.closed.Statement.{statement}
+use Rattle.backup_value.proofs.closed.Tie as tie
+use Rattle.backup_value.proofs.closed.Reads as reads
+use Rattle.backup_value.proofs.closed.Lts as lts
 
 -- src/lib.rt:108:29
 array-read-t6 : tie.Need-array-read-t6

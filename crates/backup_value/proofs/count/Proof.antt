@@ -1,15 +1,15 @@
 use Rattle.backup.specs.Accepts.{count-unfit}
-use Rattle.backup.specs.Value.{view}
-use Rattle.backup.proofs.ByValue.{answered-20, answered-so}
+use Rattle.backup_value.specs.Value.{view}
+use Rattle.backup_value.proofs.ByValue.{answered-20, answered-so}
 use native.Mathlib.Omega.{arith}
 use borrow.Author.Needs.{needs}
-use Rattle.backup.proofs.count.Statement.{statement}
-use Rattle.backup.proofs.count.Tie as tie
-use Rattle.backup.proofs.count.Reads as reads
-use Rattle.backup.proofs.count.Lts as lts
-use Rattle.backup.proofs.opened.Reads as opened-reads
+use Rattle.backup_value.proofs.count.Statement.{statement}
+use Rattle.backup_value.proofs.count.Tie as tie
+use Rattle.backup_value.proofs.count.Reads as reads
+use Rattle.backup_value.proofs.count.Lts as lts
+use Rattle.backup_value.proofs.opened.Reads as opened-reads
 use Rattle.backup.proofs.place.count_in.Reads as count-in-reads
-use Rattle.backup.proofs.settled.Reads as settled-reads
+use Rattle.backup_value.proofs.settled.Reads as settled-reads
 
 -- src/lib.rt:139:9
 opened-requires : tie.Need-opened-requires

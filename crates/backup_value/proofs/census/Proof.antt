@@ -1,13 +1,13 @@
 use mathlib.Core.Path.{_≡_, refl, subst}
 use Prim.Native.Nat.{ℕ, _-_}
-use Rattle.backup.proofs.Looking.{Looked, looked-few, looked-start, looked-on, census-false, census-true}
+use Rattle.backup_value.proofs.Looking.{Looked, looked-few, looked-start, looked-on, census-false, census-true}
 use borrow.Author.Needs.{needs}
 use native.Mathlib.Omega.{arith}
-use Rattle.backup.proofs.census.Statement.{statement}
-use Rattle.backup.proofs.census.Tie as tie
-use Rattle.backup.proofs.census.Reads as reads
-use Rattle.backup.proofs.census.Lts as lts
+use Rattle.backup_value.proofs.census.Statement.{statement}
+use Rattle.backup_value.proofs.census.Tie as tie
+use Rattle.backup_value.proofs.census.Reads as reads
+use Rattle.backup_value.proofs.census.Lts as lts
 use Rattle.backup.proofs.pack.port_of.Reads as port-of-reads
 
 abbrev Inv-loop : tie.InvT-loop
 Inv-loop log len n₀ i₀ n i = Looked log len n i

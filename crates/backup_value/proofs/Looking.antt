@@ -13,14 +13,14 @@ use borrow.Author.Tests.{ltb-true, lt-ltb}
 use Rattle.facts.specs.Tests.{all-at, all-append, and-both, by-eq, no-way}
 use Rattle.facts.specs.Counts.{same-yes, same-no}
 use Rattle.facts.specs.Lists.{prefix, prefix-more, written-out}
 use Rattle.backup.specs.Limits.{ports}
 use Rattle.backup.specs.Replica.{Message, onPorts, savedOn}
 use Rattle.backup.specs.Laws.{saved-append, saved-cons}
 use Rattle.backup.specs.Place.{portIn, unpack, messages}
-use Rattle.backup.specs.Value.{Census}
-use Rattle.backup.specs.declared.Tallies.{Tallies}
+use Rattle.backup_value.specs.Value.{Census}
+use Rattle.backup_value.specs.declared.Tallies.{Tallies}
 use Rattle.backup.proofs.InPlace.{saved-few}
 use Rattle.backup.proofs.Compacting.{messages-length, message-at}
 
 -- i of len messages have been looked at: each is on a port, and n says how many are on each
 pub record Looked (log : List ℕ) (len : ℕ) (n : List ℕ) (i : ℕ) : Type 0 where

@@ -5,15 +5,15 @@ use mathlib.Core.Bool.{Bool, true, false}
 use mathlib.Core.List.{List, [], _∷_}
 use Prim.Native.Nat.{ℕ, _<_}
 use lib.ListN.{getD}
 use Rattle.backup.specs.Limits.{ports}
 use Rattle.backup.specs.Replica as value
 use Rattle.backup.specs.Replica.{Replica, fit, onPorts, savedOn}
 use Rattle.backup.specs.Place.{messages, viewIn, Sound}
-use Rattle.backup.specs.declared.Backup.{Backup}
-use Rattle.backup.specs.declared.Reply.{Reply}
-use Rattle.backup.specs.declared.FailOver.{FailOver}
-use Rattle.backup.specs.declared.Tallies.{Tallies}
-use Rattle.backup.specs.declared.Head.{Head}
+use Rattle.backup_value.specs.declared.Backup.{Backup}
+use Rattle.backup_value.specs.declared.Reply.{Reply}
+use Rattle.backup_value.specs.declared.FailOver.{FailOver}
+use Rattle.backup_value.specs.declared.Tallies.{Tallies}
+use Rattle.backup_value.specs.declared.Head.{Head}
 
 -- the value that the struct stands for: its first len messages, whatever lies beyond them in the array
 unfoldable pub view : Backup → Replica
