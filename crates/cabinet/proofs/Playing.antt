@@ -10,8 +10,8 @@ use lib.Dec.{ltb}
 use lib.ListN.{length, getD, set, take, length-append, length-map, replicate}
 use lib.Seq.{take-suc, take-all, length-take-le, sets}
 use borrow.Author.Tests.{lt-ltb, le-ltb}
-use Rattle.table.specs.Commands.{commandOf}
-use Rattle.table.specs.declared.schedule.Command as code
+use Rattle.sixes.specs.Commands.{commandOf}
+use Rattle.sixes.specs.declared.schedule.Command as code
 use Rattle.rules.specs.Table.{Table}
 use Rattle.rules.specs.Judge.{Accepted}
 use Rattle.rules.specs.Bytes.{wordBytes, allBytes, written}

@@ -9,14 +9,14 @@ use lib.Dec.{eqb, leb}
 use lib.ListN.{length, getD, replicate}
 use borrow.Author.Tests.{eqb-true, eq-eqb, ne-eqb, leb-true}
 use Rattle.facts.specs.Tests.{and-left, and-right}
+use Rattle.sixes.specs.Fetch.{fetched, instructionOf}
+use Rattle.sixes.specs.Commands.{ScheduleJudged, judgedRun}
+use Rattle.sixes.specs.declared.schedule.Judged.{Judged}
+use Rattle.sixes.proofs.Judged.{run-is}
 use Rattle.table.specs.Plan.{Plans, Decodes}
-use Rattle.table.specs.Fetch.{fetched, instructionOf}
-use Rattle.table.specs.Commands.{ScheduleJudged, judgedRun}
 use Rattle.table.specs.declared.Decoded.{Decoded}
 use Rattle.table.specs.declared.plan.Plan.{Plan}
-use Rattle.table.specs.declared.schedule.Judged.{Judged}
 use Rattle.table.proofs.Programs.{fetched-code}
-use Rattle.table.proofs.Judged.{run-is}
 use Rattle.rules.specs.Table.{Table, SET, codeOf}
 use Rattle.rules.specs.Judge.{Accepted}
 use Rattle.rules.specs.Bytes.{allBytes, written}

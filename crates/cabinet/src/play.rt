@@ -10,11 +10,11 @@ use bus::transmit::oldest;
 use edges::answer::put;
 use process::mail::MAIL;
 use process::row::ROW;
+use sixes::schedule::command_at;
 use store::board::BOARD_ROW;
 use store::board::ENTRIES;
 use store::board::index16;
 use store::moved::blank;
-use table::schedule::command_at;
 use turn::turn::carry;
 use turn::turn::turn;
 

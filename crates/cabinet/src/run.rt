@@ -8,11 +8,11 @@ use edges::report::write_report;
 use edges::start::seat;
 use process::mail::MAIL;
 use process::row::ROW;
+use sixes::schedule::judge_run;
+use sixes::schedule::judge_schedule;
 use store::board::BOARD_ROW;
 use table::decode;
 use table::plan::Plan;
-use table::schedule::judge_run;
-use table::schedule::judge_schedule;
 
 // "An accepted run returns 0, its number of records, and whether it ended quiet." A refused one its number, 0 and false.
 pub struct Verdict {

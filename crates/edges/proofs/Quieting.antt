@@ -11,8 +11,8 @@ use borrow.Author.Tests.{eq-eqb, ne-eqb, not-true, not-false}
 use Rattle.facts.specs.Tests.{allBelow, allOf}
 use Rattle.facts.specs.Ranges.{all-same, all-listed}
 use Rattle.facts.specs.Walks.{Walked, walk-start, walk-on, walk-fails, walk-end}
-use Rattle.table.specs.Fetch.{fetched}
-use Rattle.table.specs.declared.fetch.Instruction.{Instruction}
+use Rattle.sixes.specs.Fetch.{fetched}
+use Rattle.sixes.specs.declared.fetch.Instruction.{Instruction}
 use Rattle.process.specs.declared.instruction.Intent.{Intent}
 use Rattle.process.specs.declared.instruction.Intent.the-variants.{Halted, NoMail, Internal, Take, Send}
 use Rattle.process.specs.Row.{processOf}

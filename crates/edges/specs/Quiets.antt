@@ -8,7 +8,7 @@ use lib.Dec.{eqb}
 use lib.ListN.{length, getD}
 use Rattle.facts.specs.Tests.{allBelow}
 use Rattle.backup.specs.Limits.{logMost}
-use Rattle.table.specs.Fetch.{fetched}
+use Rattle.sixes.specs.Fetch.{fetched}
 use Rattle.process.specs.declared.instruction.Intent.{Intent}
 use Rattle.process.specs.declared.instruction.Intent.the-variants.{Halted, NoMail, Internal, Take, Send}
 use Rattle.process.specs.Row.{machineOf}

@@ -7,10 +7,10 @@ use process::instruction::examine;
 use process::mail::MAIL;
 use process::row::PC;
 use process::row::ROW;
+use sixes::fetch::fetch;
 use store::board::BOARD_ROW;
 use store::board::COUNT;
 use store::board::wide;
-use table::fetch::fetch;
 
 // Halted, or waits for a word.
 fn idle(intent: Intent) -> bool

@@ -12,8 +12,8 @@ use Rattle.process.specs.Instruction.{Intends, Fetched, Examined, Computes, aft
 use Rattle.process.specs.Laws as laws
 use Rattle.process.specs.declared.instruction.Intent.{Intent}
 use Rattle.process.specs.declared.instruction.Intent.the-variants.{Halted, NoMail, Internal, Take, Send}
-use Rattle.table.specs.Fetch.{fetched, instructionOf}
-use Rattle.table.specs.declared.fetch.Instruction.{Instruction}
+use Rattle.sixes.specs.Fetch.{fetched, instructionOf}
+use Rattle.sixes.specs.declared.fetch.Instruction.{Instruction}
 use Rattle.rules.specs.Table.{Table, codeOf}
 use Rattle.rules.specs.Machine.{Machine, Outcome, localStep, internal}
 use Rattle.rules.specs.Cabinet.{Cabinet, Process, eventsMost, processAt, exhausted}

@@ -4,7 +4,7 @@ use mathlib.Core.Path.{_≡_}
 use mathlib.Core.List.{List}
 use Prim.Native.Nat.{ℕ, _<_}
 use lib.ListN.{length, getD}
-use Rattle.table.specs.Fetch.{fetched, instructionOf}
+use Rattle.sixes.specs.Fetch.{fetched, instructionOf}
 use Rattle.rules.specs.Table.{Table, SET, codeOf}
 use Rattle.rules.specs.Cabinet.{Cabinet}
 use Rattle.rules.specs.Moves.{Command, step}

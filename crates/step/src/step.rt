@@ -9,6 +9,7 @@ use process::instruction::examine;
 use process::mail::MAIL;
 use process::row::PC;
 use process::row::ROW;
+use sixes::fetch::fetch;
 use store::board::BOARD_ROW;
 use store::board::index16;
 use store::board::wide;
@@ -16,7 +17,6 @@ use store::moved::Answer;
 use store::moved::Moved;
 use store::moved::alone;
 use store::moved::refused;
-use table::fetch::fetch;
 
 pub fn step(
     table: &[u8],

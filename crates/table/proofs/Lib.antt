@@ -1,6 +1,5 @@
 -- What the code of this crate stands on, and what the crates above may use of it.
--- Six bytes at their place, the programs at theirs:
-pub mod Sixes
+-- The programs at their place:
 pub mod Programs
 -- numbers 1 to 4:
 pub mod Extents
@@ -15,5 +14,3 @@ pub mod OneInstruction
 pub mod Walk
 -- all eight, and the plan:
 pub mod Decoding
--- a schedule and a run judged:
-pub mod Judged

@@ -11,8 +11,8 @@ use Rattle.facts.specs.Ranges.{and-fails}
 use Rattle.rules.specs.Format.{isCode, instruction, decodeTable}
 use Rattle.rules.specs.Table.{Table}
 use Rattle.rules.specs.Judge.{reads, sends, instructionOk}
+use Rattle.sixes.specs.declared.fetch.Instruction.{Instruction}
 use Rattle.table.specs.Judging.{endIs, channelsPass, maskOk, passes}
-use Rattle.table.specs.declared.fetch.Instruction.{Instruction}
 use Rattle.table.proofs.OneChannel.{reads-is, sends-is}
 
 -- a first test that passed leaves it to the second; one that failed is the answer

@@ -17,9 +17,9 @@ use Rattle.rules.specs.Table.{Instruction, SET, Placement, codeOf}
 use Rattle.rules.specs.Bytes.{sixes}
 use Rattle.rules.specs.Format.{processesIn, recordsStart, recordBytes, programLength, recordLength, rests, placementIn, instruction, decodeTable, recordsOk, extentOk}
 use Rattle.rules.proofs.Valid.{length-sixes, length-rests}
-use Rattle.table.specs.Fetch.{numbered, fetched, instructionOf}
+use Rattle.sixes.specs.Fetch.{numbered, fetched, instructionOf}
+use Rattle.sixes.proofs.Sixes.{six-from}
 use Rattle.table.specs.Records.{recordFrom, recordStart, programStart}
-use Rattle.table.proofs.Sixes.{six-from}
 
 -- ---- records
 

@@ -16,10 +16,10 @@ use Rattle.rules.specs.Bytes.{sixes}
 use Rattle.rules.specs.Format.{processesIn, channelsIn, recordBytes, programLength, recordLength, rests, isCode, instruction, codesIn, decodeTable, extentOk, codesOk}
 use Rattle.rules.specs.Judge.{instructionOk, instructionsOk}
 use Rattle.rules.proofs.Valid.{length-sixes, length-rests, processes-counted}
-use Rattle.table.specs.Fetch.{numbered, fetched, instructionOf}
+use Rattle.sixes.specs.Fetch.{numbered, fetched, instructionOf}
+use Rattle.sixes.proofs.Sixes.{six-from}
 use Rattle.table.specs.Judging.{passes, programOk, recordOk}
 use Rattle.table.specs.Records.{recordStart}
-use Rattle.table.proofs.Sixes.{six-from}
 use Rattle.table.proofs.Programs.{fetched-is, rest-is, code-is, record-within}
 
 -- ---- a program

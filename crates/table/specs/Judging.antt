@@ -11,8 +11,8 @@ use Rattle.rules.specs.Machine.{bit}
 use Rattle.rules.specs.Bytes.{byteAt}
 use Rattle.rules.specs.Format.{channelsIn, programLength, isCode}
 use Rattle.rules.specs.Judge.{reads, bits, instructionOk}
-use Rattle.table.specs.Fetch.{fetched, instructionOf}
-use Rattle.table.specs.declared.fetch.Instruction.{Instruction}
+use Rattle.sixes.specs.Fetch.{fetched, instructionOf}
+use Rattle.sixes.specs.declared.fetch.Instruction.{Instruction}
 
 -- k is a channel, and the byte of its pair on a side (6 for the sender, 7 for the reader) is p
 abbrev pub endIs : List ℕ → ℕ → ℕ → ℕ → Bool

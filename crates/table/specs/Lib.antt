@@ -2,7 +2,4 @@
 pub mod Records
 pub mod Parts
 pub mod Plan
-pub mod Six
-pub mod Fetch
 pub mod Judging
-pub mod Commands

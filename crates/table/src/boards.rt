@@ -1,9 +1,6 @@
 // Number 7 of a table of which numbers 1 to 4 hold: the boards of its processes. The pass over the records leaves its part of the plan.
 ghost use mathlib.Core.Path.{_≡_};
 ghost use Rattle.table.specs.Parts.{twoBoards, PlacedIn, PlacementsRead, Framed};
-use crate::bytes::byte;
-use crate::bytes::wide;
-use crate::bytes::word;
 use crate::extent::records_start;
 use crate::format::BOARDS;
 use crate::format::N;
@@ -12,6 +9,9 @@ use crate::format::PROCESSES;
 use crate::format::PROCESSES_MOST;
 use crate::format::PROGRAM;
 use crate::format::STANDBY;
+use sixes::bytes::byte;
+use sixes::bytes::wide;
+use sixes::bytes::word;
 
 // The record of one process: whether its boards are right, and its numbers.
 struct Placed {

@@ -5,9 +5,6 @@ ghost use mathlib.Core.Bool.{true};
 ghost use Rattle.rules.specs.Judge.{endOk};
 ghost use Rattle.rules.specs.Format.{countsOk};
 ghost use Rattle.table.specs.Parts.{pairOk, EndsRead, PortsRead};
-use crate::bytes::byte;
-use crate::bytes::wide;
-use crate::bytes::word;
 use crate::format::CHANNELS;
 use crate::format::CHANNELS_MOST;
 use crate::format::ENVIRONMENT;
@@ -17,6 +14,9 @@ use crate::format::PROCESSES;
 use crate::format::PROCESSES_MOST;
 use crate::format::READER;
 use crate::format::SENDER;
+use sixes::bytes::byte;
+use sixes::bytes::wide;
+use sixes::bytes::word;
 
 // What number 5 finds: whether the ends are right, and then both ends of each channel.
 pub struct Ends {

@@ -4,9 +4,6 @@ ghost use mathlib.Core.Bool.{_&&_};
 ghost use lib.Dec.{eqb, leb};
 ghost use Rattle.rules.specs.Format.{versionIn, recordsStart, lengthOk, countsOk, extentOk};
 ghost use Rattle.table.specs.Parts.{recordIn, framing};
-use crate::bytes::byte;
-use crate::bytes::pair;
-use crate::bytes::wide;
 use crate::format::BOARDS;
 use crate::format::BOARDS_LEAST;
 use crate::format::BOARDS_MOST;
@@ -19,7 +16,10 @@ use crate::format::PROCESSES_MOST;
 use crate::format::PROGRAM;
 use crate::format::PROGRAM_MOST;
 use crate::format::TABLE_MOST;
-use crate::format::VERSION;
+use sixes::bytes::byte;
+use sixes::bytes::pair;
+use sixes::bytes::wide;
+use sixes::head::VERSION;
 
 // 1: at least a head, and a length field that is at most 6,260 and the true one.
 fn length_ok(table: &[u8]) -> bool

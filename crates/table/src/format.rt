@@ -1,8 +1,6 @@
 // A table's layout and sizes, each named once; rules/specs/Format.antt names the same numbers for the definitions.
 
-// Of the head, behind the length's two bytes: version, boards, processes, channels.
-pub const VERSION: usize = 2;
-
+// Of the head, behind the length's two bytes and the version (sixes/src/head.rt): boards, processes, channels.
 pub const BOARDS: usize = 3;
 
 pub const PROCESSES: usize = 4;

@@ -6,15 +6,15 @@ ghost use mathlib.Core.Bool.{true, _&&_};
 ghost use Rattle.rules.specs.Judge.{instructionsOk};
 ghost use Rattle.rules.specs.Format.{recordsStart, recordLength, decodeTable, extentOk, codesOk};
 ghost use Rattle.table.specs.Judging.{endIs, channelsPass, maskOk, passes, programOk, recordOk};
-use crate::bytes::wide;
-use crate::fetch::Instruction;
-use crate::fetch::fetch;
 use crate::format::CHANNELS;
 use crate::format::N;
 use crate::format::PROCESSES;
 use crate::format::PROGRAM;
 use crate::format::READER;
 use crate::format::SENDER;
+use sixes::bytes::wide;
+use sixes::fetch::Instruction;
+use sixes::fetch::fetch;
 
 fn wider(x: u32) -> usize
     ensures { λ r. ⌜ r ≡ x ⌝ }

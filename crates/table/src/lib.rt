@@ -1,18 +1,13 @@
-// Tables and schedules: bytes are read, judged and turned into a plan by proved code.
+// Tables: bytes are read, judged and turned into a plan by proved code.
 ghost use mathlib.Core.Path.{_≡_};
 ghost use Rattle.table.specs.Plan.{noPlan, Decodes};
 
 mod boards;
-mod bytes;
 mod ends;
 mod extent;
-pub mod fetch;
 pub mod format;
 mod instructions;
-pub mod mask;
 pub mod plan;
-pub mod schedule;
-mod six;
 
 use crate::boards::judge_boards;
 use crate::ends::judge_ends;

@@ -4,11 +4,11 @@ use mathlib.Core.Path.{_≡_, ap₂, sym, _∙_}
 use mathlib.Core.List.{List}
 use Prim.Native.Nat.{ℕ}
 use Rattle.rules.proofs.Valid.{processes-counted}
+use Rattle.sixes.specs.Commands.{ScheduleJudged, judgedRun}
+use Rattle.sixes.specs.declared.schedule.Judged.{Judged}
+use Rattle.sixes.proofs.Judged.{run-is}
 use Rattle.table.specs.Plan.{Decodes}
-use Rattle.table.specs.Commands.{ScheduleJudged, judgedRun}
 use Rattle.table.specs.declared.Decoded.{Decoded}
-use Rattle.table.specs.declared.schedule.Judged.{Judged}
-use Rattle.table.proofs.Judged.{run-is}
 use Rattle.table_call.specs.Exported.{Judges}
 
 pub together : (table schedule : List ℕ) (d : Decoded) (j : Judged) (answered reported : ℕ) → Decodes table d → ScheduleJudged schedule j

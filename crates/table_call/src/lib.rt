@@ -1,8 +1,8 @@
 // The judging of a run for programs in other languages: one exported call on lent bytes.
 ghost use Rattle.table_call.specs.Exported.{Judges};
+use sixes::schedule::judge_run;
+use sixes::schedule::judge_schedule;
 use table::decode;
-use table::schedule::judge_run;
-use table::schedule::judge_schedule;
 
 // 0, or the number from 1 to 12 by which document 01 refuses the run of a table and a schedule with buffers of these lengths.
 #[no_mangle]

@@ -19,7 +19,7 @@ use Rattle.turn.proofs.turn.carry.Reads as carry-reads
 use Rattle.turn.proofs.turn.turn.Reads as turn-reads
 use Rattle.store.proofs.board.index16.Reads as index16-reads
 use Rattle.store.proofs.moved.blank.Reads as blank-reads
-use Rattle.table.proofs.schedule.command_at.Reads as command-at-reads
+use Rattle.sixes.proofs.schedule.command_at.Reads as command-at-reads
 
 abbrev Inv-loop : tie.InvT-loop
 Inv-loop table schedule records boards-many processes channels start lengths sender reader port ins arity rows₀ mails₀ logs₀ heads₀ boards₀ unread₀ queued₀ waits₀ answers₀ entries₀ i₀ rows mails logs heads boards unread queued waits answers entries i =

@@ -7,8 +7,8 @@ use Rattle.cabinet.proofs.run.run.Reads as reads
 use Rattle.cabinet.proofs.run.run.Lts as lts
 use Rattle.cabinet.proofs.run.conduct.Reads as conduct-reads
 use Rattle.table.proofs.decode.Reads as decode-reads
-use Rattle.table.proofs.schedule.judge_run.Reads as judge-run-reads
-use Rattle.table.proofs.schedule.judge_schedule.Reads as judge-schedule-reads
+use Rattle.sixes.proofs.schedule.judge_run.Reads as judge-run-reads
+use Rattle.sixes.proofs.schedule.judge_schedule.Reads as judge-schedule-reads
 
 -- src/run.rt:68:9
 decode-requires : tie.Need-decode-requires

@@ -1,5 +1,5 @@
 use mathlib.Core.Path.{_∙_}
-use Rattle.table.specs.Fetch.{fetched}
+use Rattle.sixes.specs.Fetch.{fetched}
 use Rattle.edges.proofs.Quieting.{rests-so}
 use native.Mathlib.Omega.{arith}
 use borrow.Author.Needs.{needs}
@@ -10,7 +10,7 @@ use Rattle.edges.proofs.quiet.rests.Lts as lts
 use Rattle.edges.proofs.quiet.idle.Reads as idle-reads
 use Rattle.process.proofs.instruction.examine.Reads as examine-reads
 use Rattle.store.proofs.board.wide.Reads as wide-reads
-use Rattle.table.proofs.fetch.fetch.Reads as fetch-reads
+use Rattle.sixes.proofs.fetch.fetch.Reads as fetch-reads
 
 -- src/quiet.rt:29:26
 wide-requires : tie.Need-wide-requires

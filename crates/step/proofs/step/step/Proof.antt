@@ -13,7 +13,7 @@ use Rattle.store.proofs.board.index16.Reads as index16-reads
 use Rattle.store.proofs.board.wide.Reads as wide-reads
 use Rattle.store.proofs.moved.alone.Reads as alone-reads
 use Rattle.store.proofs.moved.refused.Reads as refused-reads
-use Rattle.table.proofs.fetch.fetch.Reads as fetch-reads
+use Rattle.sixes.proofs.fetch.fetch.Reads as fetch-reads
 
 -- src/step.rt:37:9
 index16-requires : tie.Need-index16-requires

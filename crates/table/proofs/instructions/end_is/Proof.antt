@@ -5,7 +5,7 @@ use Rattle.table.proofs.instructions.end_is.Statement.{statement}
 use Rattle.table.proofs.instructions.end_is.Tie as tie
 use Rattle.table.proofs.instructions.end_is.Reads as reads
 use Rattle.table.proofs.instructions.end_is.Lts as lts
-use Rattle.table.proofs.bytes.wide.Reads as wide-reads
+use Rattle.sixes.proofs.bytes.wide.Reads as wide-reads
 use Rattle.table.proofs.instructions.wider.Reads as wider-reads
 
 -- src/instructions.rt:44:9

@@ -9,7 +9,7 @@ use Rattle.table.proofs.instructions.instructions_ok.Reads as reads
 use Rattle.table.proofs.instructions.instructions_ok.Lts as lts
 use Rattle.table.proofs.instructions.record_length.Reads as record-length-reads
 use Rattle.table.proofs.instructions.record_ok.Reads as record-ok-reads
-use Rattle.table.proofs.bytes.wide.Reads as wide-reads
+use Rattle.sixes.proofs.bytes.wide.Reads as wide-reads
 
 abbrev Inv-loop : tie.InvT-loop
 Inv-loop table processes at₀ p₀ at p = Going table at p

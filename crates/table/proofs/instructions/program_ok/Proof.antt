@@ -10,7 +10,7 @@ use Rattle.table.proofs.instructions.program_ok.Statement.{statement}
 use Rattle.table.proofs.instructions.program_ok.Tie as tie
 use Rattle.table.proofs.instructions.program_ok.Reads as reads
 use Rattle.table.proofs.instructions.program_ok.Lts as lts
-use Rattle.table.proofs.fetch.fetch.Reads as fetch-reads
+use Rattle.sixes.proofs.fetch.fetch.Reads as fetch-reads
 use Rattle.table.proofs.instructions.instruction_ok.Reads as instruction-ok-reads
 
 abbrev Inv-loop : tie.InvT-loop

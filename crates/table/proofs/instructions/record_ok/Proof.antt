@@ -7,7 +7,7 @@ use Rattle.table.proofs.instructions.record_ok.Tie as tie
 use Rattle.table.proofs.instructions.record_ok.Reads as reads
 use Rattle.table.proofs.instructions.record_ok.Lts as lts
 use Rattle.table.proofs.instructions.program_ok.Reads as program-ok-reads
-use Rattle.table.proofs.bytes.wide.Reads as wide-reads
+use Rattle.sixes.proofs.bytes.wide.Reads as wide-reads
 
 -- src/instructions.rt:119:31
 shared-slice-read-wide : tie.Need-shared-slice-read-wide

@@ -6,7 +6,7 @@ use lib.ListN.{length, getD, drop}
 use Rattle.rules.specs.Table as rules
 use Rattle.rules.specs.Bytes.{sixes}
 use Rattle.rules.specs.Format.{instruction}
-use Rattle.table.specs.declared.fetch.Instruction.{Instruction}
+use Rattle.sixes.specs.declared.fetch.Instruction.{Instruction}
 
 abbrev pub numbered : ℕ → ℕ → ℕ → Instruction
 numbered code a operand = record { code = code; a = a; operand = operand }

@@ -9,8 +9,8 @@ use lib.ListN.{length, getD, drop, List·getD-eq-default}
 use lib.Seq.{getD-drop}
 use Rattle.rules.specs.Bytes.{byteAt, number32, sixes}
 use Rattle.rules.proofs.Valid.{length-sixes}
-use Rattle.table.specs.Six.{six, sixAt}
-use Rattle.table.specs.declared.six.Six.{Six}
+use Rattle.sixes.specs.Six.{six, sixAt}
+use Rattle.sixes.specs.declared.six.Six.{Six}
 
 module _ {A : Type 0} (make : ℕ → ℕ → ℕ → A) where
   -- what is made of the six bytes from i on

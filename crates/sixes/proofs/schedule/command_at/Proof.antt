@@ -1,12 +1,12 @@
 use Rattle.rules.specs.Schedule.{command, decodeSchedule}
-use Rattle.table.proofs.Sixes.{made-of}
+use Rattle.sixes.proofs.Sixes.{made-of}
 use native.Mathlib.Omega.{arith}
 use borrow.Author.Needs.{needs}
-use Rattle.table.proofs.schedule.command_at.Statement.{statement}
-use Rattle.table.proofs.schedule.command_at.Tie as tie
-use Rattle.table.proofs.schedule.command_at.Reads as reads
-use Rattle.table.proofs.schedule.command_at.Lts as lts
-use Rattle.table.proofs.six.six_at.Reads as six-at-reads
+use Rattle.sixes.proofs.schedule.command_at.Statement.{statement}
+use Rattle.sixes.proofs.schedule.command_at.Tie as tie
+use Rattle.sixes.proofs.schedule.command_at.Reads as reads
+use Rattle.sixes.proofs.schedule.command_at.Lts as lts
+use Rattle.sixes.proofs.six.six_at.Reads as six-at-reads
 
 -- src/schedule.rt:64:9
 six-at-requires : tie.Need-six-at-requires

@@ -1,8 +1,8 @@
 use lib.ListN.{List·getD-eq-default}
 use mathlib.Core.Path.{sym}
 use borrow.Author.Needs.{needs}
-use Rattle.table.proofs.bytes.byte.Statement.{statement}
-use Rattle.table.proofs.bytes.byte.Tie as tie
+use Rattle.sixes.proofs.bytes.byte.Statement.{statement}
+use Rattle.sixes.proofs.bytes.byte.Tie as tie
 
 shared-slice-read-result : tie.Need-shared-slice-read-result
 shared-slice-read-result c = search needs

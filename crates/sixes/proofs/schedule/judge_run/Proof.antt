@@ -1,10 +1,10 @@
-use Rattle.table.proofs.Judged.{run-table, run-schedule, run-answers, run-report, run-accepted}
+use Rattle.sixes.proofs.Judged.{run-table, run-schedule, run-answers, run-report, run-accepted}
 use borrow.Author.Needs.{needs}
 use native.Mathlib.Omega.{arith}
-use Rattle.table.proofs.schedule.judge_run.Statement.{statement}
-use Rattle.table.proofs.schedule.judge_run.Tie as tie
-use Rattle.table.proofs.schedule.judge_run.Reads as reads
-use Rattle.table.proofs.schedule.judge_run.Lts as lts
+use Rattle.sixes.proofs.schedule.judge_run.Statement.{statement}
+use Rattle.sixes.proofs.schedule.judge_run.Tie as tie
+use Rattle.sixes.proofs.schedule.judge_run.Reads as reads
+use Rattle.sixes.proofs.schedule.judge_run.Lts as lts
 
 -- src/schedule.rt:87:9
 returns : tie.Need-returns

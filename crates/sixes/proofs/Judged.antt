@@ -13,8 +13,8 @@ use Rattle.facts.specs.Ranges.{and-fails}
 use Rattle.rules.specs.Format.{lengthField, versionIn, orNumber, processesIn, validateTable}
 use Rattle.rules.specs.Schedule.{commandsMost, commandsIn, scheduleOk, validateSchedule}
 use Rattle.rules.specs.Run.{validateRun}
-use Rattle.table.specs.Commands.{ScheduleJudged, judgedRun}
-use Rattle.table.specs.declared.schedule.Judged.{Judged}
+use Rattle.sixes.specs.Commands.{ScheduleJudged, judgedRun}
+use Rattle.sixes.specs.declared.schedule.Judged.{Judged}
 
 -- ---- a schedule
 

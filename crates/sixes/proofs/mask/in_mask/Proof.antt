@@ -5,10 +5,10 @@ use lib.Bits.{and-mask}
 use Rattle.facts.specs.Bits.{no-digit-above}
 use native.Mathlib.Omega.{arith}
 use borrow.Author.Needs.{needs}
-use Rattle.table.proofs.mask.in_mask.Statement.{statement}
-use Rattle.table.proofs.mask.in_mask.Tie as tie
-use Rattle.table.proofs.mask.in_mask.Reads as reads
-use Rattle.table.proofs.mask.in_mask.Lts as lts
+use Rattle.sixes.proofs.mask.in_mask.Statement.{statement}
+use Rattle.sixes.proofs.mask.in_mask.Tie as tie
+use Rattle.sixes.proofs.mask.in_mask.Reads as reads
+use Rattle.sixes.proofs.mask.in_mask.Lts as lts
 
 -- src/mask.rt:10:9
 returns : tie.Need-returns

@@ -4,7 +4,7 @@ use mathlib.Core.List.{List}
 use Prim.Native.Nat.{ℕ, _-_, _/_}
 use lib.ListN.{length, getD, drop}
 use Rattle.rules.specs.Bytes.{sixes}
-use Rattle.table.specs.declared.six.Six.{Six}
+use Rattle.sixes.specs.declared.six.Six.{Six}
 
 abbrev pub six : ℕ → ℕ → ℕ → Six
 six first second word = record { first = first; second = second; word = word }

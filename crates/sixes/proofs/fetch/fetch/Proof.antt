@@ -1,12 +1,12 @@
-use Rattle.table.specs.Fetch.{numbered, fetched}
-use Rattle.table.proofs.Sixes.{made-of}
+use Rattle.sixes.specs.Fetch.{numbered, fetched}
+use Rattle.sixes.proofs.Sixes.{made-of}
 use native.Mathlib.Omega.{arith}
 use borrow.Author.Needs.{needs}
-use Rattle.table.proofs.fetch.fetch.Statement.{statement}
-use Rattle.table.proofs.fetch.fetch.Tie as tie
-use Rattle.table.proofs.fetch.fetch.Reads as reads
-use Rattle.table.proofs.fetch.fetch.Lts as lts
-use Rattle.table.proofs.six.six_at.Reads as six-at-reads
+use Rattle.sixes.proofs.fetch.fetch.Statement.{statement}
+use Rattle.sixes.proofs.fetch.fetch.Tie as tie
+use Rattle.sixes.proofs.fetch.fetch.Reads as reads
+use Rattle.sixes.proofs.fetch.fetch.Lts as lts
+use Rattle.sixes.proofs.six.six_at.Reads as six-at-reads
 
 -- src/fetch.rt:17:9
 six-at-requires : tie.Need-six-at-requires

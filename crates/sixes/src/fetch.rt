@@ -1,6 +1,6 @@
 // One instruction of a program, read where it stands in the table.
 ghost use mathlib.Core.Path.{_≡_};
-ghost use Rattle.table.specs.Fetch.{fetched};
+ghost use Rattle.sixes.specs.Fetch.{fetched};
 use crate::six::six_at;
 
 // Code, `a` and operand, as the six bytes say them.

@@ -1,11 +1,11 @@
-use Rattle.table.proofs.Sixes.{no-six, whole-six}
+use Rattle.sixes.proofs.Sixes.{no-six, whole-six}
 use native.Mathlib.Omega.{arith}
 use borrow.Author.Needs.{needs}
-use Rattle.table.proofs.six.six_at.Statement.{statement}
-use Rattle.table.proofs.six.six_at.Tie as tie
-use Rattle.table.proofs.six.six_at.Reads as reads
-use Rattle.table.proofs.six.six_at.Lts as lts
-use Rattle.table.proofs.six.number32_of.Reads as number32-of-reads
+use Rattle.sixes.proofs.six.six_at.Statement.{statement}
+use Rattle.sixes.proofs.six.six_at.Tie as tie
+use Rattle.sixes.proofs.six.six_at.Reads as reads
+use Rattle.sixes.proofs.six.six_at.Lts as lts
+use Rattle.sixes.proofs.six.number32_of.Reads as number32-of-reads
 
 -- src/six.rt:30:9
 returns : tie.Need-returns

@@ -8,8 +8,8 @@ use lib.Dec.{eqb, leb}
 use Rattle.rules.specs.Moves as rules
 use Rattle.rules.specs.Format.{orNumber}
 use Rattle.rules.specs.Schedule.{commandsIn, command, validateSchedule}
-use Rattle.table.specs.declared.schedule.Command.{Command}
-use Rattle.table.specs.declared.schedule.Judged.{Judged}
+use Rattle.sixes.specs.declared.schedule.Command.{Command}
+use Rattle.sixes.specs.declared.schedule.Judged.{Judged}
 
 -- the rules' command
 abbrev pub commandOf : Command → rules.Command

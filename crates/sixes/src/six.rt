@@ -1,7 +1,7 @@
 // Six bytes as document 01 lays out an instruction and a schedule record alike: two bytes and a big-endian word.
 ghost use mathlib.Core.Path.{_≡_};
 ghost use Rattle.rules.specs.Bytes.{number32};
-ghost use Rattle.table.specs.Six.{sixAt};
+ghost use Rattle.sixes.specs.Six.{sixAt};
 
 pub struct Six {
     pub first: u8,

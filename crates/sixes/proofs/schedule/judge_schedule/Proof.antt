@@ -1,13 +1,13 @@
 use mathlib.Core.Path.{refl}
-use Rattle.table.proofs.Judged.{short-9, field-9, broken-9, many-9, tested, version-10, accepted-0}
+use Rattle.sixes.proofs.Judged.{short-9, field-9, broken-9, many-9, tested, version-10, accepted-0}
 use native.Mathlib.Omega.{arith}
 use borrow.Author.Needs.{needs}
-use Rattle.table.proofs.schedule.judge_schedule.Statement.{statement}
-use Rattle.table.proofs.schedule.judge_schedule.Tie as tie
-use Rattle.table.proofs.schedule.judge_schedule.Reads as reads
-use Rattle.table.proofs.schedule.judge_schedule.Lts as lts
-use Rattle.table.proofs.bytes.pair.Reads as pair-reads
-use Rattle.table.proofs.schedule.refused.Reads as refused-reads
+use Rattle.sixes.proofs.schedule.judge_schedule.Statement.{statement}
+use Rattle.sixes.proofs.schedule.judge_schedule.Tie as tie
+use Rattle.sixes.proofs.schedule.judge_schedule.Reads as reads
+use Rattle.sixes.proofs.schedule.judge_schedule.Lts as lts
+use Rattle.sixes.proofs.bytes.pair.Reads as pair-reads
+use Rattle.sixes.proofs.schedule.refused.Reads as refused-reads
 
 -- src/schedule.rt:41:9
 refused-requires : tie.Need-refused-requires

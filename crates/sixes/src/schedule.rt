@@ -1,10 +1,10 @@
 // A schedule's bytes: numbers 9 and 10, and its commands; then the numbers of a whole run.
 ghost use mathlib.Core.Path.{_≡_};
 ghost use Rattle.rules.specs.Schedule.{decodeSchedule, command};
-ghost use Rattle.table.specs.Commands.{commandOf, ScheduleJudged, judgedRun};
+ghost use Rattle.sixes.specs.Commands.{commandOf, ScheduleJudged, judgedRun};
 ghost use lib.ListN.{getD};
 use crate::bytes::pair;
-use crate::format::VERSION;
+use crate::head::VERSION;
 use crate::six::six_at;
 
 // Where the commands begin: behind the length's two bytes and the version.

@@ -1,0 +1,5 @@
+-- What the code of this crate stands on, and what the crates above may use of it.
+-- Six bytes at their place:
+pub mod Sixes
+-- a schedule and a run judged:
+pub mod Judged
