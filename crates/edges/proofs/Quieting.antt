@@ -13,11 +13,11 @@ use Rattle.facts.specs.Ranges.{all-same, all-listed}
 use Rattle.facts.specs.Walks.{Walked, walk-start, walk-on, walk-fails, walk-end}
 use Rattle.sixes.specs.Fetch.{fetched}
 use Rattle.sixes.specs.declared.fetch.Instruction.{Instruction}
-use Rattle.process.specs.declared.instruction.Intent.{Intent}
-use Rattle.process.specs.declared.instruction.Intent.the-variants.{Halted, NoMail, Internal, Take, Send}
+use Rattle.instruction.specs.declared.instruction.Intent.{Intent}
+use Rattle.instruction.specs.declared.instruction.Intent.the-variants.{Halted, NoMail, Internal, Take, Send}
 use Rattle.process.specs.Row.{processOf}
-use Rattle.process.specs.Instruction.{Fetched, Examined, outcomeOf}
-use Rattle.process.specs.Laws as laws
+use Rattle.instruction.specs.Instruction.{Fetched, Examined, outcomeOf}
+use Rattle.instruction.specs.Laws as laws
 use Rattle.rules.specs.Table.{Table, codeOf}
 use Rattle.rules.specs.Machine.{localStep}
 use Rattle.rules.specs.Cabinet.{Cabinet, Process, outboxAt, idle, isEmpty, quiescent}

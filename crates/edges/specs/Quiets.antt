@@ -9,10 +9,10 @@ use lib.ListN.{length, getD}
 use Rattle.facts.specs.Tests.{allBelow}
 use Rattle.backup.specs.Limits.{logMost}
 use Rattle.sixes.specs.Fetch.{fetched}
-use Rattle.process.specs.declared.instruction.Intent.{Intent}
-use Rattle.process.specs.declared.instruction.Intent.the-variants.{Halted, NoMail, Internal, Take, Send}
+use Rattle.instruction.specs.declared.instruction.Intent.{Intent}
+use Rattle.instruction.specs.declared.instruction.Intent.the-variants.{Halted, NoMail, Internal, Take, Send}
 use Rattle.process.specs.Row.{machineOf}
-use Rattle.process.specs.Instruction.{Fetched}
+use Rattle.instruction.specs.Instruction.{Fetched}
 use Rattle.rules.specs.Table.{Table, Instruction, codeOf}
 use Rattle.rules.specs.Machine.{localStep}
 use Rattle.rules.specs.Cabinet.{Cabinet, processAt, idle, quiescent}

@@ -2,8 +2,8 @@
 ghost use mathlib.Core.Path.{_≡_};
 ghost use Rattle.edges.specs.Quiets.{restsOf, Rests, AllRest, AllEmpty, Quiets};
 use crate::report::at_most_16;
-use process::instruction::Intent;
-use process::instruction::examine;
+use instruction::instruction::Intent;
+use instruction::instruction::examine;
 use process::mail::MAIL;
 use process::row::PC;
 use process::row::ROW;

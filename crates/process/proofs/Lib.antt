@@ -4,7 +4,3 @@ pub mod Rows
 pub mod Backups
 pub mod Readdressing
 pub mod Promoting
-pub mod Examining
-pub mod Cells
-pub mod Computing
-pub mod Taking

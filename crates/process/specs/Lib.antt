@@ -3,5 +3,3 @@ pub mod Row
 pub mod Mailbox
 pub mod Change
 pub mod Promotion
-pub mod Instruction
-pub mod Laws

@@ -12,8 +12,8 @@ use borrow.Author.Tests.{eq-eqb, ne-eqb, lt-ltb, le-leb, lt-leb}
 use Rattle.facts.specs.Tests.{by-eq}
 use Rattle.facts.specs.Counts.{same-yes, same-no}
 use Rattle.process.specs.Row.{machineOf, processOf}
-use Rattle.process.specs.Instruction.{Intends, Suppresses, Queues, Room, afterSend}
-use Rattle.process.specs.declared.instruction.Intent.the-variants.{Send}
+use Rattle.instruction.specs.Instruction.{Intends, Suppresses, Queues, Room, afterSend}
+use Rattle.instruction.specs.declared.instruction.Intent.the-variants.{Send}
 use Rattle.rules.specs.Table.{Table, environment, codeOf, channelAt}
 use Rattle.rules.specs.Machine.{Mail, Machine, sent}
 use Rattle.rules.specs.Cabinet as rules

@@ -8,10 +8,10 @@ use native.Mathlib.Omega.{arith}
 use lib.Dec.{leb}
 use lib.ListN.{length, getD, set}
 use Rattle.process.specs.Row.{machineOf, processOf}
-use Rattle.process.specs.Instruction.{Intends, Fetched, Examined, Computes, afterInternal}
-use Rattle.process.specs.Laws as laws
-use Rattle.process.specs.declared.instruction.Intent.{Intent}
-use Rattle.process.specs.declared.instruction.Intent.the-variants.{Halted, NoMail, Internal, Take, Send}
+use Rattle.instruction.specs.Instruction.{Intends, Fetched, Examined, Computes, afterInternal}
+use Rattle.instruction.specs.Laws as laws
+use Rattle.instruction.specs.declared.instruction.Intent.{Intent}
+use Rattle.instruction.specs.declared.instruction.Intent.the-variants.{Halted, NoMail, Internal, Take, Send}
 use Rattle.sixes.specs.Fetch.{fetched, instructionOf}
 use Rattle.sixes.specs.declared.fetch.Instruction.{Instruction}
 use Rattle.rules.specs.Table.{Table, codeOf}

@@ -12,8 +12,8 @@ use Rattle.facts.specs.Counts.{same, same-yes}
 use Rattle.backup.specs.Limits.{logMost, ports}
 use Rattle.process.specs.Row.{mailIn, machineOf, processOf}
 use Rattle.process.specs.Change.{Became}
-use Rattle.process.specs.Instruction.{Intends, Takes, Room, afterTake}
-use Rattle.process.specs.declared.instruction.Intent.the-variants.{Take}
+use Rattle.instruction.specs.Instruction.{Intends, Takes, Room, afterTake}
+use Rattle.instruction.specs.declared.instruction.Intent.the-variants.{Take}
 use Rattle.rules.specs.Table.{Table, codeOf, channelAt, portOf}
 use Rattle.rules.specs.Machine.{Mail, Machine, took}
 use Rattle.rules.specs.Cabinet.{Cabinet, Process, processAt, unreadOn}

@@ -8,8 +8,8 @@ use mathlib.Core.List.{List, []}
 use Prim.Native.Nat.{ℕ, _+_, _<_}
 use lib.Dec.{eqb, leb}
 use lib.ListN.{length, getD}
-use Rattle.process.specs.Instruction.{Intends}
-use Rattle.process.specs.declared.instruction.Intent.the-variants.{Take, Send}
+use Rattle.instruction.specs.Instruction.{Intends}
+use Rattle.instruction.specs.declared.instruction.Intent.the-variants.{Take, Send}
 use Rattle.rules.specs.Table.{Table, codeOf}
 use Rattle.rules.specs.Cabinet.{Cabinet, eventsMost}
 use Rattle.rules.specs.Moves.{Command, step}

@@ -2,8 +2,8 @@
 // queue." "For a SEND not held back: 37 likewise, 38 queue full, 39 held."
 ghost use Rattle.step.specs.Parts.{SendTurns};
 use crate::guards::spent;
-use process::instruction::queue_send;
-use process::instruction::suppress_send;
+use instruction::instruction::queue_send;
+use instruction::instruction::suppress_send;
 use process::row::BOARD;
 use process::row::ROW;
 use process::row::SUPPRESS;

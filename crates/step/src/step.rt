@@ -3,9 +3,9 @@
 ghost use Rattle.step.specs.Steps.{Steps};
 use crate::send::send;
 use crate::take::take;
-use process::instruction::Intent;
-use process::instruction::compute;
-use process::instruction::examine;
+use instruction::instruction::Intent;
+use instruction::instruction::compute;
+use instruction::instruction::examine;
 use process::mail::MAIL;
 use process::row::PC;
 use process::row::ROW;

@@ -2,7 +2,7 @@
 // words are one less.
 ghost use Rattle.step.specs.Parts.{TakeTurns};
 use crate::guards::spent;
-use process::instruction::take_word;
+use instruction::instruction::take_word;
 use process::mail::MAIL;
 use process::mail::channel_of;
 use process::mail::word_of;

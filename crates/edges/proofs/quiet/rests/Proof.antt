@@ -8,7 +8,7 @@ use Rattle.edges.proofs.quiet.rests.Tie as tie
 use Rattle.edges.proofs.quiet.rests.Reads as reads
 use Rattle.edges.proofs.quiet.rests.Lts as lts
 use Rattle.edges.proofs.quiet.idle.Reads as idle-reads
-use Rattle.process.proofs.instruction.examine.Reads as examine-reads
+use Rattle.instruction.proofs.instruction.examine.Reads as examine-reads
 use Rattle.store.proofs.board.wide.Reads as wide-reads
 use Rattle.sixes.proofs.fetch.fetch.Reads as fetch-reads
 

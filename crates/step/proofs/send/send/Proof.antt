@@ -7,8 +7,8 @@ use Rattle.step.proofs.send.send.Statement.{statement}
 use Rattle.step.proofs.send.send.Tie as tie
 use Rattle.step.proofs.send.send.Reads as reads
 use Rattle.step.proofs.send.send.Lts as lts
-use Rattle.process.proofs.instruction.queue_send.Reads as queue-send-reads
-use Rattle.process.proofs.instruction.suppress_send.Reads as suppress-send-reads
+use Rattle.instruction.proofs.instruction.queue_send.Reads as queue-send-reads
+use Rattle.instruction.proofs.instruction.suppress_send.Reads as suppress-send-reads
 use Rattle.std.proofs.num.wrapping_add_u32.Reads as wrapping-add-u32-reads
 use Rattle.store.proofs.channel.held.Reads as held-reads
 use Rattle.store.proofs.channel.index32.Reads as index32-reads

@@ -5,8 +5,8 @@ use Rattle.step.proofs.step.step.Statement.{statement}
 use Rattle.step.proofs.step.step.Tie as tie
 use Rattle.step.proofs.step.step.Reads as reads
 use Rattle.step.proofs.step.step.Lts as lts
-use Rattle.process.proofs.instruction.compute.Reads as compute-reads
-use Rattle.process.proofs.instruction.examine.Reads as examine-reads
+use Rattle.instruction.proofs.instruction.compute.Reads as compute-reads
+use Rattle.instruction.proofs.instruction.examine.Reads as examine-reads
 use Rattle.step.proofs.send.send.Reads as send-reads
 use Rattle.step.proofs.take.take.Reads as take-reads
 use Rattle.store.proofs.board.index16.Reads as index16-reads

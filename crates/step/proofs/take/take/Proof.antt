@@ -6,7 +6,7 @@ use Rattle.step.proofs.take.take.Statement.{statement}
 use Rattle.step.proofs.take.take.Tie as tie
 use Rattle.step.proofs.take.take.Reads as reads
 use Rattle.step.proofs.take.take.Lts as lts
-use Rattle.process.proofs.instruction.take_word.Reads as take-word-reads
+use Rattle.instruction.proofs.instruction.take_word.Reads as take-word-reads
 use Rattle.process.proofs.mail.channel_of.Reads as channel-of-reads
 use Rattle.process.proofs.mail.word_of.Reads as word-of-reads
 use Rattle.std.proofs.num.wrapping_sub_u32.Reads as wrapping-sub-u32-reads

@@ -1,0 +1,134 @@
+-- A SET, an ADD or a JUMP: what its stores make of the process.
+-- Assumes nothing.
+use mathlib.Core.Path.{_≡_, refl, ap, sym, _∙_}
+use mathlib.Core.Logic.{_≢_}
+use mathlib.Core.Bool.{Bool, true, false, cond}
+use mathlib.Core.List.{List, [], _∷_}
+use Prim.Native.Nat.{ℕ, zero, suc, _+_, _%_, _^_, _≤_, _<_}
+use native.Mathlib.Omega.{arith}
+use lib.Dec.{eqb}
+use lib.ListN.{length, getD, set}
+use lib.Seq.{getD-set-other}
+use borrow.Author.Tests.{eq-eqb, ne-eqb}
+use Rattle.facts.specs.Tests.{no-way}
+use Rattle.rules.specs.Table.{Instruction}
+use Rattle.rules.specs.Machine.{Mail, Machine, Outcome, noMail, moved, internal, took, next, Pull, nothing, found, take1, first1, pull, bit, execute}
+use Rattle.rules.specs.Format.{instruction}
+use Rattle.rules.specs.Cabinet.{Process}
+use Rattle.rules.specs.Moves.{advanced}
+use Rattle.process.specs.Row.{rowLength, machineOf, standbyOf, processOf, Kept}
+use Rattle.process.specs.Change.{Became}
+use Rattle.instruction.specs.Instruction.{InRange, afterInternal, Intends, bumped, Room, Computes}
+use Rattle.instruction.specs.declared.instruction.Intent.the-variants.{Internal}
+use Rattle.process.proofs.Rows.{spelled}
+use Rattle.instruction.proofs.Examining.{register-is, step-executes}
+use Rattle.instruction.proofs.Cells.{kept-cell, bumped-is, going}
+
+-- ---- the machine after a code
+
+-- a TAKE or a FIRST is none of these
+take1-acts : (a : ℕ) (m m′ : Machine) (q : Pull) → take1 a m q ≡ moved m′ internal → ⊥
+take1-acts a m m′ nothing e = no-way (cc)
+take1-acts a m m′ (found x rest) e = no-way (cc)
+
+first1-acts : (a : ℕ) (m m′ : Machine) (q : Pull) → first1 a m q ≡ moved m′ internal → ⊥
+first1-acts a m m′ nothing e = no-way (cc)
+first1-acts a m m′ (found x rest) e = no-way (cc)
+
+-- all but ADD and JUMP set a register
+is-set : (code a operand : ℕ) (m : Machine) → code ≢ 2 → code ≢ 6 → execute (instruction code a operand) m ≡ moved (afterInternal code a operand m) internal
+    → afterInternal code a operand m ≡ next m (set (m .registers) a operand) (m .mailbox)
+unfolding execute
+is-set zero a operand m x y e = refl
+is-set (suc zero) a operand m x y e = refl
+is-set (suc (suc zero)) a operand m x y e = absurd (x refl)
+is-set (suc (suc (suc zero))) a operand m x y e = absurd (take1-acts a m _ (pull (eqb operand) (m .mailbox)) e)
+is-set (suc (suc (suc (suc zero)))) a operand m x y e = absurd (first1-acts a m _ (pull (bit operand) (m .mailbox)) e)
+is-set (suc (suc (suc (suc (suc zero))))) a operand m x y e = absurd (no-way (cc))
+is-set (suc (suc (suc (suc (suc (suc zero)))))) a operand m x y e = absurd (y refl)
+is-set (suc (suc (suc (suc (suc (suc (suc code))))))) a operand m x y e = refl
+
+-- ---- the stores
+
+-- a register and the place of a machine
+abbrev at : Machine → List ℕ → ℕ → Machine
+at m registers pc = record { registers = registers; pc = pc; mailbox = m .mailbox }
+
+abbrev onlyMachine : Machine → Process → Process
+onlyMachine m x = advanced m (x .taken) (x .events) (x .suppress) x
+
+module _ (row mail log head : List ℕ) (k : Kept row mail log head) where
+  set-process : (a v p : ℕ) → a < 4
+      → processOf (set (set row (2 + a % 4) v) 1 p) mail log head
+      ≡ onlyMachine (at (machineOf row mail) (set (machineOf row mail .registers) a v) p) (processOf row mail log head)
+  unfolding processOf machineOf standbyOf advanced
+  set-process zero v p h = spelled row (λ (r : List ℕ). processOf (set (set r 2 v) 1 p) mail log head) (k .row-length)
+  set-process (suc zero) v p h = spelled row (λ (r : List ℕ). processOf (set (set r 3 v) 1 p) mail log head) (k .row-length)
+  set-process (suc (suc zero)) v p h = spelled row (λ (r : List ℕ). processOf (set (set r 4 v) 1 p) mail log head) (k .row-length)
+  set-process (suc (suc (suc zero))) v p h = spelled row (λ (r : List ℕ). processOf (set (set r 5 v) 1 p) mail log head) (k .row-length)
+  set-process (suc (suc (suc (suc a)))) v p h = absurd (omega arith)
+
+  -- a register and the next place
+  pub set-became : (a v : ℕ) → a < 4 → v < 2 ^ 32 → Room row 1
+      → Became row mail log head (bumped (set row (2 + a % 4) v) 1) mail log head
+      (onlyMachine (next (machineOf row mail) (set (machineOf row mail .registers) a v) (machineOf row mail .mailbox)))
+  unfolding machineOf
+  set-became a v h w r =
+      let i = 2 + a % 4 in
+      let o = getD-set-other row i 1 v 0 (λ e. omega arith) in
+      let s : Room (set row i v) 1 = omega arith in
+      rw (bumped-is (set row i v) 1 s, o)
+      (record {
+        process-is = set-process a v (suc (getD row 1 0)) h;
+        kept-again = kept-cell 1 (suc (getD row 1 0)) (omega arith) (omega arith) (kept-cell i v (omega arith) w k);
+      })
+
+  -- the place alone
+  pub pc-became : (p : ℕ) → p < 2 ^ 32
+      → Became row mail log head (set row 1 p) mail log head (onlyMachine (at (machineOf row mail) (machineOf row mail .registers) p))
+  unfolding processOf machineOf standbyOf advanced
+  pc-became p w = record {
+    process-is = spelled row (λ (r : List ℕ). processOf (set r 1 p) mail log head) (k .row-length);
+    kept-again = kept-cell 1 p (omega arith) w k;
+  }
+
+-- ---- the three instructions
+
+module _ (row : List ℕ) (code a operand : ℕ) where
+  pub computes-set : code ≢ 2 → code ≢ 6 → operand < 2 ^ 32 → Computes row code a operand (bumped (set row (2 + a % 4) operand) 1)
+  computes-set x y w program n mail log head k i =
+      let g = going _ _ i refl in
+      let f = i .fetched in
+      let l = f .few in
+      let e : execute (instruction code a operand) (machineOf row mail) ≡ moved (afterInternal code a operand (machineOf row mail)) internal =
+      sym (step-executes row mail n code a operand program f g) ∙ i .outcome in
+      rw (is-set code a operand (machineOf row mail) x y e) (set-became row mail log head k a operand (f .in-range g .first) w (omega arith))
+
+  pub computes-add : code ≡ 2 → (v : ℕ) → v ≡ (getD row (2 + a % 4) 0 + getD row (2 + operand % 4) 0) % 2 ^ 32
+      → Computes row code a operand (bumped (set row (2 + a % 4) v) 1)
+  unfolding execute machineOf
+  computes-add c v w program n mail log head k i =
+      let g = going _ _ i refl in
+      let f = i .fetched in
+      let l = f .few in
+      let q = f .in-range g in
+      let e : (getD (machineOf row mail .registers) a 0 + getD (machineOf row mail .registers) operand 0) % 2 ^ 32 ≡ v =
+      rw (register-is row a (q .first), register-is row operand (q .second c)) (sym w) in
+      rw (c, e) (set-became row mail log head k a v (q .first) (omega arith) (omega arith))
+
+  pub computes-on : code ≡ 6 → getD row (2 + a % 4) 0 ≡ 0 → Computes row code a operand (bumped row 1)
+  unfolding execute machineOf
+  computes-on c z program n mail log head k i =
+      let g = going _ _ i refl in
+      let f = i .fetched in
+      let l = f .few in
+      let e : eqb (getD (machineOf row mail .registers) a 0) 0 ≡ true = rw (register-is row a (f .in-range g .first)) (eq-eqb _ 0 z) in
+      rw (c, e, bumped-is row 1 (omega arith)) (pc-became row mail log head k (suc (getD row 1 0)) (omega arith))
+
+  pub computes-jump : code ≡ 6 → getD row (2 + a % 4) 0 ≢ 0 → operand < 2 ^ 32 → Computes row code a operand (set row 1 operand)
+  unfolding execute machineOf
+  computes-jump c z w program n mail log head k i =
+      let g = going _ _ i refl in
+      let f = i .fetched in
+      let e : eqb (getD (machineOf row mail .registers) a 0) 0 ≡ false = rw (register-is row a (f .in-range g .first)) (ne-eqb _ 0 z) in
+      rw (c, e) (pc-became row mail log head k operand w)

@@ -1,0 +1,194 @@
+-- A TAKE or a FIRST: a word goes into its registers, leaves the mailbox, and is counted.
+-- Assumes nothing.
+use mathlib.Core.Path.{_≡_, refl, ap, sym, _∙_}
+use mathlib.Core.Logic.{_≢_}
+use mathlib.Core.Bool.{Bool, true, false, cond}
+use mathlib.Core.List.{List, [], _∷_}
+use Prim.Native.Nat.{ℕ, zero, suc, _+_, _-_, _%_, _^_, _≤_, _<_}
+use native.Mathlib.Omega.{arith}
+use lib.Dec.{eqb}
+use lib.ListN.{length, getD, set}
+use lib.Seq.{getD-set-other}
+use borrow.Author.Tests.{eq-eqb, ne-eqb}
+use Rattle.facts.specs.Tests.{by-eq}
+use Rattle.facts.specs.Lists.{removeAt}
+use Rattle.backup.specs.Limits.{logMost, ports}
+use Rattle.rules.specs.Table.{Instruction}
+use Rattle.rules.specs.Machine.{Mail, Machine}
+use Rattle.rules.specs.Cabinet.{Process}
+use Rattle.rules.specs.Moves.{advanced}
+use Rattle.process.specs.Row.{mailIn, mailsIn, machineOf, standbyOf, processOf, Kept}
+use Rattle.process.specs.Change.{Became}
+use Rattle.instruction.specs.Mailbox.{Removed}
+use Rattle.instruction.specs.Instruction.{loaded, loadedIn, Loads, afterTake, bumped, Room, Intends, Takes}
+use Rattle.instruction.specs.declared.instruction.Intent.the-variants.{Take}
+use Rattle.process.proofs.Rows.{spelled}
+use Rattle.instruction.proofs.Cells.{kept-cell, kept-mail, bumped-is, one-less, going}
+
+-- ---- the registers
+
+module _ (row : List ℕ) (code a : ℕ) (x : Mail) where
+  -- cells outside the registers are as they were
+  pub load-other : (k : ℕ) → k ≢ 2 + a % 4 → k ≢ 3 + a % 3 → getD (loadedIn code a x row) k 0 ≡ getD row k 0
+  load-other k h g = go (eqb code 4)
+    where
+      one : getD (set row (2 + a % 4) (x .word)) k 0 ≡ getD row k 0
+      one = getD-set-other row (2 + a % 4) k (x .word) 0 h
+
+      go : (b : Bool) → getD (cond b (set (set row (2 + a % 4) (x .word)) (3 + a % 3) (x .channel)) (set row (2 + a % 4) (x .word))) k 0 ≡ getD row k 0
+      go true = getD-set-other (set row (2 + a % 4) (x .word)) (3 + a % 3) k (x .channel) 0 g ∙ one
+      go false = one
+
+  pub load-kept : {mail log head : List ℕ} → x .word < 2 ^ 32 → x .channel < 2 ^ 32 → Kept row mail log head → Kept (loadedIn code a x row) mail log head
+  load-kept {mail} {log} {head} w v k = go (eqb code 4)
+    where
+      one : Kept (set row (2 + a % 4) (x .word)) mail log head
+      one = kept-cell (2 + a % 4) (x .word) (omega arith) w k
+
+      go : (b : Bool) → Kept (cond b (set (set row (2 + a % 4) (x .word)) (3 + a % 3) (x .channel)) (set row (2 + a % 4) (x .word))) mail log head
+      go true = kept-cell (3 + a % 3) (x .channel) (omega arith) v one
+      go false = one
+
+-- the word and its channel are words
+pub loads-so : (row : List ℕ) (code a x : ℕ) (row′ : List ℕ) → x < 2 ^ 64 → row′ ≡ loadedIn code a (mailIn x) row → Loads row code a x row′
+loads-so row code a x row′ h e = record { is = e; fits = omega arith }
+
+-- a machine with other registers
+abbrev withRegisters : List ℕ → Process → Process
+withRegisters registers x =
+    advanced (record { registers = registers; pc = x .machine .pc; mailbox = x .machine .mailbox }) (x .taken) (x .events) (x .suppress) x
+
+module _ (row mail log head : List ℕ) (l : length row ≡ 15) (x : Mail) where
+  take-process : (a : ℕ) → a < 4
+      → processOf (set row (2 + a % 4) (x .word)) mail log head ≡ withRegisters (set (machineOf row mail .registers) a (x .word)) (processOf row mail log head)
+  unfolding processOf machineOf standbyOf advanced
+  take-process zero h = spelled row (λ (r : List ℕ). processOf (set r 2 (x .word)) mail log head) l
+  take-process (suc zero) h = spelled row (λ (r : List ℕ). processOf (set r 3 (x .word)) mail log head) l
+  take-process (suc (suc zero)) h = spelled row (λ (r : List ℕ). processOf (set r 4 (x .word)) mail log head) l
+  take-process (suc (suc (suc zero))) h = spelled row (λ (r : List ℕ). processOf (set r 5 (x .word)) mail log head) l
+  take-process (suc (suc (suc (suc a)))) h = absurd (omega arith)
+
+  first-process : (a : ℕ) → a < 3
+      → processOf (set (set row (2 + a % 4) (x .word)) (3 + a % 3) (x .channel)) mail log head
+      ≡ withRegisters (set (set (machineOf row mail .registers) a (x .word)) (suc a) (x .channel)) (processOf row mail log head)
+  unfolding processOf machineOf standbyOf advanced
+  first-process zero h = spelled row (λ (r : List ℕ). processOf (set (set r 2 (x .word)) 3 (x .channel)) mail log head) l
+  first-process (suc zero) h = spelled row (λ (r : List ℕ). processOf (set (set r 3 (x .word)) 4 (x .channel)) mail log head) l
+  first-process (suc (suc zero)) h = spelled row (λ (r : List ℕ). processOf (set (set r 4 (x .word)) 5 (x .channel)) mail log head) l
+  first-process (suc (suc (suc a))) h = absurd (omega arith)
+
+  load-process : (code a : ℕ) → a < 4 → (code ≡ 4 → a < 3)
+      → processOf (loadedIn code a x row) mail log head ≡ withRegisters (loaded code a x (machineOf row mail .registers)) (processOf row mail log head)
+  load-process code a h g =
+      by-eq code 4
+      (λ e. rw (eq-eqb code 4 e) (first-process a (g e)))
+      (λ e. rw (ne-eqb code 4 e) (take-process a h))
+
+-- ---- the counters
+
+-- a process with one word less in its mailbox, and its place and its counters moved on
+abbrev counted : List Mail → ℕ → ℕ → ℕ → ℕ → Process → Process
+counted mailbox pc port takes events x =
+    advanced (record { registers = x .machine .registers; pc = pc; mailbox = mailbox }) (set (x .taken) port takes) events (x .suppress) x
+
+count-process : (row mail log head mail′ : List ℕ) → length row ≡ 15 → (u port t e p : ℕ) → port < 4
+    → processOf (set (set (set (set row 14 u) (8 + port % 4) t) 7 e) 1 p) mail′ log head ≡ counted (mailsIn u mail′) p port t e (processOf row mail log head)
+unfolding processOf machineOf standbyOf advanced
+count-process row mail log head mail′ l u zero t e p h = spelled row (λ (r : List ℕ). processOf (set (set (set (set r 14 u) 8 t) 7 e) 1 p) mail′ log head) l
+count-process row mail log head mail′ l u (suc zero) t e p h = spelled row (λ (r : List ℕ). processOf (set (set (set (set r 14 u) 9 t) 7 e) 1 p) mail′ log head) l
+count-process row mail log head mail′ l u (suc (suc zero)) t e p h = spelled row (λ (r : List ℕ). processOf (set (set (set (set r 14 u) 10 t) 7 e) 1 p) mail′ log head) l
+count-process row mail log head mail′ l u (suc (suc (suc zero))) t e p h = spelled row (λ (r : List ℕ). processOf (set (set (set (set r 14 u) 11 t) 7 e) 1 p) mail′ log head) l
+count-process row mail log head mail′ l u (suc (suc (suc (suc port)))) t e p h = absurd (omega arith)
+
+-- three counters of a row, each one more
+counters-bumped : (row : List ℕ) (u port : ℕ) → port < 4 → Room row 1 → Room row 7 → Room row (8 + port)
+    → bumped (bumped (bumped (set row 14 u) (8 + port % 4)) 7) 1
+    ≡ set (set (set (set row 14 u) (8 + port % 4) (suc (getD row (8 + port) 0))) 7 (suc (getD row 7 0))) 1 (suc (getD row 1 0))
+counters-bumped row u port h r1 r7 rp =
+    let i = 8 + port % 4 in
+    let n : i ≡ 8 + port = omega arith in
+    let t = suc (getD row (8 + port) 0) in
+    let e = suc (getD row 7 0) in
+    let a : getD (set row 14 u) i 0 ≡ getD row (8 + port) 0 = getD-set-other row 14 i u 0 (λ z. omega arith) ∙ ap (λ (j : ℕ). getD row j 0) n in
+    let b : getD (set (set row 14 u) i t) 7 0 ≡ getD row 7 0 = getD-set-other (set row 14 u) i 7 t 0 (λ z. omega arith) ∙ getD-set-other row 14 7 u 0 (λ z. omega arith) in
+    let c : getD (set (set (set row 14 u) i t) 7 e) 1 0 ≡ getD row 1 0 =
+    getD-set-other (set (set row 14 u) i t) 7 1 e 0 (λ z. omega arith) ∙ getD-set-other (set row 14 u) i 1 t 0 (λ z. omega arith) ∙ getD-set-other row 14 1 u 0 (λ z. omega arith) in
+    ap (λ (r : List ℕ). bumped (bumped r 7) 1) (bumped-is (set row 14 u) i (omega arith) ∙ ap (λ (v : ℕ). set (set row 14 u) i (suc v)) a)
+    ∙ ap (λ (r : List ℕ). bumped r 1) (bumped-is (set (set row 14 u) i t) 7 (omega arith) ∙ ap (λ (v : ℕ). set (set (set row 14 u) i t) 7 (suc v)) b)
+    ∙ bumped-is (set (set (set row 14 u) i t) 7 e) 1 (omega arith)
+    ∙ ap (λ (v : ℕ). set (set (set (set row 14 u) i t) 7 e) 1 (suc v)) c
+
+-- ---- the two together
+
+-- the port's count in the list of the four
+taken-at : (row mail log head : List ℕ) (port : ℕ) → port < 4 → getD (processOf row mail log head .taken) port 0 ≡ getD row (8 + port) 0
+unfolding processOf
+taken-at row mail log head zero h = refl
+taken-at row mail log head (suc zero) h = refl
+taken-at row mail log head (suc (suc zero)) h = refl
+taken-at row mail log head (suc (suc (suc zero))) h = refl
+taken-at row mail log head (suc (suc (suc (suc port)))) h = absurd (omega arith)
+
+same-counts : {l k : List Mail} {p q t s e f : ℕ} (port : ℕ) (x : Process) → l ≡ k → p ≡ q → t ≡ s → e ≡ f → counted l p port t e x ≡ counted k q port s f x
+same-counts port x a b c d = λ i. counted (a i) (b i) port (c i) (d i) x
+
+module _ (row mail : List ℕ) (code a at port : ℕ) (inside : at < getD row 14 0)
+    (row₁ : List ℕ) (load : Loads row code a (getD mail at 0) row₁)
+    (u : ℕ) (less : (u + 1) % 2 ^ 32 ≡ getD row₁ 14 0) (fits : u < 2 ^ 32)
+    (mail′ : List ℕ) (out : Removed mail (getD row 14 0) at mail′) where
+  pub takes : Takes row mail code a at port (bumped (bumped (bumped (set row₁ 14 u) (8 + port % 4)) 7) 1) mail′
+  unfolding processOf machineOf advanced
+  takes = record { untouched = λ l. absurd (omega arith); became = after }
+    where
+      x : Mail
+      x = mailIn (getD mail at 0)
+
+      same : (k : ℕ) → k < 2 → getD row₁ k 0 ≡ getD row k 0
+      same k h = rw (load .is) (load-other row code a x k (λ e. omega arith) (λ e. omega arith))
+
+      beyond : (k : ℕ) → 5 < k → getD row₁ k 0 ≡ getD row k 0
+      beyond k h = rw (load .is) (load-other row code a x k (λ e. omega arith) (λ e. omega arith))
+
+      after : (program : List Instruction) (n operand : ℕ) (log head : List ℕ) → Kept row mail log head
+          → Intends program row mail n code a operand (Take at) → port < ports → Room row 7 → Room row (8 + port)
+          → Became row mail log head (bumped (bumped (bumped (set row₁ 14 u) (8 + port % 4)) 7) 1) mail′ log head
+          (λ x. advanced (afterTake code a at row mail) (set (x .taken) port (suc (getD (x .taken) port 0))) (suc (x .events)) (x .suppress) x)
+      after program n operand log head k i h r7 rp =
+          let g = going _ _ i refl in
+          let few = i .fetched .few in
+          let q = i .fetched .in-range g in
+          let most = k .unread in
+          let word : x .word < 2 ^ 32 = omega arith in
+          let k₁ : Kept row₁ mail log head = rw (load .is) (load-kept row code a x word (load .fits) k) in
+          let s1 = same 1 (omega arith) in
+          let s7 = beyond 7 (omega arith) in
+          let s14 = beyond 14 (omega arith) in
+          let sp = beyond (8 + port) (omega arith) in
+          let t = suc (getD row₁ (8 + port) 0) in
+          let e = suc (getD row₁ 7 0) in
+          let p = suc (getD row₁ 1 0) in
+          let y : Process = withRegisters (loaded code a x (machineOf row mail .registers)) (processOf row mail log head) in
+          let one : u ≡ getD row 14 0 - 1 = omega arith in
+          let rest : mailsIn u mail′ ≡ removeAt at (mailsIn (getD row 14 0) mail) =
+          ap (λ (c : ℕ). mailsIn c mail′) one ∙ out .rest (k .mail-length) most inside in
+          let loads : processOf row₁ mail log head ≡ y =
+          rw (load .is) (load-process row mail log head (k .row-length) x code a (q .first) (q .pair)) in
+          let port-is = taken-at row mail log head port h in
+          rw (counters-bumped row₁ u port h (omega arith) (omega arith) (omega arith))
+          (record {
+            process-is =
+                count-process row₁ mail log head mail′ (k₁ .row-length) u port t e p h
+                ∙ ap (counted (mailsIn u mail′) p port t e) loads
+                ∙ same-counts port y rest (ap suc s1) (ap suc (sp ∙ sym port-is)) (ap suc s7);
+            kept-again =
+                kept-cell 1 p (omega arith) (omega arith)
+                (kept-cell 7 e (omega arith) (omega arith)
+                (kept-cell (8 + port % 4) t (omega arith) (omega arith) (kept-mail mail′ u (out .same-length) (omega arith) k₁)));
+          })
+
+-- no unread word there, or a mailbox with more words than it can hold
+pub takes-none : (row mail : List ℕ) (code a at port : ℕ) → (getD row 14 0 ≤ logMost → at < getD row 14 0 → ⊥) → Takes row mail code a at port row mail
+takes-none row mail code a at port l = record {
+  untouched = λ h. (refl, refl);
+  became = λ program n operand log head k i h r7 rp. absurd (l (k .unread) (i .inside at refl));
+}

@@ -1,0 +1,22 @@
+use native.Mathlib.Omega.{arith}
+use borrow.Author.Needs.{needs}
+use Rattle.instruction.proofs.instruction.event.Statement.{statement}
+use Rattle.instruction.proofs.instruction.event.Tie as tie
+use Rattle.instruction.proofs.instruction.event.Reads as reads
+use Rattle.instruction.proofs.instruction.event.Lts as lts
+use Rattle.instruction.proofs.instruction.bump.Reads as bump-reads
+
+-- src/instruction.rt:136:5
+bump-requires : tie.Need-bump-requires
+bump-requires c κs = search needs
+
+-- src/instruction.rt:137:5
+bump-requires-2 : tie.Need-bump-requires-2
+bump-requires-2 c κs = search needs
+
+-- src/instruction.rt:133:1
+returns : tie.Need-returns
+returns c = rw (c .bump2 .ensures, c .before .before .bump .ensures)
+
+pub event-spec : {M : Type 1} → statement M
+event-spec = tie.close (tie.spec bump-requires bump-requires-2 returns)

@@ -1,0 +1,135 @@
+-- What the calls on one instruction promise: what it would do is what the rules' `localStep` says, and what it does makes the process
+-- that the rules' `advanced` gives. Document 01: "Instructions, each moving the place on by one unless said".
+-- Assumes nothing.
+use mathlib.Core.Path.{_≡_}
+use mathlib.Core.Bool.{Bool, cond}
+use mathlib.Core.List.{List, [], _∷_}
+use Prim.Native.Nat.{ℕ, suc, _+_, _%_, _^_, _≤_, _<_}
+use lib.Dec.{eqb}
+use lib.ListN.{length, getD, set}
+use Rattle.facts.specs.Lists.{removeAt}
+use Rattle.backup.specs.Limits.{logMost, pcMost, ports}
+use Rattle.rules.specs.Table.{Instruction, SET}
+use Rattle.rules.specs.Machine.{Mail, Machine, Outcome, halted, noMail, moved, internal, took, sent, booted, next, pull, nothing, found, execute, localStep}
+use Rattle.rules.specs.Format.{instruction}
+use Rattle.rules.specs.Cabinet.{Process}
+use Rattle.rules.specs.Moves.{advanced}
+use Rattle.process.specs.Row.{mailIn, mailsIn, machineOf, Kept}
+use Rattle.process.specs.Change.{Became}
+use Rattle.instruction.specs.Mailbox.{names}
+use Rattle.instruction.specs.declared.instruction.Intent.{Intent}
+use Rattle.instruction.specs.declared.instruction.Intent.the-variants.{Halted, NoMail, Internal, Take, Send}
+
+-- ---- the instruction at a process's place
+
+-- what an accepted table says of an instruction's registers: "a at most 2" for FIRST; "Elsewhere a is 0 to 3, and ADD's operand too."
+pub record InRange (code a operand : ℕ) : Type 0 where
+  pub first : a < 4
+  pub second : code ≡ 2 → operand < 4
+  pub pair : code ≡ 4 → a < 3
+
+-- A program of n instructions, 0 to 64, and the numbers of the one at the row's place, unless that is n.
+pub record Fetched (program : List Instruction) (row : List ℕ) (n code a operand : ℕ) : Type 0 where
+  pub length-is : length program ≡ n
+  pub few : n ≤ pcMost
+  pub instruction-is : getD row 1 0 < n → getD program (getD row 1 0) (SET 0 0) ≡ instruction code a operand
+  pub in-range : getD row 1 0 < n → InRange code a operand
+
+-- ---- what it would do
+
+abbrev pub machineAfter : Outcome → Machine
+machineAfter halted = booted
+machineAfter noMail = booted
+machineAfter (moved m act) = m
+
+-- the machine after a SET, an ADD or a JUMP
+abbrev pub afterInternal : ℕ → ℕ → ℕ → Machine → Machine
+afterInternal code a operand m = machineAfter (execute (instruction code a operand) m)
+
+-- after a TAKE or a FIRST of the word at an index of the mailbox: the word goes into register a, of a FIRST its channel into a + 1
+abbrev pub loaded : ℕ → ℕ → Mail → List ℕ → List ℕ
+loaded code a x registers = cond (eqb code 4) (set (set registers a (x .word)) (suc a) (x .channel)) (set registers a (x .word))
+
+abbrev pub afterTake : ℕ → ℕ → ℕ → List ℕ → List ℕ → Machine
+afterTake code a at row mail =
+    let m = machineOf row mail in
+    next m (loaded code a (mailIn (getD mail at 0)) (m .registers)) (removeAt at (m .mailbox))
+
+-- after a SEND
+abbrev pub afterSend : Machine → Machine
+afterSend m = next m (m .registers) (m .mailbox)
+
+-- the outcome that an intent stands for
+abbrev pub outcomeOf : List ℕ → List ℕ → ℕ → ℕ → ℕ → Intent → Outcome
+outcomeOf row mail code a operand Halted = halted
+outcomeOf row mail code a operand NoMail = noMail
+outcomeOf row mail code a operand Internal = moved (afterInternal code a operand (machineOf row mail)) internal
+outcomeOf row mail code a operand (Take at) = moved (afterTake code a at row mail) (took (mailIn (getD mail at 0)))
+outcomeOf row mail code a operand (Send channel word) = moved (afterSend (machineOf row mail)) (sent (record { channel = channel; word = word }))
+
+-- The intent is the instruction's: the rules' local step has its outcome, and the word that it would take is in the mailbox.
+pub record Intends (program : List Instruction) (row mail : List ℕ) (n code a operand : ℕ) (intent : Intent) : Type 0 where
+  pub fetched : Fetched program row n code a operand
+  pub outcome : localStep program (machineOf row mail) ≡ outcomeOf row mail code a operand intent
+  pub inside : (at : ℕ) → intent ≡ Take at → at < getD row 14 0
+
+abbrev pub Examined : List ℕ → List ℕ → ℕ → ℕ → ℕ → ℕ → Intent → Type 0
+Examined row mail n code a operand intent =
+    (program : List Instruction) → Fetched program row n code a operand → getD row 14 0 ≤ logMost → Intends program row mail n code a operand intent
+
+-- a TAKE or a FIRST, from n words
+abbrev pub Sought : List ℕ → ℕ → ℕ → ℕ → Intent → Type 0
+Sought mail n code operand Halted = ⊥
+Sought mail n code operand NoMail = n ≤ logMost → pull (names code operand) (mailsIn n mail) ≡ nothing
+Sought mail n code operand Internal = ⊥
+Sought mail n code operand (Take at) =
+    (at < n) × (n ≤ logMost → pull (names code operand) (mailsIn n mail) ≡ found (mailIn (getD mail at 0)) (removeAt at (mailsIn n mail)))
+Sought mail n code operand (Send channel word) = ⊥
+
+-- ---- what it does to the row
+
+-- one more in a cell
+abbrev pub bumped : List ℕ → ℕ → List ℕ
+bumped row i = set row i ((getD row i 0 + 1) % 2 ^ 32)
+
+-- a word in its registers
+abbrev pub loadedIn : ℕ → ℕ → Mail → List ℕ → List ℕ
+loadedIn code a x row = cond (eqb code 4) (set (set row (2 + a % 4) (x .word)) (3 + a % 3) (x .channel)) (set row (2 + a % 4) (x .word))
+
+-- and that they are words
+pub record Loads (row : List ℕ) (code a x : ℕ) (row′ : List ℕ) : Type 0 where
+  pub is : row′ ≡ loadedIn code a (mailIn x) row
+  pub fits : mailIn x .channel < 2 ^ 32
+
+-- A SET, an ADD or a JUMP was done: machine and nothing else.
+abbrev pub Computes : List ℕ → ℕ → ℕ → ℕ → List ℕ → Type 0
+Computes row code a operand row′ =
+    (program : List Instruction) (n : ℕ) (mail log head : List ℕ) → Kept row mail log head → Intends program row mail n code a operand Internal
+    → Became row mail log head row′ mail log head (λ x. advanced (afterInternal code a operand (machineOf row mail)) (x .taken) (x .events) (x .suppress) x)
+
+-- one more of a counter is still a word
+abbrev pub Room : List ℕ → ℕ → Type 0
+Room row i = getD row i 0 + 1 < 2 ^ 32
+
+-- A word was taken that had come in on a port: machine, one more event, and one more receive on the port. Nothing changes where no
+-- unread word stands there.
+pub record Takes (row mail : List ℕ) (code a at port : ℕ) (row′ mail′ : List ℕ) : Type 0 where
+  pub untouched : getD row 14 0 ≤ at → (row′ ≡ row) × (mail′ ≡ mail)
+  pub became : (program : List Instruction) (n operand : ℕ) (log head : List ℕ) → Kept row mail log head
+      → Intends program row mail n code a operand (Take at) → port < ports → Room row 7 → Room row (8 + port)
+      → Became row mail log head row′ mail′ log head
+      (λ x. advanced (afterTake code a at row mail) (set (x .taken) port (suc (getD (x .taken) port 0))) (suc (x .events)) (x .suppress) x)
+
+-- A SEND was suppressed: machine, and one less to suppress.
+abbrev pub Suppresses : List ℕ → List ℕ → Type 0
+Suppresses row row′ =
+    (program : List Instruction) (n code a operand channel word left : ℕ) (mail log head : List ℕ) → Kept row mail log head
+    → Intends program row mail n code a operand (Send channel word) → getD row 6 0 ≡ suc left
+    → Became row mail log head row′ mail log head (λ x. advanced (afterSend (machineOf row mail)) (x .taken) (x .events) left x)
+
+-- A SEND was queued, there being none to suppress: machine, and one more event.
+abbrev pub Queues : List ℕ → List ℕ → Type 0
+Queues row row′ =
+    (program : List Instruction) (n code a operand channel word : ℕ) (mail log head : List ℕ) → Kept row mail log head
+    → Intends program row mail n code a operand (Send channel word) → getD row 6 0 ≡ 0 → Room row 7
+    → Became row mail log head row′ mail log head (λ x. advanced (afterSend (machineOf row mail)) (x .taken) (suc (x .events)) 0 x)

@@ -1,0 +1,189 @@
+// One instruction of a process: what it would do, looked at before anything is changed, and then what it does to the process's row and
+// mailbox. Document 01: "Instructions, each moving the place on by one unless said". Codes 1 to 6 are SET, ADD, TAKE, FIRST, SEND and
+// JUMP; no other is in an accepted table, and one is a SET here as in the rules.
+ghost use mathlib.Core.Path.{_≡_};
+ghost use Prim.Native.Nat.{_+_, _%_, _^_, _<_};
+ghost use lib.ListN.{getD};
+ghost use Rattle.instruction.specs.Instruction.{bumped, Loads, Examined, Sought, Computes, Takes, Suppresses, Queues};
+use crate::mailbox::look;
+use crate::mailbox::remove;
+use process::mail::MAIL;
+use process::mail::channel_of;
+use process::mail::word_of;
+use process::row::EVENTS;
+use process::row::PC;
+use process::row::R0;
+use process::row::R1;
+use process::row::ROW;
+use process::row::SUPPRESS;
+use process::row::T0;
+use process::row::UNREAD;
+use process::row::wide;
+
+// What the instruction at a process's place would do.
+pub enum Intent {
+    // nothing: it is halted
+    Halted,
+    // nothing: a TAKE or a FIRST finds no such word
+    NoMail,
+    // a SET, an ADD or a JUMP
+    Internal,
+    // a TAKE or a FIRST of the word at this index of the mailbox
+    Take { at: usize },
+    // a SEND of this word to this channel
+    Send { channel: u32, word: u32 },
+}
+
+// The cell of register a; a is 0 to 3, and any other number stands for one of these.
+fn cell(a: u32) -> usize
+    ensures { λ r. ⌜ r ≡ 2 + a % 4 ⌝ }
+{
+    R0 + wide(a % 4)
+}
+
+// The cell of register a + 1, a being 0 to 2.
+fn next_cell(a: u32) -> usize
+    ensures { λ r. ⌜ r ≡ 3 + a % 3 ⌝ }
+{
+    R1 + wide(a % 3)
+}
+
+fn register(row: &[u32; ROW], a: u32) -> u32
+    ensures { λ r. ⌜ r ≡ getD (now (row .entry)) (2 + a % 4) 0 ⌝ }
+{
+    row[cell(a)]
+}
+
+// One more in a cell of the row.
+fn bump(row: &mut [u32; ROW], i: usize)
+    requires { ⌜ i < 15 ⌝ }
+    ensures { λ _. ⌜ now (row .exit) ≡ bumped (now (row .entry)) i ⌝ }
+{
+    row[i] = std::num::wrapping_add_u32(row[i], 1);
+}
+
+// A TAKE or a FIRST would take the oldest word that it names.
+fn seek(mail: &[u64; MAIL], unread: usize, code: u8, operand: u32) -> Intent
+    ensures { λ r. ⌜ Sought (now (mail .entry)) unread code operand r ⌝ }
+{
+    let at = look(mail, unread, code, operand);
+    if at < unread {
+        Intent::Take { at: at }
+    } else {
+        Intent::NoMail
+    }
+}
+
+// What the instruction with this code, a and operand would do, `length` being how many the program has. Nothing is changed.
+pub fn examine(
+    row: &[u32; ROW],
+    mail: &[u64; MAIL],
+    length: u32,
+    code: u8,
+    a: u32,
+    operand: u32,
+) -> Intent
+    ensures { λ r. ⌜ Examined (now (row .entry)) (now (mail .entry)) length code a operand r ⌝ }
+{
+    if row[PC] >= length {
+        return Intent::Halted;
+    }
+    match code {
+        1 | 2 | 6 => Intent::Internal,
+        3 | 4 => seek(mail, wide(row[UNREAD]), code, operand),
+        5 => Intent::Send {
+            channel: operand,
+            word: register(row, a),
+        },
+        _ => Intent::Internal,
+    }
+}
+
+// ADD: register a plus register b, modulo 2^32.
+fn sum(row: &[u32; ROW], a: u32, b: u32) -> u32
+    ensures { λ r. ⌜ r ≡ (getD (now (row .entry)) (2 + a % 4) 0 + getD (now (row .entry)) (2 + b % 4) 0) % 2 ^ 32 ⌝ }
+{
+    std::num::wrapping_add_u32(register(row, a), register(row, b))
+}
+
+// A SET, an ADD or a JUMP is done.
+pub fn compute(row: &mut [u32; ROW], code: u8, a: u32, operand: u32)
+    ensures { λ _. ⌜ Computes (now (row .entry)) code a operand (now (row .exit)) ⌝ }
+{
+    match code {
+        2 => {
+            row[cell(a)] = sum(row, a, operand);
+            bump(row, PC);
+        }
+        6 => {
+            if register(row, a) == 0 {
+                bump(row, PC);
+            } else {
+                row[PC] = operand;
+            }
+        }
+        _ => {
+            row[cell(a)] = operand;
+            bump(row, PC);
+        }
+    }
+}
+
+// One more event, and the place moves on.
+fn event(row: &mut [u32; ROW])
+    ensures { λ _. ⌜ now (row .exit) ≡ bumped (bumped (now (row .entry)) 7) 1 ⌝ }
+{
+    bump(row, EVENTS);
+    bump(row, PC);
+}
+
+// A word goes into register a; of a FIRST its channel goes into register a + 1.
+fn load(row: &mut [u32; ROW], code: u8, a: u32, x: u64)
+    ensures { λ _. ⌜ Loads (now (row .entry)) code a x (now (row .exit)) ⌝ }
+{
+    row[cell(a)] = word_of(x);
+    if code == 4 {
+        row[next_cell(a)] = channel_of(x);
+    }
+}
+
+// A TAKE or a FIRST is done: the word at an index of the mailbox leaves it, and counts as one more event and one more receive on its
+// port. Where no unread word stands there nothing changes.
+pub fn take_word(
+    row: &mut [u32; ROW],
+    mail: &mut [u64; MAIL],
+    code: u8,
+    a: u32,
+    at: usize,
+    port: u32,
+)
+    ensures { λ _. ⌜ Takes (now (row .entry)) (now (mail .entry)) code a at port (now (row .exit)) (now (mail .exit)) ⌝ }
+{
+    let unread = wide(row[UNREAD]);
+    if unread > MAIL {
+        return;
+    }
+    if at >= unread {
+        return;
+    }
+    load(row, code, a, mail[at]);
+    remove(mail, unread, at);
+    row[UNREAD] = std::num::wrapping_sub_u32(row[UNREAD], 1);
+    bump(row, T0 + wide(port % 4));
+    event(row);
+}
+
+// A SEND is done that is to be suppressed: one less is left to suppress.
+pub fn suppress_send(row: &mut [u32; ROW])
+    ensures { λ _. ⌜ Suppresses (now (row .entry)) (now (row .exit)) ⌝ }
+{
+    row[SUPPRESS] = std::num::wrapping_sub_u32(row[SUPPRESS], 1);
+    bump(row, PC);
+}
+
+// A SEND is done whose word joins the outbox: one more event.
+pub fn queue_send(row: &mut [u32; ROW])
+    ensures { λ _. ⌜ Queues (now (row .entry)) (now (row .exit)) ⌝ }
+{
+    event(row);
+}
