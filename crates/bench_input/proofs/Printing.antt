@@ -5,7 +5,7 @@ use mathlib.Core.Bool.{Bool, true, false, cond}
 use mathlib.Core.List.{List, [], _∷_, _++_}
 use Prim.Native.Nat.{ℕ, zero, suc, _+_, _-_, _≤_, _<_, min}
 use native.Mathlib.Omega.{arith}
-use lib.ListN.{length, take, drop, length-drop}
+use lib.ListN.{length, take, drop, length-append, length-drop}
 use lib.Seq.{length-take-le, take-all, take-length, drop-length}
 use Rattle.facts.specs.Tests.{by-lt}
 use Rattle.facts.specs.Lists.{part-rest}
@@ -65,6 +65,17 @@ cut-schedule input n =
     (λ h. let e : min n (length input) ≡ n = omega arith in ap (λ (k : ℕ). drop k input) e)
     (λ h. let e : min n (length input) ≡ length input = omega arith in ap (λ (k : ℕ). drop k input) e ∙ drop-length input ∙ sym (drop-all n input h))
 
+-- what was returned is within the buffer
+written-within : (page out : List ℕ) (r : ℕ) (out′ : List ℕ) → Written page out r out′ → r ≤ length out′
+written-within page out r out′ w =
+    by-lt (length out) (length page)
+    (λ h. let e = w .no-room h in omega arith)
+    (λ h.
+    let e = w .long h in
+    let f = ap length (w .fits h) in
+    let g = length-append page (drop (length page) out) in
+    omega arith)
+
 pub benched : (input : List ℕ) (field : ℕ) → field ≡ lengthField input → (n : ℕ) → n ≡ min (2 + field) (length input) → (out : List ℕ) (r : ℕ) (out′ : List ℕ)
     → RunPrinted (take n input) (take (length input - n) (drop n input)) out r out′ → Benched input out r out′
 benched input field e n f out r out′ w =
@@ -75,5 +86,7 @@ benched input field e n f out r out′ w =
     record {
       wrote = subst (λ (p : List ℕ). Written p out r out′) page (w .wrote);
       room = subst (λ (p : List ℕ). length p ≤ pageRoom) page (w .room);
+      within = written-within _ out r out′ (w .wrote);
+      part = part-long out′ r (written-within _ out r out′ (w .wrote));
       whole = λ h more. enough input more h;
     }

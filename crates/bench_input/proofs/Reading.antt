@@ -133,7 +133,7 @@ long-bench have more h =
     ∙ parts-page have
 
 -- the three answers
-wanted-short : (have : List ℕ) → length have < 2 → wantedOf have ≡ 2
+pub wanted-short : (have : List ℕ) → length have < 2 → wantedOf have ≡ 2
 wanted-short have s = ap (λ (b : Bool). cond b 2 (cond (ltb tableMost (lengthField have)) 2 (2 + lengthField have + scheduleRead))) (lt-ltb (length have) 2 s)
 
 wanted-later : (have : List ℕ) → 2 ≤ length have → wantedOf have ≡ cond (ltb tableMost (lengthField have)) 2 (2 + lengthField have + scheduleRead)
@@ -144,6 +144,15 @@ wanted-over have l h = wanted-later have l ∙ ap (λ (b : Bool). cond b 2 (2 + 
 
 wanted-all : (have : List ℕ) → 2 ≤ length have → lengthField have ≤ tableMost → wantedOf have ≡ 2 + lengthField have + scheduleRead
 wanted-all have l h = wanted-later have l ∙ ap (λ (b : Bool). cond b 2 (2 + lengthField have + scheduleRead)) (le-ltb tableMost (lengthField have) h)
+
+-- two at least
+pub wanted-least : (have : List ℕ) → 2 ≤ wantedOf have
+wanted-least have = go (ltb (length have) 2) (ltb tableMost (lengthField have))
+  where
+    go : (a b : Bool) → 2 ≤ cond a 2 (cond b 2 (2 + lengthField have + scheduleRead))
+    go true b = omega arith
+    go false true = omega arith
+    go false false = omega arith
 
 pub enough : (have more : List ℕ) → wantedOf have ≤ length have → benchPage (have ++ more) ≡ benchPage have
 enough have more h =

@@ -3,7 +3,7 @@
 use mathlib.Core.Path.{_≡_}
 use mathlib.Core.List.{List, _++_}
 use Prim.Native.Nat.{ℕ, _+_, _*_, _≤_}
-use lib.ListN.{length}
+use lib.ListN.{length, take}
 use Rattle.rules.specs.Format.{processesMost, processesIn}
 use Rattle.rules.specs.Schedule.{commandsMost}
 use Rattle.rules.specs.Run.{Ran, run}
@@ -35,5 +35,8 @@ pub record Benched (input out : List ℕ) (r : ℕ) (out′ : List ℕ) : Type 0
   pub wrote : Written (benchPage input) out r out′
   -- a buffer of this size is long enough for the page of every input
   pub room : length (benchPage input) ≤ pageRoom
+  -- what is returned counts bytes of the buffer (the second part follows; a caller's `&out[..r]` asks for it)
+  pub within : r ≤ length out′
+  pub part : r ≡ length (take r out′)
   -- where as many bytes were read as are wanted, it is the page of all the input, whatever else that has
   pub whole : wantedOf input ≤ length input → (more : List ℕ) → benchPage (input ++ more) ≡ benchPage input
