@@ -1,0 +1,2 @@
+-- Proofs of the program's reading.
+pub mod Taking

@@ -1,0 +1,56 @@
+// The bench program: "The program reads the table (as long as its length bytes say) and then, up to the end of input, the schedule from
+// standard input", and prints the page (document 01, "The bench program's page").
+//
+// What it prints is `benchPage` of the bytes that it has read (`bench`), and where it read as many as are wanted that is the page of all of
+// standard input, whatever else that has (`wanted`). Of `read` this assumes what no contract says: that bytes come in the input's order, and
+// fewer than asked for only where the input ends. A read that fails counts as the input's end. A write that fails ends the program.
+ghost use Prim.Native.Nat.{_≤_};
+ghost use lib.ListN.{length};
+ghost use Rattle.bench.specs.Took.{Filled, Took};
+use bench_input::bench::bench;
+use bench_input::wanted::wanted;
+use libc::STDIN_FILENO;
+use libc::STDOUT_FILENO;
+
+// Reads into a part of a buffer until it is full or the input ends: where it ended.
+fn read_part(input: &mut [u8], from: usize, to: usize) -> usize
+    requires { ⌜ from ≤ to ⌝ }
+    requires { ⌜ to ≤ length (now input) ⌝ }
+    ensures { λ r. ⌜ Filled (now (input .entry)) from to r (now (input .exit)) ⌝ }
+{
+    from + io::read_full(STDIN_FILENO, &mut input[from..to])
+}
+
+fn least(a: usize, b: usize) -> usize
+    ensures { λ r. ⌜ (r ≤ a) × (r ≤ b) ⌝ }
+{
+    if a < b { a } else { b }
+}
+
+// Reads as many bytes as are wanted, or all that there are, or as many as have room: how many.
+fn read_input(input: &mut [u8]) -> usize
+    ensures { λ r. ⌜ Took r (now (input .exit)) ⌝ }
+{
+    if input.len() < 2 {
+        return 0;
+    }
+    let first = read_part(input, 0, 2);
+    if first < 2 {
+        return first;
+    }
+    let end = least(wanted(&input[..2]), input.len());
+    if end <= 2 {
+        return 2;
+    }
+    read_part(input, 2, end)
+}
+
+fn main() {
+    // The longest table, and one byte more than the longest schedule.
+    let mut input = [0u8; 66266];
+    // The longest page.
+    let mut page = [0u8; 251158];
+    let n = read_input(&mut input);
+    let length = bench(&input[..n], &mut page);
+    io::write_all(STDOUT_FILENO, &page[..length]);
+}

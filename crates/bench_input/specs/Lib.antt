@@ -1,0 +1,3 @@
+-- What the bench program's two calls promise.
+pub mod Wanted
+pub mod Benched

@@ -1,0 +1,57 @@
+// The page of what was read: "The program reads the table (as long as its length bytes say) and then, up to the end of input, the schedule
+// from standard input. Input that ends early is run as it is."
+ghost use mathlib.Core.Path.{_≡_};
+ghost use Prim.Native.Nat.{_≤_, min};
+ghost use Rattle.cabinet.specs.Runs.{ranBy};
+ghost use Rattle.bench_input.specs.Benched.{Printed, RunPrinted, Benched};
+use crate::bytes::byte;
+use crate::bytes::length_field;
+use crate::bytes::wide;
+use cabinet::run::run;
+use page::write_page;
+
+// "Byte 4: processes P".
+const PROCESSES: usize = 4;
+
+// What a run returned and wrote, as a page.
+fn print(
+    number: u8,
+    records: usize,
+    quiet: bool,
+    answers: &[u8],
+    processes: usize,
+    report: &[u8],
+    out: &mut [u8],
+) -> usize
+    ensures { λ r. ⌜ Printed processes (ranBy number records quiet (now (answers .entry)) (now (report .entry))) (now (out .entry)) r (now (out .exit)) ⌝ }
+{
+    write_page(number, records, quiet, answers, processes, report, out)
+}
+
+// A run with buffers for 10,000 answers and 16 processes, and its page.
+fn run_page(table: &[u8], schedule: &[u8], out: &mut [u8]) -> usize
+    ensures { λ r. ⌜ RunPrinted (now (table .entry)) (now (schedule .entry)) (now (out .entry)) r (now (out .exit)) ⌝ }
+{
+    let mut answers = [0u8; 60000];
+    let mut report = [0u8; 320];
+    let v = run(table, schedule, &mut answers, &mut report);
+    let number = v.number;
+    let records = v.records;
+    let quiet = v.quiet;
+    let processes = wide(byte(table, PROCESSES));
+    print(number, records, quiet, &answers, processes, &report, out)
+}
+
+fn least(a: usize, b: usize) -> usize
+    ensures { λ r. ⌜ (r ≡ min a b) × (r ≤ b) ⌝ }
+{
+    if a < b { a } else { b }
+}
+
+// The input is cut where its length bytes say that the table ends.
+pub fn bench(input: &[u8], out: &mut [u8]) -> usize
+    ensures { λ r. ⌜ Benched (now (input .entry)) (now (out .entry)) r (now (out .exit)) ⌝ }
+{
+    let n = least(2 + length_field(input), input.len());
+    run_page(&input[..n], &input[n..], out)
+}

@@ -1,0 +1,32 @@
+// Bytes of the input as numbers. Past its end a byte is 0, as in the definitions.
+ghost use mathlib.Core.Path.{_≡_};
+ghost use Prim.Native.Nat.{_≤_};
+ghost use Rattle.rules.specs.Bytes.{byteAt, number16};
+ghost use Rattle.rules.specs.Format.{lengthField};
+
+pub fn byte(s: &[u8], i: usize) -> u8
+    ensures { λ r. ⌜ r ≡ byteAt (now (s .entry)) i ⌝ }
+{
+    if i < s.len() { s[i] } else { 0 }
+}
+
+// The same number, wider.
+pub fn wide(x: u8) -> usize
+    ensures { λ r. ⌜ r ≡ x ⌝ }
+{
+    x as usize
+}
+
+// Two bytes as a number, the higher first.
+fn pair(b1: u8, b0: u8) -> usize
+    ensures { λ r. ⌜ (r ≡ number16 b1 b0) × (r ≤ 65535) ⌝ }
+{
+    wide(b1) * 256 + wide(b0)
+}
+
+// "Bytes 0 and 1: the length of all that follows them".
+pub fn length_field(s: &[u8]) -> usize
+    ensures { λ r. ⌜ (r ≡ lengthField (now (s .entry))) × (r ≤ 65535) ⌝ }
+{
+    pair(byte(s, 0), byte(s, 1))
+}
