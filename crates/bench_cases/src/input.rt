@@ -15,7 +15,43 @@ pub const NOWHERE: usize = 1000000;
 
 // Document 01's sample.
 const SAMPLE: [u8; 37] = [
-    0, 35, 1, 2, 1, 2, 255, 0, 0, 255, 0, 1, 4, 3, 0, 0, 0, 0, 0, 2, 1, 0, 0, 0, 0, 5, 1, 0, 0, 0, 1, 6, 0, 0, 0, 0, 0,
+    0,
+    35,
+    1,
+    2,
+    1,
+    2,
+    255,
+    0,
+    0,
+    255,
+    0,
+    1,
+    4,
+    3,
+    0,
+    0,
+    0,
+    0,
+    0,
+    2,
+    1,
+    0,
+    0,
+    0,
+    0,
+    5,
+    1,
+    0,
+    0,
+    0,
+    1,
+    6,
+    0,
+    0,
+    0,
+    0,
+    0,
 ];
 
 fn low(x: usize) -> u8 {
@@ -108,7 +144,11 @@ fn record_byte(r: usize, byte: usize) -> u8 {
     if byte < 2 {
         return head[byte];
     }
-    if head[0] == 4 { low(h % 65536 + 64 * (byte % 8)) } else { 0 }
+    if head[0] == 4 {
+        low(h % 65536 + 64 * (byte % 8))
+    } else {
+        0
+    }
 }
 
 fn schedule_byte(c: Case, i: usize) -> u8 {

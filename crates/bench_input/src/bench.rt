@@ -4,11 +4,11 @@ ghost use mathlib.Core.Path.{_≡_};
 ghost use Prim.Native.Nat.{_≤_, min};
 ghost use Rattle.cabinet.specs.Runs.{ranBy};
 ghost use Rattle.bench_input.specs.Benched.{Printed, RunPrinted, Benched};
-use crate::bytes::byte;
 use crate::bytes::length_field;
-use crate::bytes::wide;
 use cabinet::run::run;
 use page::write_page;
+use sixes::bytes::byte;
+use sixes::bytes::wide;
 
 // "Byte 4: processes P".
 const PROCESSES: usize = 4;

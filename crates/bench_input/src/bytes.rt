@@ -1,21 +1,10 @@
-// Bytes of the input as numbers. Past its end a byte is 0, as in the definitions.
+// The length field of the input. Past its end a byte is 0, as in the definitions.
 ghost use mathlib.Core.Path.{_≡_};
 ghost use Prim.Native.Nat.{_≤_};
-ghost use Rattle.rules.specs.Bytes.{byteAt, number16};
+ghost use Rattle.rules.specs.Bytes.{number16};
 ghost use Rattle.rules.specs.Format.{lengthField};
-
-pub fn byte(s: &[u8], i: usize) -> u8
-    ensures { λ r. ⌜ r ≡ byteAt (now (s .entry)) i ⌝ }
-{
-    if i < s.len() { s[i] } else { 0 }
-}
-
-// The same number, wider.
-pub fn wide(x: u8) -> usize
-    ensures { λ r. ⌜ r ≡ x ⌝ }
-{
-    x as usize
-}
+use sixes::bytes::byte;
+use sixes::bytes::wide;
 
 // Two bytes as a number, the higher first.
 fn pair(b1: u8, b0: u8) -> usize

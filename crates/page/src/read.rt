@@ -5,16 +5,10 @@ ghost use Rattle.rules.specs.Bytes.{byteAt};
 ghost use Rattle.rules.specs.Page.{registerAt};
 ghost use Rattle.page.specs.Put.{most};
 
-fn octet(bytes: &[u8], i: usize) -> u8
-    ensures { λ r. ⌜ r ≡ byteAt (now (bytes .entry)) i ⌝ }
-{
-    if i < bytes.len() { bytes[i] } else { 0 }
-}
-
 pub fn byte(bytes: &[u8], i: usize) -> u64
     ensures { λ r. ⌜ (r ≡ byteAt (now (bytes .entry)) i) × (r < 256) ⌝ }
 {
-    octet(bytes, i) as u64
+    sixes::bytes::byte(bytes, i) as u64
 }
 
 // A word in four bytes, the highest first.

@@ -7,8 +7,8 @@ use Rattle.bench_input.proofs.bench.run_page.Tie as tie
 use Rattle.bench_input.proofs.bench.run_page.Reads as reads
 use Rattle.bench_input.proofs.bench.run_page.Lts as lts
 use Rattle.bench_input.proofs.bench.print.Reads as print-reads
-use Rattle.bench_input.proofs.bytes.byte.Reads as byte-reads
-use Rattle.bench_input.proofs.bytes.wide.Reads as wide-reads
+use Rattle.sixes.proofs.bytes.byte.Reads as byte-reads
+use Rattle.sixes.proofs.bytes.wide.Reads as wide-reads
 use Rattle.cabinet.proofs.run.run.Reads as run-reads
 
 -- src/bench.rt:37:34
