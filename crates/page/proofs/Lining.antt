@@ -1,16 +1,16 @@
 -- The page's lines: each from its words, and all of them one behind the other.
 -- Assumes nothing.
-use mathlib.Core.Path.{_≡_, refl, ap, sym, _∙_, subst}
+use mathlib.Core.Path.{_≡_, refl, ap, _∙_, subst}
 use mathlib.Core.List.{List, [], _∷_, _++_}
-use Prim.Native.Nat.{ℕ, zero, suc, _+_, _-_, _*_, _^_, _≤_, _<_}
+use Prim.Native.Nat.{ℕ, suc, _+_, _-_, _*_, _^_, _≤_, _<_}
 use native.Mathlib.Omega.{arith}
-use lib.ListN.{length, getD, drop}
+use lib.ListN.{drop}
 use lib.Seq.{getD-drop, drop-drop}
-use Rattle.rules.specs.Bytes.{byteAt, number32, sixes}
-use Rattle.rules.specs.Moves.{Numbers, numbered}
+use Rattle.rules.specs.Bytes.{byteAt, number32}
+use Rattle.rules.specs.Moves.{numbered}
 use Rattle.rules.specs.Transparency.{readAnswers}
 use Rattle.rules.specs.Page.{decimal, line, processText, answerLine, answerLines, registerAt, processLine, processLines}
-use Rattle.page.specs.Put.{most, Put, answerAt, registersLine, stateLine}
+use Rattle.page.specs.Put.{Put, answerAt, registersLine, stateLine}
 use Rattle.page.proofs.Putting.{Going, going-start, going-on, going-end, line-then}
 
 -- ---- a word that is a number

@@ -5,16 +5,15 @@ use mathlib.Core.Bool.{Bool, true, false, cond}
 use mathlib.Core.List.{List, [], _∷_, _++_}
 use Prim.Native.Nat.{ℕ, zero, suc, _+_, _-_, _*_, _/_, _%_, _^_, _≤_, _<_}
 use native.Mathlib.Omega.{arith}
-use lib.Dec.{eqb, ltb}
+use lib.Dec.{ltb}
 use lib.ListN.{length, drop, length-append}
 use lib.Seq.{sets, sets-eq}
 use borrow.Author.Tests.{ne-eqb}
 use Rattle.facts.specs.Tests.{by-lt}
-use Rattle.rules.specs.Bytes.{byteAt, sixes, written}
+use Rattle.rules.specs.Bytes.{byteAt, written}
 use Rattle.rules.specs.Moves.{Numbers, numbered}
-use Rattle.rules.specs.Run.{Ran}
 use Rattle.rules.specs.Transparency.{readAnswers}
-use Rattle.rules.specs.Page.{digits, decimal, spaced, line, recordsText, quietText, refusedText, refusedLine, answerLine, answerLines, registerAt, processText, processLine, processLines, quietLine, acceptedPage, pageOf}
+use Rattle.rules.specs.Page.{digits, decimal, line, recordsText, quietText, refusedText, refusedLine, answerLine, answerLines, registerAt, processText, processLine, processLines, quietLine, acceptedPage, pageOf}
 use Rattle.page.specs.Put.{most, Put}
 use Rattle.page.specs.Written.{ranBy, Written}
 use Rattle.page.proofs.Putting.{put-then, line-then, line-more}

@@ -47,6 +47,7 @@ pub mod Cases
 pub mod Marked
 pub mod MoveCases
 pub mod FormatCases
+pub mod PageCases
 pub mod ReferenceCases
 -- Demand 3 of every accepted run.
 pub mod Theorem
