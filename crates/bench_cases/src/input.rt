@@ -1,13 +1,12 @@
 // The inputs of the cases, each a table and a schedule given byte by byte: a byte is a number that its place makes, so that the same input is
 // soon written in another language.
 
-// The sample, or the largest table; one byte of the input that is changed; the schedule's length field and version.
+// The sample, or the largest table; one byte of the input that is changed; the schedule's length field.
 pub struct Case {
     pub large: bool,
     pub at: usize,
     pub byte: u8,
     pub field: usize,
-    pub version: u8,
 }
 
 // No byte is changed at this place.
@@ -81,25 +80,40 @@ fn word_byte(word: usize, byte: usize) -> u8 {
 }
 
 // Instruction j of process p: FIRST of its two channels, ADD, SEND, and SET or, at the end, JUMP to the start.
-fn instruction_byte(p: usize, j: usize, byte: usize) -> u8 {
-    let head = if j == 63 {
-        [6, 2]
-    } else {
-        match j % 4 {
-            0 => [4, 0],
-            1 => [2, 2],
-            2 => [5, 2],
-            _ => [1, 3],
-        }
-    };
-    if byte < 2 {
-        return head[byte];
+fn code(j: usize) -> u8 {
+    match j {
+        63 => 6,
+        _ => match j % 4 {
+            0 => 4,
+            1 => 2,
+            2 => 5,
+            _ => 1,
+        },
     }
+}
+
+fn register(j: usize) -> u8 {
     match j % 4 {
-        0 => bit_byte(p, byte - 2) | bit_byte(16 + (p % 16 + 15) % 16, byte - 2),
+        0 => 0,
+        3 => if j == 63 { 2 } else { 3 },
+        _ => 2,
+    }
+}
+
+fn operand_byte(p: usize, j: usize, byte: usize) -> u8 {
+    match j % 4 {
+        0 => bit_byte(p, byte) | bit_byte(16 + (p % 16 + 15) % 16, byte),
         1 => 0,
-        2 => word_byte(16 + p % 16, byte - 2),
-        _ => if j == 63 { 0 } else { word_byte(j, byte - 2) },
+        2 => word_byte(16 + p % 16, byte),
+        _ => if j == 63 { 0 } else { word_byte(j, byte) },
+    }
+}
+
+fn instruction_byte(p: usize, j: usize, byte: usize) -> u8 {
+    match byte {
+        0 => code(j),
+        1 => register(j),
+        _ => operand_byte(p, j, byte - 2),
     }
 }
 
@@ -126,28 +140,37 @@ fn large_byte(i: usize) -> u8 {
 }
 
 // Record r: steps, carries, syncs and feeds by turns that differ, among them some of things that no table has, and now and then a crash.
-fn record_byte(r: usize, byte: usize) -> u8 {
-    let h = (r % 65536 * 7919 + 31) % 65521;
-    let kind = h % 16;
-    let some = h / 16;
-    let head = if r % 1000 == 999 {
-        [5, low(some % 17)]
-    } else if kind < 9 {
-        [1, low(some % 17)]
-    } else if kind < 11 {
-        [3, low(some % 17)]
-    } else if kind < 12 {
-        [2, low(some % 17)]
-    } else {
-        [4, low(some % 33)]
-    };
-    if byte < 2 {
-        return head[byte];
+fn turn(r: usize) -> usize {
+    (r % 65536 * 7919 + 31) % 65521
+}
+
+fn kind(r: usize) -> u8 {
+    if r % 1000 == 999 {
+        return 5;
     }
-    if head[0] == 4 {
-        low(h % 65536 + 64 * (byte % 8))
-    } else {
-        0
+    match turn(r) % 16 {
+        0..=8 => 1,
+        9 | 10 => 3,
+        11 => 2,
+        _ => 4,
+    }
+}
+
+fn record_byte(r: usize, byte: usize) -> u8 {
+    let kind = kind(r);
+    let turn = turn(r) % 65536;
+    match byte {
+        0 => kind,
+        1 => if kind == 4 {
+            low(turn / 16 % 33)
+        } else {
+            low(turn / 16 % 17)
+        },
+        _ => if kind == 4 {
+            low(turn + 64 * (byte % 8))
+        } else {
+            0
+        },
     }
 }
 
@@ -155,7 +178,7 @@ fn schedule_byte(c: Case, i: usize) -> u8 {
     match i {
         0 => low(c.field / 256),
         1 => low(c.field),
-        2 => c.version,
+        2 => 1,
         _ => record_byte((i - 3) / 6, (i - 3) % 6),
     }
 }

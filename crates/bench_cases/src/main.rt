@@ -70,79 +70,91 @@ fn case(name: &[u8], c: Case, length: usize) {
     run_case(name, front(&input, length));
 }
 
-fn sound(large: bool, field: usize) -> Case {
-    Case {
-        large: large,
-        at: NOWHERE,
-        byte: 0,
-        field: field,
-        version: 1,
-    }
+// The sample and a schedule with this length field, and so many bytes of both.
+fn sample(name: &[u8], field: usize, length: usize) {
+    changed(name, NOWHERE, 0, field, length);
 }
 
-fn changed(large: bool, at: usize, byte: u8, field: usize) -> Case {
-    Case {
-        large: large,
+// A byte of the input is changed.
+fn changed(name: &[u8], at: usize, byte: u8, field: usize, length: usize) {
+    let c = Case {
+        large: false,
         at: at,
         byte: byte,
         field: field,
-        version: 1,
-    }
+    };
+    case(name, c, length);
+}
+
+// The same with the largest table.
+fn largest(name: &[u8], at: usize, byte: u8, field: usize, length: usize) {
+    let c = Case {
+        large: true,
+        at: at,
+        byte: byte,
+        field: field,
+    };
+    case(name, c, length);
 }
 
 fn early() {
-    case(b"no input", sound(false, 1), 0);
-    case(b"one byte", sound(false, 1), 1);
-    case(b"two bytes", sound(false, 1), 2);
-    case(b"a table less a byte", sound(false, 1), 36);
-    case(b"a table", sound(false, 1), 37);
-    case(b"two bytes of schedule", sound(false, 1), 39);
-    case(b"no records", sound(false, 1), 40);
-    case(b"a schedule less a byte", sound(false, 61), 99);
-    case(b"ten records", sound(false, 61), 100);
-    case(b"a byte behind them", sound(false, 61), 101);
+    sample(b"no input", 1, 0);
+    sample(b"one byte", 1, 1);
+    sample(b"two bytes", 1, 2);
+    sample(b"a table less a byte", 1, 36);
+    sample(b"a table", 1, 37);
+}
+
+fn short() {
+    sample(b"two bytes of schedule", 1, 39);
+    sample(b"no records", 1, 40);
+    sample(b"a schedule less a byte", 61, 99);
+    sample(b"ten records", 61, 100);
+    sample(b"a byte behind them", 61, 101);
 }
 
 fn lengths() {
-    case(b"length 00 22", changed(false, 1, 34, 61), 100);
-    case(b"length 00 24", changed(false, 1, 36, 61), 100);
-    case(b"length 3", changed(false, 1, 3, 61), 100);
-    case(b"length 4", changed(false, 1, 4, 61), 100);
-    case(b"length 6261", changed(true, 1, 117, 61), 6325);
-    case(b"length 6261 and no more", changed(true, 1, 117, 61), 2);
-    case(b"length 6260 and no more", sound(true, 61), 2);
-    case(b"length 65280", changed(false, 0, 255, 61), 100);
-    case(b"version 9", changed(false, 2, 9, 61), 100);
+    changed(b"length 00 22", 1, 34, 61, 100);
+    changed(b"length 00 24", 1, 36, 61, 100);
+    changed(b"length 3", 1, 3, 61, 100);
+    changed(b"length 4", 1, 4, 61, 100);
+}
+
+fn too_long() {
+    largest(b"length 6261", 1, 117, 61, 6325);
+    largest(b"length 6261 and no more", 1, 117, 61, 2);
+    largest(b"length 6260 and no more", NOWHERE, 0, 61, 2);
+    changed(b"length 65280", 0, 255, 61, 100);
+    changed(b"version 9", 2, 9, 61, 100);
 }
 
 fn schedules() {
-    let c = Case {
-        large: false,
-        at: NOWHERE,
-        byte: 0,
-        field: 61,
-        version: 2,
-    };
-    case(b"version 2 of the schedule", c, 100);
-    case(b"60003 bytes of schedule", sound(false, 60001), 60040);
-    case(b"60004, length as it was", sound(false, 60001), 60041);
-    case(b"60004, length true", sound(false, 60002), 60041);
-    case(b"60004 and code 7", changed(false, 13, 7, 60002), 60041);
-    case(b"60009, length true", sound(false, 60007), 60046);
-    case(b"69963 bytes", sound(false, 60001), 70000);
+    changed(b"version 2 of the schedule", 39, 2, 61, 100);
+    sample(b"60003 bytes of schedule", 60001, 60040);
+    sample(b"60004, length as it was", 60001, 60041);
+}
+
+fn over() {
+    sample(b"60004, length true", 60002, 60041);
+    changed(b"60004 and code 7", 13, 7, 60002, 60041);
+    sample(b"60009, length true", 60007, 60046);
+    sample(b"69963 bytes", 60001, 70000);
 }
 
 fn large() {
-    case(b"16 processes", sound(true, 1), 6265);
-    case(b"16 processes and 9999 records", sound(true, 59995), 66259);
-    case(b"16 processes and 10000 records", sound(true, 60001), 66265);
-    case(b"and a byte more", sound(true, 60001), 66266);
-    case(b"and a word more", sound(true, 60007), 66271);
+    largest(b"16 processes", NOWHERE, 0, 1, 6265);
+    largest(b"16 processes and 9999 records", NOWHERE, 0, 59995, 66259);
+    largest(b"16 processes and 10000 records", NOWHERE, 0, 60001, 66265);
+    largest(b"and a byte more", NOWHERE, 0, 60001, 66266);
+    largest(b"and a word more", NOWHERE, 0, 60007, 66271);
 }
 
 fn main() {
     early();
+    short();
     lengths();
+    too_long();
     schedules();
+    over();
     large();
 }
