@@ -1,16 +1,13 @@
 -- Reading never takes more than is wanted, and puts it at the buffer's front.
 -- Assumes nothing.
-use mathlib.Core.Path.{_≡_, refl, ap, sym, _∙_}
-use mathlib.Core.Bool.{Bool, cond}
-use mathlib.Core.List.{List, [], _∷_, _++_}
-use Prim.Native.Nat.{ℕ, zero, suc, _+_, _-_, _≤_, _<_}
+use mathlib.Core.Path.{_≡_, ap, sym, _∙_}
+use mathlib.Core.List.{List, _++_}
+use Prim.Native.Nat.{ℕ, _+_, _-_, _≤_, _<_}
 use native.Mathlib.Omega.{arith}
-use lib.Dec.{ltb}
-use lib.ListN.{length, take, drop, length-append, length-drop}
-use lib.Seq.{length-take-le, take-add, take-append-le, take-at}
+use lib.ListN.{length, take, drop}
+use lib.Seq.{length-take-le, take-add}
 use borrow.Rule.Slice.PartMut.{midOf, putMid, mid-len, same-len-mid, take-put}
-use borrow.Author.Tests.{lt-ltb}
-use Rattle.bench_input.specs.Wanted.{scheduleRead, wantedOf}
+use Rattle.bench_input.specs.Wanted.{wantedOf}
 use Rattle.bench_input.proofs.Reading.{settled, wanted-short, wanted-least}
 use Rattle.bench.specs.Took.{Filled, Took}
 

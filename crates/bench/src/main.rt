@@ -1,9 +1,10 @@
 // The bench program: "The program reads the table (as long as its length bytes say) and then, up to the end of input, the schedule from
 // standard input", and prints the page (document 01, "The bench program's page").
 //
-// What it prints is `benchPage` of the bytes that it has read (`bench`), and where it read as many as are wanted that is the page of all of
-// standard input, whatever else that has (`wanted`). Of `read` this assumes what no contract says: that bytes come in the input's order, and
-// fewer than asked for only where the input ends. A read that fails counts as the input's end. A write that fails ends the program.
+// Proved: of the bytes read, `bench` makes `benchPage`, for every input, and the buffer has room for it (`Benched`); never more is read than is
+// wanted (`Took`); and where as many were read as are wanted, what is left unread changes nothing, so that it is the page of all of standard
+// input (`Benched`, `Wanted`). Assumed of `read` and `write`, since no contract can say it: bytes come in the input's order, fewer than asked for
+// only where the input ends, and go out as they are. A read that fails counts as the input's end. A write that fails ends the program quietly.
 ghost use Prim.Native.Nat.{_≤_};
 ghost use lib.ListN.{length};
 ghost use Rattle.bench.specs.Took.{Filled, Took};
@@ -46,9 +47,9 @@ fn read_input(input: &mut [u8]) -> usize
 }
 
 fn main() {
-    // The longest table, and one byte more than the longest schedule.
+    // `inputRoom`: the longest table, and one byte more than the longest schedule.
     let mut input = [0u8; 66266];
-    // The longest page.
+    // `pageRoom`: no page is longer.
     let mut page = [0u8; 251158];
     let n = read_input(&mut input);
     let length = bench(&input[..n], &mut page);

@@ -3,19 +3,18 @@
 use mathlib.Core.Path.{_≡_, refl, ap, sym, _∙_}
 use mathlib.Core.Bool.{Bool, true, false, cond, _&&_}
 use mathlib.Core.List.{List, [], _∷_, _++_}
-use Prim.Native.Nat.{ℕ, zero, suc, _+_, _-_, _*_, _/_, _≤_, _<_, min}
+use Prim.Native.Nat.{ℕ, zero, suc, _+_, _*_, _≤_, _<_}
 use native.Mathlib.Omega.{arith}
 use lib.Dec.{eqb, ltb, leb}
 use lib.ListN.{length, getD, take, drop, length-append, length-drop}
-use lib.Seq.{take-append-le, drop-append-le, getD-take, take-all}
-use borrow.Author.Tests.{ltb-true, ltb-false, lt-ltb, le-ltb, lt-leb, eqb-true, eqb-false, leb-true, ne-eqb}
-use Rattle.facts.specs.Tests.{by-eq, by-lt, and-left, and-right}
-use Rattle.rules.specs.Bytes.{byteAt, number16}
-use Rattle.rules.specs.Format.{tableMost, lengthField, versionIn, processesIn, orNumber, lengthOk, validateTable}
+use lib.Seq.{take-append-le, drop-append-le, getD-take}
+use borrow.Author.Tests.{ltb-true, lt-ltb, le-ltb, lt-leb, eqb-true}
+use Rattle.facts.specs.Tests.{by-lt}
+use Rattle.rules.specs.Format.{tableMost, lengthField, processesIn, orNumber, lengthOk, validateTable}
 use Rattle.rules.specs.Schedule.{commandsMost, commandsIn, scheduleOk, validateSchedule}
-use Rattle.rules.specs.Run.{Ran, validateRun, ranFrom, refusedWith, run}
+use Rattle.rules.specs.Run.{validateRun, refusedWith, run}
 use Rattle.rules.specs.Page.{pageOf, tableIn, scheduleIn, answersRoom, reportRoom, refusedLine, benchPage}
-use Rattle.bench_input.specs.Wanted.{scheduleRead, wantedOf, Wanted}
+use Rattle.bench_input.specs.Wanted.{scheduleRead, wantedOf, inputRoom, Wanted}
 use Rattle.bench_input.specs.Benched.{partsPage}
 
 -- ---- the length field
@@ -154,6 +153,15 @@ wanted-least have = go (ltb (length have) 2) (ltb tableMost (lengthField have))
     go false true = omega arith
     go false false = omega arith
 
+-- and no more than the longest input
+wanted-most : (have : List ℕ) → wantedOf have ≤ inputRoom
+wanted-most have =
+    by-lt (length have) 2
+    (λ s. let w = wanted-short have s in omega arith)
+    (λ l. by-lt tableMost (lengthField have)
+    (λ o. let w = wanted-over have l o in omega arith)
+    (λ k. let w = wanted-all have l k in omega arith))
+
 pub enough : (have more : List ℕ) → wantedOf have ≤ length have → benchPage (have ++ more) ≡ benchPage have
 enough have more h =
     by-lt (length have) 2
@@ -165,6 +173,7 @@ enough have more h =
 pub wanted-is : (have : List ℕ) (r : ℕ) → r ≡ wantedOf have → Wanted have r
 wanted-is have r e = record {
   is = e;
+  no-more = let m = wanted-most have in omega arith;
   settled = λ l more. settled have more l ∙ sym e;
   enough = λ l more. enough have more (rw (← e) l);
 }

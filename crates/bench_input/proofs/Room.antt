@@ -1,23 +1,23 @@
 -- No page is longer than the buffer that the program lends for it: a number has as many digits as its bytes allow.
 -- Assumes nothing.
-use mathlib.Core.Path.{_≡_, refl, ap, sym, _∙_}
+use mathlib.Core.Path.{_≡_, refl, ap}
 use mathlib.Core.Bool.{Bool, true, false, cond}
 use mathlib.Core.List.{List, [], _∷_, _++_}
 use Prim.Native.Nat.{ℕ, zero, suc, _+_, _*_, _/_, _%_, _^_, _≤_, _<_}
 use native.Mathlib.Omega.{arith}
 use native.Mathlib.Nat.{mul-suc, pow-suc}
 use lib.Dec.{eqb, ltb}
-use lib.ListN.{length, getD, drop, length-append}
+use lib.ListN.{length, drop, length-append}
 use lib.Seq.{getD-drop}
-use borrow.Author.Tests.{eqb-true, ltb-true, ltb-false}
+use borrow.Author.Tests.{eqb-true, ltb-false}
 use Rattle.facts.specs.Counts.{total}
-use Rattle.rules.specs.Bytes.{byteAt, number32}
+use Rattle.rules.specs.Bytes.{byteAt}
 use Rattle.rules.specs.Format.{processesIn}
 use Rattle.rules.specs.Schedule.{commandsMost}
 use Rattle.rules.specs.Moves.{Numbers, numbered}
 use Rattle.rules.specs.Run.{Ran, run, accepted}
 use Rattle.rules.specs.Transparency.{readAnswers}
-use Rattle.rules.specs.Page.{digits, decimal, recordsText, processText, quietText, refusedText, spaced, line, answerLine, answerLines, registerAt, processLine, processLines, quietLine, refusedLine, acceptedPage, pageOf, answersRoom, reportRoom}
+use Rattle.rules.specs.Page.{digits, decimal, recordsText, processText, quietText, refusedText, spaced, line, answerLine, answerLines, registerAt, processLine, processLines, quietLine, refusedLine, acceptedPage, pageOf}
 use Rattle.rules.proofs.Valid.{processes-counted, decoded-accepted}
 use Rattle.rules.proofs.AcceptedRun.{table-valid}
 use Rattle.bench_input.specs.Benched.{pageRoom}

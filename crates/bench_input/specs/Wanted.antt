@@ -18,8 +18,14 @@ scheduleRead = 60004
 abbrev pub wantedOf : List ℕ → ℕ
 wantedOf have = cond (ltb (length have) 2) 2 (cond (ltb tableMost (lengthField have)) 2 (2 + lengthField have + scheduleRead))
 
+-- the longest table, and one byte more than the longest schedule
+abbrev pub inputRoom : ℕ
+inputRoom = 2 + tableMost + scheduleRead
+
 pub record Wanted (have : List ℕ) (r : ℕ) : Type 0 where
   pub is : r ≡ wantedOf have
+  -- a buffer of this size is long enough for what is wanted of every input
+  pub no-more : r ≤ inputRoom
   -- two bytes tell: with more of the input the answer is the same
   pub settled : 2 ≤ length have → (more : List ℕ) → wantedOf (have ++ more) ≡ r
   -- and where so many bytes are there, the page is that of all the input, whatever else it has
