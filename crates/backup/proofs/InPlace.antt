@@ -1,5 +1,4 @@
 -- What every call in place has in common: a refusal, an acceptance, and the parts of a sound backup. Then the count.
--- Assumes nothing.
 use mathlib.Core.Path.{_≡_, refl, ap, sym, _∙_}
 use mathlib.Core.Bool.{Bool, true, false, cond}
 use mathlib.Core.List.{List, [], _∷_}

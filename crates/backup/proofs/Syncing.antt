@@ -1,5 +1,4 @@
 -- A checkpoint in place: the tallies tell 23, one pass over the log drops, and the head is written anew.
--- Assumes nothing.
 use mathlib.Core.Path.{_≡_, refl, ap, sym, _∙_, subst}
 use mathlib.Core.Bool.{Bool, true, false}
 use mathlib.Core.List.{List, [], _∷_}

@@ -1,5 +1,4 @@
 -- When a call of the backup is accepted, what it then gives, and that a fit value stays fit.
--- Assumes nothing.
 use mathlib.Core.Path.{_≡_, refl, ap, sym, _∙_}
 use mathlib.Core.Bool.{Bool, true, false, not, cond, _&&_}
 use mathlib.Core.List.{List, [], _∷_, _++_}

@@ -1,6 +1,5 @@
 -- Laws of the backup's value, each stated once, for whoever stands on it: what a drop leaves, how it meets arrivals and further
 -- drops, lengths after each call, and when a call is accepted.
--- Assumes nothing.
 use mathlib.Core.Path.{_≡_, refl, ap, sym, _∙_}
 use mathlib.Core.Logic.{_≢_}
 use mathlib.Core.Bool.{Bool, true, false, not, cond, _&&_}

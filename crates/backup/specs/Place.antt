@@ -1,5 +1,4 @@
 -- A backup in place: how a log and a head, two lists of numbers, stand for the value, and what every call in place promises.
--- Assumes nothing.
 use mathlib.Core.Path.{_≡_}
 use mathlib.Core.Bool.{Bool, true, false}
 use mathlib.Core.List.{List, [], _∷_, map}

@@ -1,6 +1,5 @@
 -- The backup record as a value, and each of its calls as a total function: document 01, "The backup record".
 -- "A value: up to 48 saved words with slots, count, place, registers."
--- Assumes nothing.
 use mathlib.Core.Bool.{Bool, true, false, not, cond, _&&_}
 use mathlib.Core.List.{List, [], _∷_, _++_}
 use Prim.Native.Nat.{ℕ, zero, suc, _-_}

@@ -1,5 +1,4 @@
 -- What the exported call promises, from what its steps do: one lemma for each kind of answer.
--- Assumes nothing.
 use mathlib.Core.Path.{_≡_, refl, ap, sym, _∙_, subst}
 use mathlib.Core.Bool.{Bool, true, false, _&&_}
 use mathlib.Core.List.{List}

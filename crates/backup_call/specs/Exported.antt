@@ -1,6 +1,5 @@
 -- What the exported call promises, from its three lent slices at entry and at exit and the number that it returns. Document 01:
 -- "Refused, it comes back unchanged."
--- Assumes nothing.
 use mathlib.Core.Path.{_≡_}
 use mathlib.Core.Bool.{Bool, true, cond, _&&_}
 use mathlib.Core.List.{List}

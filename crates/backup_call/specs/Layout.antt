@@ -1,5 +1,4 @@
 -- The lent numbers of the exported call: what a state and a call stand for.
--- Assumes nothing.
 use mathlib.Core.List.{List, [], _∷_}
 use Prim.Native.Nat.{ℕ, _+_, _*_}
 use lib.ListN.{getD}

@@ -1,5 +1,4 @@
 -- The calls by value: a backup is laid out as a log and a head, called in place, and put together again.
--- Assumes nothing.
 use mathlib.Core.Path.{_≡_, refl, ap, sym, _∙_, subst}
 use mathlib.Core.Bool.{Bool, true, false, _&&_}
 use mathlib.Core.List.{List, [], _∷_}

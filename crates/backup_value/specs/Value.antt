@@ -1,5 +1,4 @@
 -- The backup by value: how the code's struct stands for the value, and what every call by value promises.
--- Assumes nothing.
 use mathlib.Core.Path.{_≡_}
 use mathlib.Core.Bool.{Bool, true, false}
 use mathlib.Core.List.{List, [], _∷_}

@@ -1,5 +1,4 @@
 -- Reading never takes more than is wanted, and puts it at the buffer's front.
--- Assumes nothing.
 use mathlib.Core.Path.{_≡_, ap, sym, _∙_}
 use mathlib.Core.List.{List, _++_}
 use Prim.Native.Nat.{ℕ, _+_, _-_, _≤_, _<_}

@@ -1,5 +1,4 @@
 -- Reading: how much, and where it is put. What is read no contract can say.
--- Assumes nothing.
 use mathlib.Core.Path.{_≡_}
 use mathlib.Core.List.{List}
 use Prim.Native.Nat.{ℕ, _≤_}

@@ -1,5 +1,4 @@
 -- What the program leaves unread has no effect on its page, and the page that it writes is that of all its input.
--- Assumes nothing.
 use mathlib.Core.Path.{_≡_, refl, ap, sym, _∙_}
 use mathlib.Core.Bool.{Bool, true, false, cond, _&&_}
 use mathlib.Core.List.{List, [], _∷_, _++_}

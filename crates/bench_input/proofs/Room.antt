@@ -1,5 +1,4 @@
 -- No page is longer than the buffer that the program lends for it: a number has as many digits as its bytes allow.
--- Assumes nothing.
 use mathlib.Core.Path.{_≡_, refl, ap}
 use mathlib.Core.Bool.{Bool, true, false, cond}
 use mathlib.Core.List.{List, [], _∷_, _++_}

@@ -1,5 +1,4 @@
 -- The program's work, from the bytes that it has read to the bytes that it prints.
--- Assumes nothing.
 use mathlib.Core.Path.{_≡_}
 use mathlib.Core.List.{List, _++_}
 use Prim.Native.Nat.{ℕ, _+_, _*_, _≤_}

@@ -1,6 +1,5 @@
 -- How much of standard input the program reads, and that the rest is without effect (document 01: "A table length over 6,260 prints
 -- `refused 1` and reads no further; over 60,003 bytes of schedule is 9 unless a lower number applies.").
--- Assumes nothing.
 use mathlib.Core.Path.{_≡_}
 use mathlib.Core.Bool.{cond}
 use mathlib.Core.List.{List, _++_}

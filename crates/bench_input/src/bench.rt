@@ -7,8 +7,8 @@ ghost use Rattle.bench_input.specs.Benched.{Printed, RunPrinted, Benched
 use crate::bytes::length_field;
 use cabinet::run::run;
 use page::write_page;
-use sixes::bytes::byte;
-use sixes::bytes::wide;
+use records::bytes::byte;
+use records::bytes::wide;
 
 // "Byte 4: processes P".
 const PROCESSES: usize = 4;

@@ -3,8 +3,8 @@ ghost use mathlib.Core.Path.{_≡_};
 ghost use Prim.Native.Nat.{_≤_};
 ghost use Rattle.rules.specs.Bytes.{number16};
 ghost use Rattle.rules.specs.Format.{lengthField};
-use sixes::bytes::byte;
-use sixes::bytes::wide;
+use records::bytes::byte;
+use records::bytes::wide;
 
 // Two bytes as a number, the higher first.
 fn pair(b1: u8, b0: u8) -> usize

@@ -1,5 +1,4 @@
 -- A word is carried: the sender's half, and then the reader's, which may be the same process.
--- Assumes nothing.
 use mathlib.Core.Path.{_≡_, refl, ap, sym, _∙_, subst}
 use mathlib.Core.List.{List, []}
 use Prim.Native.Nat.{ℕ, _+_, _%_, _^_, _<_}
@@ -12,14 +11,14 @@ use Rattle.rules.specs.Table.{channelAt}
 use Rattle.rules.specs.Machine.{Mail}
 use Rattle.rules.specs.Cabinet.{Process, nobody, processAt}
 use Rattle.rules.specs.Moves.{counts, withProcess}
-use Rattle.store.specs.declared.moved.Answer.{Answer}
-use Rattle.store.specs.Store.{storeOf, Holds}
-use Rattle.store.proofs.Reading.{how-many}
+use Rattle.state.specs.declared.moved.Answer.{Answer}
+use Rattle.state.specs.Store.{storeOf, Holds}
+use Rattle.state.proofs.Reading.{how-many}
 use Rattle.bus.specs.Delivers.{Delivers}
 use Rattle.bus.specs.Oldest.{lessOne}
 use Rattle.bus.specs.Transmitted.{transmittedOf}
 use Rattle.bus.specs.Carries.{countedAt, Carries}
-use Rattle.store.proofs.Backing.{backup-changed}
+use Rattle.state.proofs.Backing.{backup-changed}
 
 -- a number one less in 32 bits
 pub is-less : (n less : ℕ) → (less + 1) % 2 ^ 32 ≡ n → less < 2 ^ 32 → less ≡ lessOne n

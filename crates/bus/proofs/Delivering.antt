@@ -1,5 +1,4 @@
 -- A delivery in the lists: to a process, and to the outside.
--- Assumes nothing.
 use mathlib.Core.Path.{_≡_, ap, sym, _∙_, subst}
 use mathlib.Core.Logic.{_≢_}
 use mathlib.Core.Bool.{Bool, true, false, cond}
@@ -19,12 +18,12 @@ use Rattle.rules.specs.Machine.{Mail, delivered}
 use Rattle.rules.specs.Cabinet.{Cabinet, Process, processAt, unreadOn}
 use Rattle.rules.specs.Moves.{withProcess, receive, deliver}
 use Rattle.rules.proofs.Counting.{unread-append}
-use Rattle.store.specs.declared.entry.Entry.{Entry}
-use Rattle.store.specs.Store.{Store, storeOf, Holds, processIn}
-use Rattle.store.proofs.Reading.{at-process, how-many}
-use Rattle.store.proofs.Changing.{changed}
-use Rattle.store.proofs.Totals.{unread-more}
-use Rattle.store.proofs.Ends.{reader-inside}
+use Rattle.state.specs.declared.entry.Entry.{Entry}
+use Rattle.state.specs.Store.{Store, storeOf, Holds, processIn}
+use Rattle.state.proofs.Reading.{at-process, how-many}
+use Rattle.state.proofs.Changing.{changed}
+use Rattle.state.proofs.Totals.{unread-more}
+use Rattle.state.proofs.Ends.{reader-inside}
 use Rattle.bus.specs.Delivers.{mailOf, Delivers}
 
 -- ---- to the outside

@@ -1,5 +1,4 @@
 -- Move 4 in the lists: the two refusals, and a word that is delivered.
--- Assumes nothing.
 use mathlib.Core.Path.{_≡_, refl, ap, sym, _∙_, subst}
 use mathlib.Core.Logic.{_≢_}
 use mathlib.Core.Bool.{true, false}
@@ -12,18 +11,18 @@ use Rattle.facts.specs.Tests.{by-eq}
 use Rattle.rules.specs.Table.{Table, environment, channelAt}
 use Rattle.rules.specs.Cabinet.{Cabinet, full}
 use Rattle.rules.specs.Moves.{Result, refuse, accept, guard, notOutside, channelFull, refusalNumber, inject, deliver, transmitted, numbers}
-use Rattle.store.specs.declared.entry.Entry.{Entry}
-use Rattle.store.specs.declared.moved.Answer.{Answer}
-use Rattle.store.specs.Store.{Store, storeOf, Holds}
-use Rattle.store.specs.Moved.{Reachable, Answered, refusalOf}
-use Rattle.store.specs.Wired.{Wired}
-use Rattle.store.proofs.Refusing.{turned-away}
-use Rattle.store.proofs.Ends.{reader-inside}
-use Rattle.store.proofs.Arrivals.{room-for-feed}
+use Rattle.state.specs.declared.entry.Entry.{Entry}
+use Rattle.state.specs.declared.moved.Answer.{Answer}
+use Rattle.state.specs.Store.{Store, storeOf, Holds}
+use Rattle.state.specs.Moved.{Reachable, Answered, refusalOf}
+use Rattle.state.specs.Wired.{Wired}
+use Rattle.state.proofs.Refusing.{turned-away}
+use Rattle.state.proofs.Ends.{reader-inside}
+use Rattle.state.proofs.Arrivals.{room-for-feed}
 use Rattle.bus.specs.Delivers.{mailOf, Delivers}
 use Rattle.bus.specs.Transmitted.{transmittedOf}
-use Rattle.store.specs.Channel.{heldIn}
-use Rattle.store.proofs.Held.{full-is}
+use Rattle.state.specs.Channel.{heldIn}
+use Rattle.state.proofs.Held.{full-is}
 use Rattle.bus.specs.Injects.{Injects}
 
 module _ {t : Table} {s : Store} {entries : List Entry} {c : Cabinet} {sender reader port : List ℕ} (reach : Reachable t c) (wired : Wired t sender reader port)

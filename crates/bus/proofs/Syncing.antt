@@ -1,5 +1,4 @@
 -- The carry of a checkpoint: its entry left the queue, its process's backup keeps it, and none of that process waits any more.
--- Assumes nothing.
 use mathlib.Core.Path.{_≡_, refl, ap, sym, _∙_, subst}
 use mathlib.Core.Bool.{Bool, true, false, not, cond, _||_}
 use mathlib.Core.List.{List, [], _∷_, map}
@@ -20,15 +19,15 @@ use Rattle.rules.specs.Cabinet as rules
 use Rattle.rules.specs.Cabinet.{Cabinet, processAt, outboxAt, protected, waiting}
 use Rattle.rules.specs.Moves.{Command, syncKept, syncLost, numbers, numbered, withProcess, withOutbox, keeps, transmitItem}
 use Rattle.rules.proofs.Counting.{flight-leave}
-use Rattle.store.specs.declared.entry.Entry.{Entry}
-use Rattle.store.specs.Store.{Store, storeOf, Holds, itemOf, blankEntry, outboxIn, firstIn, countIn, flag}
-use Rattle.store.specs.Moved.{Reachable, Answered, answerOf}
-use Rattle.store.proofs.Reading.{at-process, at-outbox, how-many-boards}
-use Rattle.store.proofs.Queueing.{QueueThen, left}
-use Rattle.store.proofs.Backing.{backup-changed}
-use Rattle.store.proofs.Reaching.{protected-is}
-use Rattle.store.proofs.Owners.{checkpoint-owner}
-use Rattle.store.proofs.Waits.{one-waits}
+use Rattle.state.specs.declared.entry.Entry.{Entry}
+use Rattle.state.specs.Store.{Store, storeOf, Holds, itemOf, blankEntry, outboxIn, firstIn, countIn, flag}
+use Rattle.state.specs.Moved.{Reachable, Answered, answerOf}
+use Rattle.state.proofs.Reading.{at-process, at-outbox, how-many-boards}
+use Rattle.state.proofs.Queueing.{QueueThen, left}
+use Rattle.state.proofs.Backing.{backup-changed}
+use Rattle.state.proofs.Reaching.{protected-is}
+use Rattle.state.proofs.Owners.{checkpoint-owner}
+use Rattle.state.proofs.Waits.{one-waits}
 use Rattle.bus.specs.Syncs.{Popped, Syncs}
 
 -- the oldest entry, if the rules' queue has one, is the one at the ring's first place

@@ -1,5 +1,4 @@
 -- Move 3 in the lists: the two refusals, and the oldest entry that leaves, a word or a checkpoint.
--- Assumes nothing.
 use mathlib.Core.Path.{_≡_, refl, ap, sym, _∙_, subst}
 use mathlib.Core.Logic.{_≢_}
 use mathlib.Core.Bool.{Bool, true, false, cond}
@@ -20,20 +19,20 @@ use Rattle.rules.specs.Cabinet as rules
 use Rattle.rules.specs.Cabinet.{Cabinet, outboxAt, processAt, inFlight, waiting}
 use Rattle.rules.specs.Moves.{Command, Result, refuse, guard, boardDead, outboxEmpty, refusalNumber, transmit, transmitOldest, transmitItem, withOutbox, numbers}
 use Rattle.rules.proofs.Counting.{flight-leave}
-use Rattle.store.specs.declared.entry.Entry.{Entry}
-use Rattle.store.specs.declared.entry.Item.{Item}
-use Rattle.store.specs.declared.entry.Item.the-variants.{Word, Sync}
-use Rattle.store.specs.declared.moved.Answer.{Answer}
-use Rattle.store.specs.Store.{Store, storeOf, Holds, itemOf, blankEntry, outboxIn, firstIn, countIn, flag}
-use Rattle.store.specs.Moved.{Reachable, Answered, refusalOf}
-use Rattle.store.specs.Wired.{Wired}
-use Rattle.store.proofs.Reading.{at-outbox, at-dead, how-many-boards}
-use Rattle.store.proofs.Queueing.{left}
-use Rattle.store.proofs.Reaching.{channel-bounds}
-use Rattle.store.proofs.Refusing.{turned-away}
-use Rattle.store.proofs.Ends.{sent-inside}
-use Rattle.store.proofs.Owners.{word-owner}
-use Rattle.store.proofs.Arrivals.{room-for-oldest}
+use Rattle.state.specs.declared.entry.Entry.{Entry}
+use Rattle.state.specs.declared.entry.Item.{Item}
+use Rattle.state.specs.declared.entry.Item.the-variants.{Word, Sync}
+use Rattle.state.specs.declared.moved.Answer.{Answer}
+use Rattle.state.specs.Store.{Store, storeOf, Holds, itemOf, blankEntry, outboxIn, firstIn, countIn, flag}
+use Rattle.state.specs.Moved.{Reachable, Answered, refusalOf}
+use Rattle.state.specs.Wired.{Wired}
+use Rattle.state.proofs.Reading.{at-outbox, at-dead, how-many-boards}
+use Rattle.state.proofs.Queueing.{left}
+use Rattle.state.proofs.Reaching.{channel-bounds}
+use Rattle.state.proofs.Refusing.{turned-away}
+use Rattle.state.proofs.Ends.{sent-inside}
+use Rattle.state.proofs.Owners.{word-owner}
+use Rattle.state.proofs.Arrivals.{room-for-oldest}
 use Rattle.bus.specs.declared.queue.Front.{Front}
 use Rattle.bus.specs.declared.queue.Front.the-variants.{Oldest, Empty}
 use Rattle.bus.specs.Delivers.{mailOf}

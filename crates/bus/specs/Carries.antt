@@ -1,5 +1,4 @@
 -- What the carrying of a word makes of the lists, once its entry has left its queue: the sender's half, and then the reader's.
--- Assumes nothing.
 use mathlib.Core.Path.{_≡_}
 use mathlib.Core.List.{List}
 use Prim.Native.Nat.{ℕ, _<_}
@@ -8,10 +7,10 @@ use Rattle.rules.specs.Table.{Table, channelAt}
 use Rattle.rules.specs.Judge.{Accepted}
 use Rattle.rules.specs.Cabinet.{Cabinet, processAt}
 use Rattle.rules.specs.Moves.{deliver, counts, withProcess}
-use Rattle.store.specs.declared.entry.Entry.{Entry}
-use Rattle.store.specs.declared.moved.Answer.{Answer}
-use Rattle.store.specs.Store.{storeOf, Holds}
-use Rattle.store.specs.Wired.{Wired}
+use Rattle.state.specs.declared.entry.Entry.{Entry}
+use Rattle.state.specs.declared.moved.Answer.{Answer}
+use Rattle.state.specs.Store.{storeOf, Holds}
+use Rattle.state.specs.Wired.{Wired}
 use Rattle.bus.specs.Delivers.{mailOf, Room}
 use Rattle.bus.specs.Oldest.{lessOne}
 use Rattle.bus.specs.Transmitted.{transmittedOf}

@@ -1,6 +1,5 @@
 -- What a delivery makes of the lists: of those that hold a cabinet, those that hold the rules' cabinet after it. Document 01: "to the reader's
 -- inbox, the reader's backup record".
--- Assumes nothing.
 use mathlib.Core.List.{List}
 use Prim.Native.Nat.{ℕ, _<_}
 use lib.ListN.{length}
@@ -10,9 +9,9 @@ use Rattle.rules.specs.Judge.{Accepted}
 use Rattle.rules.specs.Machine.{Mail}
 use Rattle.rules.specs.Cabinet.{Cabinet, processAt}
 use Rattle.rules.specs.Moves.{deliver}
-use Rattle.store.specs.declared.entry.Entry.{Entry}
-use Rattle.store.specs.Store.{storeOf, Holds}
-use Rattle.store.specs.Wired.{Wired}
+use Rattle.state.specs.declared.entry.Entry.{Entry}
+use Rattle.state.specs.Store.{storeOf, Holds}
+use Rattle.state.specs.Wired.{Wired}
 
 -- a word on a channel
 abbrev pub mailOf : ℕ → ℕ → Mail

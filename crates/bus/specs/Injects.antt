@@ -1,5 +1,4 @@
 -- Move 4 (document 01: "feed outside channel a with a word: to the inbox and the backup record").
--- Assumes nothing.
 use mathlib.Core.Path.{_≡_}
 use mathlib.Core.List.{List}
 use Prim.Native.Nat.{ℕ, _<_}
@@ -7,11 +6,11 @@ use lib.ListN.{length}
 use Rattle.rules.specs.Table.{Table}
 use Rattle.rules.specs.Cabinet.{Cabinet}
 use Rattle.rules.specs.Moves.{Command, inject}
-use Rattle.store.specs.declared.entry.Entry.{Entry}
-use Rattle.store.specs.declared.moved.Answer.{Answer}
-use Rattle.store.specs.Store.{storeOf, Holds}
-use Rattle.store.specs.Moved.{Reachable, Answered}
-use Rattle.store.specs.Wired.{Wired}
+use Rattle.state.specs.declared.entry.Entry.{Entry}
+use Rattle.state.specs.declared.moved.Answer.{Answer}
+use Rattle.state.specs.Store.{storeOf, Holds}
+use Rattle.state.specs.Moved.{Reachable, Answered}
+use Rattle.state.specs.Wired.{Wired}
 
 -- whatever the lists are that it isn't lent
 pub record Injects (sender reader port : List ℕ) (rows mails logs heads : List (List ℕ)) (unread queued : List ℕ) (a word : ℕ)

@@ -1,11 +1,10 @@
 -- The oldest entry of a board's queue, and the board's row when it has left.
--- Assumes nothing.
 use mathlib.Core.Bool.{cond}
 use mathlib.Core.List.{List}
 use Prim.Native.Nat.{ℕ, _+_, _%_, _^_}
 use lib.Dec.{eqb}
 use lib.ListN.{getD, set}
-use Rattle.store.specs.declared.entry.Entry.{Entry}
+use Rattle.state.specs.declared.entry.Entry.{Entry}
 use Rattle.bus.specs.declared.queue.Front.{Front}
 use Rattle.bus.specs.declared.queue.Front.the-variants.{Oldest, Empty}
 

@@ -1,6 +1,5 @@
 -- The carry of a checkpoint. Document 01: "A sync replaces the state in the process's backup record, drops the oldest saved words slot by
 -- slot as taken, and zeroes the count"; "5 sync carried, 6 sync with no backup left (process, 0)".
--- Assumes nothing.
 use mathlib.Core.Path.{_≡_}
 use mathlib.Core.List.{List, [], _∷_}
 use Prim.Native.Nat.{ℕ, suc, _+_, _%_, _<_}
@@ -11,10 +10,10 @@ use Rattle.rules.specs.Table.{Table}
 use Rattle.rules.specs.Cabinet as rules
 use Rattle.rules.specs.Cabinet.{Cabinet, outboxAt}
 use Rattle.rules.specs.Moves.{Command, withOutbox, transmitItem}
-use Rattle.store.specs.declared.entry.Entry.{Entry}
-use Rattle.store.specs.declared.moved.Answer.{Answer}
-use Rattle.store.specs.Store.{storeOf, Holds}
-use Rattle.store.specs.Moved.{Reachable, Answered}
+use Rattle.state.specs.declared.entry.Entry.{Entry}
+use Rattle.state.specs.declared.moved.Answer.{Answer}
+use Rattle.state.specs.Store.{storeOf, Holds}
+use Rattle.state.specs.Moved.{Reachable, Answered}
 
 -- a board's row before and after its oldest entry left
 pub record Popped (board board′ : List ℕ) : Type 0 where

@@ -1,5 +1,4 @@
 -- Move 3 (document 01: "carry board a: the oldest entry leaves").
--- Assumes nothing.
 use mathlib.Core.Path.{_≡_}
 use mathlib.Core.List.{List}
 use Prim.Native.Nat.{ℕ, _+_, _*_, _%_, _<_}
@@ -7,11 +6,11 @@ use lib.ListN.{getD}
 use Rattle.rules.specs.Table.{Table}
 use Rattle.rules.specs.Cabinet.{Cabinet}
 use Rattle.rules.specs.Moves.{Command, transmit}
-use Rattle.store.specs.declared.entry.Entry.{Entry}
-use Rattle.store.specs.declared.moved.Answer.{Answer}
-use Rattle.store.specs.Store.{storeOf, Holds, blankEntry, firstIn}
-use Rattle.store.specs.Moved.{Reachable, Answered}
-use Rattle.store.specs.Wired.{Wired}
+use Rattle.state.specs.declared.entry.Entry.{Entry}
+use Rattle.state.specs.declared.moved.Answer.{Answer}
+use Rattle.state.specs.Store.{storeOf, Holds, blankEntry, firstIn}
+use Rattle.state.specs.Moved.{Reachable, Answered}
+use Rattle.state.specs.Wired.{Wired}
 
 -- where board b's oldest entry stands, if it has one
 abbrev pub oldestPlace : List (List ℕ) → ℕ → ℕ

@@ -4,9 +4,9 @@ use backup::place::HEAD;
 use process::delivery::receive;
 use process::mail::MAIL;
 use process::row::ROW;
-use store::board::index16;
-use store::channel::ENVIRONMENT;
-use store::channel::index32;
+use state::board::index16;
+use state::channel::ENVIRONMENT;
+use state::channel::index32;
 
 pub fn deliver(
     reader: &[u32; 32],

@@ -4,11 +4,11 @@ use crate::delivery::deliver;
 use backup::place::HEAD;
 use process::mail::MAIL;
 use process::row::ROW;
-use store::channel::ENVIRONMENT;
-use store::channel::held;
-use store::channel::index32;
-use store::moved::Answer;
-use store::moved::refusal;
+use state::channel::ENVIRONMENT;
+use state::channel::held;
+use state::channel::index32;
+use state::moved::Answer;
+use state::moved::refusal;
 
 pub fn inject(
     sender: &[u32; 32],

@@ -1,11 +1,11 @@
 // The front of a board's queue: whether there is an oldest entry, and that it leaves.
 ghost use mathlib.Core.Path.{_≡_};
 ghost use Rattle.bus.specs.Oldest.{frontOf, poppedIn};
-use store::board::BOARD_ROW;
-use store::board::COUNT;
-use store::board::FIRST;
-use store::entry::Entry;
-use store::entry::Item;
+use state::board::BOARD_ROW;
+use state::board::COUNT;
+use state::board::FIRST;
+use state::entry::Entry;
+use state::entry::Item;
 
 // Document 01: "Carry looks at the oldest entry; with none the answer is 42."
 pub enum Front {

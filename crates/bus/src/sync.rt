@@ -7,8 +7,8 @@ use process::checkpoint::keep;
 use process::mail::MAIL;
 use process::row::PROTECTED;
 use process::row::ROW;
-use store::board::index16;
-use store::moved::Answer;
+use state::board::index16;
+use state::moved::Answer;
 
 pub fn transmit_sync(
     rows: &[[u32; ROW]; 16],

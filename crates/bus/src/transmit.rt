@@ -11,15 +11,15 @@ use crate::word::transmit_word;
 use backup::place::HEAD;
 use process::mail::MAIL;
 use process::row::ROW;
-use store::board::BOARD_ROW;
-use store::board::DEAD;
-use store::board::FIRST;
-use store::board::index16;
-use store::board::wide;
-use store::entry::Entry;
-use store::entry::Item;
-use store::moved::Answer;
-use store::moved::refusal;
+use state::board::BOARD_ROW;
+use state::board::DEAD;
+use state::board::FIRST;
+use state::board::index16;
+use state::board::wide;
+use state::entry::Entry;
+use state::entry::Item;
+use state::moved::Answer;
+use state::moved::refusal;
 
 // Where board b's oldest entry stands, if it has one.
 pub fn oldest(board: &[u32; BOARD_ROW], b: usize) -> usize

@@ -6,9 +6,9 @@ use backup::place::HEAD;
 use process::delivery::counts;
 use process::mail::MAIL;
 use process::row::ROW;
-use store::board::index16;
-use store::channel::index32;
-use store::moved::Answer;
+use state::board::index16;
+use state::channel::index32;
+use state::moved::Answer;
 
 // One less in the queues; the sender's half, and then the reader's, which may be the same process. The sender of a word in a queue is one.
 pub fn transmit_word(

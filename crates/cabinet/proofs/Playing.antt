@@ -1,5 +1,4 @@
 -- The records of a schedule, one after the other: what each round of the loop adds, and what all of them come to.
--- Assumes nothing.
 use mathlib.Core.Path.{_≡_, refl, ap, sym, _∙_, subst}
 use mathlib.Core.Logic.{_≢_}
 use mathlib.Core.Bool.{cond}
@@ -10,8 +9,8 @@ use lib.Dec.{ltb}
 use lib.ListN.{length, getD, set, take, length-append, length-map, replicate}
 use lib.Seq.{take-suc, take-all, length-take-le, sets}
 use borrow.Author.Tests.{lt-ltb, le-ltb}
-use Rattle.sixes.specs.Commands.{commandOf}
-use Rattle.sixes.specs.declared.schedule.Command as code
+use Rattle.records.specs.Commands.{commandOf}
+use Rattle.records.specs.declared.schedule.Command as code
 use Rattle.rules.specs.Table.{Table}
 use Rattle.rules.specs.Judge.{Accepted}
 use Rattle.rules.specs.Bytes.{wordBytes, allBytes, written}
@@ -21,18 +20,18 @@ use Rattle.rules.specs.Moves.{Command, Numbers, numbered, numbers, settle, judg
 use Rattle.rules.specs.Schedule.{commandsMost, command, decodeSchedule}
 use Rattle.rules.specs.Run.{answerBytes}
 use Rattle.rules.proofs.AcceptedRun.{one-answer-each}
-use Rattle.store.specs.declared.entry.Entry.{Entry}
-use Rattle.store.specs.declared.moved.Answer.{Answer}
-use Rattle.store.specs.declared.moved.Moved.{Moved}
-use Rattle.store.specs.Store.{Store, Holds, blankEntry}
-use Rattle.store.specs.Moved.{Reachable, Answered, Turned, storedBy}
+use Rattle.state.specs.declared.entry.Entry.{Entry}
+use Rattle.state.specs.declared.moved.Answer.{Answer}
+use Rattle.state.specs.declared.moved.Moved.{Moved}
+use Rattle.state.specs.Store.{Store, Holds, blankEntry}
+use Rattle.state.specs.Moved.{Reachable, Answered, Turned, storedBy}
 use Rattle.bus.specs.Transmits.{oldestPlace}
-use Rattle.turn.specs.Plan.{Lent, Suits}
-use Rattle.edges.specs.Written.{sixBytes, Puts}
-use Rattle.turn.specs.Turns.{Turns, Carries}
+use Rattle.command.specs.Plan.{Lent, Suits}
+use Rattle.outcome.specs.Written.{sixBytes, Puts}
+use Rattle.command.specs.Turns.{Turns, Carries}
 use Rattle.cabinet.specs.Plays.{Played, Suited, Playing, Plays}
-use Rattle.edges.proofs.Writing.{written-length, written-more}
-use Rattle.edges.proofs.Answers.{answer-fits}
+use Rattle.outcome.proofs.Writing.{written-length, written-more}
+use Rattle.outcome.proofs.Answers.{answer-fits}
 
 -- ---- one command more
 

@@ -1,5 +1,4 @@
 -- A whole run: the plan suits the table, the records are played, and what comes of it is the rules' run.
--- Assumes nothing.
 use mathlib.Core.Path.{_≡_, refl, ap, sym, _∙_, subst}
 use mathlib.Core.Bool.{Bool, true, false, cond, _&&_}
 use mathlib.Core.List.{List}
@@ -9,10 +8,10 @@ use lib.Dec.{eqb, leb}
 use lib.ListN.{length, getD, replicate}
 use borrow.Author.Tests.{eqb-true, eq-eqb, ne-eqb, leb-true}
 use Rattle.facts.specs.Tests.{and-left, and-right}
-use Rattle.sixes.specs.Fetch.{fetched, instructionOf}
-use Rattle.sixes.specs.Commands.{ScheduleJudged, judgedRun}
-use Rattle.sixes.specs.declared.schedule.Judged.{Judged}
-use Rattle.sixes.proofs.Judged.{run-is}
+use Rattle.records.specs.Fetch.{fetched, instructionOf}
+use Rattle.records.specs.Commands.{ScheduleJudged, judgedRun}
+use Rattle.records.specs.declared.schedule.Judged.{Judged}
+use Rattle.records.proofs.Judged.{run-is}
 use Rattle.table.specs.Plan.{Plans, Decodes}
 use Rattle.table.specs.declared.Decoded.{Decoded}
 use Rattle.table.specs.declared.plan.Plan.{Plan}
@@ -28,14 +27,14 @@ use Rattle.rules.specs.Run.{Ran, answerBytes, reportBytes, validateRun, ranFrom
 use Rattle.rules.proofs.Valid.{valid, test-passed, length-sixes, processes-counted, decoded-accepted}
 use Rattle.rules.proofs.AcceptedRun.{table-valid, schedule-valid, answers-fit, report-fits}
 use Rattle.rules.proofs.Theorem.{failure-transparency}
-use Rattle.store.specs.declared.entry.Entry.{Entry}
-use Rattle.store.specs.Store.{Store, storeOf, Holds, blankEntry}
-use Rattle.store.specs.Moved.{Reachable}
-use Rattle.turn.specs.Plan.{Lent, lentOf, Suits}
+use Rattle.state.specs.declared.entry.Entry.{Entry}
+use Rattle.state.specs.Store.{Store, storeOf, Holds, blankEntry}
+use Rattle.state.specs.Moved.{Reachable}
+use Rattle.command.specs.Plan.{Lent, lentOf, Suits}
 use Rattle.cabinet.specs.Plays.{Played, Suited, Plays}
-use Rattle.edges.specs.Starts.{Fresh, Placed, Seats}
-use Rattle.edges.specs.Reports.{Reports}
-use Rattle.edges.specs.Quiets.{Quiets}
+use Rattle.outcome.specs.Starts.{Fresh, Placed, Seats}
+use Rattle.outcome.specs.Reports.{Reports}
+use Rattle.outcome.specs.Quiets.{Quiets}
 use Rattle.cabinet.specs.Runs.{ranBy, Runs, Conducts}
 use Rattle.cabinet.specs.declared.run.Verdict.{Verdict}
 

@@ -1,5 +1,4 @@
 -- A list of records, one after the other. "Each schedule record, refused or not, gets the cabinet that the last one left".
--- Assumes nothing.
 use mathlib.Core.Path.{_≡_}
 use mathlib.Core.List.{List, map}
 use Prim.Native.Nat.{ℕ, _*_, _≤_}
@@ -11,9 +10,9 @@ use Rattle.rules.specs.Cabinet.{started}
 use Rattle.rules.specs.Moves.{Command, numbers, runFrom}
 use Rattle.rules.specs.Schedule.{commandsMost, decodeSchedule}
 use Rattle.rules.specs.Run.{answerBytes}
-use Rattle.store.specs.declared.entry.Entry.{Entry}
-use Rattle.store.specs.Store.{Store, Holds, blankEntry}
-use Rattle.turn.specs.Plan.{Lent, Suits}
+use Rattle.state.specs.declared.entry.Entry.{Entry}
+use Rattle.state.specs.Store.{Store, Holds, blankEntry}
+use Rattle.command.specs.Plan.{Lent, Suits}
 
 -- these commands were done: the lists hold the cabinet that they leave, and their answers are written to the buffer's front
 pub record Played (t : Table) (commands : List Command) (s : Store) (entries : List Entry) (before after : List ℕ) : Type 0 where

@@ -1,5 +1,4 @@
 -- The public call's promise: what the rules' run gives, and demand 3.
--- Assumes nothing.
 use mathlib.Core.Path.{_≡_}
 use mathlib.Core.Bool.{Bool}
 use mathlib.Core.List.{List}

@@ -2,21 +2,21 @@
 // board, and stores the entry by which a step or an issue ends.
 ghost use mathlib.Core.Path.{_≡_};
 ghost use Prim.Native.Nat.{_<_};
-ghost use Rattle.store.specs.Store.{storeOf};
-ghost use Rattle.turn.specs.Plan.{lentOf};
+ghost use Rattle.state.specs.Store.{storeOf};
+ghost use Rattle.command.specs.Plan.{lentOf};
 ghost use Rattle.cabinet.specs.Plays.{Plays};
 use backup::place::HEAD;
 use bus::transmit::oldest;
-use edges::answer::put;
+use command::turn::carry;
+use command::turn::turn;
+use outcome::answer::put;
 use process::mail::MAIL;
 use process::row::ROW;
-use sixes::schedule::command_at;
-use store::board::BOARD_ROW;
-use store::board::ENTRIES;
-use store::board::index16;
-use store::moved::blank;
-use turn::turn::carry;
-use turn::turn::turn;
+use records::schedule::command_at;
+use state::board::BOARD_ROW;
+use state::board::ENTRIES;
+use state::board::index16;
+use state::moved::blank;
 
 // A byte as a number of 32 bits.
 fn grown(x: u8) -> u32

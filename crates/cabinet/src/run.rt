@@ -3,14 +3,14 @@
 ghost use Rattle.cabinet.specs.Runs.{Runs, Conducts};
 use crate::play::play;
 use backup::place::HEAD;
-use edges::quiet::quiescent;
-use edges::report::write_report;
-use edges::start::seat;
+use outcome::quiet::quiescent;
+use outcome::report::write_report;
+use outcome::start::seat;
 use process::mail::MAIL;
 use process::row::ROW;
-use sixes::schedule::judge_run;
-use sixes::schedule::judge_schedule;
-use store::board::BOARD_ROW;
+use records::schedule::judge_run;
+use records::schedule::judge_schedule;
+use state::board::BOARD_ROW;
 use table::decode;
 use table::plan::Plan;
 

@@ -1,5 +1,4 @@
 -- The exported call's promise: the three numbers that it packs into one, and both buffers, are those of the rules' run; and demand 3.
--- Assumes nothing.
 use mathlib.Core.Path.{_≡_}
 use mathlib.Core.Bool.{Bool, cond}
 use mathlib.Core.List.{List}

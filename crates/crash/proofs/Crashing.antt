@@ -1,5 +1,4 @@
 -- Move 5 in the lists: its two refusals, and the crash.
--- Assumes nothing.
 use mathlib.Core.Path.{_≡_, refl, ap, sym, _∙_, subst}
 use mathlib.Core.Bool.{Bool, true, false, not, _&&_}
 use mathlib.Core.List.{List, []}
@@ -13,12 +12,12 @@ use Rattle.facts.specs.Rings.{listed-length}
 use Rattle.rules.specs.Table.{Table}
 use Rattle.rules.specs.Cabinet.{Cabinet, deadAt}
 use Rattle.rules.specs.Moves.{Result, refuse, accept, guard, boardDead, otherCrashed, refusalNumber, otherDead, crash, done, numbers}
-use Rattle.store.specs.declared.entry.Entry.{Entry}
-use Rattle.store.specs.declared.moved.Answer.{Answer}
-use Rattle.store.specs.Store.{Store, storeOf, Holds, deadIn}
-use Rattle.store.specs.Moved.{Reachable, Answered, refusalOf, answerOf}
-use Rattle.store.proofs.Reading.{at-dead}
-use Rattle.store.proofs.Refusing.{turned-away}
+use Rattle.state.specs.declared.entry.Entry.{Entry}
+use Rattle.state.specs.declared.moved.Answer.{Answer}
+use Rattle.state.specs.Store.{Store, storeOf, Holds, deadIn}
+use Rattle.state.specs.Moved.{Reachable, Answered, refusalOf, answerOf}
+use Rattle.state.proofs.Reading.{at-dead}
+use Rattle.state.proofs.Refusing.{turned-away}
 use Rattle.crash.specs.Crashes.{Crashes}
 use Rattle.crash.specs.Losses.{runsOn, lostWords, deadApart, Zeroed, deadRow}
 use Rattle.crash.specs.Processes.{AllCrashed}

@@ -1,5 +1,4 @@
 -- The lists after a crash hold the rules' cabinet after it.
--- Assumes nothing.
 use mathlib.Core.Path.{_≡_, refl, ap, sym, _∙_, subst}
 use mathlib.Core.Logic.{_≢_}
 use mathlib.Core.Bool.{Bool, true, false, cond}
@@ -24,14 +23,14 @@ use Rattle.rules.specs.Cabinet as rules
 use Rattle.rules.specs.Cabinet.{Cabinet, Process, Standby, nobody, processAt, outboxAt, unreadOn, queuedOn, inFlight, waiting}
 use Rattle.rules.specs.Moves.{unprotected, afterCrash, allAfterCrash}
 use Rattle.rules.proofs.Counting.{flight-total, flight-lost}
-use Rattle.store.specs.declared.entry.Entry.{Entry}
-use Rattle.store.specs.Store.{Store, storeOf, Holds, processIn, outboxIn, deadIn, flag}
-use Rattle.store.specs.Moved.{Reachable}
-use Rattle.store.specs.Wired.{Wired}
-use Rattle.store.proofs.Reading.{at-process, how-many-boards}
-use Rattle.store.proofs.Reaching.{channel-bounds}
-use Rattle.store.proofs.Ends.{sender-inside}
-use Rattle.store.proofs.Owners.{waiting-elsewhere, queued-elsewhere, fed-not-queued}
+use Rattle.state.specs.declared.entry.Entry.{Entry}
+use Rattle.state.specs.Store.{Store, storeOf, Holds, processIn, outboxIn, deadIn, flag}
+use Rattle.state.specs.Moved.{Reachable}
+use Rattle.state.specs.Wired.{Wired}
+use Rattle.state.proofs.Reading.{at-process, how-many-boards}
+use Rattle.state.proofs.Reaching.{channel-bounds}
+use Rattle.state.proofs.Ends.{sender-inside}
+use Rattle.state.proofs.Owners.{waiting-elsewhere, queued-elsewhere, fed-not-queued}
 use Rattle.crash.specs.Crashes.{Addressed}
 use Rattle.crash.specs.Losses.{runsOn, lostWords, Zeroed, deadRow}
 use Rattle.crash.specs.Processes.{inputIn, inputsIn, AllCrashed}

@@ -1,5 +1,4 @@
 -- The losses of a crash: what is true between two rounds of their loops, and at the end.
--- Assumes nothing.
 use mathlib.Core.Path.{_≡_, refl, ap, _∙_}
 use mathlib.Core.Bool.{Bool, true, false, not, cond}
 use mathlib.Core.List.{List, []}

@@ -1,5 +1,4 @@
 -- Move 5 (document 01: "crash board a: its queue is lost").
--- Assumes nothing.
 use mathlib.Core.Path.{_≡_}
 use mathlib.Core.List.{List}
 use Prim.Native.Nat.{ℕ, _+_, _*_, _<_}
@@ -7,11 +6,11 @@ use lib.ListN.{length, getD}
 use Rattle.rules.specs.Table.{Table, inputs, channelOn}
 use Rattle.rules.specs.Cabinet.{Cabinet}
 use Rattle.rules.specs.Moves.{Command, crash}
-use Rattle.store.specs.declared.entry.Entry.{Entry}
-use Rattle.store.specs.declared.moved.Answer.{Answer}
-use Rattle.store.specs.Store.{storeOf, Holds}
-use Rattle.store.specs.Moved.{Reachable, Answered}
-use Rattle.store.specs.Wired.{Wired}
+use Rattle.state.specs.declared.entry.Entry.{Entry}
+use Rattle.state.specs.declared.moved.Answer.{Answer}
+use Rattle.state.specs.Store.{storeOf, Holds}
+use Rattle.state.specs.Moved.{Reachable, Answered}
+use Rattle.state.specs.Wired.{Wired}
 
 -- For each process: how many channels it reads, and which one is at each port.
 pub record Addressed (t : Table) (ins arity : List ℕ) : Type 0 where

@@ -1,12 +1,11 @@
 -- What the parts of a crash promise that make its losses: which boards and processes it concerns, and which totals become 0.
--- Assumes nothing.
 use mathlib.Core.Path.{_≡_}
 use mathlib.Core.Bool.{Bool, not, cond, _&&_}
 use mathlib.Core.List.{List, []}
 use Prim.Native.Nat.{ℕ, _<_}
 use lib.Dec.{eqb, ltb}
 use lib.ListN.{length, getD, set}
-use Rattle.store.specs.Store.{deadIn}
+use Rattle.state.specs.Store.{deadIn}
 
 -- p is a process that runs on board a
 abbrev pub runsOn : List (List ℕ) → ℕ → ℕ → Bool

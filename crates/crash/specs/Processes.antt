@@ -1,5 +1,4 @@
 -- What a crash makes of the processes, in lists.
--- Assumes nothing.
 use mathlib.Core.Path.{_≡_}
 use mathlib.Core.Bool.{cond}
 use mathlib.Core.List.{List, [], _∷_}

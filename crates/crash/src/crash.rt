@@ -11,11 +11,11 @@ use crate::recount::recount;
 use backup::place::HEAD;
 use process::mail::MAIL;
 use process::row::ROW;
-use store::board::BOARD_ROW;
-use store::board::DEAD;
-use store::board::index16;
-use store::moved::Answer;
-use store::moved::refusal;
+use state::board::BOARD_ROW;
+use state::board::DEAD;
+use state::board::index16;
+use state::moved::Answer;
+use state::moved::refusal;
 
 pub fn crash(
     boards_many: usize,

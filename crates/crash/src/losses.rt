@@ -5,10 +5,10 @@ ghost use Rattle.facts.specs.Tests.{anyBelow};
 ghost use Rattle.crash.specs.Losses.{runsOn, deadApart, Zeroed, lostWords, deadRow};
 use process::row::BOARD;
 use process::row::ROW;
-use store::board::BOARD_ROW;
-use store::board::COUNT;
-use store::board::DEAD;
-use store::board::wide;
+use state::board::BOARD_ROW;
+use state::board::COUNT;
+use state::board::DEAD;
+use state::board::wide;
 
 // Whether p is a process that runs on board a.
 pub fn runs_on(rows: &[[u32; ROW]; 16], p: usize, a: u32) -> bool

@@ -6,7 +6,7 @@ use backup::place::HEAD;
 use process::crash::crash;
 use process::mail::MAIL;
 use process::row::ROW;
-use store::board::wide;
+use state::board::wide;
 
 // The channel of a port of process p; 0 stands for one that it doesn't have.
 fn input_at(ins: &[u32; 64], arity: &[u32; 16], p: usize, port: usize) -> u32

@@ -9,8 +9,8 @@ use process::mail::MAIL;
 use process::mail::channel_of;
 use process::row::ROW;
 use process::row::UNREAD;
-use store::board::index16;
-use store::board::wide;
+use state::board::index16;
+use state::board::wide;
 
 // The channel of a word of a mailbox.
 fn channel_at(x: u64) -> usize

@@ -1,5 +1,4 @@
 -- A number's binary digits: how many are set, the lowest that is set and the number without it, and tests over the set ones.
--- Assumes nothing.
 use mathlib.Core.Path.{_≡_, refl, ap, sym, _∙_}
 use mathlib.Core.Logic.{_≢_}
 use mathlib.Core.Bool.{Bool, true, false, not, cond, _||_}

@@ -1,5 +1,4 @@
 -- Sums over lists, how often a number occurs in a list, and how long a list is at most by what occurs in it.
--- Assumes nothing.
 use mathlib.Core.Logic.{_≢_}
 use mathlib.Core.Path.{_≡_, refl, ap, sym, _∙_}
 use mathlib.Core.Bool.{Bool, true, false, cond}

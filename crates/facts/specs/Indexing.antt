@@ -1,5 +1,4 @@
 -- Elements by their index: of a mapped list, and of one whose elements all pass a test; and what two functions make of such a list.
--- Assumes nothing.
 use mathlib.Core.Path.{_≡_, refl}
 use mathlib.Core.Bool.{Bool, true, false, _&&_}
 use mathlib.Core.List.{List, [], _∷_, map}

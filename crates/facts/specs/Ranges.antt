@@ -1,5 +1,4 @@
 -- Tests over a range, built up and compared: what fails one, when two agree, and a test over a list as one over its indices.
--- Assumes nothing.
 use mathlib.Core.Path.{_≡_, refl, sym}
 use mathlib.Core.Bool.{Bool, true, false, _&&_}
 use mathlib.Core.List.{List, [], _∷_}

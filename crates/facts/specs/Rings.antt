@@ -1,5 +1,4 @@
 -- Lists given by a function of the place, and rings of 32 in a flat list: an entry joins at the end, the oldest leaves.
--- Assumes nothing.
 use mathlib.Core.Path.{_≡_, refl, ap, sym, _∙_}
 use mathlib.Core.Logic.{_≢_}
 use mathlib.Core.List.{List, [], _∷_, _++_}

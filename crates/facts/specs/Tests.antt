@@ -1,5 +1,4 @@
 -- Tests over ranges and lists, as Booleans that compute, and what follows when they pass or fail.
--- Assumes nothing.
 use mathlib.Core.Path.{_≡_, refl, ap, sym, _∙_}
 use mathlib.Core.Logic.{_≢_}
 use mathlib.Core.Bool.{Bool, true, false, not, cond, _&&_, _||_}

@@ -1,5 +1,4 @@
 -- Stores at the cells of a row: what is kept, a counter that goes up by one, and the counters of a SEND.
--- Assumes nothing.
 use mathlib.Core.Path.{_≡_, refl, ap, sym, _∙_}
 use mathlib.Core.List.{List, [], _∷_}
 use Prim.Native.Nat.{ℕ, zero, suc, _+_, _%_, _^_, _≤_, _<_}

@@ -1,5 +1,4 @@
 -- A SET, an ADD or a JUMP: what its stores make of the process.
--- Assumes nothing.
 use mathlib.Core.Path.{_≡_, refl, ap, sym, _∙_}
 use mathlib.Core.Logic.{_≢_}
 use mathlib.Core.Bool.{Bool, true, false, cond}

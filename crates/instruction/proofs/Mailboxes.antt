@@ -1,5 +1,4 @@
 -- A mailbox: the test of a mask, the look through the words, and the shift that takes one out.
--- Assumes nothing.
 use mathlib.Core.Path.{_≡_, refl, ap, sym, _∙_}
 use mathlib.Core.Bool.{Bool, true, false}
 use mathlib.Core.List.{List, [], _∷_, map}

@@ -1,5 +1,4 @@
 -- A TAKE or a FIRST: a word goes into its registers, leaves the mailbox, and is counted.
--- Assumes nothing.
 use mathlib.Core.Path.{_≡_, refl, ap, sym, _∙_}
 use mathlib.Core.Logic.{_≢_}
 use mathlib.Core.Bool.{Bool, true, false, cond}

@@ -1,6 +1,5 @@
 -- What the calls on one instruction promise: what it would do is what the rules' `localStep` says, and what it does makes the process
 -- that the rules' `advanced` gives. Document 01: "Instructions, each moving the place on by one unless said".
--- Assumes nothing.
 use mathlib.Core.Path.{_≡_}
 use mathlib.Core.Bool.{Bool, cond}
 use mathlib.Core.List.{List, [], _∷_}

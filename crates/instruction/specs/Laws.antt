@@ -1,5 +1,4 @@
 -- Laws for the crates above: the instruction at a process's place, in an accepted table, is one that the calls promise something of.
--- Assumes nothing.
 use mathlib.Core.Path.{_≡_, refl}
 use mathlib.Core.Logic.{_≢_}
 use mathlib.Core.Bool.{true, _&&_}

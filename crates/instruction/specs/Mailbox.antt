@@ -1,5 +1,4 @@
 -- What the look into a mailbox and the taking of a word promise, on the list of words that its first numbers stand for.
--- Assumes nothing.
 use mathlib.Core.Path.{_≡_}
 use mathlib.Core.Bool.{Bool, cond}
 use mathlib.Core.List.{List}

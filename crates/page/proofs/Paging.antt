@@ -1,5 +1,4 @@
 -- The whole page: its parts, that it is at least so long, and a buffer that takes it or has no room.
--- Assumes nothing.
 use mathlib.Core.Path.{_≡_, refl, ap, sym, _∙_, subst}
 use mathlib.Core.Bool.{Bool, true, false, cond}
 use mathlib.Core.List.{List, [], _∷_, _++_}

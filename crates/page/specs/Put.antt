@@ -1,6 +1,5 @@
 -- Text put at a position of a lent buffer, and the position behind it. Where the buffer has no room the position goes on all the same: the
 -- same call on a buffer of one byte tells how long a text is.
--- Assumes nothing.
 use mathlib.Core.Path.{_≡_}
 use mathlib.Core.List.{List, [], _∷_}
 use Prim.Native.Nat.{ℕ, _+_, _*_, _≤_}

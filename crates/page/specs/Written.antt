@@ -1,5 +1,4 @@
 -- A page written into a lent buffer, or answered with 0 where it has no room.
--- Assumes nothing.
 use mathlib.Core.Path.{_≡_}
 use mathlib.Core.Bool.{Bool}
 use mathlib.Core.List.{List}

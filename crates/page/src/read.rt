@@ -8,7 +8,7 @@ ghost use Rattle.page.specs.Put.{most};
 pub fn byte(bytes: &[u8], i: usize) -> u64
     ensures { λ r. ⌜ (r ≡ byteAt (now (bytes .entry)) i) × (r < 256) ⌝ }
 {
-    sixes::bytes::byte(bytes, i) as u64
+    records::bytes::byte(bytes, i) as u64
 }
 
 // A word in four bytes, the highest first.

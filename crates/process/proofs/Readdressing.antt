@@ -1,5 +1,4 @@
 -- A mailbox made of a log: what is true between two rounds.
--- Assumes nothing.
 use mathlib.Core.Path.{_≡_, refl, ap, sym, _∙_}
 use mathlib.Core.List.{List, [], _∷_, _++_, map, map-append}
 use Prim.Native.Nat.{ℕ, suc, _+_, _%_, _≤_, _<_}

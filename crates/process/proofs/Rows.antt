@@ -1,5 +1,4 @@
 -- Rows: a row of known length written out, after which stores at its cells compute; and what a store keeps.
--- Assumes nothing.
 use mathlib.Core.Path.{_≡_, refl, ap, sym, _∙_}
 use mathlib.Core.List.{List, [], _∷_}
 use Prim.Native.Nat.{ℕ, zero, suc, _≤_, _<_, _^_}

@@ -1,5 +1,4 @@
 -- What the calls on one process promise: what they make of it is what the rules make of it, and the lists are kept again.
--- Assumes nothing.
 use mathlib.Core.Path.{_≡_}
 use mathlib.Core.List.{List}
 use Prim.Native.Nat.{ℕ, _≤_, _<_}

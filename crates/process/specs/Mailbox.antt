@@ -1,5 +1,4 @@
 -- What the call on a mailbox promises, on the list of words that its first numbers stand for.
--- Assumes nothing.
 use mathlib.Core.Path.{_≡_}
 use mathlib.Core.List.{List, [], _∷_, _++_}
 use Prim.Native.Nat.{ℕ, suc, _≤_, _<_}

@@ -1,5 +1,4 @@
 -- What a crash makes of one process: how it goes on as its backup, in lists.
--- Assumes nothing.
 use mathlib.Core.Path.{_≡_}
 use mathlib.Core.List.{List, map}
 use Prim.Native.Nat.{ℕ, _%_, _<_, _^_}

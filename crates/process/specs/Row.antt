@@ -1,5 +1,4 @@
 -- How a row, a mailbox, a log and a head, four lists of numbers, stand for a process of the rules.
--- Assumes nothing.
 use mathlib.Core.Path.{_≡_}
 use mathlib.Core.Bool.{cond}
 use mathlib.Core.Option.{Option, none, some}

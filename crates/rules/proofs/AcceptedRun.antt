@@ -1,5 +1,4 @@
 -- An accepted run: its table is valid, what it returns and writes, and how failure transparency of its commands becomes that of its bytes.
--- Assumes nothing.
 use mathlib.Core.Path.{_≡_, refl, ap, sym, _∙_}
 use mathlib.Core.Bool.{Bool, true, false, cond}
 use mathlib.Core.List.{List, [], _∷_}

@@ -1,7 +1,6 @@
 -- What lies between the reference machine of a process and its running machine: local steps whose sends and checkpoints are, in order,
 -- the process's own items of its board's outbox. The reference machine lags behind: it is stepped only when a word of the process is
 -- transmitted (up to exactly that SEND), when its checkpoint is transmitted (up to the snapshot), and at a quiet end.
--- Assumes nothing.
 use mathlib.Core.Path.{_≡_, ap, sym, _∙_}
 use mathlib.Core.Bool.{false}
 use mathlib.Core.List.{List, [], _∷_, _++_, append-assoc, append-nil}

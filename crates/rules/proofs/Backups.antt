@@ -1,5 +1,4 @@
 -- Inside the cabinet no call of a backup is refused: each does what its name says.
--- Assumes nothing.
 use mathlib.Core.Path.{_≡_, refl, ap, sym, _∙_}
 use mathlib.Core.Bool.{true}
 use mathlib.Core.Option.{Option, some}

@@ -1,5 +1,4 @@
 -- The two lent buffers: a run leaves them as long as they were, and what stands behind the written bytes as it was.
--- Assumes nothing.
 use mathlib.Core.Path.{_≡_, refl, ap, sym, _∙_}
 use mathlib.Core.Bool.{Bool, true, false, cond}
 use mathlib.Core.List.{List, [], _∷_}

@@ -1,5 +1,4 @@
 -- Words for computed cases: tables and schedules as bytes, and what a run returns and writes as numbers.
--- Assumes nothing.
 use mathlib.Core.Bool.{Bool, cond}
 use mathlib.Core.List.{List, [], _∷_, _++_, map}
 use Prim.Native.Nat.{ℕ, zero, suc, _*_, _/_, _%_, _^_}

@@ -1,5 +1,4 @@
 -- How many words of a channel are unread, wait in an outbox, or are in flight: what appending, storing and receiving do to them.
--- Assumes nothing.
 use mathlib.Core.Path.{_≡_, refl, ap, sym, _∙_}
 use mathlib.Core.Bool.{cond}
 use mathlib.Core.List.{List, [], _∷_, _++_, map}

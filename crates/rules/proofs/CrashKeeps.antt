@@ -1,5 +1,4 @@
 -- The crash of a board keeps the invariant, if each process that runs there has a backup: the reference machine does nothing.
--- Assumes nothing.
 use mathlib.Core.Logic.{_≢_}
 use mathlib.Core.Path.{_≡_, refl, ap, sym, _∙_, subst}
 use mathlib.Core.Bool.{Bool, true, false, not, cond, _&&_}

@@ -1,5 +1,4 @@
 -- The words in flight on a channel wait in the outbox of its sender's board, and in no other.
--- Assumes nothing.
 use mathlib.Core.Logic.{_≢_}
 use mathlib.Core.Path.{_≡_, refl, ap, sym, _∙_}
 use mathlib.Core.Bool.{Bool, true, false, cond}

@@ -1,5 +1,4 @@
 -- Each accepted move is followed by actions of the reference machine. Step and sync are followed by none: the reference machine waits.
--- Assumes nothing.
 use mathlib.Core.Path.{_≡_, refl, ap, sym, _∙_, subst}
 use mathlib.Core.Bool.{Bool, true, false, cond, _||_}
 use mathlib.Core.Option.{some}

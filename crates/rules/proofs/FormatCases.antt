@@ -1,5 +1,4 @@
 -- Computed cases for numbers 1 to 12: the limits themselves, which number comes first, and what is written to the buffers.
--- Assumes nothing.
 use mathlib.Core.Path.{_≡_, refl}
 use mathlib.Core.List.{List, [], _∷_, _++_, map}
 use Prim.Native.Nat.{ℕ}

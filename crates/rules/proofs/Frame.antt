@@ -1,6 +1,5 @@
 -- The invariant when one process changes, with its own items in its own board's outbox and its machine in the reference: what step, sync
 -- and transmit have in common. And when a word arrives.
--- Assumes nothing.
 use mathlib.Core.Logic.{_≢_}
 use mathlib.Core.Path.{_≡_, refl, ap, sym, _∙_, subst}
 use mathlib.Core.Bool.{Bool}

@@ -1,6 +1,5 @@
 -- What holds of one process beside its machine in the reference: four machines over the same arrivals, the one in its backup, the
 -- reference one, snapshots that wait in an outbox, and the running one, lie on one deterministic path.
--- Assumes nothing.
 use mathlib.Core.Path.{_≡_, subst}
 use mathlib.Core.Bool.{true}
 use mathlib.Core.Option.{none, some}

@@ -1,5 +1,4 @@
 -- What a move yields: a property of its result, through the checks, and of a whole command.
--- Assumes nothing.
 use mathlib.Core.Path.{_≡_, refl}
 use mathlib.Core.Bool.{Bool, true, false}
 use Prim.Native.Nat.{ℕ, zero, suc, _<_}

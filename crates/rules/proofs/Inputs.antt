@@ -1,5 +1,4 @@
 -- The channels that a process reads are its inputs: each stands there once, and no other does.
--- Assumes nothing.
 use mathlib.Core.Logic.{_≢_}
 use mathlib.Core.Path.{_≡_, refl, ap, sym, _∙_, subst}
 use mathlib.Core.Bool.{Bool, true, false, cond}

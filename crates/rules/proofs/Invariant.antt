@@ -1,5 +1,4 @@
 -- What holds of the whole cabinet beside a reference machine, in every state that commands reach.
--- Assumes nothing.
 use mathlib.Core.Logic.{_≢_}
 use mathlib.Core.Path.{_≡_, refl}
 use mathlib.Core.Bool.{Bool, true, false, cond}

@@ -1,5 +1,4 @@
 -- Each move keeps the room. A crash does so where each backup's words are the mailbox's and at most so many received ones (`Behind`).
--- Assumes nothing.
 use mathlib.Core.Logic.{_≢_}
 use mathlib.Core.Path.{_≡_, refl, ap, sym, _∙_}
 use mathlib.Core.Bool.{Bool, true, false, cond}

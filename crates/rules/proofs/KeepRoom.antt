@@ -1,5 +1,4 @@
 -- A command keeps the room, where the cabinet has the invariant.
--- Assumes nothing.
 use mathlib.Core.Path.{_≡_, ap, _∙_}
 use mathlib.Core.Option.{some}
 use mathlib.Core.List.{[], map}

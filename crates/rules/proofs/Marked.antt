@@ -1,5 +1,4 @@
 -- Document 01's marked cases M1 to M13 as one computed table: bytes in, numbers out.
--- Assumes nothing.
 use mathlib.Core.Path.{_≡_, refl}
 use mathlib.Core.Bool.{true}
 use mathlib.Core.List.{List, [], _∷_, _++_, map}

@@ -1,5 +1,4 @@
 -- Computed cases for rules of the moves that no theorem would miss: which refusal comes first, what counts, what a crash leaves.
--- Assumes nothing.
 use mathlib.Core.Path.{_≡_, refl}
 use mathlib.Core.List.{List, [], _∷_, _++_}
 use Prim.Native.Nat.{ℕ}

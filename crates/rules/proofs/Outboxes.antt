@@ -1,5 +1,4 @@
 -- No outbox is longer than document 01's limit, in any state: each move keeps it.
--- Assumes nothing.
 use mathlib.Core.Path.{_≡_, refl, ap}
 use mathlib.Core.Bool.{false}
 use mathlib.Core.List.{List, [], _∷_, _++_}

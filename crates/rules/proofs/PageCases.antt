@@ -1,5 +1,4 @@
 -- Computed cases of the page, byte by byte: M13's page as document 01 prints it, refused runs, and what the program prints for its input.
--- Assumes nothing.
 use mathlib.Core.Path.{_≡_, refl}
 use mathlib.Core.List.{List, [], _∷_, _++_}
 use Prim.Native.Nat.{ℕ}

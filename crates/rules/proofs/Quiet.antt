@@ -1,5 +1,4 @@
 -- A quiet end: no process is late, no item waits, so that silent steps take each reference machine to the running one, and none can step.
--- Assumes nothing.
 use mathlib.Core.Path.{_≡_, refl, ap, sym, _∙_, subst}
 use mathlib.Core.Bool.{Bool, true, false, cond}
 use mathlib.Core.Option.{Option, none, some}

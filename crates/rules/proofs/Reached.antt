@@ -1,5 +1,4 @@
 -- The bounds hold in every state that a list of commands reaches, for each process and channel (proofs/Outboxes.antt: for each board).
--- Assumes nothing.
 use mathlib.Core.List.{List}
 use Prim.Native.Nat.{ℕ, _<_}
 use lib.ListN.{length}

@@ -1,5 +1,4 @@
 -- The plain cabinet on the sample, computed: it runs, it gives the sample page's bus order and last line, and it refuses.
--- Assumes nothing.
 use mathlib.Core.Path.{_≡_, refl}
 use mathlib.Core.Option.{Option, none, some}
 use mathlib.Core.List.{List, [], _∷_, _++_, map}

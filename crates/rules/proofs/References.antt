@@ -1,5 +1,4 @@
 -- Runs of the reference machine: one after another, and the silent steps of one process in a row.
--- Assumes nothing.
 use mathlib.Core.Path.{_≡_, refl, ap, _∙_}
 use mathlib.Core.Bool.{false}
 use mathlib.Core.Option.{Option, none, some}

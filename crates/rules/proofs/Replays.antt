@@ -1,5 +1,4 @@
 -- Rolling forward: a process without a backup that is still behind the reference machine steps along the run that leads there.
--- Assumes nothing.
 use mathlib.Core.Path.{_≡_, refl, _∙_, subst}
 use mathlib.Core.Bool.{Bool, true, false}
 use mathlib.Core.List.{List, [], _∷_, _++_}

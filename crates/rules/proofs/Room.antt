@@ -1,5 +1,4 @@
 -- Room: how many words of its channels a process has unread or in flight, and that changing one process and the outboxes keeps it.
--- Assumes nothing.
 use mathlib.Core.Logic.{_≢_}
 use mathlib.Core.Path.{_≡_, refl, ap, sym, _∙_, subst}
 use mathlib.Core.Bool.{true, false}

@@ -1,5 +1,4 @@
 -- Runs of one machine: local steps with their acts, how many of the acts are sends, takes or either, and that an arrival disturbs no run.
--- Assumes nothing.
 use mathlib.Core.Path.{_≡_, refl, ap}
 use mathlib.Core.Bool.{Bool, true, false}
 use mathlib.Core.List.{List, [], _∷_, _++_}

@@ -1,5 +1,4 @@
 -- While a process is protected, the saved words less those taken since the backup's state are its inbox, and its takes are few.
--- Assumes nothing.
 use mathlib.Core.Path.{_≡_, refl, ap, sym, _∙_}
 use mathlib.Core.Bool.{Bool, true, false, cond}
 use mathlib.Core.List.{List, [], _∷_, map}

@@ -1,5 +1,4 @@
 -- What the room gives: how long an inbox and a log are at most, and room in the log for each word that is about to arrive.
--- Assumes nothing.
 use mathlib.Core.Logic.{_≢_}
 use mathlib.Core.Path.{_≡_, refl, ap, sym, _∙_}
 use mathlib.Core.Bool.{true}

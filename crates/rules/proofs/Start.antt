@@ -1,5 +1,4 @@
 -- The cabinet that the table gives has the invariant, beside the reference machine as it starts, and so has every state that commands reach.
--- Assumes nothing.
 use mathlib.Core.Path.{_≡_, refl, ap, sym, _∙_, subst}
 use mathlib.Core.Bool.{true, false}
 use mathlib.Core.Option.{some}

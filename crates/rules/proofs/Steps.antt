@@ -1,6 +1,5 @@
 -- One local step of one machine: an arrival disturbs no step that was possible before it, a step takes the oldest word on a channel
 -- that it wants, and a machine does one thing.
--- Assumes nothing.
 use mathlib.Core.Path.{_≡_, refl, ap, sym, subst}
 use mathlib.Core.Bool.{Bool, true, false, cond}
 use mathlib.Core.List.{List, [], _∷_, _++_}

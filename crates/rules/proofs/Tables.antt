@@ -1,6 +1,5 @@
 -- What an accepted table gives: ports and channels correspond, a process sends on its own channels only, a step leaves the program counter
 -- within the program, boards are those of the table.
--- Assumes nothing.
 use mathlib.Core.Logic.{_≢_}
 use mathlib.Core.Path.{_≡_, refl, ap, sym, subst}
 use mathlib.Core.Bool.{Bool, true, false, not, cond, _&&_}

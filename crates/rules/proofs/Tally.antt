@@ -1,6 +1,5 @@
 -- Takes counted by port, and what a log keeps: along a run from a backup's state, the mailbox is what the log has left after dropping the
 -- oldest messages port by port as taken, and no port has more takes than messages.
--- Assumes nothing.
 use mathlib.Core.Logic.{_≢_}
 use mathlib.Core.Path.{_≡_, refl, ap, sym, _∙_, subst}
 use mathlib.Core.Bool.{Bool, true, false, cond}

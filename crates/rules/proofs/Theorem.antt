@@ -1,6 +1,5 @@
 -- Demand 3 of document 01: every accepted run is failure transparent, in the bytes that it writes. The statement is
 -- specs/Transparency.antt; its one hypothesis is a test that computes, and the sample passes it.
--- Assumes nothing.
 use mathlib.Core.Path.{_≡_}
 use mathlib.Core.Bool.{true}
 use mathlib.Core.List.{List}

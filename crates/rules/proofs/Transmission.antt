@@ -1,5 +1,4 @@
 -- Transmission and feeds, followed by the reference machine: the steps that lead up to the item, or the same feed.
--- Assumes nothing.
 use mathlib.Core.Path.{_≡_, refl, ap, sym, _∙_, subst}
 use mathlib.Core.Bool.{Bool, true, false, cond}
 use mathlib.Core.Option.{Option, none, some}

@@ -1,7 +1,6 @@
 -- Demand 3 of the rules: failure transparency of any list of commands, on any accepted table, in one theorem.
 -- The reference machine lags behind: it is stepped only when a word of a process is transmitted (up to exactly that SEND), when a
 -- checkpoint of it is transmitted (up to the snapshot), and at a quiet end (up to the running machine).
--- Assumes nothing.
 use mathlib.Core.Path.{_≡_, refl, ap, _∙_}
 use mathlib.Core.Bool.{Bool, true, false}
 use mathlib.Core.List.{List, _++_, append-nil}

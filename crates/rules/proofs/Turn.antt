@@ -1,5 +1,4 @@
 -- One command, then any list of them, followed by the reference machine. The room for words that are about to arrive comes with it.
--- Assumes nothing.
 use mathlib.Core.Path.{_≡_, refl, sym, subst₂}
 use mathlib.Core.Bool.{Bool, true, false, cond, _&&_}
 use mathlib.Core.List.{List, [], _∷_, _++_, map}

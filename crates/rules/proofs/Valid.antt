@@ -1,5 +1,4 @@
 -- A table that passes numbers 1 to 8 is one of which `Accepted` holds.
--- Assumes nothing.
 use mathlib.Core.Path.{_≡_, refl, ap, _∙_}
 use mathlib.Core.Bool.{Bool, true, false, _&&_}
 use mathlib.Core.List.{List, map}

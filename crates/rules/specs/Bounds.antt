@@ -1,7 +1,6 @@
 -- How much there is at most of anything in a cabinet, in every state that a list of commands reaches from the start, and that a backup
 -- never refuses there: what code with lists of fixed lengths rests on.
 -- Definitions only; proofs/Reached.antt and proofs/Outboxes.antt prove them.
--- Assumes nothing.
 use mathlib.Core.Logic.{_≢_}
 use mathlib.Core.Path.{_≡_}
 use mathlib.Core.Bool.{false, cond}

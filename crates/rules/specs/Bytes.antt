@@ -1,5 +1,4 @@
 -- Numbers in bytes. Document 01: "Everything is big-endian."
--- Assumes nothing.
 use mathlib.Core.List.{List, [], _∷_, _++_}
 use Prim.Native.Nat.{ℕ, zero, suc, _+_, _*_, _/_, _%_, _^_}
 use lib.ListN.{length, getD, drop}

@@ -1,5 +1,4 @@
 -- The cabinet's state, and what is read off it: outboxes, back-pressure, protection, quiescence (document 01, "The cabinet's moves").
--- Assumes nothing.
 use mathlib.Core.Bool.{Bool, true, false, not, cond, _&&_, _||_}
 use mathlib.Core.Option.{Option, none, some}
 use mathlib.Core.List.{List, [], _∷_, _++_, map}

@@ -1,6 +1,5 @@
 -- A table in bytes: what it says, and the number that refuses it (document 01, "The table" and "What each move replies").
 -- "A refused one, lowest number first": each number is judged over the whole table before the next.
--- Assumes nothing.
 use mathlib.Core.Bool.{Bool, cond, _&&_}
 use mathlib.Core.List.{List, [], _∷_, map}
 use Prim.Native.Nat.{ℕ, zero, suc, _+_, _*_}

@@ -1,6 +1,5 @@
 -- What numbers 5 to 8 ask of a whole table, each as one test (document 01, "The table" and "What each move replies").
 -- Numbers 1 to 4, and a code that is no instruction, are judged on the bytes.
--- Assumes nothing.
 use mathlib.Core.Path.{_≡_}
 use mathlib.Core.Bool.{Bool, true, false, not, cond, _&&_, _||_}
 use mathlib.Core.List.{List, [], _∷_}

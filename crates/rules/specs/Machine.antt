@@ -1,6 +1,5 @@
 -- One process as a machine, and the meaning of one instruction (document 01, "The table").
 -- The cabinet and the reference machine share this and nothing else.
--- Assumes nothing.
 use mathlib.Core.Bool.{Bool, true, false, cond}
 use mathlib.Core.List.{List, [], _∷_, _++_}
 use Prim.Native.Nat.{ℕ, zero, suc, _+_, _/_, _%_, _^_}

@@ -1,5 +1,4 @@
 -- The five moves, every refusal in its order, and what each replies (document 01, "The cabinet's moves", "What each move replies").
--- Assumes nothing.
 use mathlib.Core.Bool.{Bool, true, false, not, cond, _&&_, _||_}
 use mathlib.Core.Option.{Option, none, some}
 use mathlib.Core.List.{List, [], _∷_, _++_, map}

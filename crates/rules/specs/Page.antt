@@ -1,6 +1,5 @@
 -- The bench program's page, from what a run returned and wrote, and from the bytes of standard input (document 01, "The bench program's
 -- page").
--- Assumes nothing.
 use mathlib.Core.Bool.{Bool, true, false, cond}
 use mathlib.Core.List.{List, [], _∷_, _++_}
 use Prim.Native.Nat.{ℕ, zero, suc, _+_, _*_, _/_, _%_}

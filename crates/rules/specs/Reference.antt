@@ -1,6 +1,5 @@
 -- The failure-free reference machine (document 01: "The plain cabinet"): it is given the table and a list of feeds and steps, and
 -- nothing of our cabinet. No boards, no limits, no holding.
--- Assumes nothing.
 use mathlib.Core.Bool.{Bool, true, false, cond}
 use mathlib.Core.Option.{Option, none, some}
 use mathlib.Core.List.{List, [], _∷_, _++_, map}

@@ -1,6 +1,5 @@
 -- A whole run, from the bytes of a table and a schedule and the two lent buffers to the numbers that it returns and the buffers afterwards
 -- (document 01, "What each move replies").
--- Assumes nothing.
 use mathlib.Core.Bool.{Bool, false, cond}
 use mathlib.Core.List.{List, _∷_, _++_, map}
 use Prim.Native.Nat.{ℕ, _*_}

@@ -1,5 +1,4 @@
 -- A schedule in bytes: its commands, and the number that refuses it (document 01, "The cabinet's moves" and "What each move replies").
--- Assumes nothing.
 use mathlib.Core.Bool.{Bool, _&&_}
 use mathlib.Core.List.{List}
 use Prim.Native.Nat.{ℕ, _+_, _-_, _*_, _/_}

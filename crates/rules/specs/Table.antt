@@ -1,5 +1,4 @@
 -- What a table says: boards, channel ends, and for each process its two boards and its program (document 01, "The table").
--- Assumes nothing.
 use mathlib.Core.Bool.{Bool, true, false, cond}
 use mathlib.Core.List.{List, [], _∷_}
 use Prim.Native.Nat.{ℕ, zero, suc}

@@ -1,6 +1,5 @@
 -- Failure transparency of a run, on the bytes that go in and come out: demand 3 of document 01, as one statement.
 -- "Demand 3 speaks of that list as a whole, in one theorem, and not of each move by itself."
--- Assumes nothing.
 use mathlib.Core.Path.{_≡_}
 use mathlib.Core.Bool.{true}
 use mathlib.Core.Option.{none, some}

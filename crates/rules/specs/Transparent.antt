@@ -1,6 +1,5 @@
 -- Failure transparency of a list of commands: what demand 3 says of one table and one list, on commands and answers.
 -- Transparency says the same of the bytes of a run.
--- Assumes nothing.
 use mathlib.Core.Path.{_≡_}
 use mathlib.Core.Bool.{true, cond, _&&_}
 use mathlib.Core.Option.{none, some}

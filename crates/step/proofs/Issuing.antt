@@ -1,5 +1,4 @@
 -- Move 2 in the lists: the refusals, and a checkpoint that joins its board's queue.
--- Assumes nothing.
 use mathlib.Core.Path.{_≡_, refl, ap, sym, _∙_, subst}
 use mathlib.Core.Logic.{_≢_}
 use mathlib.Core.Bool.{Bool, true, false, not, cond, _||_, or-false, or-true, or-assoc}
@@ -18,21 +17,21 @@ use Rattle.rules.specs.Table.{Table}
 use Rattle.rules.specs.Cabinet as rules
 use Rattle.rules.specs.Cabinet.{isCheckpointOf, Cabinet, Process, outboxMost, processAt, outboxAt, protected, waiting}
 use Rattle.rules.specs.Moves.{Command, Result, refuse, accept, guard, noBackup, syncWaits, outboxFull, refusalNumber, issue, issued, snapshot, withProcess, enqueue, done, numbers}
-use Rattle.store.specs.declared.entry.Entry.{Entry}
-use Rattle.store.specs.declared.entry.Item.the-variants.{Sync}
-use Rattle.store.specs.declared.moved.Moved.{Moved}
+use Rattle.state.specs.declared.entry.Entry.{Entry}
+use Rattle.state.specs.declared.entry.Item.the-variants.{Sync}
+use Rattle.state.specs.declared.moved.Moved.{Moved}
 use Rattle.backup.specs.declared.place.Checkpoint as code
 use Rattle.backup.specs.Place.{checkpointOf}
 use Rattle.rules.proofs.Counting.{weight, flight-joined}
-use Rattle.store.specs.Board.{placeOf, pushedIn}
-use Rattle.store.specs.Store.{itemOf, Store, storeOf, Holds, processIn, outboxIn, firstIn, countIn, flag}
-use Rattle.store.specs.Moved.{Reachable, Turned, refusedWith, answerOf}
+use Rattle.state.specs.Board.{placeOf, pushedIn}
+use Rattle.state.specs.Store.{itemOf, Store, storeOf, Holds, processIn, outboxIn, firstIn, countIn, flag}
+use Rattle.state.specs.Moved.{Reachable, Turned, refusedWith, answerOf}
 use Rattle.step.specs.Issues.{Issues}
-use Rattle.store.proofs.Reading.{at-process, at-outbox, how-many-boards}
-use Rattle.store.proofs.Queueing.{QueueThen, joined}
-use Rattle.store.proofs.Changing.{row-changed}
-use Rattle.store.proofs.Reaching.{bounds, protected-is, queue-length}
-use Rattle.store.proofs.Refusing.{turned-down}
+use Rattle.state.proofs.Reading.{at-process, at-outbox, how-many-boards}
+use Rattle.state.proofs.Queueing.{QueueThen, joined}
+use Rattle.state.proofs.Changing.{row-changed}
+use Rattle.state.proofs.Reaching.{bounds, protected-is, queue-length}
+use Rattle.state.proofs.Refusing.{turned-down}
 
 -- a waiting flag that is 0, or not
 flag-off : (b : Bool) (n : ℕ) → n ≡ flag b → n ≡ 0 → b ≡ false

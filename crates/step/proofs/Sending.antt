@@ -1,5 +1,4 @@
 -- A step that sends a word, in the lists: one that is suppressed, the refusals 37, 38 and 39, and the word that joins its board's queue.
--- Assumes nothing.
 use mathlib.Core.Path.{_≡_, refl, ap, sym, _∙_, subst}
 use mathlib.Core.Bool.{Bool, true, false, _||_}
 use mathlib.Core.List.{List, [], _∷_, _++_}
@@ -23,22 +22,22 @@ use Rattle.rules.specs.Moves.{guard, refuse, accept, eventsFull, outboxFull, ch
 use Rattle.rules.proofs.Steps.{Steps}
 use Rattle.rules.proofs.Counting.{weight, flight-joined}
 use Rattle.rules.proofs.Tables.{step-own}
-use Rattle.store.specs.declared.entry.Entry.{Entry}
-use Rattle.store.specs.declared.entry.Item.the-variants.{Word}
-use Rattle.store.specs.declared.moved.Moved.{Moved}
-use Rattle.store.specs.Board.{placeOf, pushedIn}
-use Rattle.store.specs.Store.{itemOf, Store, storeOf, Holds, firstIn, countIn, flag}
-use Rattle.store.specs.Moved.{Reachable, answerOf, aloneOf, refusedWith}
-use Rattle.store.proofs.Reading.{at-process, how-many-boards}
-use Rattle.store.proofs.Queueing.{QueueThen, joined}
-use Rattle.store.proofs.Changing.{row-changed}
-use Rattle.store.proofs.Reaching.{channel-bounds}
-use Rattle.store.proofs.Ends.{sent-inside, reader-inside}
-use Rattle.store.proofs.Tallies.{events-few}
-use Rattle.store.proofs.Refusing.{turned-down}
+use Rattle.state.specs.declared.entry.Entry.{Entry}
+use Rattle.state.specs.declared.entry.Item.the-variants.{Word}
+use Rattle.state.specs.declared.moved.Moved.{Moved}
+use Rattle.state.specs.Board.{placeOf, pushedIn}
+use Rattle.state.specs.Store.{itemOf, Store, storeOf, Holds, firstIn, countIn, flag}
+use Rattle.state.specs.Moved.{Reachable, answerOf, aloneOf, refusedWith}
+use Rattle.state.proofs.Reading.{at-process, how-many-boards}
+use Rattle.state.proofs.Queueing.{QueueThen, joined}
+use Rattle.state.proofs.Changing.{row-changed}
+use Rattle.state.proofs.Reaching.{channel-bounds}
+use Rattle.state.proofs.Ends.{sent-inside, reader-inside}
+use Rattle.state.proofs.Tallies.{events-few}
+use Rattle.state.proofs.Refusing.{turned-down}
 use Rattle.step.specs.Parts.{spentIn, SendTurns}
-use Rattle.store.specs.Channel.{heldIn}
-use Rattle.store.proofs.Held.{full-is}
+use Rattle.state.specs.Channel.{heldIn}
+use Rattle.state.proofs.Held.{full-is}
 use Rattle.step.proofs.Issuing.{board-is, board-there, queue-has}
 use Rattle.step.proofs.Stepping.{turned-to, machine-is, step-is, exhausted-is}
 

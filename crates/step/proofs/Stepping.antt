@@ -1,5 +1,4 @@
 -- Move 1 in the lists: which case of the rules' step it is, the refusals 35 and 36, and a SET, an ADD or a JUMP.
--- Assumes nothing.
 use mathlib.Core.Path.{_≡_, refl, ap, sym, _∙_, subst}
 use mathlib.Core.Bool.{Bool, _&&_}
 use mathlib.Core.List.{List, []}
@@ -12,21 +11,21 @@ use Rattle.instruction.specs.Instruction.{Intends, Fetched, Examined, Computes,
 use Rattle.instruction.specs.Laws as laws
 use Rattle.instruction.specs.declared.instruction.Intent.{Intent}
 use Rattle.instruction.specs.declared.instruction.Intent.the-variants.{Halted, NoMail, Internal, Take, Send}
-use Rattle.sixes.specs.Fetch.{fetched, instructionOf}
-use Rattle.sixes.specs.declared.fetch.Instruction.{Instruction}
+use Rattle.records.specs.Fetch.{fetched, instructionOf}
+use Rattle.records.specs.declared.fetch.Instruction.{Instruction}
 use Rattle.rules.specs.Table.{Table, codeOf}
 use Rattle.rules.specs.Machine.{Machine, Outcome, localStep, internal}
 use Rattle.rules.specs.Cabinet.{Cabinet, Process, eventsMost, processAt, exhausted}
 use Rattle.rules.specs.Moves.{Command, Result, Answer, refuse, accept, isHalted, noSuchWord, done, refusalNumber, numbers, numbered, advanced, step, stepFrom, withProcess}
 use Rattle.rules.proofs.Steps.{Steps, step-left}
-use Rattle.store.specs.declared.entry.Entry.{Entry}
-use Rattle.store.specs.declared.moved.Moved.{Moved}
-use Rattle.store.specs.Store.{Store, storeOf, Holds}
-use Rattle.store.specs.Moved.{Reachable, Turned, storedBy, answerOf, aloneOf, refusedWith}
-use Rattle.store.proofs.Reading.{at-process}
-use Rattle.store.proofs.Changing.{row-changed}
-use Rattle.store.proofs.Reaching.{protected-is}
-use Rattle.store.proofs.Refusing.{turned-down}
+use Rattle.state.specs.declared.entry.Entry.{Entry}
+use Rattle.state.specs.declared.moved.Moved.{Moved}
+use Rattle.state.specs.Store.{Store, storeOf, Holds}
+use Rattle.state.specs.Moved.{Reachable, Turned, storedBy, answerOf, aloneOf, refusedWith}
+use Rattle.state.proofs.Reading.{at-process}
+use Rattle.state.proofs.Changing.{row-changed}
+use Rattle.state.proofs.Reaching.{protected-is}
+use Rattle.state.proofs.Refusing.{turned-down}
 use Rattle.step.specs.Parts.{spentIn, TakeTurns, SendTurns}
 use Rattle.step.specs.Steps as specs
 

@@ -1,5 +1,4 @@
 -- A step that takes a word, in the lists: the refusal 37, and the word that leaves its mailbox.
--- Assumes nothing.
 use mathlib.Core.Path.{_≡_, refl, ap, sym, _∙_, subst}
 use mathlib.Core.Bool.{Bool, true, false}
 use mathlib.Core.List.{List, []}
@@ -21,17 +20,17 @@ use Rattle.rules.specs.Moves.{guard, refuse, accept, eventsFull, refusalNumber,
 use Rattle.rules.proofs.Steps.{Steps}
 use Rattle.rules.proofs.Counting.{step-unread}
 use Rattle.rules.proofs.Tables.{input, few-ports}
-use Rattle.store.specs.declared.entry.Entry.{Entry}
-use Rattle.store.specs.declared.moved.Moved.{Moved}
-use Rattle.store.specs.Store.{Store, storeOf, Holds}
-use Rattle.store.specs.Moved.{Reachable, Turned, answerOf, aloneOf, refusedWith}
-use Rattle.store.proofs.Reading.{at-process}
-use Rattle.store.proofs.Changing.{UnreadThen, changed}
-use Rattle.store.proofs.Totals.{unread-less}
-use Rattle.store.proofs.Ends.{read-inside}
-use Rattle.store.proofs.Owners.{unread-own}
-use Rattle.store.proofs.Tallies.{events-few, takes-few}
-use Rattle.store.proofs.Refusing.{turned-down}
+use Rattle.state.specs.declared.entry.Entry.{Entry}
+use Rattle.state.specs.declared.moved.Moved.{Moved}
+use Rattle.state.specs.Store.{Store, storeOf, Holds}
+use Rattle.state.specs.Moved.{Reachable, Turned, answerOf, aloneOf, refusedWith}
+use Rattle.state.proofs.Reading.{at-process}
+use Rattle.state.proofs.Changing.{UnreadThen, changed}
+use Rattle.state.proofs.Totals.{unread-less}
+use Rattle.state.proofs.Ends.{read-inside}
+use Rattle.state.proofs.Owners.{unread-own}
+use Rattle.state.proofs.Tallies.{events-few, takes-few}
+use Rattle.state.proofs.Refusing.{turned-down}
 use Rattle.step.specs.Parts.{spentIn, TakeTurns}
 use Rattle.step.proofs.Stepping.{turned-to, machine-is, step-is, exhausted-is}
 

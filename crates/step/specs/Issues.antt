@@ -1,5 +1,4 @@
 -- Move 2 (document 01: "sync process a").
--- Assumes nothing.
 use mathlib.Core.Path.{_≡_}
 use mathlib.Core.List.{List}
 use Prim.Native.Nat.{ℕ, _<_}
@@ -7,10 +6,10 @@ use lib.ListN.{length}
 use Rattle.rules.specs.Table.{Table}
 use Rattle.rules.specs.Cabinet.{Cabinet}
 use Rattle.rules.specs.Moves.{Command, issue}
-use Rattle.store.specs.declared.entry.Entry.{Entry}
-use Rattle.store.specs.declared.moved.Moved.{Moved}
-use Rattle.store.specs.Store.{storeOf, Holds}
-use Rattle.store.specs.Moved.{Reachable, Turned}
+use Rattle.state.specs.declared.entry.Entry.{Entry}
+use Rattle.state.specs.declared.moved.Moved.{Moved}
+use Rattle.state.specs.Store.{storeOf, Holds}
+use Rattle.state.specs.Moved.{Reachable, Turned}
 
 -- whatever the lists are that it isn't lent
 pub record Issues (rows boards : List (List ℕ)) (waits : List ℕ) (a : ℕ) (rows′ boards′ : List (List ℕ)) (waits′ : List ℕ) (r : Moved) : Type 0 where

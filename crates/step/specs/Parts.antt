@@ -1,7 +1,6 @@
 -- The parts of move 1: what a step looks at first, and a step that takes or sends a word.
 -- Document 01: "For TAKE and FIRST: 36 no such word, then 37 if backed and acts are 8. For a SEND not held back: 37 likewise, 38 queue
 -- full, 39 held."
--- Assumes nothing.
 use mathlib.Core.Path.{_≡_}
 use mathlib.Core.Bool.{Bool, not, _&&_}
 use mathlib.Core.List.{List, []}
@@ -13,11 +12,11 @@ use Rattle.instruction.specs.declared.instruction.Intent.the-variants.{Take, Se
 use Rattle.rules.specs.Table.{Table, codeOf}
 use Rattle.rules.specs.Cabinet.{Cabinet, eventsMost}
 use Rattle.rules.specs.Moves.{Command, step}
-use Rattle.store.specs.declared.entry.Entry.{Entry}
-use Rattle.store.specs.declared.moved.Moved.{Moved}
-use Rattle.store.specs.Store.{storeOf, Holds}
-use Rattle.store.specs.Moved.{Reachable, Turned}
-use Rattle.store.specs.Wired.{Wired}
+use Rattle.state.specs.declared.entry.Entry.{Entry}
+use Rattle.state.specs.declared.moved.Moved.{Moved}
+use Rattle.state.specs.Store.{storeOf, Holds}
+use Rattle.state.specs.Moved.{Reachable, Turned}
+use Rattle.state.specs.Wired.{Wired}
 
 -- "if backed and acts are 8", of a process's row
 abbrev pub spentIn : List ℕ → Bool

@@ -1,18 +1,17 @@
 -- Move 1 (document 01: "step process a: one instruction").
--- Assumes nothing.
 use mathlib.Core.Path.{_≡_}
 use mathlib.Core.List.{List}
 use Prim.Native.Nat.{ℕ, _<_}
 use lib.ListN.{length, getD}
-use Rattle.sixes.specs.Fetch.{fetched, instructionOf}
+use Rattle.records.specs.Fetch.{fetched, instructionOf}
 use Rattle.rules.specs.Table.{Table, SET, codeOf}
 use Rattle.rules.specs.Cabinet.{Cabinet}
 use Rattle.rules.specs.Moves.{Command, step}
-use Rattle.store.specs.declared.entry.Entry.{Entry}
-use Rattle.store.specs.declared.moved.Moved.{Moved}
-use Rattle.store.specs.Store.{storeOf, Holds}
-use Rattle.store.specs.Moved.{Reachable, Turned}
-use Rattle.store.specs.Wired.{Wired}
+use Rattle.state.specs.declared.entry.Entry.{Entry}
+use Rattle.state.specs.declared.moved.Moved.{Moved}
+use Rattle.state.specs.Store.{storeOf, Holds}
+use Rattle.state.specs.Moved.{Reachable, Turned}
+use Rattle.state.specs.Wired.{Wired}
 
 -- Where in the table's bytes each program begins, and how many instructions it has; those fetched there are the program's.
 pub record Programmed (t : Table) (table start lengths : List ℕ) : Type 0 where

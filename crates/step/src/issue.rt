@@ -5,17 +5,17 @@ use process::checkpoint;
 use process::row::BOARD;
 use process::row::PROTECTED;
 use process::row::ROW;
-use store::board::BOARD_ROW;
-use store::board::COUNT;
-use store::board::QUEUE;
-use store::board::index16;
-use store::board::place;
-use store::board::push;
-use store::entry::Entry;
-use store::entry::Item;
-use store::moved::Answer;
-use store::moved::Moved;
-use store::moved::refused;
+use state::board::BOARD_ROW;
+use state::board::COUNT;
+use state::board::QUEUE;
+use state::board::index16;
+use state::board::place;
+use state::board::push;
+use state::entry::Entry;
+use state::entry::Item;
+use state::moved::Answer;
+use state::moved::Moved;
+use state::moved::refused;
 
 pub fn issue(
     rows: &mut [[u32; ROW]; 16],

@@ -7,20 +7,20 @@ use instruction::instruction::suppress_send;
 use process::row::BOARD;
 use process::row::ROW;
 use process::row::SUPPRESS;
-use store::board::BOARD_ROW;
-use store::board::COUNT;
-use store::board::QUEUE;
-use store::board::index16;
-use store::board::place;
-use store::board::push;
-use store::channel::held;
-use store::channel::index32;
-use store::entry::Entry;
-use store::entry::Item;
-use store::moved::Answer;
-use store::moved::Moved;
-use store::moved::alone;
-use store::moved::refused;
+use state::board::BOARD_ROW;
+use state::board::COUNT;
+use state::board::QUEUE;
+use state::board::index16;
+use state::board::place;
+use state::board::push;
+use state::channel::held;
+use state::channel::index32;
+use state::entry::Entry;
+use state::entry::Item;
+use state::moved::Answer;
+use state::moved::Moved;
+use state::moved::alone;
+use state::moved::refused;
 
 // Process a sends a word to a channel of its own.
 pub fn send(

@@ -9,14 +9,14 @@ use instruction::instruction::examine;
 use process::mail::MAIL;
 use process::row::PC;
 use process::row::ROW;
-use sixes::fetch::fetch;
-use store::board::BOARD_ROW;
-use store::board::index16;
-use store::board::wide;
-use store::moved::Answer;
-use store::moved::Moved;
-use store::moved::alone;
-use store::moved::refused;
+use records::fetch::fetch;
+use state::board::BOARD_ROW;
+use state::board::index16;
+use state::board::wide;
+use state::moved::Answer;
+use state::moved::Moved;
+use state::moved::alone;
+use state::moved::refused;
 
 pub fn step(
     table: &[u8],

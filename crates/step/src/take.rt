@@ -7,12 +7,12 @@ use process::mail::MAIL;
 use process::mail::channel_of;
 use process::mail::word_of;
 use process::row::ROW;
-use store::board::index16;
-use store::channel::index32;
-use store::moved::Answer;
-use store::moved::Moved;
-use store::moved::alone;
-use store::moved::refused;
+use state::board::index16;
+use state::channel::index32;
+use state::moved::Answer;
+use state::moved::Moved;
+use state::moved::alone;
+use state::moved::refused;
 
 // Process a takes the word at an index of its mailbox into a register; no word stands past the mailbox's end.
 pub fn take(

@@ -1,5 +1,4 @@
 -- The decoder: the numbers in order, and the plan of a table that all of them pass.
--- Assumes nothing.
 use mathlib.Core.Path.{_≡_, refl, ap, ap₂, sym, _∙_, subst₂, subst}
 use mathlib.Core.Bool.{Bool, true, false, _&&_}
 use mathlib.Core.List.{List}

@@ -1,5 +1,4 @@
 -- Number 5: the pass over the pairs of a table.
--- Assumes nothing.
 use mathlib.Core.Path.{_≡_, ap, ap₂, sym, _∙_}
 use mathlib.Core.Bool.{Bool, true, false, not}
 use mathlib.Core.List.{List}

@@ -1,5 +1,4 @@
 -- FIRST's mask: its set bits counted, and its channels walked from the lowest on.
--- Assumes nothing.
 use mathlib.Core.Path.{_≡_, refl, ap, sym, _∙_}
 use mathlib.Core.Bool.{Bool, true, false, not, _&&_}
 use mathlib.Core.List.{List}

@@ -1,5 +1,4 @@
 -- The ends of a channel in the table's bytes are those that the rules decode.
--- Assumes nothing.
 use mathlib.Core.Path.{_≡_, refl, ap, sym, _∙_}
 use mathlib.Core.Bool.{false, _&&_}
 use mathlib.Core.List.{List}

@@ -1,5 +1,4 @@
 -- One instruction judged: what each of the six codes asks is what the rules ask, and no other code passes.
--- Assumes nothing.
 use mathlib.Core.Path.{_≡_, refl, ap, sym, _∙_}
 use mathlib.Core.Bool.{Bool, false, _&&_}
 use mathlib.Core.List.{List}
@@ -11,7 +10,7 @@ use Rattle.facts.specs.Ranges.{and-fails}
 use Rattle.rules.specs.Format.{isCode, instruction, decodeTable}
 use Rattle.rules.specs.Table.{Table}
 use Rattle.rules.specs.Judge.{reads, sends, instructionOk}
-use Rattle.sixes.specs.declared.fetch.Instruction.{Instruction}
+use Rattle.records.specs.declared.fetch.Instruction.{Instruction}
 use Rattle.table.specs.Judging.{endIs, channelsPass, maskOk, passes}
 use Rattle.table.proofs.OneChannel.{reads-is, sends-is}
 

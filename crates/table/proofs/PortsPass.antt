@@ -1,5 +1,4 @@
 -- Number 6: the channels that each process reads, as a pass over the pairs finds them.
--- Assumes nothing.
 use mathlib.Core.Logic.{_≢_}
 use mathlib.Core.Path.{_≡_, refl, ap, ap₂, sym, _∙_}
 use mathlib.Core.Bool.{Bool, true, false, cond}

@@ -1,5 +1,4 @@
 -- Where the programs stand: each record begins where the rules' rest for it does, and a fetched instruction is that of the process's program.
--- Assumes nothing.
 use mathlib.Core.Path.{_≡_, refl, ap, sym, _∙_, subst}
 use mathlib.Core.Bool.{true, _&&_}
 use mathlib.Core.List.{List, []}
@@ -17,8 +16,8 @@ use Rattle.rules.specs.Table.{Instruction, SET, Placement, codeOf}
 use Rattle.rules.specs.Bytes.{sixes}
 use Rattle.rules.specs.Format.{processesIn, recordsStart, recordBytes, programLength, recordLength, rests, placementIn, instruction, decodeTable, recordsOk, extentOk}
 use Rattle.rules.proofs.Valid.{length-sixes, length-rests}
-use Rattle.sixes.specs.Fetch.{numbered, fetched, instructionOf}
-use Rattle.sixes.proofs.Sixes.{six-from}
+use Rattle.records.specs.Fetch.{numbered, fetched, instructionOf}
+use Rattle.records.proofs.Sixes.{six-from}
 use Rattle.table.specs.Records.{recordFrom, recordStart, programStart}
 
 -- ---- records

@@ -1,5 +1,4 @@
 -- Number 8 over programs and records: what the walk finds, place by place, is what the rules say of the whole table.
--- Assumes nothing.
 use mathlib.Core.Path.{_≡_, ap, ap₂, sym, _∙_}
 use mathlib.Core.Bool.{Bool, true, false, not, _&&_}
 use mathlib.Core.List.{List, []}
@@ -16,8 +15,8 @@ use Rattle.rules.specs.Bytes.{sixes}
 use Rattle.rules.specs.Format.{processesIn, channelsIn, recordBytes, programLength, recordLength, rests, isCode, instruction, codesIn, decodeTable, extentOk, codesOk}
 use Rattle.rules.specs.Judge.{instructionOk, instructionsOk}
 use Rattle.rules.proofs.Valid.{length-sixes, length-rests, processes-counted}
-use Rattle.sixes.specs.Fetch.{numbered, fetched, instructionOf}
-use Rattle.sixes.proofs.Sixes.{six-from}
+use Rattle.records.specs.Fetch.{numbered, fetched, instructionOf}
+use Rattle.records.proofs.Sixes.{six-from}
 use Rattle.table.specs.Judging.{passes, programOk, recordOk}
 use Rattle.table.specs.Records.{recordStart}
 use Rattle.table.proofs.Programs.{fetched-is, rest-is, code-is, record-within}

@@ -1,5 +1,4 @@
 -- What the parts of number 8's judgement answer, from the whole table down to a channel's end.
--- Assumes nothing.
 use mathlib.Core.Bool.{Bool, not, _&&_, _||_}
 use mathlib.Core.List.{List}
 use Prim.Native.Nat.{ℕ, _+_, _*_}
@@ -11,8 +10,8 @@ use Rattle.rules.specs.Machine.{bit}
 use Rattle.rules.specs.Bytes.{byteAt}
 use Rattle.rules.specs.Format.{channelsIn, programLength, isCode}
 use Rattle.rules.specs.Judge.{reads, bits, instructionOk}
-use Rattle.sixes.specs.Fetch.{fetched, instructionOf}
-use Rattle.sixes.specs.declared.fetch.Instruction.{Instruction}
+use Rattle.records.specs.Fetch.{fetched, instructionOf}
+use Rattle.records.specs.declared.fetch.Instruction.{Instruction}
 
 -- k is a channel, and the byte of its pair on a side (6 for the sender, 7 for the reader) is p
 abbrev pub endIs : List ℕ → ℕ → ℕ → ℕ → Bool

@@ -1,5 +1,4 @@
 -- What the private steps of the decoder give: each judges one number over the whole table and leaves its part of the plan.
--- Assumes nothing.
 use mathlib.Core.Path.{_≡_}
 use mathlib.Core.Bool.{Bool, true, not, cond, _&&_}
 use mathlib.Core.List.{List}

@@ -1,5 +1,4 @@
 -- The plan of a table says what the table says, and the decoder's promise.
--- Assumes nothing.
 use mathlib.Core.Path.{_≡_}
 use mathlib.Core.List.{List}
 use Prim.Native.Nat.{ℕ, _+_, _*_, _≤_, _<_}

@@ -1,5 +1,4 @@
 -- Where the records of a table begin, as places in its bytes.
--- Assumes nothing.
 use mathlib.Core.List.{List}
 use Prim.Native.Nat.{ℕ, zero, suc, _+_}
 use lib.ListN.{drop}

@@ -9,9 +9,9 @@ use crate::format::PROCESSES;
 use crate::format::PROCESSES_MOST;
 use crate::format::PROGRAM;
 use crate::format::STANDBY;
-use sixes::bytes::byte;
-use sixes::bytes::wide;
-use sixes::bytes::word;
+use records::bytes::byte;
+use records::bytes::wide;
+use records::bytes::word;
 
 // The record of one process: whether its boards are right, and its numbers.
 struct Placed {

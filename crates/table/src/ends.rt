@@ -14,9 +14,9 @@ use crate::format::PROCESSES;
 use crate::format::PROCESSES_MOST;
 use crate::format::READER;
 use crate::format::SENDER;
-use sixes::bytes::byte;
-use sixes::bytes::wide;
-use sixes::bytes::word;
+use records::bytes::byte;
+use records::bytes::wide;
+use records::bytes::word;
 
 // What number 5 finds: whether the ends are right, and then both ends of each channel.
 pub struct Ends {

@@ -16,10 +16,10 @@ use crate::format::PROCESSES_MOST;
 use crate::format::PROGRAM;
 use crate::format::PROGRAM_MOST;
 use crate::format::TABLE_MOST;
-use sixes::bytes::byte;
-use sixes::bytes::pair;
-use sixes::bytes::wide;
-use sixes::head::VERSION;
+use records::bytes::byte;
+use records::bytes::pair;
+use records::bytes::wide;
+use records::head::VERSION;
 
 // 1: at least a head, and a length field that is at most 6,260 and the true one.
 fn length_ok(table: &[u8]) -> bool

@@ -1,6 +1,6 @@
 // A table's layout and sizes, each named once; rules/specs/Format.antt names the same numbers for the definitions.
 
-// Of the head, behind the length's two bytes and the version (sixes/src/head.rt): boards, processes, channels.
+// Of the head, behind the length's two bytes and the version (records/src/head.rt): boards, processes, channels.
 pub const BOARDS: usize = 3;
 
 pub const PROCESSES: usize = 4;

@@ -12,9 +12,9 @@ use crate::format::PROCESSES;
 use crate::format::PROGRAM;
 use crate::format::READER;
 use crate::format::SENDER;
-use sixes::bytes::wide;
-use sixes::fetch::Instruction;
-use sixes::fetch::fetch;
+use records::bytes::wide;
+use records::fetch::Instruction;
+use records::fetch::fetch;
 
 fn wider(x: u32) -> usize
     ensures { λ r. ⌜ r ≡ x ⌝ }

@@ -11,8 +11,8 @@ use crate::format::CHANNELS_MOST;
 use crate::format::INPUTS_MOST;
 use crate::format::PROCESSES;
 use crate::format::PROCESSES_MOST;
-use sixes::bytes::byte;
-use sixes::bytes::wide;
+use records::bytes::byte;
+use records::bytes::wide;
 
 // For each process: where in the table its instructions begin, how many there are, its two boards, and how many channels it reads.
 // For each channel: its ends (255 is the environment), and its port within a reader that is a process.

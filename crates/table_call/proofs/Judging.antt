@@ -1,12 +1,11 @@
 -- A table decoded and a schedule judged are judged together as the rules judge their bytes.
--- Assumes nothing.
 use mathlib.Core.Path.{_≡_, ap₂, sym, _∙_}
 use mathlib.Core.List.{List}
 use Prim.Native.Nat.{ℕ}
 use Rattle.rules.proofs.Valid.{processes-counted}
-use Rattle.sixes.specs.Commands.{ScheduleJudged, judgedRun}
-use Rattle.sixes.specs.declared.schedule.Judged.{Judged}
-use Rattle.sixes.proofs.Judged.{run-is}
+use Rattle.records.specs.Commands.{ScheduleJudged, judgedRun}
+use Rattle.records.specs.declared.schedule.Judged.{Judged}
+use Rattle.records.proofs.Judged.{run-is}
 use Rattle.table.specs.Plan.{Decodes}
 use Rattle.table.specs.declared.Decoded.{Decoded}
 use Rattle.table_call.specs.Exported.{Judges}

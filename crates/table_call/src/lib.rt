@@ -1,7 +1,7 @@
 // The judging of a run for programs in other languages: one exported call on lent bytes.
 ghost use Rattle.table_call.specs.Exported.{Judges};
-use sixes::schedule::judge_run;
-use sixes::schedule::judge_schedule;
+use records::schedule::judge_run;
+use records::schedule::judge_schedule;
 use table::decode;
 
 // 0, or the number from 1 to 12 by which document 01 refuses the run of a table and a schedule with buffers of these lengths.

@@ -1,5 +1,4 @@
 -- `backup_call`: a slice of another length is 25; with right lengths it is what `perform` promises.
--- Assumes nothing.
 use Rattle.backup_call.proofs.Calling.{exported-missized}
 use borrow.Author.Needs.{needs}
 use Rattle.backup_call.proofs.backup_call.Statement.{statement}

@@ -1,5 +1,4 @@
 -- `hand_over`: the promoted backup is stored into the reply, and its number is handed on as it is.
--- Assumes nothing.
 use mathlib.Core.Path.{refl}
 use borrow.Author.Needs.{needs}
 use Rattle.backup_call.proofs.hand_over.Statement.{statement}

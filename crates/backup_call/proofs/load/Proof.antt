@@ -1,5 +1,4 @@
 -- `load`: between two rounds the messages packed so far are those of the state.
--- Assumes nothing.
 use mathlib.Core.Path.{_≡_, refl, subst}
 use Prim.Native.Nat.{_+_, _-_, _*_}
 use Rattle.backup.specs.Limits.{logMost}

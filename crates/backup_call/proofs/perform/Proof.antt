@@ -1,5 +1,4 @@
 -- `perform`: one answer for each call, from the contract of the backup's own call.
--- Assumes nothing.
 use mathlib.Core.Path.{refl}
 use Rattle.facts.specs.Tests.{no-way}
 use Rattle.backup_call.specs.Exported.{answered}

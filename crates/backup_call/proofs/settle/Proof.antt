@@ -1,5 +1,4 @@
 -- `settle`: refused, the state is not written; accepted, the reply's backup is stored.
--- Assumes nothing.
 use mathlib.Core.Path.{refl, sym}
 use borrow.Author.Needs.{needs}
 use Rattle.backup_call.proofs.settle.Statement.{statement}

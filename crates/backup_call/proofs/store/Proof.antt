@@ -1,5 +1,4 @@
 -- `store`: between two rounds the pairs written so far are the messages of the log; then the seven numbers before them.
--- Assumes nothing.
 use mathlib.Core.Path.{_≡_, subst}
 use Prim.Native.Nat.{_-_}
 use lib.ListN.{length-set}

@@ -14,31 +14,24 @@ Inv-loop n r₀ counter₀ r counter = counter ≤ n
 abbrev μ-loop : tie.MeasureT-loop
 μ-loop n r₀ counter₀ r counter = n - counter
 
--- src/main.rt:80:17
 new-requires : tie.Need-new-requires Inv-loop μ-loop
 new-requires c κs = search needs
 
--- src/main.rt:82:5
 loop-holds : tie.Need-loop-holds Inv-loop μ-loop
 loop-holds c = search needs
 
--- src/main.rt:83:9
 count-requires : tie.Need-count-requires Inv-loop μ-loop
 count-requires c κs = search needs
 
--- src/main.rt:82:9
 add-counter : tie.Need-add-counter Inv-loop μ-loop
 add-counter c = search needs
 
--- src/main.rt:82:5
 loop-less : tie.Need-loop-less Inv-loop μ-loop
 loop-less c = search needs
 
--- src/main.rt:82:5
 loop-again : tie.Need-loop-again Inv-loop μ-loop
 loop-again c = search needs
 
--- src/main.rt:77:1
 returns : tie.Need-returns Inv-loop μ-loop
 returns c = search needs
 

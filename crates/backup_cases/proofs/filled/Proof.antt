@@ -14,31 +14,24 @@ Inv-loop n r₀ i₀ r i = i ≤ n
 abbrev μ-loop : tie.MeasureT-loop
 μ-loop n r₀ i₀ r i = n - i
 
--- src/main.rt:68:17
 new-requires : tie.Need-new-requires Inv-loop μ-loop
 new-requires c κs = search needs
 
--- src/main.rt:70:5
 loop-holds : tie.Need-loop-holds Inv-loop μ-loop
 loop-holds c = search needs
 
--- src/main.rt:71:9
 arrive-requires : tie.Need-arrive-requires Inv-loop μ-loop
 arrive-requires c κs = search needs
 
--- src/main.rt:70:9
 add-i : tie.Need-add-i Inv-loop μ-loop
 add-i c = search needs
 
--- src/main.rt:70:5
 loop-less : tie.Need-loop-less Inv-loop μ-loop
 loop-less c = search needs
 
--- src/main.rt:70:5
 loop-again : tie.Need-loop-again Inv-loop μ-loop
 loop-again c = search needs
 
--- src/main.rt:65:1
 returns : tie.Need-returns Inv-loop μ-loop
 returns c = search needs
 

@@ -18,163 +18,123 @@ Inv-loop len log i₀ t11 i = (i ≤ len) × (length t11 ≡ 1)
 abbrev μ-loop : tie.MeasureT-loop
 μ-loop len log i₀ t11 i = len - i
 
--- src/main.rt:20:10
 slice-aggregate-text : tie.Need-slice-aggregate-text Inv-loop μ-loop
 slice-aggregate-text c = search needs
 
--- src/main.rt:20:5
 text-requires : tie.Need-text-requires Inv-loop μ-loop
 text-requires c κs = search needs
 
--- src/main.rt:21:12
 cast-number : tie.Need-cast-number Inv-loop μ-loop
 cast-number c = search needs
 
--- src/main.rt:21:5
 number-requires : tie.Need-number-requires Inv-loop μ-loop
 number-requires c κs = search needs
 
--- src/main.rt:22:10
 slice-aggregate-text-2 : tie.Need-slice-aggregate-text-2 Inv-loop μ-loop
 slice-aggregate-text-2 c = search needs
 
--- src/main.rt:22:5
 text-requires-2 : tie.Need-text-requires-2 Inv-loop μ-loop
 text-requires-2 c κs = search needs
 
--- src/main.rt:23:12
 cast-number-2 : tie.Need-cast-number-2 Inv-loop μ-loop
 cast-number-2 c = search needs
 
--- src/main.rt:23:5
 number-requires-2 : tie.Need-number-requires-2 Inv-loop μ-loop
 number-requires-2 c κs = search needs
 
--- src/main.rt:24:10
 slice-aggregate-text-3 : tie.Need-slice-aggregate-text-3 Inv-loop μ-loop
 slice-aggregate-text-3 c = search needs
 
--- src/main.rt:24:5
 text-requires-3 : tie.Need-text-requires-3 Inv-loop μ-loop
 text-requires-3 c κs = search needs
 
--- src/main.rt:25:12
 cast-number-3 : tie.Need-cast-number-3 Inv-loop μ-loop
 cast-number-3 c = search needs
 
--- src/main.rt:25:5
 number-requires-3 : tie.Need-number-requires-3 Inv-loop μ-loop
 number-requires-3 c κs = search needs
 
--- src/main.rt:26:10
 slice-aggregate-text-4 : tie.Need-slice-aggregate-text-4 Inv-loop μ-loop
 slice-aggregate-text-4 c = search needs
 
--- src/main.rt:26:5
 text-requires-4 : tie.Need-text-requires-4 Inv-loop μ-loop
 text-requires-4 c κs = search needs
 
--- src/main.rt:27:12
 cast-number-4 : tie.Need-cast-number-4 Inv-loop μ-loop
 cast-number-4 c = search needs
 
--- src/main.rt:27:5
 number-requires-4 : tie.Need-number-requires-4 Inv-loop μ-loop
 number-requires-4 c κs = search needs
 
--- src/main.rt:28:12
 cast-number-5 : tie.Need-cast-number-5 Inv-loop μ-loop
 cast-number-5 c = search needs
 
--- src/main.rt:28:5
 number-requires-5 : tie.Need-number-requires-5 Inv-loop μ-loop
 number-requires-5 c κs = search needs
 
--- src/main.rt:29:12
 cast-number-6 : tie.Need-cast-number-6 Inv-loop μ-loop
 cast-number-6 c = search needs
 
--- src/main.rt:29:5
 number-requires-6 : tie.Need-number-requires-6 Inv-loop μ-loop
 number-requires-6 c κs = search needs
 
--- src/main.rt:30:12
 cast-number-7 : tie.Need-cast-number-7 Inv-loop μ-loop
 cast-number-7 c = search needs
 
--- src/main.rt:30:5
 number-requires-7 : tie.Need-number-requires-7 Inv-loop μ-loop
 number-requires-7 c κs = search needs
 
--- src/main.rt:31:10
 slice-aggregate-text-5 : tie.Need-slice-aggregate-text-5 Inv-loop μ-loop
 slice-aggregate-text-5 c = search needs
 
--- src/main.rt:31:5
 text-requires-5 : tie.Need-text-requires-5 Inv-loop μ-loop
 text-requires-5 c κs = search needs
 
--- src/main.rt:32:15
 cast-len : tie.Need-cast-len Inv-loop μ-loop
 cast-len c = search needs
 
--- src/main.rt:34:5
 loop-holds : tie.Need-loop-holds Inv-loop μ-loop
 loop-holds c = search needs
 
--- src/main.rt:36:21
 mul-x : tie.Need-mul-x Inv-loop μ-loop
 mul-x c = search needs
 
--- src/main.rt:36:21
 array-read-x : tie.Need-array-read-x Inv-loop μ-loop
 array-read-x c = search needs
 
--- src/main.rt:37:20
 port-of-requires : tie.Need-port-of-requires Inv-loop μ-loop
 port-of-requires c κs = search needs
 
--- src/main.rt:37:20
 cast-number-8 : tie.Need-cast-number-8 Inv-loop μ-loop
 cast-number-8 c = search needs
 
--- src/main.rt:37:13
 number-requires-8 : tie.Need-number-requires-8 Inv-loop μ-loop
 number-requires-8 c κs = search needs
 
--- src/main.rt:38:20
 word-of-requires : tie.Need-word-of-requires Inv-loop μ-loop
 word-of-requires c κs = search needs
 
--- src/main.rt:38:20
 cast-number-9 : tie.Need-cast-number-9 Inv-loop μ-loop
 cast-number-9 c = search needs
 
--- src/main.rt:38:13
 number-requires-9 : tie.Need-number-requires-9 Inv-loop μ-loop
 number-requires-9 c κs = search needs
 
--- src/main.rt:34:9
 add-i : tie.Need-add-i Inv-loop μ-loop
 add-i c = search needs
 
--- src/main.rt:34:5
 loop-less : tie.Need-loop-less Inv-loop μ-loop
 loop-less c = search needs
 
--- src/main.rt:34:5
 loop-again : tie.Need-loop-again Inv-loop μ-loop
 loop-again c = search needs
 
--- src/main.rt:41:10
 slice-aggregate-text-6 : tie.Need-slice-aggregate-text-6 Inv-loop μ-loop
 slice-aggregate-text-6 c = search needs
 
--- src/main.rt:41:5
 text-requires-6 : tie.Need-text-requires-6 Inv-loop μ-loop
 text-requires-6 c κs = search needs
 
--- src/main.rt:19:1
 returns : tie.Need-returns Inv-loop μ-loop
 returns c = search needs
 

@@ -11,19 +11,15 @@ use Rattle.backup_value.proofs.opened.Reads as opened-reads
 use Rattle.backup.proofs.place.arrive_in.Reads as arrive-in-reads
 use Rattle.backup_value.proofs.settled.Reads as settled-reads
 
--- src/lib.rt:125:9
 opened-requires : tie.Need-opened-requires
 opened-requires c κs = search needs
 
--- src/lib.rt:129:13
 arrive-in-requires : tie.Need-arrive-in-requires
 arrive-in-requires c κs = search needs
 
--- src/lib.rt:130:9
 settled-requires : tie.Need-settled-requires
 settled-requires c κs = search needs
 
--- src/lib.rt:130:9
 returns : tie.Need-returns
 returns c =
     let o = c .before .before .before .before .before .before .before .opened in
@@ -33,7 +29,6 @@ returns c =
 unfit-requires : tie.Need-unfit-requires
 unfit-requires c κs = search needs
 
--- src/lib.rt:122:1
 returns-2 : tie.Need-returns-2
 returns-2 c =
     let a = c .before .before .before .args in

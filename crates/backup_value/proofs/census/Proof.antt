@@ -15,79 +15,60 @@ Inv-loop log len n₀ i₀ n i = Looked log len n i
 abbrev μ-loop : tie.MeasureT-loop
 μ-loop log len n₀ i₀ n i = len - i
 
--- src/lib.rt:70:5
 loop-holds : tie.Need-loop-holds Inv-loop μ-loop
 loop-holds c = looked-start _ _
 
--- src/lib.rt:71:28
 mul-port-of : tie.Need-mul-port-of Inv-loop μ-loop
 mul-port-of c = search needs
 
--- src/lib.rt:71:28
 element-copy-out-port-of : tie.Need-element-copy-out-port-of Inv-loop μ-loop
 element-copy-out-port-of c = search needs
 
--- src/lib.rt:71:13
 port-of-requires : tie.Need-port-of-requires Inv-loop μ-loop
 port-of-requires c κs = search needs
 
--- src/lib.rt:73:13
 returns : tie.Need-returns Inv-loop μ-loop
 returns c = census-false _ _ (c .before .before .before .before .loop .i) (c .before .port-of .result) _ (c .before .before .before .loop-test .taken) (c .before .port-of .ensures) (c .if1 .taken) refl
 
--- src/lib.rt:75:17
 cast-s : tie.Need-cast-s Inv-loop μ-loop
 cast-s c = search needs
 
--- src/lib.rt:76:16
 mul-n : tie.Need-mul-n Inv-loop μ-loop
 mul-n c = search needs
 
--- src/lib.rt:76:16
 array-read-n : tie.Need-array-read-n Inv-loop μ-loop
 array-read-n c = search needs
 
--- src/lib.rt:76:16
 add-n : tie.Need-add-n Inv-loop μ-loop
 add-n c = omega (arith, looked-few (c .before .before .before .before .loop .inv) (c .before .port-of .result) (c .if1 .left), c .before .before .before .before .loop .inv .looked, c .before .before .before .before .before .pre)
 
--- src/lib.rt:76:9
 mul-n-2 : tie.Need-mul-n-2 Inv-loop μ-loop
 mul-n-2 c = search needs
 
--- src/lib.rt:76:9
 array-write-n : tie.Need-array-write-n Inv-loop μ-loop
 array-write-n c = search needs
 
--- src/lib.rt:77:9
 add-i : tie.Need-add-i Inv-loop μ-loop
 add-i c = search needs
 
--- src/lib.rt:70:5
 loop-less : tie.Need-loop-less Inv-loop μ-loop
 loop-less c = search needs
 
--- src/lib.rt:70:5
 loop-again : tie.Need-loop-again Inv-loop μ-loop
 loop-again c = looked-on _ _ _ _ (c .before .port-of .result) (c .before .before .before .before .loop .inv) (c .before .before .before .loop-test .taken) (c .before .port-of .ensures) (c .if1 .left)
 
--- src/lib.rt:79:31
 array-read-t21 : tie.Need-array-read-t21 Inv-loop μ-loop
 array-read-t21 c = search needs
 
--- src/lib.rt:79:41
 array-read-t24 : tie.Need-array-read-t24 Inv-loop μ-loop
 array-read-t24 c = search needs
 
--- src/lib.rt:79:51
 array-read-t27 : tie.Need-array-read-t27 Inv-loop μ-loop
 array-read-t27 c = search needs
 
--- src/lib.rt:79:61
 array-read-t30 : tie.Need-array-read-t30 Inv-loop μ-loop
 array-read-t30 c = search needs
 
--- src/lib.rt:64:1
 returns-2 : tie.Need-returns-2 Inv-loop μ-loop
 returns-2 c =
     let l = c .before .loop in

@@ -8,35 +8,27 @@ use Rattle.backup_value.proofs.closed.Tie as tie
 use Rattle.backup_value.proofs.closed.Reads as reads
 use Rattle.backup_value.proofs.closed.Lts as lts
 
--- src/lib.rt:108:29
 array-read-t6 : tie.Need-array-read-t6
 array-read-t6 c = search needs
 
--- src/lib.rt:108:46
 array-read-t9 : tie.Need-array-read-t9
 array-read-t9 c = search needs
 
--- src/lib.rt:108:62
 array-read-t12 : tie.Need-array-read-t12
 array-read-t12 c = search needs
 
--- src/lib.rt:108:76
 array-read-t15 : tie.Need-array-read-t15
 array-read-t15 c = search needs
 
--- src/lib.rt:108:90
 array-read-t18 : tie.Need-array-read-t18
 array-read-t18 c = search needs
 
--- src/lib.rt:108:104
 array-read-t21 : tie.Need-array-read-t21
 array-read-t21 c = search needs
 
--- src/lib.rt:108:118
 array-read-t24 : tie.Need-array-read-t24
 array-read-t24 c = search needs
 
--- src/lib.rt:105:1
 returns : tie.Need-returns
 unfolding view viewIn
 returns c = refl

@@ -12,21 +12,17 @@ use Rattle.backup_value.proofs.fail_over.Lts as lts
 use Rattle.backup_value.proofs.new.Reads as new-reads
 use Rattle.backup_value.proofs.opened.Reads as opened-reads
 
--- src/lib.rt:167:9
 opened-requires : tie.Need-opened-requires
 opened-requires c κs = search needs
 
--- src/lib.rt:169:9
 returns : tie.Need-returns
 returns c =
     let b = c .before .before .args .b in
     promoted-is _ (view b) refl ∙ sym (fail-over-accepted (view b) (sym (c .before .opened .ensures .says) ∙ c .if1 .taken))
 
--- src/lib.rt:171:38
 new-requires : tie.Need-new-requires
 new-requires c κs = search needs
 
--- src/lib.rt:164:1
 returns-2 : tie.Need-returns-2
 returns-2 c =
     let b = c .before .before .before .args .b in

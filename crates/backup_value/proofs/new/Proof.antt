@@ -7,7 +7,6 @@ use Rattle.backup_value.proofs.new.Tie as tie
 use Rattle.backup_value.proofs.new.Reads as reads
 use Rattle.backup_value.proofs.new.Lts as lts
 
--- src/lib.rt:57:1
 returns : tie.Need-returns
 unfolding view
 returns c = refl

@@ -8,33 +8,26 @@ use Rattle.backup_value.proofs.opened.Reads as reads
 use Rattle.backup_value.proofs.opened.Lts as lts
 use Rattle.backup_value.proofs.census.Reads as census-reads
 
--- src/lib.rt:86:15
 cast-len : tie.Need-cast-len
 cast-len c = search needs
 
--- src/lib.rt:88:9
 returns : tie.Need-returns
 returns c = opened-unfit (c .before .before .args .b) _ refl (too-long (c .before .before .args .b) (c .if1 .taken))
 
--- src/lib.rt:91:9
 returns-2 : tie.Need-returns-2
 returns-2 c = opened-unfit (c .before .before .before .before .args .b) _ refl (too-many-sent (c .before .before .before .before .args .b) (c .if2 .taken))
 
--- src/lib.rt:94:9
 returns-3 : tie.Need-returns-3
 returns-3 c = opened-unfit (c .before .before .before .before .before .before .args .b) _ refl (pc-too-far (c .before .before .before .before .before .before .args .b) (c .if3 .taken))
 
--- src/lib.rt:97:9
 census-requires : tie.Need-census-requires
 census-requires c κs = search needs
 
--- src/lib.rt:99:9
 returns-4 : tie.Need-returns-4
 returns-4 c =
     opened-fit (c .before .before .before .before .before .before .before .before .before .before .args .b) (c .before .census .result) _ (search needs) (c .before .before .before .before .before .before .before .before .if1 .left) (c .before .before .before .before .before .before .if2 .left) (c .before .before .before .before .if3 .left)
     (c .before .census .ensures) (c .if4 .taken) refl refl
 
--- src/lib.rt:83:1
 returns-5 : tie.Need-returns-5
 returns-5 c = opened-unfit (c .before .before .before .before .before .before .before .before .before .before .args .b) _ refl (off-ports (c .before .before .before .before .before .before .before .before .before .before .args .b) (c .before .census .result) (c .before .census .ensures) (c .if4 .left))
 

@@ -7,15 +7,12 @@ use Rattle.backup_value.proofs.settled.Reads as reads
 use Rattle.backup_value.proofs.settled.Lts as lts
 use Rattle.backup_value.proofs.closed.Reads as closed-reads
 
--- src/lib.rt:116:9
 returns : tie.Need-returns
 returns c = record { number-is = refl; refused = λ _. refl; accepted = λ z. absurd (c .if1 .taken z) }
 
--- src/lib.rt:118:32
 closed-requires : tie.Need-closed-requires
 closed-requires c κs = search needs
 
--- src/lib.rt:112:1
 returns-2 : tie.Need-returns-2
 returns-2 c = record { number-is = refl; refused = λ n. absurd (n (c .before .if1 .left)); accepted = λ _. c .closed .ensures }
 

@@ -12,19 +12,15 @@ use Rattle.backup_value.proofs.opened.Reads as opened-reads
 use Rattle.backup.proofs.place.sync_in.Reads as sync-in-reads
 use Rattle.backup_value.proofs.settled.Reads as settled-reads
 
--- src/lib.rt:153:9
 opened-requires : tie.Need-opened-requires
 opened-requires c κs = search needs
 
--- src/lib.rt:157:13
 sync-in-requires : tie.Need-sync-in-requires
 sync-in-requires c κs = search needs
 
--- src/lib.rt:158:9
 settled-requires : tie.Need-settled-requires
 settled-requires c κs = search needs
 
--- src/lib.rt:158:9
 returns : tie.Need-returns
 returns c =
     let o = c .before .before .before .before .before .before .before .opened in
@@ -34,7 +30,6 @@ returns c =
 unfit-requires : tie.Need-unfit-requires
 unfit-requires c κs = search needs
 
--- src/lib.rt:150:1
 returns-2 : tie.Need-returns-2
 returns-2 c =
     let a = c .before .before .before .args in

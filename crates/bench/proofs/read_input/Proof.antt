@@ -9,55 +9,42 @@ use Rattle.bench.proofs.least.Reads as least-reads
 use Rattle.bench.proofs.read_part.Reads as read-part-reads
 use Rattle.bench_input.proofs.wanted.wanted.Reads as wanted-reads
 
--- src/main.rt:35:9
 returns : tie.Need-returns
 returns c = search needs
 
--- src/main.rt:37:9
 read-part-requires : tie.Need-read-part-requires
 read-part-requires c κs = search needs
 
--- src/main.rt:39:9
 same-length : tie.Need-same-length
 same-length c = search needs
 
--- src/main.rt:39:9
 returns-2 : tie.Need-returns-2
 returns-2 c = took-few _ _ _ (c .before .before .before .before .before .if1 .left) (c .before .before .before .read-part .ensures) (c .if2 .taken)
 
--- src/main.rt:41:28
 slice-reshare-prefix-wanted : tie.Need-slice-reshare-prefix-wanted
 slice-reshare-prefix-wanted c = search needs
 
--- src/main.rt:41:28
 slice-aggregate-wanted : tie.Need-slice-aggregate-wanted
 slice-aggregate-wanted c = two-there _ _ _ (c .before .before .before .before .before .before .if1 .left) (c .before .before .before .before .read-part .ensures)
 
--- src/main.rt:41:21
 wanted-requires : tie.Need-wanted-requires
 wanted-requires c κs = search needs
 
--- src/main.rt:41:9
 least-requires : tie.Need-least-requires
 least-requires c κs = search needs
 
--- src/main.rt:43:9
 same-length-2 : tie.Need-same-length-2
 same-length-2 c = search needs
 
--- src/main.rt:43:9
 returns-3 : tie.Need-returns-3
 returns-3 c = took-two _ _ _ (c .before .before .before .before .before .before .before .before .before .if1 .left) (c .before .before .before .before .before .before .before .read-part .ensures)
 
--- src/main.rt:45:5
 read-part-requires-2 : tie.Need-read-part-requires-2
 read-part-requires-2 c κs = search needs
 
--- src/main.rt:31:1
 same-length-3 : tie.Need-same-length-3
 same-length-3 c = search needs
 
--- src/main.rt:31:1
 returns-4 : tie.Need-returns-4
 returns-4 c = took-all _ _ _ (c .before .before .before .before .before .before .before .before .before .before .before .before .before .if1 .left) (c .before .before .before .before .before .before .before .before .before .before .before .read-part .ensures) _ (c .before .before .before .before .before .before .wanted .ensures .is) _ (c .before .before .before .before .before .least .ensures) _ _ (c .before .before .read-part2 .ensures)
 

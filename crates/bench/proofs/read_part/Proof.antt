@@ -7,31 +7,24 @@ use Rattle.bench.proofs.read_part.Reads as reads
 use Rattle.bench.proofs.read_part.Lts as lts
 use Rattle.io.proofs.read_full.Reads as read-full-reads
 
--- src/main.rt:21:40
 sub-read-full : tie.Need-sub-read-full
 sub-read-full c = search needs
 
--- src/main.rt:21:40
 part-read-full-start : tie.Need-part-read-full-start
 part-read-full-start c = search needs
 
--- src/main.rt:21:40
 part-read-full-end : tie.Need-part-read-full-end
 part-read-full-end c = search needs
 
--- src/main.rt:21:12
 read-full-requires : tie.Need-read-full-requires
 read-full-requires c κs = search needs
 
--- src/main.rt:21:5
 add-result : tie.Need-add-result
 add-result c = search needs
 
--- src/main.rt:16:1
 same-length : tie.Need-same-length
 same-length c = search needs
 
--- src/main.rt:16:1
 returns : tie.Need-returns
 returns c =
     let s = c .before .before .before .before .before .args in

@@ -1,5 +1,4 @@
 -- `front` is safe: the first bytes are as many as asked for, since there are that many.
--- Assumes nothing.
 use mathlib.Core.Path.{sym}
 use borrow.Table.Elements.{length-take-le}
 use borrow.Author.Needs.{needs}

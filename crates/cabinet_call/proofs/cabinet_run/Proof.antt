@@ -8,23 +8,18 @@ use Rattle.cabinet_call.proofs.cabinet_run.Lts as lts
 use Rattle.cabinet.proofs.run.run.Reads as run-reads
 use Rattle.cabinet_call.proofs.packed.Reads as packed-reads
 
--- src/lib.rt:29:12
 run-requires : tie.Need-run-requires
 run-requires c κs = search needs
 
--- src/lib.rt:29:5
 packed-requires : tie.Need-packed-requires
 packed-requires c κs = let s = c .before .before .before .before .before .before .before .before .before .before .before .args in few (s .table .now) (s .schedule .now) (s .answers .now) (s .report .now) (c .before .before .before .before .run .result) _ _ (c .before .before .before .before .run .ensures)
 
--- src/lib.rt:25:1
 same-length : tie.Need-same-length
 same-length c = search needs
 
--- src/lib.rt:25:1
 same-length-2 : tie.Need-same-length-2
 same-length-2 c = search needs
 
--- src/lib.rt:25:1
 returns : tie.Need-returns
 returns c = let s = c .before .before .before .before .before .before .before .before .before .before .before .before .args in exported (s .table .now) (s .schedule .now) (s .answers .now) (s .report .now) (c .before .before .before .before .before .run .result) _ _ (c .before .before .before .before .before .run .ensures) (c .packed .result) (c .packed .ensures .1) (c .packed .ensures .0)
 

@@ -12,47 +12,36 @@ use Rattle.page.proofs.lines.put_processes.Reads as put-processes-reads
 use Rattle.page.proofs.text.put_number.Reads as put-number-reads
 use Rattle.page.proofs.text.put_text.Reads as put-text-reads
 
--- src/lib.rt:46:30
 slice-aggregate-put-text : tie.Need-slice-aggregate-put-text
 slice-aggregate-put-text c = search needs
 
--- src/lib.rt:46:9
 put-text-requires : tie.Need-put-text-requires
 put-text-requires c κs = search needs
 
--- src/lib.rt:47:9
 put-number-requires : tie.Need-put-number-requires
 put-number-requires c κs = search needs
 
--- src/lib.rt:48:9
 put-answers-requires : tie.Need-put-answers-requires
 put-answers-requires c κs = search needs
 
--- src/lib.rt:49:9
 put-processes-requires : tie.Need-put-processes-requires
 put-processes-requires c κs = search needs
 
--- src/lib.rt:50:30
 slice-aggregate-put-text-2 : tie.Need-slice-aggregate-put-text-2
 slice-aggregate-put-text-2 c = search needs
 
--- src/lib.rt:50:9
 put-text-requires-2 : tie.Need-put-text-requires-2
 put-text-requires-2 c κs = search needs
 
--- src/lib.rt:51:24
 flag-requires : tie.Need-flag-requires
 flag-requires c κs = search needs
 
--- src/lib.rt:51:5
 put-number-requires-2 : tie.Need-put-number-requires-2
 put-number-requires-2 c κs = search needs
 
--- src/lib.rt:34:1
 same-length : tie.Need-same-length
 same-length c = search needs
 
--- src/lib.rt:34:1
 returns : tie.Need-returns
 returns c = let s = c .before .before .before .before .before .before .before .before .before .before .before .before .before .before .before .before .before .before .before .before .before .before .before .before .before .before .before .before .before .before .args in accepted-put (s .records) (s .processes) _ _ (s .quiet) (s .answers .now) (s .report .now) (s .out .now) _ _ _ _ _ _ _ _ _ _ _ _ refl (c .before .before .before .flag .ensures) (c .before .before .before .before .before .before .before .before .before .before .before .before .before .before .before .before .before .before .before .before .before .before .before .before .put-text .ensures) (c .before .before .before .before .before .before .before .before .before .before .before .before .before .before .before .before .before .before .before .before .put-number .ensures) (c .before .before .before .before .before .before .before .before .before .before .before .before .before .before .before .before .put-answers .ensures) (c .before .before .before .before .before .before .before .before .before .before .before .before .put-processes .ensures) (c .before .before .before .before .before .before .before .put-text2 .ensures) (c .before .before .put-number2 .ensures)
 

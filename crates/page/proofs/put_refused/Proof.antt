@@ -9,23 +9,18 @@ use Rattle.page.proofs.put_refused.Lts as lts
 use Rattle.page.proofs.text.put_number.Reads as put-number-reads
 use Rattle.page.proofs.text.put_text.Reads as put-text-reads
 
--- src/lib.rt:23:30
 slice-aggregate-put-text : tie.Need-slice-aggregate-put-text
 slice-aggregate-put-text c = search needs
 
--- src/lib.rt:23:9
 put-text-requires : tie.Need-put-text-requires
 put-text-requires c κs = search needs
 
--- src/lib.rt:24:5
 put-number-requires : tie.Need-put-number-requires
 put-number-requires c κs = search needs
 
--- src/lib.rt:20:1
 same-length : tie.Need-same-length
 same-length c = search needs
 
--- src/lib.rt:20:1
 returns : tie.Need-returns
 returns c = let s = c .before .before .before .before .before .before .before .before .before .before .args in refused-put (s .number) _ (s .out .now) _ _ _ _ refl (c .before .before .before .before .before .before .put-text .ensures) (c .before .before .put-number .ensures)
 

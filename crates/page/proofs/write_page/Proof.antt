@@ -8,27 +8,21 @@ use Rattle.page.proofs.write_page.Lts as lts
 use Rattle.page.proofs.write_accepted.Reads as write-accepted-reads
 use Rattle.page.proofs.write_refused.Reads as write-refused-reads
 
--- src/lib.rt:104:9
 write-refused-requires : tie.Need-write-refused-requires
 write-refused-requires c κs = search needs
 
--- src/lib.rt:104:9
 same-length : tie.Need-same-length
 same-length c = search needs
 
--- src/lib.rt:104:9
 returns : tie.Need-returns
 returns c = let s = c .before .before .before .before .before .before .before .before .args in page-refused (s .number) (s .records) (s .processes) _ (s .quiet) (s .answers .now) (s .report .now) (s .out .now) _ (c .before .before .before .before .if1 .taken) (c .before .before .write-refused .ensures)
 
--- src/lib.rt:106:5
 write-accepted-requires : tie.Need-write-accepted-requires
 write-accepted-requires c κs = search needs
 
--- src/lib.rt:92:1
 same-length-2 : tie.Need-same-length-2
 same-length-2 c = search needs
 
--- src/lib.rt:92:1
 returns-2 : tie.Need-returns-2
 returns-2 c = let s = c .before .before .before .before .before .before .before .before .args in page-accepted (s .number) (s .records) (s .processes) _ (s .quiet) (s .answers .now) (s .report .now) (s .out .now) _ (c .before .before .before .before .if1 .left) (c .before .before .write-accepted .ensures)
 

@@ -8,27 +8,21 @@ use Rattle.page.proofs.write_refused.Reads as reads
 use Rattle.page.proofs.write_refused.Lts as lts
 use Rattle.page.proofs.put_refused.Reads as put-refused-reads
 
--- src/lib.rt:58:30
 slice-aggregate-put-refused : tie.Need-slice-aggregate-put-refused
 slice-aggregate-put-refused c = search needs
 
--- src/lib.rt:58:9
 put-refused-requires : tie.Need-put-refused-requires
 put-refused-requires c κs = search needs
 
--- src/lib.rt:60:9
 returns : tie.Need-returns
 returns c = let s = c .before .before .before .before .before in no-room (refusedLine (s .args .number)) (s .args .out .now) _ _ _ (refused-some (s .args .number)) (let g = s .good in omega arith) (c .before .before .put-refused .ensures) (c .if1 .taken)
 
--- src/lib.rt:62:5
 put-refused-requires-2 : tie.Need-put-refused-requires-2
 put-refused-requires-2 c κs = search needs
 
--- src/lib.rt:54:1
 same-length : tie.Need-same-length
 same-length c = search needs
 
--- src/lib.rt:54:1
 returns-2 : tie.Need-returns-2
 returns-2 c = let s = c .before .before .before .before .before .before .before .before .before in with-room (refusedLine (s .args .number)) (s .args .out .now) _ _ _ _ _ (refused-some (s .args .number)) (let g = s .good in omega arith) (c .before .before .before .before .before .before .put-refused .ensures) (c .before .before .before .before .if1 .left) (c .before .before .put-refused2 .ensures)
 

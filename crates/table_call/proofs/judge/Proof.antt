@@ -1,5 +1,4 @@
 -- `judge`: what the decoder and the two judgements promise, put together.
--- Assumes nothing.
 use Rattle.table_call.proofs.Judging.{together}
 use borrow.Author.Needs.{needs}
 use Rattle.table_call.proofs.judge.Statement.{statement}

@@ -1,5 +1,4 @@
 -- `largest` is safe: the table keeps its 6,300 bytes while they are written.
--- Assumes nothing.
 use Prim.Native.Nat.{_≤_, _-_}
 use mathlib.Core.Path.{_≡_}
 use lib.ListN.{length}
@@ -19,67 +18,51 @@ Inv-loop name processes n size t₀ i₀ t i = (i ≤ 6300) × (length t ≡ 630
 abbrev μ-loop : tie.MeasureT-loop
 μ-loop name processes n size t₀ i₀ t i = 6300 - i
 
--- src/main.rt:246:5
 loop-holds : tie.Need-loop-holds Inv-loop μ-loop
 loop-holds c = search needs
 
--- src/main.rt:247:16
 largest-byte-requires : tie.Need-largest-byte-requires Inv-loop μ-loop
 largest-byte-requires c κs = search needs
 
--- src/main.rt:247:9
 array-write-t : tie.Need-array-write-t Inv-loop μ-loop
 array-write-t c = search needs
 
--- src/main.rt:246:9
 add-i : tie.Need-add-i Inv-loop μ-loop
 add-i c = search needs
 
--- src/main.rt:246:5
 loop-less : tie.Need-loop-less Inv-loop μ-loop
 loop-less c = search needs
 
--- src/main.rt:246:5
 loop-again : tie.Need-loop-again Inv-loop μ-loop
 loop-again c = search needs
 
--- src/main.rt:250:12
 cast-t : tie.Need-cast-t Inv-loop μ-loop
 cast-t c = search needs
 
--- src/main.rt:250:5
 array-write-t-2 : tie.Need-array-write-t-2 Inv-loop μ-loop
 array-write-t-2 c = search needs
 
--- src/main.rt:251:12
 cast-t-2 : tie.Need-cast-t-2 Inv-loop μ-loop
 cast-t-2 c = search needs
 
--- src/main.rt:251:5
 array-write-t-3 : tie.Need-array-write-t-3 Inv-loop μ-loop
 array-write-t-3 c = search needs
 
--- src/main.rt:252:5
 array-write-t-4 : tie.Need-array-write-t-4 Inv-loop μ-loop
 array-write-t-4 c = search needs
 
--- src/main.rt:253:5
 array-write-t-5 : tie.Need-array-write-t-5 Inv-loop μ-loop
 array-write-t-5 c = search needs
 
--- src/main.rt:254:28
 slice-aggregate-front : tie.Need-slice-aggregate-front Inv-loop μ-loop
 slice-aggregate-front c = search needs
 
--- src/main.rt:254:22
 front-requires : tie.Need-front-requires Inv-loop μ-loop
 front-requires c κs = search needs
 
--- src/main.rt:254:5
 table-case-requires : tie.Need-table-case-requires Inv-loop μ-loop
 table-case-requires c κs = search needs
 
--- src/main.rt:244:1
 returns : tie.Need-returns Inv-loop μ-loop
 returns c = search needs
 

@@ -9,54 +9,42 @@ use Rattle.backup.proofs.pack.packed.Reads as packed-reads
 use Rattle.backup.proofs.place.bump.Reads as bump-reads
 use Rattle.backup.proofs.place.wide.Reads as wide-reads
 
--- src/place.rt:78:9
 returns : tie.Need-returns
 returns c = let a = c .before .args in arrive-21 (a .log .now) (a .head .now) (a .port) (a .word) (c .if1 .taken)
 
--- src/place.rt:80:20
 element-copy-out-wide : tie.Need-element-copy-out-wide
 element-copy-out-wide c = search needs
 
--- src/place.rt:80:9
 wide-requires : tie.Need-wide-requires
 wide-requires c κs = search needs
 
--- src/place.rt:82:9
 returns-2 : tie.Need-returns-2
 returns-2 c =
     let s = c .before .before .before .before in
     let w = c .before .wide .ensures in
     arrive-22 (s .args .log .now) (s .args .head .now) (s .args .port) (s .args .word) (c .before .before .before .if1 .left) (let t = c .if2 .taken in omega arith)
 
--- src/place.rt:84:16
 packed-requires : tie.Need-packed-requires
 packed-requires c κs = search needs
 
--- src/place.rt:84:5
 mul-log : tie.Need-mul-log
 mul-log c = search needs
 
--- src/place.rt:84:5
 element-write-log : tie.Need-element-write-log
 element-write-log c = search needs
 
--- src/place.rt:85:5
 bump-requires : tie.Need-bump-requires
 bump-requires c κs = search needs
 
--- src/place.rt:86:25
 wide-requires-2 : tie.Need-wide-requires-2
 wide-requires-2 c κs = search needs
 
--- src/place.rt:86:16
 add-bump : tie.Need-add-bump
 add-bump c = search needs
 
--- src/place.rt:86:5
 bump-requires-2 : tie.Need-bump-requires-2
 bump-requires-2 c κs = search needs
 
--- src/place.rt:74:1
 returns-3 : tie.Need-returns-3
 returns-3 c =
     let s = c .before .before .before .before .before .before .before .before .before .before in

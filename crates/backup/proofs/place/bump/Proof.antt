@@ -6,27 +6,21 @@ use Rattle.backup.proofs.place.bump.Reads as reads
 use Rattle.backup.proofs.place.bump.Lts as lts
 use Rattle.std.proofs.num.wrapping_add_u32.Reads as wrapping-add-u32-reads
 
--- src/place.rt:63:42
 mul-wrapping-add-u32 : tie.Need-mul-wrapping-add-u32
 mul-wrapping-add-u32 c = search needs
 
--- src/place.rt:63:42
 element-copy-out-wrapping-add-u32 : tie.Need-element-copy-out-wrapping-add-u32
 element-copy-out-wrapping-add-u32 c = search needs
 
--- src/place.rt:63:15
 wrapping-add-u32-requires : tie.Need-wrapping-add-u32-requires
 wrapping-add-u32-requires c κs = search needs
 
--- src/place.rt:63:5
 mul-head : tie.Need-mul-head
 mul-head c = search needs
 
--- src/place.rt:63:5
 element-write-head : tie.Need-element-write-head
 element-write-head c = search needs
 
--- src/place.rt:59:1
 returns : tie.Need-returns
 returns c = rw (c .wrapping-add-u32 .ensures)
 

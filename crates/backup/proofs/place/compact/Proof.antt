@@ -17,63 +17,48 @@ Inv-loop log₀ len left₀ i₀ kept₀ log left i kept = Passing log₀ len le
 abbrev μ-loop : tie.MeasureT-loop
 μ-loop log₀ len left₀ i₀ kept₀ log left i kept = len - i
 
--- src/place.rt:132:5
 loop-holds : tie.Need-loop-holds Inv-loop μ-loop
 loop-holds c = passing-start _ _ _
 
--- src/place.rt:133:17
 mul-x : tie.Need-mul-x Inv-loop μ-loop
 mul-x c = search needs
 
--- src/place.rt:133:17
 element-copy-out-x : tie.Need-element-copy-out-x Inv-loop μ-loop
 element-copy-out-x c = search needs
 
--- src/place.rt:134:13
 lane-requires : tie.Need-lane-requires Inv-loop μ-loop
 lane-requires c κs = search needs
 
--- src/place.rt:135:17
 mul-n : tie.Need-mul-n Inv-loop μ-loop
 mul-n c = search needs
 
--- src/place.rt:135:17
 array-read-n : tie.Need-array-read-n Inv-loop μ-loop
 array-read-n c = search needs
 
--- src/place.rt:137:23
 sub-left : tie.Need-sub-left Inv-loop μ-loop
 sub-left c = search needs
 
--- src/place.rt:137:13
 mul-left : tie.Need-mul-left Inv-loop μ-loop
 mul-left c = search needs
 
--- src/place.rt:137:13
 array-write-left : tie.Need-array-write-left Inv-loop μ-loop
 array-write-left c = search needs
 
--- src/place.rt:139:13
 mul-log : tie.Need-mul-log Inv-loop μ-loop
 mul-log c = search needs
 
--- src/place.rt:139:13
 element-write-log : tie.Need-element-write-log Inv-loop μ-loop
 element-write-log c = search needs
 
--- src/place.rt:140:13
 add-kept : tie.Need-add-kept Inv-loop μ-loop
 add-kept c = search needs
 
--- src/place.rt:142:9
 add-i : tie.Need-add-i Inv-loop μ-loop
 add-i c = search needs
 
--- src/place.rt:132:5
 loop-less : tie.Need-loop-less Inv-loop μ-loop
 loop-less c = search needs
 
--- src/place.rt:132:5
 loop-again : tie.Need-loop-again Inv-loop μ-loop
 loop-again c =
     let a = c .before .before .before .before .before .args in
@@ -86,7 +71,6 @@ loop-again c =
     (passing-stays (a .log .now) (a .len) (a .taken) (l .log) (l .left) (l .i) (l .kept) (l .inv) t (s .result) (s .ensures) (let z = w .0 .left in omega arith) (c .before .before .before .before .before .pre)))
     (c .if1 .came)
 
--- src/place.rt:125:1
 returns : tie.Need-returns Inv-loop μ-loop
 returns c =
     let a = c .before .before .args in

@@ -7,19 +7,15 @@ use Rattle.backup.proofs.place.count_in.Reads as reads
 use Rattle.backup.proofs.place.count_in.Lts as lts
 use Rattle.backup.proofs.place.bump.Reads as bump-reads
 
--- src/place.rt:94:8
 element-copy-out-if1 : tie.Need-element-copy-out-if1
 element-copy-out-if1 c = search needs
 
--- src/place.rt:95:9
 returns : tie.Need-returns
 returns c = λ log. count-24 log (c .before .before .args .head .now) (c .if1 .taken)
 
--- src/place.rt:97:5
 bump-requires : tie.Need-bump-requires
 bump-requires c κs = search needs
 
--- src/place.rt:91:1
 returns-2 : tie.Need-returns-2
 returns-2 c = λ log. rw (c .bump .ensures) (count-done log (c .before .before .before .before .args .head .now) (c .before .before .if1 .left))
 

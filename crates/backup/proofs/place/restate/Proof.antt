@@ -7,83 +7,63 @@ use Rattle.backup.proofs.place.restate.Reads as reads
 use Rattle.backup.proofs.place.restate.Lts as lts
 use Rattle.backup.proofs.place.minus.Reads as minus-reads
 
--- src/place.rt:151:5
 element-write-head : tie.Need-element-write-head
 element-write-head c = search needs
 
--- src/place.rt:152:5
 element-write-head-2 : tie.Need-element-write-head-2
 element-write-head-2 c = search needs
 
--- src/place.rt:153:5
 element-write-head-3 : tie.Need-element-write-head-3
 element-write-head-3 c = search needs
 
--- src/place.rt:154:5
 element-write-head-4 : tie.Need-element-write-head-4
 element-write-head-4 c = search needs
 
--- src/place.rt:155:5
 element-write-head-5 : tie.Need-element-write-head-5
 element-write-head-5 c = search needs
 
--- src/place.rt:156:5
 element-write-head-6 : tie.Need-element-write-head-6
 element-write-head-6 c = search needs
 
--- src/place.rt:157:5
 element-write-head-7 : tie.Need-element-write-head-7
 element-write-head-7 c = search needs
 
--- src/place.rt:158:26
 element-copy-out-minus : tie.Need-element-copy-out-minus
 element-copy-out-minus c = search needs
 
--- src/place.rt:158:20
 minus-requires : tie.Need-minus-requires
 minus-requires c κs = search needs
 
--- src/place.rt:158:5
 element-write-head-8 : tie.Need-element-write-head-8
 element-write-head-8 c = search needs
 
--- src/place.rt:159:26
 element-copy-out-minus-2 : tie.Need-element-copy-out-minus-2
 element-copy-out-minus-2 c = search needs
 
--- src/place.rt:159:20
 minus-requires-2 : tie.Need-minus-requires-2
 minus-requires-2 c κs = search needs
 
--- src/place.rt:159:5
 element-write-head-9 : tie.Need-element-write-head-9
 element-write-head-9 c = search needs
 
--- src/place.rt:160:26
 element-copy-out-minus-3 : tie.Need-element-copy-out-minus-3
 element-copy-out-minus-3 c = search needs
 
--- src/place.rt:160:20
 minus-requires-3 : tie.Need-minus-requires-3
 minus-requires-3 c κs = search needs
 
--- src/place.rt:160:5
 element-write-head-10 : tie.Need-element-write-head-10
 element-write-head-10 c = search needs
 
--- src/place.rt:161:26
 element-copy-out-minus-4 : tie.Need-element-copy-out-minus-4
 element-copy-out-minus-4 c = search needs
 
--- src/place.rt:161:20
 minus-requires-4 : tie.Need-minus-requires-4
 minus-requires-4 c κs = search needs
 
--- src/place.rt:161:5
 element-write-head-11 : tie.Need-element-write-head-11
 element-write-head-11 c = search needs
 
--- src/place.rt:148:1
 returns : tie.Need-returns
 unfolding restatedIn
 returns c = rw (c .minus4 .ensures, c .before .before .minus3 .ensures, c .before .before .before .before .minus2 .ensures, c .before .before .before .before .before .before .minus .ensures)

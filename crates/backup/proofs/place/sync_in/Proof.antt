@@ -13,47 +13,37 @@ use Rattle.backup.proofs.place.lacks.Reads as lacks-reads
 use Rattle.backup.proofs.place.restate.Reads as restate-reads
 use Rattle.backup.proofs.place.wide.Reads as wide-reads
 
--- src/place.rt:169:9
 returns : tie.Need-returns
 returns c = let a = c .before .before .args in sync-21 (a .log .now) (a .head .now) (a .c) (c .if1 .taken)
 
--- src/place.rt:171:8
 lacks-requires : tie.Need-lacks-requires
 lacks-requires c κs = search needs
 
--- src/place.rt:172:9
 returns-2 : tie.Need-returns-2
 returns-2 c =
     let a = c .before .before .before .before .before .args in
     sync-23 (a .log .now) (a .head .now) (a .c) (c .before .before .before .if1 .left) (sym (c .before .lacks .ensures) ∙ c .if2 .taken)
 
--- src/place.rt:174:20
 element-copy-out-wide : tie.Need-element-copy-out-wide
 element-copy-out-wide c = search needs
 
--- src/place.rt:174:9
 wide-requires : tie.Need-wide-requires
 wide-requires c κs = search needs
 
--- src/place.rt:176:9
 returns-3 : tie.Need-returns-3
 returns-3 c =
     let a = c .before .before .before .before .before .before .before .before .args in
     sync-20 (a .log .now) (a .head .now) (a .c) (let w = c .before .wide .ensures in let t = c .if3 .taken in omega arith)
 
--- src/place.rt:178:9
 compact-requires : tie.Need-compact-requires
 compact-requires c κs = search needs
 
--- src/place.rt:179:19
 cast-restate : tie.Need-cast-restate
 cast-restate c = omega (arith, c .before .compact .ensures .no-more)
 
--- src/place.rt:179:5
 restate-requires : tie.Need-restate-requires
 restate-requires c κs = search needs
 
--- src/place.rt:165:1
 returns-4 : tie.Need-returns-4
 returns-4 c =
     let a = c .before .before .before .before .before .before .before .before .before .before .before .before .args in

@@ -15,35 +15,27 @@ Inv-loop input₀ c i₀ input i = (i ≤ length input₀) × (length input ≡ 
 abbrev μ-loop : tie.MeasureT-loop
 μ-loop input₀ c i₀ input i = length input₀ - i
 
--- src/input.rt:143:5
 loop-holds : tie.Need-loop-holds Inv-loop μ-loop
 loop-holds c = search needs
 
--- src/input.rt:144:20
 input-byte-requires : tie.Need-input-byte-requires Inv-loop μ-loop
 input-byte-requires c κs = search needs
 
--- src/input.rt:144:9
 slice-write-input : tie.Need-slice-write-input Inv-loop μ-loop
 slice-write-input c = search needs
 
--- src/input.rt:145:9
 add-i : tie.Need-add-i Inv-loop μ-loop
 add-i c = search needs
 
--- src/input.rt:143:5
 loop-less : tie.Need-loop-less Inv-loop μ-loop
 loop-less c = search needs
 
--- src/input.rt:143:5
 loop-again : tie.Need-loop-again Inv-loop μ-loop
 loop-again c = search needs
 
--- src/input.rt:141:1
 same-length : tie.Need-same-length Inv-loop μ-loop
 same-length c = search needs
 
--- src/input.rt:141:1
 returns : tie.Need-returns Inv-loop μ-loop
 returns c = search needs
 

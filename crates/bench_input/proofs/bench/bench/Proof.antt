@@ -9,43 +9,33 @@ use Rattle.bench_input.proofs.bench.least.Reads as least-reads
 use Rattle.bench_input.proofs.bench.run_page.Reads as run-page-reads
 use Rattle.bench_input.proofs.bytes.length_field.Reads as length-field-reads
 
--- src/bench.rt:47:23
 length-field-requires : tie.Need-length-field-requires
 length-field-requires c κs = search needs
 
--- src/bench.rt:47:19
 add-least : tie.Need-add-least
 add-least c = search needs
 
--- src/bench.rt:47:9
 least-requires : tie.Need-least-requires
 least-requires c κs = search needs
 
--- src/bench.rt:48:14
 slice-aggregate-run-page : tie.Need-slice-aggregate-run-page
 slice-aggregate-run-page c = part-long (c .before .before .before .before .before .args .input .now) (c .before .least .result) (c .before .least .ensures .1)
 
--- src/bench.rt:48:27
 sub-run-page : tie.Need-sub-run-page
 sub-run-page c = search needs
 
--- src/bench.rt:48:27
 part-run-page-start : tie.Need-part-run-page-start
 part-run-page-start c = search needs
 
--- src/bench.rt:48:27
 part-run-page-end : tie.Need-part-run-page-end
 part-run-page-end c = search needs
 
--- src/bench.rt:48:5
 run-page-requires : tie.Need-run-page-requires
 run-page-requires c κs = search needs
 
--- src/bench.rt:44:1
 same-length : tie.Need-same-length
 same-length c = search needs
 
--- src/bench.rt:44:1
 returns : tie.Need-returns
 returns c =
     let s = c .before .before .before .before .before .before .before .before .before .before .args in

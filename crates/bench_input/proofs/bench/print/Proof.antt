@@ -7,15 +7,12 @@ use Rattle.bench_input.proofs.bench.print.Reads as reads
 use Rattle.bench_input.proofs.bench.print.Lts as lts
 use Rattle.page.proofs.write_page.Reads as write-page-reads
 
--- src/bench.rt:28:5
 write-page-requires : tie.Need-write-page-requires
 write-page-requires c κs = search needs
 
--- src/bench.rt:17:1
 same-length : tie.Need-same-length
 same-length c = search needs
 
--- src/bench.rt:17:1
 returns : tie.Need-returns
 returns c =
     let s = c .before .before .before .before .before .before .before .args in

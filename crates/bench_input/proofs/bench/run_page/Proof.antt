@@ -7,47 +7,37 @@ use Rattle.bench_input.proofs.bench.run_page.Tie as tie
 use Rattle.bench_input.proofs.bench.run_page.Reads as reads
 use Rattle.bench_input.proofs.bench.run_page.Lts as lts
 use Rattle.bench_input.proofs.bench.print.Reads as print-reads
-use Rattle.sixes.proofs.bytes.byte.Reads as byte-reads
-use Rattle.sixes.proofs.bytes.wide.Reads as wide-reads
+use Rattle.records.proofs.bytes.byte.Reads as byte-reads
+use Rattle.records.proofs.bytes.wide.Reads as wide-reads
 use Rattle.cabinet.proofs.run.run.Reads as run-reads
 
--- src/bench.rt:37:34
 slice-aggregate-run : tie.Need-slice-aggregate-run
 slice-aggregate-run c = search needs
 
--- src/bench.rt:37:48
 slice-aggregate-run-2 : tie.Need-slice-aggregate-run-2
 slice-aggregate-run-2 c = search needs
 
--- src/bench.rt:37:9
 run-requires : tie.Need-run-requires
 run-requires c κs = search needs
 
--- src/bench.rt:41:26
 byte-requires : tie.Need-byte-requires
 byte-requires c κs = search needs
 
--- src/bench.rt:41:9
 wide-requires : tie.Need-wide-requires
 wide-requires c κs = search needs
 
--- src/bench.rt:42:35
 slice-aggregate-print : tie.Need-slice-aggregate-print
 slice-aggregate-print c = search needs
 
--- src/bench.rt:42:56
 slice-aggregate-print-2 : tie.Need-slice-aggregate-print-2
 slice-aggregate-print-2 c = search needs
 
--- src/bench.rt:42:5
 print-requires : tie.Need-print-requires
 print-requires c κs = search needs
 
--- src/bench.rt:32:1
 same-length : tie.Need-same-length
 same-length c = search needs
 
--- src/bench.rt:32:1
 returns : tie.Need-returns
 returns c =
     let s = c .before .before .before .before .before .before .before .before .before .before .before .before .before .before .before .before .args in

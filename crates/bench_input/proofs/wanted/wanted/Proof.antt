@@ -7,27 +7,21 @@ use Rattle.bench_input.proofs.wanted.wanted.Reads as reads
 use Rattle.bench_input.proofs.wanted.wanted.Lts as lts
 use Rattle.bench_input.proofs.bytes.length_field.Reads as length-field-reads
 
--- src/wanted.rt:16:9
 returns : tie.Need-returns
 returns c = returns-short (c .before .before .args .have .now) (c .if1 .taken)
 
--- src/wanted.rt:18:9
 length-field-requires : tie.Need-length-field-requires
 length-field-requires c κs = search needs
 
--- src/wanted.rt:20:9
 returns-2 : tie.Need-returns-2
 returns-2 c = returns-over (c .before .before .before .before .args .have .now) (c .before .length-field .result) (c .before .before .if1 .left) (c .before .length-field .ensures .0) (c .if2 .taken)
 
--- src/wanted.rt:22:5
 add-result : tie.Need-add-result
 add-result c = search needs
 
--- src/wanted.rt:22:5
 add-result-2 : tie.Need-add-result-2
 add-result-2 c = search needs
 
--- src/wanted.rt:12:1
 returns-3 : tie.Need-returns-3
 returns-3 c = returns-all (c .before .before .before .before .args .have .now) (c .before .length-field .result) (c .before .before .if1 .left) (c .before .length-field .ensures .0) (c .if2 .left)
 

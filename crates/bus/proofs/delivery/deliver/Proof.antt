@@ -5,24 +5,20 @@ use Rattle.bus.proofs.delivery.deliver.Statement.{statement}
 use Rattle.bus.proofs.delivery.deliver.Tie as tie
 use Rattle.bus.proofs.delivery.deliver.Reads as reads
 use Rattle.bus.proofs.delivery.deliver.Lts as lts
-use Rattle.store.proofs.channel.index32.Reads as index32-reads
+use Rattle.state.proofs.channel.index32.Reads as index32-reads
 use Rattle.process.proofs.delivery.receive.Reads as receive-reads
 use Rattle.std.proofs.num.wrapping_add_u32.Reads as wrapping-add-u32-reads
-use Rattle.store.proofs.board.index16.Reads as index16-reads
+use Rattle.state.proofs.board.index16.Reads as index16-reads
 
--- src/delivery.rt:24:9
 index32-requires : tie.Need-index32-requires
 index32-requires c κs = search needs
 
--- src/delivery.rt:25:8
 mul-if1 : tie.Need-mul-if1
 mul-if1 c = search needs
 
--- src/delivery.rt:25:8
 element-copy-out-if1 : tie.Need-element-copy-out-if1
 element-copy-out-if1 c = search needs
 
--- src/delivery.rt:26:9
 returns : tie.Need-returns
 returns c =
     let s = c .before .before .before in
@@ -30,83 +26,63 @@ returns c =
     delivers-outside (s .args .reader .now) (s .args .port .now) (s .args .rows .now) (s .args .mails .now) (s .args .logs .now) (s .args .heads .now) (s .args .unread .now)
     (s .args .channel) (s .args .word) (k .result) (k .ensures .1) (c .if1 .taken)
 
--- src/delivery.rt:28:21
 mul-index16 : tie.Need-mul-index16
 mul-index16 c = search needs
 
--- src/delivery.rt:28:21
 element-copy-out-index16 : tie.Need-element-copy-out-index16
 element-copy-out-index16 c = search needs
 
--- src/delivery.rt:28:9
 index16-requires : tie.Need-index16-requires
 index16-requires c κs = search needs
 
--- src/delivery.rt:29:13
 mul-receive : tie.Need-mul-receive
 mul-receive c = search needs
 
--- src/delivery.rt:29:13
 index-1-receive : tie.Need-index-1-receive
 index-1-receive c = search needs
 
--- src/delivery.rt:29:27
 mul-receive-2 : tie.Need-mul-receive-2
 mul-receive-2 c = search needs
 
--- src/delivery.rt:29:27
 index-1-receive-2 : tie.Need-index-1-receive-2
 index-1-receive-2 c = search needs
 
--- src/delivery.rt:29:42
 mul-receive-3 : tie.Need-mul-receive-3
 mul-receive-3 c = search needs
 
--- src/delivery.rt:29:42
 index-1-receive-3 : tie.Need-index-1-receive-3
 index-1-receive-3 c = search needs
 
--- src/delivery.rt:29:56
 mul-receive-4 : tie.Need-mul-receive-4
 mul-receive-4 c = search needs
 
--- src/delivery.rt:29:56
 index-1-receive-4 : tie.Need-index-1-receive-4
 index-1-receive-4 c = search needs
 
--- src/delivery.rt:29:71
 mul-receive-5 : tie.Need-mul-receive-5
 mul-receive-5 c = search needs
 
--- src/delivery.rt:29:71
 element-copy-out-receive : tie.Need-element-copy-out-receive
 element-copy-out-receive c = search needs
 
--- src/delivery.rt:29:5
 receive-requires : tie.Need-receive-requires
 receive-requires c κs = search needs
 
--- src/delivery.rt:30:44
 mul-wrapping-add-u32 : tie.Need-mul-wrapping-add-u32
 mul-wrapping-add-u32 c = search needs
 
--- src/delivery.rt:30:44
 element-copy-out-wrapping-add-u32 : tie.Need-element-copy-out-wrapping-add-u32
 element-copy-out-wrapping-add-u32 c = search needs
 
--- src/delivery.rt:30:17
 wrapping-add-u32-requires : tie.Need-wrapping-add-u32-requires
 wrapping-add-u32-requires c κs = search needs
 
--- src/delivery.rt:30:5
 mul-unread : tie.Need-mul-unread
 mul-unread c = search needs
 
--- src/delivery.rt:30:5
 element-write-unread : tie.Need-element-write-unread
 element-write-unread c = search needs
 
--- src/delivery.rt:11:1
 returns-2 : tie.Need-returns-2
 returns-2 c =
     let s = c .before .before .before .before .before .before .before .before .before .before .before .before .before in

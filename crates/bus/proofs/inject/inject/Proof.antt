@@ -7,77 +7,61 @@ use Rattle.bus.proofs.inject.inject.Tie as tie
 use Rattle.bus.proofs.inject.inject.Reads as reads
 use Rattle.bus.proofs.inject.inject.Lts as lts
 use Rattle.bus.proofs.delivery.deliver.Reads as deliver-reads
-use Rattle.store.proofs.channel.held.Reads as held-reads
-use Rattle.store.proofs.channel.index32.Reads as index32-reads
-use Rattle.store.proofs.moved.refusal.Reads as refusal-reads
+use Rattle.state.proofs.channel.held.Reads as held-reads
+use Rattle.state.proofs.channel.index32.Reads as index32-reads
+use Rattle.state.proofs.moved.refusal.Reads as refusal-reads
 
--- src/inject.rt:28:9
 index32-requires : tie.Need-index32-requires
 index32-requires c κs = search needs
 
--- src/inject.rt:29:8
 mul-if1 : tie.Need-mul-if1
 mul-if1 c = search needs
 
--- src/inject.rt:29:8
 element-copy-out-if1 : tie.Need-element-copy-out-if1
 element-copy-out-if1 c = search needs
 
--- src/inject.rt:30:9
 refusal-requires : tie.Need-refusal-requires
 refusal-requires c κs = search needs
 
--- src/inject.rt:30:9
 returns : tie.Need-returns
 returns c =
     let s = c .before .before .before .before in
     let k = c .before .before .before .index32 in
     injects-43 (s .args .sender .now) (s .args .reader .now) (s .args .port .now) (s .args .rows .now) (s .args .mails .now) (s .args .logs .now) (s .args .heads .now) (s .args .unread .now) (s .args .queued .now) (s .args .a) (s .args .word) (k .result) _ (k .ensures .1) (c .before .if1 .taken) (c .refusal .ensures)
 
--- src/inject.rt:32:13
 mul-held : tie.Need-mul-held
 mul-held c = search needs
 
--- src/inject.rt:32:13
 element-copy-out-held : tie.Need-element-copy-out-held
 element-copy-out-held c = search needs
 
--- src/inject.rt:32:24
 mul-held-2 : tie.Need-mul-held-2
 mul-held-2 c = search needs
 
--- src/inject.rt:32:24
 element-copy-out-held-2 : tie.Need-element-copy-out-held-2
 element-copy-out-held-2 c = search needs
 
--- src/inject.rt:32:35
 mul-held-3 : tie.Need-mul-held-3
 mul-held-3 c = search needs
 
--- src/inject.rt:32:35
 element-copy-out-held-3 : tie.Need-element-copy-out-held-3
 element-copy-out-held-3 c = search needs
 
--- src/inject.rt:32:8
 held-requires : tie.Need-held-requires
 held-requires c κs = search needs
 
--- src/inject.rt:33:9
 refusal-requires-2 : tie.Need-refusal-requires-2
 refusal-requires-2 c κs = search needs
 
--- src/inject.rt:33:9
 returns-2 : tie.Need-returns-2
 returns-2 c =
     let s = c .before .before .before .before .before .before .before .before .before in
     let k = c .before .before .before .before .before .before .before .before .index32 in
     injects-39 (s .args .sender .now) (s .args .reader .now) (s .args .port .now) (s .args .rows .now) (s .args .mails .now) (s .args .logs .now) (s .args .heads .now) (s .args .unread .now) (s .args .queued .now) (s .args .a) (s .args .word) (k .result) _ (k .ensures .1) (c .before .before .before .before .before .before .if1 .left) (sym (c .before .before .held .ensures) ∙ c .before .if2 .taken) (c .refusal2 .ensures)
 
--- src/inject.rt:35:5
 deliver-requires : tie.Need-deliver-requires
 deliver-requires c κs = search needs
 
--- src/inject.rt:13:1
 returns-3 : tie.Need-returns-3
 returns-3 c =
     let s = c .before .before .before .before .before .before .before .before .before .before .before .before .before .before in

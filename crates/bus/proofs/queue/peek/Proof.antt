@@ -6,15 +6,12 @@ use Rattle.bus.proofs.queue.peek.Tie as tie
 use Rattle.bus.proofs.queue.peek.Reads as reads
 use Rattle.bus.proofs.queue.peek.Lts as lts
 
--- src/queue.rt:32:8
 element-copy-out-if1 : tie.Need-element-copy-out-if1
 element-copy-out-if1 c = search needs
 
--- src/queue.rt:33:9
 returns : tie.Need-returns
 returns c = rw (eq-eqb _ 0 (c .if1 .taken))
 
--- src/queue.rt:29:1
 returns-2 : tie.Need-returns-2
 returns-2 c = rw (ne-eqb _ 0 (c .if1 .left))
 

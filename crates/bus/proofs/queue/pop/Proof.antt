@@ -8,31 +8,24 @@ use Rattle.bus.proofs.queue.pop.Lts as lts
 use Rattle.std.proofs.num.wrapping_add_u32.Reads as wrapping-add-u32-reads
 use Rattle.std.proofs.num.wrapping_sub_u32.Reads as wrapping-sub-u32-reads
 
--- src/queue.rt:43:47
 element-copy-out-wrapping-add-u32 : tie.Need-element-copy-out-wrapping-add-u32
 element-copy-out-wrapping-add-u32 c = search needs
 
--- src/queue.rt:43:20
 wrapping-add-u32-requires : tie.Need-wrapping-add-u32-requires
 wrapping-add-u32-requires c κs = search needs
 
--- src/queue.rt:43:5
 element-write-board : tie.Need-element-write-board
 element-write-board c = search needs
 
--- src/queue.rt:44:47
 element-copy-out-wrapping-sub-u32 : tie.Need-element-copy-out-wrapping-sub-u32
 element-copy-out-wrapping-sub-u32 c = search needs
 
--- src/queue.rt:44:20
 wrapping-sub-u32-requires : tie.Need-wrapping-sub-u32-requires
 wrapping-sub-u32-requires c κs = search needs
 
--- src/queue.rt:44:5
 element-write-board-2 : tie.Need-element-write-board-2
 element-write-board-2 c = search needs
 
--- src/queue.rt:40:1
 returns : tie.Need-returns
 returns c =
     let s = c .before .before .before .before in

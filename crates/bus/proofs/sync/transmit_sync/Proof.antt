@@ -6,61 +6,47 @@ use Rattle.bus.proofs.sync.transmit_sync.Tie as tie
 use Rattle.bus.proofs.sync.transmit_sync.Reads as reads
 use Rattle.bus.proofs.sync.transmit_sync.Lts as lts
 use Rattle.process.proofs.checkpoint.keep.Reads as keep-reads
-use Rattle.store.proofs.board.index16.Reads as index16-reads
+use Rattle.state.proofs.board.index16.Reads as index16-reads
 
--- src/sync.rt:23:9
 index16-requires : tie.Need-index16-requires
 index16-requires c κs = search needs
 
--- src/sync.rt:24:10
 mul-keep : tie.Need-mul-keep
 mul-keep c = search needs
 
--- src/sync.rt:24:10
 index-1-keep : tie.Need-index-1-keep
 index-1-keep c = search needs
 
--- src/sync.rt:24:20
 mul-keep-2 : tie.Need-mul-keep-2
 mul-keep-2 c = search needs
 
--- src/sync.rt:24:20
 index-1-keep-2 : tie.Need-index-1-keep-2
 index-1-keep-2 c = search needs
 
--- src/sync.rt:24:34
 mul-keep-3 : tie.Need-mul-keep-3
 mul-keep-3 c = search needs
 
--- src/sync.rt:24:34
 index-1-keep-3 : tie.Need-index-1-keep-3
 index-1-keep-3 c = search needs
 
--- src/sync.rt:24:5
 keep-requires : tie.Need-keep-requires
 keep-requires c κs = search needs
 
--- src/sync.rt:25:5
 mul-waits : tie.Need-mul-waits
 mul-waits c = search needs
 
--- src/sync.rt:25:5
 element-write-waits : tie.Need-element-write-waits
 element-write-waits c = search needs
 
--- src/sync.rt:26:8
 mul-if1 : tie.Need-mul-if1
 mul-if1 c = search needs
 
--- src/sync.rt:26:8
 index-1-if1 : tie.Need-index-1-if1
 index-1-if1 c = search needs
 
--- src/sync.rt:26:8
 index-2-if1 : tie.Need-index-2-if1
 index-2-if1 c = search needs
 
--- src/sync.rt:27:9
 returns : tie.Need-returns
 returns c =
     let s = c .before .before .before .before .before .before .before in
@@ -69,7 +55,6 @@ returns c =
     syncs-lost (s .args .rows .now) (s .args .logs .now) (s .args .heads .now) (s .args .waits .now) (s .args .process) (s .args .checkpoint) (p .result) (p .ensures .1) (k .last .1 .0) (k .last .1 .1 .0) (k .ensures)
     (c .if1 .taken)
 
--- src/sync.rt:13:1
 returns-2 : tie.Need-returns-2
 returns-2 c =
     let s = c .before .before .before .before .before .before .before in

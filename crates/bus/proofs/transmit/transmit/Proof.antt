@@ -10,30 +10,24 @@ use Rattle.bus.proofs.queue.peek.Reads as peek-reads
 use Rattle.bus.proofs.queue.pop.Reads as pop-reads
 use Rattle.bus.proofs.sync.transmit_sync.Reads as transmit-sync-reads
 use Rattle.bus.proofs.word.transmit_word.Reads as transmit-word-reads
-use Rattle.store.proofs.board.index16.Reads as index16-reads
-use Rattle.store.proofs.moved.refusal.Reads as refusal-reads
+use Rattle.state.proofs.board.index16.Reads as index16-reads
+use Rattle.state.proofs.moved.refusal.Reads as refusal-reads
 
--- src/transmit.rt:37:9
 index16-requires : tie.Need-index16-requires
 index16-requires c κs = search needs
 
--- src/transmit.rt:38:8
 mul-if1 : tie.Need-mul-if1
 mul-if1 c = search needs
 
--- src/transmit.rt:38:8
 index-1-if1 : tie.Need-index-1-if1
 index-1-if1 c = search needs
 
--- src/transmit.rt:38:8
 index-2-if1 : tie.Need-index-2-if1
 index-2-if1 c = search needs
 
--- src/transmit.rt:39:9
 refusal-requires : tie.Need-refusal-requires
 refusal-requires c κs = search needs
 
--- src/transmit.rt:39:9
 returns : tie.Need-returns
 returns c =
     let s = c .before .before .before .before in
@@ -41,31 +35,24 @@ returns c =
     at-its-board (b .result) (s .args .a) (b .ensures .1)
     (λ e. transmits-34 (s .args .sender .now) (s .args .reader .now) (s .args .port .now) (s .args .rows .now) (s .args .mails .now) (s .args .logs .now) (s .args .heads .now) (s .args .boards .now) (s .args .unread .now) (s .args .queued .now) (s .args .waits .now) (b .result) (s .args .oldest) _ (c .before .if1 .taken) (rw (← e) (c .refusal .ensures)))
 
--- src/transmit.rt:41:39
 mul-peek : tie.Need-mul-peek
 mul-peek c = search needs
 
--- src/transmit.rt:41:39
 index-1-peek : tie.Need-index-1-peek
 index-1-peek c = search needs
 
--- src/transmit.rt:41:34
 peek-requires : tie.Need-peek-requires
 peek-requires c κs = search needs
 
--- src/transmit.rt:41:25
 enum-known-item : tie.Need-enum-known-item
 enum-known-item c = search needs
 
--- src/transmit.rt:42:9
 enum-told : tie.Need-enum-told
 enum-told c = search needs
 
--- src/transmit.rt:42:9
 refusal-requires-2 : tie.Need-refusal-requires-2
 refusal-requires-2 c κs = search needs
 
--- src/transmit.rt:42:9
 returns-2 : tie.Need-returns-2
 returns-2 c =
     let s = c .before .before .before .before .before .before .before .before in
@@ -73,27 +60,21 @@ returns-2 c =
     at-its-board (b .result) (s .args .a) (b .ensures .1)
     (λ e. transmits-42 (s .args .sender .now) (s .args .reader .now) (s .args .port .now) (s .args .rows .now) (s .args .mails .now) (s .args .logs .now) (s .args .heads .now) (s .args .boards .now) (s .args .unread .now) (s .args .queued .now) (s .args .waits .now) (b .result) (s .args .oldest) _ (c .before .before .before .before .before .if1 .left) (sym (c .before .before .before .peek .ensures) ∙ c .before .enum-told .given .1) (rw (← e) (c .refusal2 .ensures)))
 
--- src/transmit.rt:44:9
 mul-pop : tie.Need-mul-pop
 mul-pop c = search needs
 
--- src/transmit.rt:44:9
 index-1-pop : tie.Need-index-1-pop
 index-1-pop c = search needs
 
--- src/transmit.rt:44:5
 pop-requires : tie.Need-pop-requires
 pop-requires c κs = search needs
 
--- src/transmit.rt:45:25
 enum-known-item-2 : tie.Need-enum-known-item-2
 enum-known-item-2 c = search needs
 
--- src/transmit.rt:46:9
 transmit-word-requires : tie.Need-transmit-word-requires
 transmit-word-requires c κs = search needs
 
--- src/transmit.rt:46:9
 returns-3 : tie.Need-returns-3
 returns-3 c =
     let s = c .before .before .before .before .before .before .before .before .before .before .before .before .before .before .before .before .before .before .before .before in
@@ -108,30 +89,24 @@ returns-3 c =
 enum-told-2 : tie.Need-enum-told-2
 enum-told-2 c = search needs
 
--- src/transmit.rt:49:22
 enum-known-item-3 : tie.Need-enum-known-item-3
 enum-known-item-3 c = search needs
 
--- src/transmit.rt:50:9
 enum-told-3 : tie.Need-enum-told-3
 enum-told-3 c = search needs
 
--- src/transmit.rt:50:9
 refusal-requires-3 : tie.Need-refusal-requires-3
 refusal-requires-3 c κs = search needs
 
--- src/transmit.rt:50:9
 returns-4 : tie.Need-returns-4
 returns-4 c =
     let sync = c .before .before .before .enum-told2 .given in
     let word = c .before .enum-told3 .given in
     not-both _ (word .0 .0) (word .0 .1 .0) (sync .0 .0) (sync .0 .1 .0) (word .1) (sync .1)
 
--- src/transmit.rt:52:5
 transmit-sync-requires : tie.Need-transmit-sync-requires
 transmit-sync-requires c κs = search needs
 
--- src/transmit.rt:20:1
 returns-5 : tie.Need-returns-5
 returns-5 c =
     let s = c .before .before .before .before .before .before .before .before .before .before .before .before .before .before .before .before .before .before .before .before in

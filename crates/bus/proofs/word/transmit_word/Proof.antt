@@ -6,73 +6,57 @@ use Rattle.bus.proofs.word.transmit_word.Statement.{statement}
 use Rattle.bus.proofs.word.transmit_word.Tie as tie
 use Rattle.bus.proofs.word.transmit_word.Reads as reads
 use Rattle.bus.proofs.word.transmit_word.Lts as lts
-use Rattle.store.proofs.channel.index32.Reads as index32-reads
+use Rattle.state.proofs.channel.index32.Reads as index32-reads
 use Rattle.bus.proofs.delivery.deliver.Reads as deliver-reads
 use Rattle.process.proofs.delivery.counts.Reads as counts-reads
 use Rattle.std.proofs.num.wrapping_sub_u32.Reads as wrapping-sub-u32-reads
-use Rattle.store.proofs.board.index16.Reads as index16-reads
+use Rattle.state.proofs.board.index16.Reads as index16-reads
 
--- src/word.rt:30:9
 index32-requires : tie.Need-index32-requires
 index32-requires c κs = search needs
 
--- src/word.rt:31:44
 mul-wrapping-sub-u32 : tie.Need-mul-wrapping-sub-u32
 mul-wrapping-sub-u32 c = search needs
 
--- src/word.rt:31:44
 element-copy-out-wrapping-sub-u32 : tie.Need-element-copy-out-wrapping-sub-u32
 element-copy-out-wrapping-sub-u32 c = search needs
 
--- src/word.rt:31:17
 wrapping-sub-u32-requires : tie.Need-wrapping-sub-u32-requires
 wrapping-sub-u32-requires c κs = search needs
 
--- src/word.rt:31:5
 mul-queued : tie.Need-mul-queued
 mul-queued c = search needs
 
--- src/word.rt:31:5
 element-write-queued : tie.Need-element-write-queued
 element-write-queued c = search needs
 
--- src/word.rt:32:21
 mul-index16 : tie.Need-mul-index16
 mul-index16 c = search needs
 
--- src/word.rt:32:21
 element-copy-out-index16 : tie.Need-element-copy-out-index16
 element-copy-out-index16 c = search needs
 
--- src/word.rt:32:9
 index16-requires : tie.Need-index16-requires
 index16-requires c κs = search needs
 
--- src/word.rt:33:12
 mul-counts : tie.Need-mul-counts
 mul-counts c = search needs
 
--- src/word.rt:33:12
 index-1-counts : tie.Need-index-1-counts
 index-1-counts c = search needs
 
--- src/word.rt:33:22
 mul-counts-2 : tie.Need-mul-counts-2
 mul-counts-2 c = search needs
 
--- src/word.rt:33:22
 index-1-counts-2 : tie.Need-index-1-counts-2
 index-1-counts-2 c = search needs
 
--- src/word.rt:33:5
 counts-requires : tie.Need-counts-requires
 counts-requires c κs = search needs
 
--- src/word.rt:34:5
 deliver-requires : tie.Need-deliver-requires
 deliver-requires c κs = search needs
 
--- src/word.rt:15:1
 returns : tie.Need-returns
 returns c =
     let s = c .before .before .before .before .before .before .before .before .before .before .before .before .before .before in

@@ -2,8 +2,8 @@ use mathlib.Core.Path.{_≡_, refl, ap, _∙_}
 use mathlib.Core.List.{[]}
 use Prim.Native.Nat.{ℕ, _+_, _-_, _*_, _%_}
 use lib.ListN.{length, getD, replicate}
-use Rattle.store.specs.Store.{storeOf}
-use Rattle.turn.specs.Plan.{lentOf}
+use Rattle.state.specs.Store.{storeOf}
+use Rattle.command.specs.Plan.{lentOf}
 use Rattle.cabinet.specs.Plays.{Playing}
 use Rattle.cabinet.proofs.Playing.{at-first, on-by-carry, on-by-turn, at-last, stored-none, stored-one}
 use borrow.Author.Needs.{needs}
@@ -13,13 +13,13 @@ use Rattle.cabinet.proofs.play.play.Tie as tie
 use Rattle.cabinet.proofs.play.play.Reads as reads
 use Rattle.cabinet.proofs.play.play.Lts as lts
 use Rattle.bus.proofs.transmit.oldest.Reads as oldest-reads
-use Rattle.edges.proofs.answer.put.Reads as put-reads
+use Rattle.outcome.proofs.answer.put.Reads as put-reads
 use Rattle.cabinet.proofs.play.grown.Reads as grown-reads
-use Rattle.turn.proofs.turn.carry.Reads as carry-reads
-use Rattle.turn.proofs.turn.turn.Reads as turn-reads
-use Rattle.store.proofs.board.index16.Reads as index16-reads
-use Rattle.store.proofs.moved.blank.Reads as blank-reads
-use Rattle.sixes.proofs.schedule.command_at.Reads as command-at-reads
+use Rattle.command.proofs.turn.carry.Reads as carry-reads
+use Rattle.command.proofs.turn.turn.Reads as turn-reads
+use Rattle.state.proofs.board.index16.Reads as index16-reads
+use Rattle.state.proofs.moved.blank.Reads as blank-reads
+use Rattle.records.proofs.schedule.command_at.Reads as command-at-reads
 
 abbrev Inv-loop : tie.InvT-loop
 Inv-loop table schedule records boards-many processes channels start lengths sender reader port ins arity rows₀ mails₀ logs₀ heads₀ boards₀ unread₀ queued₀ waits₀ answers₀ entries₀ i₀ rows mails logs heads boards unread queued waits answers entries i =
@@ -29,63 +29,48 @@ abbrev μ-loop : tie.MeasureT-loop
 μ-loop table schedule records boards-many processes channels start lengths sender reader port ins arity rows₀ mails₀ logs₀ heads₀ boards₀ unread₀ queued₀ waits₀ answers₀ entries₀ i₀ rows mails logs heads boards unread queued waits answers entries i =
     records - i
 
--- src/play.rt:53:9
 blank-requires : tie.Need-blank-requires Inv-loop μ-loop
 blank-requires c κs = search needs
 
--- src/play.rt:56:5
 loop-holds : tie.Need-loop-holds Inv-loop μ-loop
 loop-holds c = let s = c .before .before .before .before .args in (at-first (lentOf (s .table .now) (s .boards-many) (s .processes) (s .channels) (s .start .now) (s .lengths .now) (s .sender .now) (s .reader .now) (s .port .now) (s .ins .now) (s .arity .now)) (s .schedule .now) (s .records) (storeOf (s .rows .now) (s .mails .now) (s .logs .now) (s .heads .now) (s .boards .now) (s .unread .now) (s .queued .now) (s .waits .now)) _ (s .answers .now), refl)
 
--- src/play.rt:58:9
 add-i : tie.Need-add-i Inv-loop μ-loop
 add-i c = search needs
 
--- src/play.rt:59:13
 command-at-requires : tie.Need-command-at-requires Inv-loop μ-loop
 command-at-requires c κs = search needs
 
--- src/play.rt:62:13
 grown-requires : tie.Need-grown-requires Inv-loop μ-loop
 grown-requires c κs = search needs
 
--- src/play.rt:64:17
 index16-requires : tie.Need-index16-requires Inv-loop μ-loop
 index16-requires c κs = search needs
 
--- src/play.rt:65:36
 mul-oldest : tie.Need-mul-oldest Inv-loop μ-loop
 mul-oldest c = search needs
 
--- src/play.rt:65:36
 index-1-oldest : tie.Need-index-1-oldest Inv-loop μ-loop
 index-1-oldest c = search needs
 
--- src/play.rt:65:29
 oldest-requires : tie.Need-oldest-requires Inv-loop μ-loop
 oldest-requires c κs = search needs
 
--- src/play.rt:65:21
 mul-e : tie.Need-mul-e Inv-loop μ-loop
 mul-e c = search needs
 
--- src/play.rt:65:21
 array-copy-out-e : tie.Need-array-copy-out-e Inv-loop μ-loop
 array-copy-out-e c = search needs
 
--- src/play.rt:66:17
 carry-requires : tie.Need-carry-requires Inv-loop μ-loop
 carry-requires c κs = search needs
 
--- src/play.rt:70:13
 put-requires : tie.Need-put-requires Inv-loop μ-loop
 put-requires c κs = search needs
 
--- src/play.rt:56:5
 loop-less : tie.Need-loop-less Inv-loop μ-loop
 loop-less c = search needs
 
--- src/play.rt:56:5
 loop-again : tie.Need-loop-again Inv-loop μ-loop
 loop-again c = let s = c .before .before .before .before .before .before .before .before .before .before .before .before .before .before .before .before .before .before .before .before .before .before .before .before .before .before .args in let p = c .before .before .before .before .before .before .before .before .before .before .before .before .before .before .before .before .before .before .before .before .before .loop in let x = c .before .before .before .before .before .before .before .before .before .before .before .before .before .before .before .before .before .before .before .command-at in let g = c .before .before .before .before .before .before .before .before .before .before .before .before .before .before .before .before .before .before .grown in let r = c .before .before .before .before .carry in let w = c .before .before .put in let o = c .before .before .before .before .before .before .before .before .before .before .before .before .before .before .oldest in let b = c .before .before .before .before .before .before .before .before .before .before .before .before .before .before .before .before .index16 in (
   on-by-carry (lentOf (s .table .now) (s .boards-many) (s .processes) (s .channels) (s .start .now) (s .lengths .now) (s .sender .now) (s .reader .now) (s .port .now) (s .ins .now) (s .arity .now)) (s .schedule .now) (s .records) (storeOf (s .rows .now) (s .mails .now) (s .logs .now) (s .heads .now) (s .boards .now) (s .unread .now) (s .queued .now) (s .waits .now)) _ (s .answers .now) (p .i) (storeOf (p .rows) (p .mails) (p .logs) (p .heads) (p .boards) (p .unread) (p .queued) (p .waits)) _ (p .entries) (p .entries) (p .answers) _ (p .inv .0) (c .before .before .before .before .before .before .before .before .before .before .before .before .before .before .before .before .before .before .before .before .loop-test .taken) (x .result) (x .ensures) (g .result) (g .ensures .0) (g .ensures .1) (r .result) (w .ensures)
@@ -93,19 +78,15 @@ loop-again c = let s = c .before .before .before .before .before .before .before
   w .ensures .same-length ∙ p .inv .1,
 )
 
--- src/play.rt:73:13
 turn-requires : tie.Need-turn-requires Inv-loop μ-loop
 turn-requires c κs = search needs
 
--- src/play.rt:79:9
 put-requires-2 : tie.Need-put-requires-2 Inv-loop μ-loop
 put-requires-2 c κs = search needs
 
--- src/play.rt:56:5
 loop-less-2 : tie.Need-loop-less-2 Inv-loop μ-loop
 loop-less-2 c = search needs
 
--- src/play.rt:56:5
 loop-again-2 : tie.Need-loop-again-2 Inv-loop μ-loop
 loop-again-2 c = let s = c .before .before .before .before .before .before .before .before .before .before .before .before .before .before .before .before .before .before .before .before .before .before .before .before .args in let p = c .before .before .before .before .before .before .before .before .before .before .before .before .before .before .before .before .before .before .before .loop in let x = c .before .before .before .before .before .before .before .before .before .before .before .before .before .before .before .before .before .command-at in let g = c .before .before .before .before .before .before .before .before .before .before .before .before .before .before .before .before .grown in let m = c .before .before .before .before .before .before .turn in let w = c .before .before .before .put2 in (
   on-by-turn (lentOf (s .table .now) (s .boards-many) (s .processes) (s .channels) (s .start .now) (s .lengths .now) (s .sender .now) (s .reader .now) (s .port .now) (s .ins .now) (s .arity .now)) (s .schedule .now) (s .records) (storeOf (s .rows .now) (s .mails .now) (s .logs .now) (s .heads .now) (s .boards .now) (s .unread .now) (s .queued .now) (s .waits .now)) _ (s .answers .now) (p .i) (storeOf (p .rows) (p .mails) (p .logs) (p .heads) (p .boards) (p .unread) (p .queued) (p .waits)) _ (p .entries) _ (p .answers) _ (p .inv .0) (c .before .before .before .before .before .before .before .before .before .before .before .before .before .before .before .before .before .before .loop-test .taken) (x .result) (x .ensures) (g .result) (g .ensures .0) (g .ensures .1) _ (w .ensures)
@@ -113,19 +94,15 @@ loop-again-2 c = let s = c .before .before .before .before .before .before .befo
   w .ensures .same-length ∙ p .inv .1,
 )
 
--- src/play.rt:83:9
 mul-entries : tie.Need-mul-entries Inv-loop μ-loop
 mul-entries c = search needs
 
--- src/play.rt:83:9
 array-set-from-entries : tie.Need-array-set-from-entries Inv-loop μ-loop
 array-set-from-entries c = search needs
 
--- src/play.rt:56:5
 loop-less-3 : tie.Need-loop-less-3 Inv-loop μ-loop
 loop-less-3 c = search needs
 
--- src/play.rt:56:5
 loop-again-3 : tie.Need-loop-again-3 Inv-loop μ-loop
 loop-again-3 c = let s = c .before .before .before .before .before .before .before .before .before .before .before .before .before .before .before .before .before .before .before .before .before .before .before .before .args in let p = c .before .before .before .before .before .before .before .before .before .before .before .before .before .before .before .before .before .before .before .loop in let x = c .before .before .before .before .before .before .before .before .before .before .before .before .before .before .before .before .before .command-at in let g = c .before .before .before .before .before .before .before .before .before .before .before .before .before .before .before .before .grown in let m = c .before .before .before .before .before .before .turn in let w = c .before .before .before .put2 in (
   on-by-turn (lentOf (s .table .now) (s .boards-many) (s .processes) (s .channels) (s .start .now) (s .lengths .now) (s .sender .now) (s .reader .now) (s .port .now) (s .ins .now) (s .arity .now)) (s .schedule .now) (s .records) (storeOf (s .rows .now) (s .mails .now) (s .logs .now) (s .heads .now) (s .boards .now) (s .unread .now) (s .queued .now) (s .waits .now)) _ (s .answers .now) (p .i) (storeOf (p .rows) (p .mails) (p .logs) (p .heads) (p .boards) (p .unread) (p .queued) (p .waits)) _ (p .entries) _ (p .answers) _ (p .inv .0) (c .before .before .before .before .before .before .before .before .before .before .before .before .before .before .before .before .before .before .loop-test .taken) (x .result) (x .ensures) (g .result) (g .ensures .0) (g .ensures .1) _ (w .ensures)
@@ -133,11 +110,9 @@ loop-again-3 c = let s = c .before .before .before .before .before .before .befo
   w .ensures .same-length ∙ p .inv .1,
 )
 
--- src/play.rt:27:1
 same-length : tie.Need-same-length Inv-loop μ-loop
 same-length c = c .before .loop .inv .1
 
--- src/play.rt:27:1
 returns : tie.Need-returns Inv-loop μ-loop
 returns c = let s = c .before .before .before .before .before .before .args in let p = c .before .loop in at-last (lentOf (s .table .now) (s .boards-many) (s .processes) (s .channels) (s .start .now) (s .lengths .now) (s .sender .now) (s .reader .now) (s .port .now) (s .ins .now) (s .arity .now)) (s .schedule .now) (s .records) (storeOf (s .rows .now) (s .mails .now) (s .logs .now) (s .heads .now) (s .boards .now) (s .unread .now) (s .queued .now) (s .waits .now)) _ (s .answers .now) (p .i) (storeOf (p .rows) (p .mails) (p .logs) (p .heads) (p .boards) (p .unread) (p .queued) (p .waits)) (p .entries) (p .answers) (ap (replicate 512) (c .before .before .blank .ensures)) (p .inv .0) (c .loop-test .left)
 

@@ -1,5 +1,5 @@
 use mathlib.Core.Path.{refl}
-use Rattle.edges.proofs.Starting.{fresh-made}
+use Rattle.outcome.proofs.Starting.{fresh-made}
 use Rattle.cabinet.proofs.Running.{conducts}
 use native.Mathlib.Omega.{arith}
 use borrow.Author.Needs.{needs}
@@ -8,35 +8,28 @@ use Rattle.cabinet.proofs.run.conduct.Tie as tie
 use Rattle.cabinet.proofs.run.conduct.Reads as reads
 use Rattle.cabinet.proofs.run.conduct.Lts as lts
 use Rattle.cabinet.proofs.play.play.Reads as play-reads
-use Rattle.edges.proofs.quiet.quiescent.Reads as quiescent-reads
-use Rattle.edges.proofs.report.write_report.Reads as write-report-reads
-use Rattle.edges.proofs.start.seat.Reads as seat-reads
+use Rattle.outcome.proofs.quiet.quiescent.Reads as quiescent-reads
+use Rattle.outcome.proofs.report.write_report.Reads as write-report-reads
+use Rattle.outcome.proofs.start.seat.Reads as seat-reads
 
--- src/run.rt:54:5
 seat-requires : tie.Need-seat-requires
 seat-requires c κs = search needs
 
--- src/run.rt:55:5
 play-requires : tie.Need-play-requires
 play-requires c κs = search needs
 
--- src/run.rt:60:5
 write-report-requires : tie.Need-write-report-requires
 write-report-requires c κs = search needs
 
--- src/run.rt:61:5
 quiescent-requires : tie.Need-quiescent-requires
 quiescent-requires c κs = search needs
 
--- src/run.rt:24:1
 same-length : tie.Need-same-length
 same-length c = search needs
 
--- src/run.rt:24:1
 same-length-2 : tie.Need-same-length-2
 same-length-2 c = search needs
 
--- src/run.rt:24:1
 returns : tie.Need-returns
 returns c =
     let s = c .before .before .before .before .before .before .before .before .before .before .before .before .before .before .before .before .before .before .before .before .before .before .before .before .before .before .before .before .before .before .before .before .before .before .before .before .before .before .before .before .before .before .before .before .before .before .before .args in

@@ -7,41 +7,33 @@ use Rattle.cabinet.proofs.run.run.Reads as reads
 use Rattle.cabinet.proofs.run.run.Lts as lts
 use Rattle.cabinet.proofs.run.conduct.Reads as conduct-reads
 use Rattle.table.proofs.decode.Reads as decode-reads
-use Rattle.sixes.proofs.schedule.judge_run.Reads as judge-run-reads
-use Rattle.sixes.proofs.schedule.judge_schedule.Reads as judge-schedule-reads
+use Rattle.records.proofs.schedule.judge_run.Reads as judge-run-reads
+use Rattle.records.proofs.schedule.judge_schedule.Reads as judge-schedule-reads
 
--- src/run.rt:68:9
 decode-requires : tie.Need-decode-requires
 decode-requires c κs = search needs
 
--- src/run.rt:69:9
 judge-schedule-requires : tie.Need-judge-schedule-requires
 judge-schedule-requires c κs = search needs
 
--- src/run.rt:74:9
 judge-run-requires : tie.Need-judge-run-requires
 judge-run-requires c κs = search needs
 
--- src/run.rt:76:9
 returns : tie.Need-returns
 returns c =
     let s = c .before .before .before .before .before .before .before .before .before .args in
     refuses (s .table .now) (s .schedule .now) (s .answers .now) (s .report .now) (c .before .before .before .before .decode .result) (c .before .before .before .judge-schedule .result) (c .before .before .before .before .decode .ensures) (c .before .before .before .judge-schedule .ensures)
     (c .before .judge-run .result) (c .before .judge-run .ensures) (c .if1 .taken)
 
--- src/run.rt:82:9
 conduct-requires : tie.Need-conduct-requires
 conduct-requires c κs = search needs
 
--- src/run.rt:65:1
 same-length : tie.Need-same-length
 same-length c = search needs
 
--- src/run.rt:65:1
 same-length-2 : tie.Need-same-length-2
 same-length-2 c = search needs
 
--- src/run.rt:65:1
 returns-2 : tie.Need-returns-2
 returns-2 c =
     let s = c .before .before .before .before .before .before .before .before .before .before .before .before .before .before .before .before .args in

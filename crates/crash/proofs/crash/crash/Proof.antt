@@ -14,30 +14,24 @@ use Rattle.crash.proofs.losses.lose_words.Reads as lose-words-reads
 use Rattle.crash.proofs.losses.other_dead.Reads as other-dead-reads
 use Rattle.crash.proofs.processes.crash_all.Reads as crash-all-reads
 use Rattle.crash.proofs.recount.recount.Reads as recount-reads
-use Rattle.store.proofs.board.index16.Reads as index16-reads
-use Rattle.store.proofs.moved.refusal.Reads as refusal-reads
+use Rattle.state.proofs.board.index16.Reads as index16-reads
+use Rattle.state.proofs.moved.refusal.Reads as refusal-reads
 
--- src/crash.rt:41:9
 index16-requires : tie.Need-index16-requires
 index16-requires c κs = search needs
 
--- src/crash.rt:42:8
 mul-if1 : tie.Need-mul-if1
 mul-if1 c = search needs
 
--- src/crash.rt:42:8
 index-1-if1 : tie.Need-index-1-if1
 index-1-if1 c = search needs
 
--- src/crash.rt:42:8
 index-2-if1 : tie.Need-index-2-if1
 index-2-if1 c = search needs
 
--- src/crash.rt:43:9
 refusal-requires : tie.Need-refusal-requires
 refusal-requires c κs = search needs
 
--- src/crash.rt:43:9
 returns : tie.Need-returns
 returns c =
     let s = c .before .before .before .before in
@@ -46,19 +40,15 @@ returns c =
     crashes-34 (a .boards-many) (a .processes) (a .channels) (a .sender .now) (a .reader .now) (a .ins .now) (a .arity .now) (a .rows .now) (a .mails .now) (a .logs .now) (a .heads .now) (a .boards .now) (a .unread .now) (a .queued .now) (a .waits .now) (a .a) (b .result) (b .ensures .1) _
     (c .before .if1 .taken) (c .refusal .ensures)
 
--- src/crash.rt:45:19
 most16-requires : tie.Need-most16-requires
 most16-requires c κs = search needs
 
--- src/crash.rt:45:8
 other-dead-requires : tie.Need-other-dead-requires
 other-dead-requires c κs = search needs
 
--- src/crash.rt:46:9
 refusal-requires-2 : tie.Need-refusal-requires-2
 refusal-requires-2 c κs = search needs
 
--- src/crash.rt:46:9
 returns-2 : tie.Need-returns-2
 returns-2 c =
     let s = c .before .before .before .before .before .before .before .before in
@@ -68,43 +58,33 @@ returns-2 c =
     crashes-44 (a .boards-many) (a .processes) (a .channels) (a .sender .now) (a .reader .now) (a .ins .now) (a .arity .now) (a .rows .now) (a .mails .now) (a .logs .now) (a .heads .now) (a .boards .now) (a .unread .now) (a .queued .now) (a .waits .now) (a .a) (b .result) (b .ensures .1) _
     (n .result) (n .ensures .1) (c .before .before .before .before .before .if1 .left) (c .before .before .other-dead .result) (c .before .before .other-dead .ensures) (c .before .if2 .taken) (c .refusal2 .ensures)
 
--- src/crash.rt:48:9
 most16-requires-2 : tie.Need-most16-requires-2
 most16-requires-2 c κs = search needs
 
--- src/crash.rt:49:9
 most32-requires : tie.Need-most32-requires
 most32-requires c κs = search needs
 
--- src/crash.rt:50:5
 lose-words-requires : tie.Need-lose-words-requires
 lose-words-requires c κs = search needs
 
--- src/crash.rt:51:5
 lose-flags-requires : tie.Need-lose-flags-requires
 lose-flags-requires c κs = search needs
 
--- src/crash.rt:52:5
 crash-all-requires : tie.Need-crash-all-requires
 crash-all-requires c κs = search needs
 
--- src/crash.rt:53:5
 recount-requires : tie.Need-recount-requires
 recount-requires c κs = search needs
 
--- src/crash.rt:54:9
 mul-die : tie.Need-mul-die
 mul-die c = let l = c .before .before .before .before .before .before .before .before .before .before .before .before .before .before .before .before .before .before .before .before .before .index16 .ensures .0 in search needs
 
--- src/crash.rt:54:9
 index-1-die : tie.Need-index-1-die
 index-1-die c = let l = c .before .before .before .before .before .before .before .before .before .before .before .before .before .before .before .before .before .before .before .before .before .index16 .ensures .0 in search needs
 
--- src/crash.rt:54:5
 die-requires : tie.Need-die-requires
 die-requires c κs = search needs
 
--- src/crash.rt:21:1
 returns-3 : tie.Need-returns-3
 returns-3 c =
     let s = c .before .before .before .before .before .before .before .before .before .before .before .before .before .before .before .before .before .before .before .before .before .before .before .before in

@@ -6,23 +6,18 @@ use Rattle.crash.proofs.losses.dead_apart.Tie as tie
 use Rattle.crash.proofs.losses.dead_apart.Reads as reads
 use Rattle.crash.proofs.losses.dead_apart.Lts as lts
 
--- src/losses.rt:34:9
 mul-result : tie.Need-mul-result
 mul-result c = search needs
 
--- src/losses.rt:34:9
 index-1-result : tie.Need-index-1-result
 index-1-result c = search needs
 
--- src/losses.rt:34:9
 index-2-result : tie.Need-index-2-result
 index-2-result c = search needs
 
--- src/losses.rt:27:1
 returns : tie.Need-returns
 returns c = let a = c .before .args in dead-itself (a .boards .now) (a .b) (a .k) (c .if1 .taken)
 
--- src/losses.rt:27:1
 returns-2 : tie.Need-returns-2
 returns-2 c = let a = c .before .before .args in dead-other (a .boards .now) (a .b) (a .k) (c .before .if1 .left)
 

@@ -17,31 +17,24 @@ Inv-loop n rows a waits₀ p₀ waits p = Zeroing (runsOn rows a) n waits₀ wai
 abbrev μ-loop : tie.MeasureT-loop
 μ-loop n rows a waits₀ p₀ waits p = n - p
 
--- src/losses.rt:74:5
 loop-holds : tie.Need-loop-holds Inv-loop μ-loop
 loop-holds c = zeroing-start _ _ _
 
--- src/losses.rt:75:12
 runs-on-requires : tie.Need-runs-on-requires Inv-loop μ-loop
 runs-on-requires c κs = search needs
 
--- src/losses.rt:76:13
 mul-waits : tie.Need-mul-waits Inv-loop μ-loop
 mul-waits c = search needs
 
--- src/losses.rt:76:13
 element-write-waits : tie.Need-element-write-waits Inv-loop μ-loop
 element-write-waits c = search needs
 
--- src/losses.rt:78:9
 add-p : tie.Need-add-p Inv-loop μ-loop
 add-p c = search needs
 
--- src/losses.rt:74:5
 loop-less : tie.Need-loop-less Inv-loop μ-loop
 loop-less c = search needs
 
--- src/losses.rt:74:5
 loop-again : tie.Need-loop-again Inv-loop μ-loop
 loop-again c =
     let a = c .before .before .before .before .args in
@@ -53,7 +46,6 @@ loop-again c =
     (λ w. rw (w .1) (zeroing-miss (runsOn (a .rows .now) (a .a)) (a .n) (a .waits .now) (l .waits) (l .p) (l .inv) t (sym d ∙ w .0 .left)))
     (c .if1 .came)
 
--- src/losses.rt:69:1
 returns : tie.Need-returns Inv-loop μ-loop
 returns c = let a = c .before .before .args in let l = c .before .loop in zeroing-end (runsOn (a .rows .now) (a .a)) (a .n) (a .waits .now) (l .waits) (l .p) (l .inv) (c .loop-test .left)
 

@@ -10,7 +10,7 @@ use Rattle.crash.proofs.losses.lose_words.Tie as tie
 use Rattle.crash.proofs.losses.lose_words.Reads as reads
 use Rattle.crash.proofs.losses.lose_words.Lts as lts
 use Rattle.crash.proofs.losses.runs_on.Reads as runs-on-reads
-use Rattle.store.proofs.board.wide.Reads as wide-reads
+use Rattle.state.proofs.board.wide.Reads as wide-reads
 
 abbrev Inv-loop : tie.InvT-loop
 Inv-loop n sender rows a queued₀ k₀ queued k = Zeroing (lostWords sender rows a) n queued₀ queued k
@@ -18,43 +18,33 @@ Inv-loop n sender rows a queued₀ k₀ queued k = Zeroing (lostWords sender row
 abbrev μ-loop : tie.MeasureT-loop
 μ-loop n sender rows a queued₀ k₀ queued k = n - k
 
--- src/losses.rt:60:5
 loop-holds : tie.Need-loop-holds Inv-loop μ-loop
 loop-holds c = zeroing-start _ _ _
 
--- src/losses.rt:61:31
 mul-wide : tie.Need-mul-wide Inv-loop μ-loop
 mul-wide c = search needs
 
--- src/losses.rt:61:31
 element-copy-out-wide : tie.Need-element-copy-out-wide Inv-loop μ-loop
 element-copy-out-wide c = search needs
 
--- src/losses.rt:61:26
 wide-requires : tie.Need-wide-requires Inv-loop μ-loop
 wide-requires c κs = search needs
 
--- src/losses.rt:61:12
 runs-on-requires : tie.Need-runs-on-requires Inv-loop μ-loop
 runs-on-requires c κs = search needs
 
--- src/losses.rt:62:13
 mul-queued : tie.Need-mul-queued Inv-loop μ-loop
 mul-queued c = search needs
 
--- src/losses.rt:62:13
 element-write-queued : tie.Need-element-write-queued Inv-loop μ-loop
 element-write-queued c = search needs
 
--- src/losses.rt:64:9
 add-k : tie.Need-add-k Inv-loop μ-loop
 add-k c = search needs
 
--- src/losses.rt:60:5
 loop-less : tie.Need-loop-less Inv-loop μ-loop
 loop-less c = search needs
 
--- src/losses.rt:60:5
 loop-again : tie.Need-loop-again Inv-loop μ-loop
 loop-again c =
     let a = c .before .before .before .before .before .before .args in
@@ -66,7 +56,6 @@ loop-again c =
     (λ w. rw (w .1) (zeroing-miss (lostWords (a .sender .now) (a .rows .now) (a .a)) (a .n) (a .queued .now) (l .queued) (l .k) (l .inv) t (sym d ∙ w .0 .left)))
     (c .if1 .came)
 
--- src/losses.rt:55:1
 returns : tie.Need-returns Inv-loop μ-loop
 returns c = let a = c .before .before .args in let l = c .before .loop in zeroing-end (lostWords (a .sender .now) (a .rows .now) (a .a)) (a .n) (a .queued .now) (l .queued) (l .k) (l .inv) (c .loop-test .left)
 

@@ -17,23 +17,18 @@ Inv-loop n boards b found₀ k₀ found k = Searching (deadApart boards b) n fou
 abbrev μ-loop : tie.MeasureT-loop
 μ-loop n boards b found₀ k₀ found k = n - k
 
--- src/losses.rt:45:5
 loop-holds : tie.Need-loop-holds Inv-loop μ-loop
 loop-holds c = searching-start _ _
 
--- src/losses.rt:46:12
 dead-apart-requires : tie.Need-dead-apart-requires Inv-loop μ-loop
 dead-apart-requires c κs = search needs
 
--- src/losses.rt:49:9
 add-k : tie.Need-add-k Inv-loop μ-loop
 add-k c = search needs
 
--- src/losses.rt:45:5
 loop-less : tie.Need-loop-less Inv-loop μ-loop
 loop-less c = search needs
 
--- src/losses.rt:45:5
 loop-again : tie.Need-loop-again Inv-loop μ-loop
 loop-again c =
     let a = c .before .before .before .before .args in
@@ -45,7 +40,6 @@ loop-again c =
     (λ w. rw (w .1) (searching-miss (deadApart (a .boards .now) (a .b)) (a .n) (l .found) (l .k) (l .inv) t (sym d ∙ w .0 .left)))
     (c .if1 .came)
 
--- src/losses.rt:39:1
 returns : tie.Need-returns Inv-loop μ-loop
 returns c = let a = c .before .before .args in let l = c .before .loop in searching-end (deadApart (a .boards .now) (a .b)) (a .n) (l .found) (l .k) (l .inv) (c .loop-test .left)
 

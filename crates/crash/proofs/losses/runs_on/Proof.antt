@@ -6,23 +6,18 @@ use Rattle.crash.proofs.losses.runs_on.Tie as tie
 use Rattle.crash.proofs.losses.runs_on.Reads as reads
 use Rattle.crash.proofs.losses.runs_on.Lts as lts
 
--- src/losses.rt:20:9
 mul-result : tie.Need-mul-result
 mul-result c = search needs
 
--- src/losses.rt:20:9
 index-1-result : tie.Need-index-1-result
 index-1-result c = search needs
 
--- src/losses.rt:20:9
 index-2-result : tie.Need-index-2-result
 index-2-result c = search needs
 
--- src/losses.rt:16:1
 returns : tie.Need-returns
 returns c = let a = c .before .before .args in runs-here (a .rows .now) (a .a) (a .p) (c .before .if1 .taken)
 
--- src/losses.rt:16:1
 returns-2 : tie.Need-returns-2
 returns-2 c = let a = c .before .args in runs-nowhere (a .rows .now) (a .a) (a .p) (c .if1 .left)
 

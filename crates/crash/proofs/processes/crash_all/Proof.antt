@@ -15,71 +15,54 @@ Inv-loop n ins arity rows₀ mails₀ logs heads a p₀ rows mails p = Promoting
 abbrev μ-loop : tie.MeasureT-loop
 μ-loop n ins arity rows₀ mails₀ logs heads a p₀ rows mails p = n - p
 
--- src/processes.rt:39:5
 loop-holds : tie.Need-loop-holds Inv-loop μ-loop
 loop-holds c = promoting-start _ _ _ _ _ _ _ _
 
--- src/processes.rt:41:13
 input-at-requires : tie.Need-input-at-requires Inv-loop μ-loop
 input-at-requires c κs = search needs
 
--- src/processes.rt:42:13
 input-at-requires-2 : tie.Need-input-at-requires-2 Inv-loop μ-loop
 input-at-requires-2 c κs = search needs
 
--- src/processes.rt:43:13
 input-at-requires-3 : tie.Need-input-at-requires-3 Inv-loop μ-loop
 input-at-requires-3 c κs = search needs
 
--- src/processes.rt:44:13
 input-at-requires-4 : tie.Need-input-at-requires-4 Inv-loop μ-loop
 input-at-requires-4 c κs = search needs
 
--- src/processes.rt:46:15
 mul-crash : tie.Need-mul-crash Inv-loop μ-loop
 mul-crash c = search needs
 
--- src/processes.rt:46:15
 index-1-crash : tie.Need-index-1-crash Inv-loop μ-loop
 index-1-crash c = search needs
 
--- src/processes.rt:46:29
 mul-crash-2 : tie.Need-mul-crash-2 Inv-loop μ-loop
 mul-crash-2 c = search needs
 
--- src/processes.rt:46:29
 index-1-crash-2 : tie.Need-index-1-crash-2 Inv-loop μ-loop
 index-1-crash-2 c = search needs
 
--- src/processes.rt:46:44
 mul-crash-3 : tie.Need-mul-crash-3 Inv-loop μ-loop
 mul-crash-3 c = search needs
 
--- src/processes.rt:46:44
 index-1-crash-3 : tie.Need-index-1-crash-3 Inv-loop μ-loop
 index-1-crash-3 c = search needs
 
--- src/processes.rt:46:54
 mul-crash-4 : tie.Need-mul-crash-4 Inv-loop μ-loop
 mul-crash-4 c = search needs
 
--- src/processes.rt:46:54
 index-1-crash-4 : tie.Need-index-1-crash-4 Inv-loop μ-loop
 index-1-crash-4 c = search needs
 
--- src/processes.rt:46:9
 crash-requires : tie.Need-crash-requires Inv-loop μ-loop
 crash-requires c κs = search needs
 
--- src/processes.rt:47:9
 add-p : tie.Need-add-p Inv-loop μ-loop
 add-p c = search needs
 
--- src/processes.rt:39:5
 loop-less : tie.Need-loop-less Inv-loop μ-loop
 loop-less c = search needs
 
--- src/processes.rt:39:5
 loop-again : tie.Need-loop-again Inv-loop μ-loop
 loop-again c =
     let a = c .before .before .before .before .before .before .before .before .before .before .before .args in
@@ -92,7 +75,6 @@ loop-again c =
     promoting-on (a .n) (a .ins .now) (a .arity .now) (a .rows .now) (a .mails .now) (a .logs .now) (a .heads .now) (a .a) (l .rows) (l .mails) (l .p) (l .inv)
     (i0 .result) (i1 .result) (i2 .result) (i3 .result) (c .crash .last .0) (c .crash .last .1 .0) t (i0 .ensures) (i1 .ensures) (i2 .ensures) (i3 .ensures) (c .crash .ensures)
 
--- src/processes.rt:25:1
 returns : tie.Need-returns Inv-loop μ-loop
 returns c =
     let a = c .before .before .args in

@@ -5,41 +5,32 @@ use Rattle.crash.proofs.processes.input_at.Statement.{statement}
 use Rattle.crash.proofs.processes.input_at.Tie as tie
 use Rattle.crash.proofs.processes.input_at.Reads as reads
 use Rattle.crash.proofs.processes.input_at.Lts as lts
-use Rattle.store.proofs.board.wide.Reads as wide-reads
+use Rattle.state.proofs.board.wide.Reads as wide-reads
 
--- src/processes.rt:17:20
 mul-wide : tie.Need-mul-wide
 mul-wide c = search needs
 
--- src/processes.rt:17:20
 element-copy-out-wide : tie.Need-element-copy-out-wide
 element-copy-out-wide c = search needs
 
--- src/processes.rt:17:15
 wide-requires : tie.Need-wide-requires
 wide-requires c κs = search needs
 
--- src/processes.rt:18:13
 mul-result : tie.Need-mul-result
 mul-result c = search needs
 
--- src/processes.rt:18:13
 add-result : tie.Need-add-result
 add-result c = search needs
 
--- src/processes.rt:18:9
 mul-result-2 : tie.Need-mul-result-2
 mul-result-2 c = search needs
 
--- src/processes.rt:18:9
 element-copy-out-result : tie.Need-element-copy-out-result
 element-copy-out-result c = search needs
 
--- src/processes.rt:13:1
 returns : tie.Need-returns
 returns c = let a = c .before .before .before .before .args in let w = c .before .before .wide in input-there (a .ins .now) (a .arity .now) (a .p) (a .port) (w .result) (w .ensures .0) (c .before .if1 .taken)
 
--- src/processes.rt:13:1
 returns-2 : tie.Need-returns-2
 returns-2 c = let a = c .before .before .before .args in let w = c .before .wide in input-none (a .ins .now) (a .arity .now) (a .p) (a .port) (w .result) (w .ensures .0) (c .if1 .left)
 

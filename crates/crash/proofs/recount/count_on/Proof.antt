@@ -16,35 +16,27 @@ Inv-loop mail n k count₀ i₀ count i = Counting mail n k count i
 abbrev μ-loop : tie.MeasureT-loop
 μ-loop mail n k count₀ i₀ count i = n - i
 
--- src/recount.rt:24:5
 loop-holds : tie.Need-loop-holds Inv-loop μ-loop
 loop-holds c = counting-start _ _ _
 
--- src/recount.rt:25:28
 mul-channel-at : tie.Need-mul-channel-at Inv-loop μ-loop
 mul-channel-at c = search needs
 
--- src/recount.rt:25:28
 element-copy-out-channel-at : tie.Need-element-copy-out-channel-at Inv-loop μ-loop
 element-copy-out-channel-at c = search needs
 
--- src/recount.rt:25:17
 channel-at-requires : tie.Need-channel-at-requires Inv-loop μ-loop
 channel-at-requires c κs = search needs
 
--- src/recount.rt:26:13
 wrapping-add-u32-requires : tie.Need-wrapping-add-u32-requires Inv-loop μ-loop
 wrapping-add-u32-requires c κs = search needs
 
--- src/recount.rt:28:9
 add-i : tie.Need-add-i Inv-loop μ-loop
 add-i c = search needs
 
--- src/recount.rt:24:5
 loop-less : tie.Need-loop-less Inv-loop μ-loop
 loop-less c = search needs
 
--- src/recount.rt:24:5
 loop-again : tie.Need-loop-again Inv-loop μ-loop
 loop-again c =
     let s = c .before .before .before .before .before in
@@ -57,7 +49,6 @@ loop-again c =
     (λ h. rw (h .1) (counting-miss (a .mail .now) (a .n) (a .k) (l .count) (l .i) (l .inv) (s .pre) (w .result) t (w .ensures) (h .0 .left)))
     (c .if1 .came)
 
--- src/recount.rt:18:1
 returns : tie.Need-returns Inv-loop μ-loop
 returns c = let s = c .before .before in let l = c .before .loop in counting-end (s .args .mail .now) (s .args .n) (s .args .k) (l .count) (l .i) (l .inv) (s .pre) (c .loop-test .left)
 

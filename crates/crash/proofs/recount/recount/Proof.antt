@@ -7,7 +7,7 @@ use Rattle.crash.proofs.recount.recount.Tie as tie
 use Rattle.crash.proofs.recount.recount.Reads as reads
 use Rattle.crash.proofs.recount.recount.Lts as lts
 use Rattle.crash.proofs.recount.unread_of.Reads as unread-of-reads
-use Rattle.store.proofs.board.index16.Reads as index16-reads
+use Rattle.state.proofs.board.index16.Reads as index16-reads
 
 abbrev Inv-loop : tie.InvT-loop
 Inv-loop n reader rows mails unread₀ k₀ unread k = Recounting n reader rows mails unread₀ unread k
@@ -15,59 +15,45 @@ Inv-loop n reader rows mails unread₀ k₀ unread k = Recounting n reader rows 
 abbrev μ-loop : tie.MeasureT-loop
 μ-loop n reader rows mails unread₀ k₀ unread k = n - k
 
--- src/recount.rt:46:5
 loop-holds : tie.Need-loop-holds Inv-loop μ-loop
 loop-holds c = recounting-start _ _ _ _ _
 
--- src/recount.rt:47:25
 mul-index16 : tie.Need-mul-index16 Inv-loop μ-loop
 mul-index16 c = search needs
 
--- src/recount.rt:47:25
 element-copy-out-index16 : tie.Need-element-copy-out-index16 Inv-loop μ-loop
 element-copy-out-index16 c = search needs
 
--- src/recount.rt:47:13
 index16-requires : tie.Need-index16-requires Inv-loop μ-loop
 index16-requires c κs = search needs
 
--- src/recount.rt:48:31
 mul-unread-of : tie.Need-mul-unread-of Inv-loop μ-loop
 mul-unread-of c = search needs
 
--- src/recount.rt:48:31
 index-1-unread-of : tie.Need-index-1-unread-of Inv-loop μ-loop
 index-1-unread-of c = search needs
 
--- src/recount.rt:48:41
 mul-unread-of-2 : tie.Need-mul-unread-of-2 Inv-loop μ-loop
 mul-unread-of-2 c = search needs
 
--- src/recount.rt:48:41
 index-1-unread-of-2 : tie.Need-index-1-unread-of-2 Inv-loop μ-loop
 index-1-unread-of-2 c = search needs
 
--- src/recount.rt:48:21
 unread-of-requires : tie.Need-unread-of-requires Inv-loop μ-loop
 unread-of-requires c κs = search needs
 
--- src/recount.rt:48:9
 mul-unread : tie.Need-mul-unread Inv-loop μ-loop
 mul-unread c = search needs
 
--- src/recount.rt:48:9
 element-write-unread : tie.Need-element-write-unread Inv-loop μ-loop
 element-write-unread c = search needs
 
--- src/recount.rt:49:9
 add-k : tie.Need-add-k Inv-loop μ-loop
 add-k c = search needs
 
--- src/recount.rt:46:5
 loop-less : tie.Need-loop-less Inv-loop μ-loop
 loop-less c = search needs
 
--- src/recount.rt:46:5
 loop-again : tie.Need-loop-again Inv-loop μ-loop
 loop-again c =
     let a = c .before .before .before .before .before .before .before .args in
@@ -76,7 +62,6 @@ loop-again c =
     let p = c .before .before .before .index16 in
     recounting-on (a .n) (a .reader .now) (a .rows .now) (a .mails .now) (a .unread .now) (l .unread) (l .k) (l .inv) (p .result) (c .unread-of .result) t (p .ensures .1) (c .unread-of .ensures)
 
--- src/recount.rt:41:1
 returns : tie.Need-returns Inv-loop μ-loop
 returns c =
     let a = c .before .before .args in

@@ -10,25 +10,20 @@ use Rattle.crash.proofs.recount.unread_of.Reads as reads
 use Rattle.crash.proofs.recount.unread_of.Lts as lts
 use Rattle.crash.proofs.bounds.most48.Reads as most48-reads
 use Rattle.crash.proofs.recount.count_on.Reads as count-on-reads
-use Rattle.store.proofs.board.wide.Reads as wide-reads
+use Rattle.state.proofs.board.wide.Reads as wide-reads
 
--- src/recount.rt:37:32
 element-copy-out-wide : tie.Need-element-copy-out-wide
 element-copy-out-wide c = search needs
 
--- src/recount.rt:37:27
 wide-requires : tie.Need-wide-requires
 wide-requires c κs = search needs
 
--- src/recount.rt:37:20
 most48-requires : tie.Need-most48-requires
 most48-requires c κs = search needs
 
--- src/recount.rt:37:5
 count-on-requires : tie.Need-count-on-requires
 count-on-requires c κs = search needs
 
--- src/recount.rt:34:1
 returns : tie.Need-returns
 returns c = λ l. let w = c .before .before .wide .ensures .0 in let m = c .before .most48 .ensures .1 (rw w l) in c .count-on .ensures ∙ ap (λ (n : ℕ). unreadOn (c .before .before .before .before .args .k) (mailsIn n (c .before .before .before .before .args .mail .now))) (m ∙ w)
 

@@ -10,70 +10,54 @@ use Rattle.instruction.proofs.instruction.cell.Reads as cell-reads
 use Rattle.instruction.proofs.instruction.register.Reads as register-reads
 use Rattle.instruction.proofs.instruction.sum.Reads as sum-reads
 
--- src/instruction.rt:105:28
 sum-requires : tie.Need-sum-requires
 sum-requires c κs = search needs
 
--- src/instruction.rt:105:17
 cell-requires : tie.Need-cell-requires
 cell-requires c κs = search needs
 
--- src/instruction.rt:105:13
 mul-row : tie.Need-mul-row
 mul-row c = search needs
 
--- src/instruction.rt:105:13
 element-write-row : tie.Need-element-write-row
 element-write-row c = search needs
 
--- src/instruction.rt:106:13
 bump-requires : tie.Need-bump-requires
 bump-requires c κs = search needs
 
--- src/instruction.rt:109:16
 register-requires : tie.Need-register-requires
 register-requires c κs = search needs
 
--- src/instruction.rt:110:17
 bump-requires-2 : tie.Need-bump-requires-2
 bump-requires-2 c κs = search needs
 
--- src/instruction.rt:112:17
 element-write-row-2 : tie.Need-element-write-row-2
 element-write-row-2 c = search needs
 
--- src/instruction.rt:116:17
 cell-requires-2 : tie.Need-cell-requires-2
 cell-requires-2 c κs = search needs
 
--- src/instruction.rt:116:13
 mul-row-2 : tie.Need-mul-row-2
 mul-row-2 c = search needs
 
--- src/instruction.rt:116:13
 element-write-row-3 : tie.Need-element-write-row-3
 element-write-row-3 c = search needs
 
--- src/instruction.rt:117:13
 bump-requires-3 : tie.Need-bump-requires-3
 bump-requires-3 c κs = search needs
 
--- src/instruction.rt:100:1
 returns : tie.Need-returns
 returns c =
     rw (c .bump .ensures, c .before .before .cell .ensures) (computes-add _ _ _ _ (c .before .before .before .before .before .match .keys1) _ (c .before .before .before .sum .ensures))
 
--- src/instruction.rt:100:1
 returns-2 : tie.Need-returns-2
 returns-2 c =
     rw (c .bump2 .ensures) (computes-on _ _ _ _ (c .before .before .before .before .before .match .keys2) (rw (c .before .before .before .register .ensures) at (c .before .before .if1 .taken)))
 
--- src/instruction.rt:100:1
 returns-3 : tie.Need-returns-3
 returns-3 c =
     computes-jump _ _ _ _ (c .before .before .before .match .keys2) (rw (c .before .register .ensures) at (c .if1 .left)) (c .before .before .before .before .fits .operand .fits)
 
--- src/instruction.rt:100:1
 returns-4 : tie.Need-returns-4
 returns-4 c =
     let r = c .before .before .before .match .rest in

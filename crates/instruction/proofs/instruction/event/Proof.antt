@@ -6,15 +6,12 @@ use Rattle.instruction.proofs.instruction.event.Reads as reads
 use Rattle.instruction.proofs.instruction.event.Lts as lts
 use Rattle.instruction.proofs.instruction.bump.Reads as bump-reads
 
--- src/instruction.rt:136:5
 bump-requires : tie.Need-bump-requires
 bump-requires c κs = search needs
 
--- src/instruction.rt:137:5
 bump-requires-2 : tie.Need-bump-requires-2
 bump-requires-2 c κs = search needs
 
--- src/instruction.rt:133:1
 returns : tie.Need-returns
 returns c = rw (c .bump2 .ensures, c .before .before .bump .ensures)
 

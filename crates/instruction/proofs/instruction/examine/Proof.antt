@@ -9,61 +9,49 @@ use Rattle.instruction.proofs.instruction.register.Reads as register-re
 use Rattle.instruction.proofs.instruction.seek.Reads as seek-reads
 use Rattle.process.proofs.row.wide.Reads as wide-reads
 
--- src/instruction.rt:78:8
 element-copy-out-if1 : tie.Need-element-copy-out-if1
 element-copy-out-if1 c = search needs
 
--- src/instruction.rt:79:9
 returns : tie.Need-returns
 returns c = examined-halted _ _ _ _ _ _ (c .if1 .taken)
 
--- src/instruction.rt:86:19
 register-requires : tie.Need-register-requires
 register-requires c κs = search needs
 
--- src/instruction.rt:83:34
 element-copy-out-wide : tie.Need-element-copy-out-wide
 element-copy-out-wide c = search needs
 
--- src/instruction.rt:83:29
 wide-requires : tie.Need-wide-requires
 wide-requires c κs = search needs
 
--- src/instruction.rt:83:18
 seek-requires : tie.Need-seek-requires
 seek-requires c κs = search needs
 
--- src/instruction.rt:75:1
 returns-2 : tie.Need-returns-2
 returns-2 c = examined-send _ _ _ _ _ _ (c .before .before .if1 .left) (c .before .match .keys2) _ (c .register .ensures)
 
--- src/instruction.rt:75:1
 returns-3 : tie.Need-returns-3
 returns-3 c =
     let g = c .before .before .before .before .if3 .left in
     let l = c .before .before .before .if4 .taken in
     examined-sought _ _ _ _ _ _ (c .before .before .before .before .before .before .before .if1 .left) (three-or-four _ g l) (c .seek .result) (rw (c .before .wide .ensures) at (c .seek .ensures))
 
--- src/instruction.rt:75:1
 returns-4 : tie.Need-returns-4
 returns-4 c =
     let l = c .if2 .taken in
     examined-internal _ _ _ _ _ _ (c .before .before .if1 .left) (λ e. omega arith) (λ e. omega arith) (λ e. omega arith)
 
--- src/instruction.rt:75:1
 returns-5 : tie.Need-returns-5
 returns-5 c =
     let l = c .if4 .left in
     let g = c .before .before .before .match .rest .1 in
     examined-internal _ _ _ _ _ _ (c .before .before .before .before .if1 .left) (λ e. omega arith) (λ e. omega arith) (λ e. omega arith)
 
--- src/instruction.rt:75:1
 returns-6 : tie.Need-returns-6
 returns-6 c =
     let l = c .match .keys1 in
     examined-internal _ _ _ _ _ _ (c .before .if1 .left) (λ e. omega arith) (λ e. omega arith) (λ e. omega arith)
 
--- src/instruction.rt:75:1
 returns-7 : tie.Need-returns-7
 returns-7 c =
     let l = c .if3 .taken in

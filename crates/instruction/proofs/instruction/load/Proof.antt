@@ -11,43 +11,33 @@ use Rattle.instruction.proofs.instruction.next_cell.Reads as next-cell-
 use Rattle.process.proofs.mail.channel_of.Reads as channel-of-reads
 use Rattle.process.proofs.mail.word_of.Reads as word-of-reads
 
--- src/instruction.rt:126:20
 word-of-requires : tie.Need-word-of-requires
 word-of-requires c κs = search needs
 
--- src/instruction.rt:126:9
 cell-requires : tie.Need-cell-requires
 cell-requires c κs = search needs
 
--- src/instruction.rt:126:5
 mul-row : tie.Need-mul-row
 mul-row c = search needs
 
--- src/instruction.rt:126:5
 element-write-row : tie.Need-element-write-row
 element-write-row c = search needs
 
--- src/instruction.rt:128:29
 channel-of-requires : tie.Need-channel-of-requires
 channel-of-requires c κs = search needs
 
--- src/instruction.rt:128:13
 next-cell-requires : tie.Need-next-cell-requires
 next-cell-requires c κs = search needs
 
--- src/instruction.rt:128:9
 mul-row-2 : tie.Need-mul-row-2
 mul-row-2 c = search needs
 
--- src/instruction.rt:128:9
 element-write-row-2 : tie.Need-element-write-row-2
 element-write-row-2 c = search needs
 
--- src/instruction.rt:123:1
 returns : tie.Need-returns
 returns c = loads-so _ _ _ _ _ (c .before .before .before .before .before .fits .x .fits) (rw (c .next-cell .ensures, c .before .channel-of .ensures, c .before .before .before .cell .ensures, c .before .before .before .before .word-of .ensures, eq-eqb _ _ (c .before .before .if1 .taken)))
 
--- src/instruction.rt:123:1
 returns-2 : tie.Need-returns-2
 returns-2 c = loads-so _ _ _ _ _ (c .before .before .before .fits .x .fits) (rw (c .before .cell .ensures, c .before .before .word-of .ensures, ne-eqb _ _ (c .if1 .left)))
 

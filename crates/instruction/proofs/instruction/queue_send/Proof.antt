@@ -7,11 +7,9 @@ use Rattle.instruction.proofs.instruction.queue_send.Reads as reads
 use Rattle.instruction.proofs.instruction.queue_send.Lts as lts
 use Rattle.instruction.proofs.instruction.event.Reads as event-reads
 
--- src/instruction.rt:188:5
 event-requires : tie.Need-event-requires
 event-requires c κs = search needs
 
--- src/instruction.rt:185:1
 returns : tie.Need-returns
 returns c = rw (c .event .ensures) (queues _)
 

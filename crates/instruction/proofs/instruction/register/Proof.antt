@@ -6,19 +6,15 @@ use Rattle.instruction.proofs.instruction.register.Reads as reads
 use Rattle.instruction.proofs.instruction.register.Lts as lts
 use Rattle.instruction.proofs.instruction.cell.Reads as cell-reads
 
--- src/instruction.rt:55:9
 cell-requires : tie.Need-cell-requires
 cell-requires c κs = search needs
 
--- src/instruction.rt:55:5
 mul-result : tie.Need-mul-result
 mul-result c = search needs
 
--- src/instruction.rt:55:5
 element-copy-out-result : tie.Need-element-copy-out-result
 element-copy-out-result c = search needs
 
--- src/instruction.rt:52:1
 returns : tie.Need-returns
 returns c = rw (c .before .cell .ensures)
 

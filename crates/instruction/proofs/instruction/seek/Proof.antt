@@ -6,15 +6,12 @@ use Rattle.instruction.proofs.instruction.seek.Reads as reads
 use Rattle.instruction.proofs.instruction.seek.Lts as lts
 use Rattle.instruction.proofs.mailbox.look.Reads as look-reads
 
--- src/instruction.rt:70:9
 look-requires : tie.Need-look-requires
 look-requires c κs = search needs
 
--- src/instruction.rt:67:1
 returns : tie.Need-returns
 returns c = (c .if1 .taken, λ s. c .before .look .ensures .finds s (c .if1 .taken))
 
--- src/instruction.rt:67:1
 returns-2 : tie.Need-returns-2
 returns-2 c = λ s. c .before .look .ensures .misses s (c .if1 .left)
 

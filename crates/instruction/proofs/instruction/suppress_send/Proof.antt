@@ -8,23 +8,18 @@ use Rattle.instruction.proofs.instruction.suppress_send.Lts as lts
 use Rattle.instruction.proofs.instruction.bump.Reads as bump-reads
 use Rattle.std.proofs.num.wrapping_sub_u32.Reads as wrapping-sub-u32-reads
 
--- src/instruction.rt:151:48
 element-copy-out-wrapping-sub-u32 : tie.Need-element-copy-out-wrapping-sub-u32
 element-copy-out-wrapping-sub-u32 c = search needs
 
--- src/instruction.rt:151:21
 wrapping-sub-u32-requires : tie.Need-wrapping-sub-u32-requires
 wrapping-sub-u32-requires c κs = search needs
 
--- src/instruction.rt:151:5
 element-write-row : tie.Need-element-write-row
 element-write-row c = search needs
 
--- src/instruction.rt:152:5
 bump-requires : tie.Need-bump-requires
 bump-requires c κs = search needs
 
--- src/instruction.rt:148:1
 returns : tie.Need-returns
 returns c =
     let s = c .before .before .wrapping-sub-u32 in

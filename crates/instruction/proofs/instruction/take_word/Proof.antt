@@ -12,67 +12,51 @@ use Rattle.instruction.proofs.mailbox.remove.Reads as remove-reads
 use Rattle.process.proofs.row.wide.Reads as wide-reads
 use Rattle.std.proofs.num.wrapping_sub_u32.Reads as wrapping-sub-u32-reads
 
--- src/instruction.rt:162:23
 element-copy-out-wide : tie.Need-element-copy-out-wide
 element-copy-out-wide c = search needs
 
--- src/instruction.rt:162:9
 wide-requires : tie.Need-wide-requires
 wide-requires c κs = search needs
 
--- src/instruction.rt:164:9
 returns : tie.Need-returns
 returns c = takes-none _ _ _ _ _ _ (λ h k. let w = c .before .wide .ensures in let z = c .if1 .taken in omega arith)
 
--- src/instruction.rt:167:9
 returns-2 : tie.Need-returns-2
 returns-2 c = takes-none _ _ _ _ _ _ (λ h k. let w = c .before .before .wide .ensures in let z = c .if2 .taken in omega arith)
 
--- src/instruction.rt:169:24
 mul-load : tie.Need-mul-load
 mul-load c = search needs
 
--- src/instruction.rt:169:24
 element-copy-out-load : tie.Need-element-copy-out-load
 element-copy-out-load c = search needs
 
--- src/instruction.rt:169:5
 load-requires : tie.Need-load-requires
 load-requires c κs = search needs
 
--- src/instruction.rt:170:5
 remove-requires : tie.Need-remove-requires
 remove-requires c κs = search needs
 
--- src/instruction.rt:171:46
 element-copy-out-wrapping-sub-u32 : tie.Need-element-copy-out-wrapping-sub-u32
 element-copy-out-wrapping-sub-u32 c = search needs
 
--- src/instruction.rt:171:19
 wrapping-sub-u32-requires : tie.Need-wrapping-sub-u32-requires
 wrapping-sub-u32-requires c κs = search needs
 
--- src/instruction.rt:171:5
 element-write-row : tie.Need-element-write-row
 element-write-row c = search needs
 
--- src/instruction.rt:172:20
 wide-requires-2 : tie.Need-wide-requires-2
 wide-requires-2 c κs = search needs
 
--- src/instruction.rt:172:15
 add-bump : tie.Need-add-bump
 add-bump c = search needs
 
--- src/instruction.rt:172:5
 bump-requires : tie.Need-bump-requires
 bump-requires c κs = search needs
 
--- src/instruction.rt:173:5
 event-requires : tie.Need-event-requires
 event-requires c κs = search needs
 
--- src/instruction.rt:152:1
 returns-3 : tie.Need-returns-3
 returns-3 c =
     let s = c .before .before .before .before .before .wrapping-sub-u32 in

@@ -16,31 +16,24 @@ Inv-loop mail unread code operand i₀ i = Looking (names code operand) mail unr
 abbrev μ-loop : tie.MeasureT-loop
 μ-loop mail unread code operand i₀ i = unread - i
 
--- src/mailbox.rt:57:9
 returns : tie.Need-returns Inv-loop μ-loop
 returns c = look-long _ _ _ (c .if1 .taken)
 
--- src/mailbox.rt:60:5
 loop-holds : tie.Need-loop-holds Inv-loop μ-loop
 loop-holds c = looking-start _ _ _ (c .if1 .left)
 
--- src/mailbox.rt:61:44
 mul-channel-of : tie.Need-mul-channel-of Inv-loop μ-loop
 mul-channel-of c = search needs
 
--- src/mailbox.rt:61:44
 element-copy-out-channel-of : tie.Need-element-copy-out-channel-of Inv-loop μ-loop
 element-copy-out-channel-of c = search needs
 
--- src/mailbox.rt:61:33
 channel-of-requires : tie.Need-channel-of-requires Inv-loop μ-loop
 channel-of-requires c κs = search needs
 
--- src/mailbox.rt:61:12
 named-requires : tie.Need-named-requires Inv-loop μ-loop
 named-requires c κs = search needs
 
--- src/mailbox.rt:62:13
 returns-2 : tie.Need-returns-2 Inv-loop μ-loop
 returns-2 c =
     let l = c .before .before .before .before .before .loop in
@@ -48,15 +41,12 @@ returns-2 c =
     look-found (names (a .code) (a .operand)) _ _ (l .i) (l .inv) (c .before .before .before .before .loop-test .taken)
     (rw (← c .before .before .channel-of .ensures, ← c .before .named .ensures) (c .if2 .taken))
 
--- src/mailbox.rt:64:9
 add-i : tie.Need-add-i Inv-loop μ-loop
 add-i c = search needs
 
--- src/mailbox.rt:60:5
 loop-less : tie.Need-loop-less Inv-loop μ-loop
 loop-less c = search needs
 
--- src/mailbox.rt:60:5
 loop-again : tie.Need-loop-again Inv-loop μ-loop
 loop-again c =
     let l = c .before .before .before .before .before .loop in
@@ -64,7 +54,6 @@ loop-again c =
     looking-on (names (a .code) (a .operand)) _ _ (l .i) (l .inv) (c .before .before .before .before .loop-test .taken)
     (rw (← c .before .before .channel-of .ensures, ← c .before .named .ensures) (c .if2 .left))
 
--- src/mailbox.rt:53:1
 returns-3 : tie.Need-returns-3 Inv-loop μ-loop
 returns-3 c = look-missed _ _ _ _ (c .before .loop .inv) (c .loop-test .left)
 

@@ -13,55 +13,42 @@ Inv-loop mail₀ unread at i₀ mail i = Shifting mail₀ unread at mail i
 abbrev μ-loop : tie.MeasureT-loop
 μ-loop mail₀ unread at i₀ mail i = unread - i
 
--- src/mailbox.rt:74:9
 returns : tie.Need-returns Inv-loop μ-loop
 returns c = removed-none _ _ _ (λ h k. let z = c .if1 .taken in omega arith)
 
--- src/mailbox.rt:77:9
 returns-2 : tie.Need-returns-2 Inv-loop μ-loop
 returns-2 c = removed-none _ _ _ (λ h k. let z = c .if2 .taken in omega arith)
 
--- src/mailbox.rt:79:17
 add-i : tie.Need-add-i Inv-loop μ-loop
 add-i c = search needs
 
--- src/mailbox.rt:80:5
 loop-holds : tie.Need-loop-holds Inv-loop μ-loop
 loop-holds c = shifting-start _ _ _ (c .before .if1 .left) (c .if2 .left)
 
--- src/mailbox.rt:81:23
 mul-mail : tie.Need-mul-mail Inv-loop μ-loop
 mul-mail c = search needs
 
--- src/mailbox.rt:81:23
 element-copy-out-mail : tie.Need-element-copy-out-mail Inv-loop μ-loop
 element-copy-out-mail c = search needs
 
--- src/mailbox.rt:81:14
 sub-mail : tie.Need-sub-mail Inv-loop μ-loop
 sub-mail c = search needs
 
--- src/mailbox.rt:81:9
 mul-mail-2 : tie.Need-mul-mail-2 Inv-loop μ-loop
 mul-mail-2 c = search needs
 
--- src/mailbox.rt:81:9
 element-write-mail : tie.Need-element-write-mail Inv-loop μ-loop
 element-write-mail c = search needs
 
--- src/mailbox.rt:82:9
 add-i-2 : tie.Need-add-i-2 Inv-loop μ-loop
 add-i-2 c = search needs
 
--- src/mailbox.rt:80:5
 loop-less : tie.Need-loop-less Inv-loop μ-loop
 loop-less c = search needs
 
--- src/mailbox.rt:80:5
 loop-again : tie.Need-loop-again Inv-loop μ-loop
 loop-again c = shifting-on _ _ _ _ _ (c .before .before .loop .inv) (c .before .loop-test .taken)
 
--- src/mailbox.rt:70:1
 returns-3 : tie.Need-returns-3 Inv-loop μ-loop
 returns-3 c = shifting-end _ _ _ _ _ (c .before .loop .inv) (c .loop-test .left)
 

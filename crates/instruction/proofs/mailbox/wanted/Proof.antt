@@ -6,15 +6,12 @@ use Rattle.instruction.proofs.mailbox.wanted.Tie as tie
 use Rattle.instruction.proofs.mailbox.wanted.Reads as reads
 use Rattle.instruction.proofs.mailbox.wanted.Lts as lts
 
--- src/mailbox.rt:42:24
 shr-result : tie.Need-shr-result
 shr-result c = search needs
 
--- src/mailbox.rt:39:1
 returns : tie.Need-returns
 returns c = in-mask (c .before .args .mask) (c .before .args .channel)
 
--- src/mailbox.rt:39:1
 returns-2 : tie.Need-returns-2
 returns-2 c = past-mask _ _ (c .before .fits .mask .fits) (c .if1 .left)
 

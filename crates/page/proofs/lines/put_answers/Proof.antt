@@ -17,31 +17,24 @@ Inv-loop out₀ at records answers to₀ i₀ out to i = Going (answerLines 1 (r
 abbrev μ-loop : tie.MeasureT-loop
 μ-loop out₀ at records answers to₀ i₀ out to i = records - i
 
--- src/lines.rt:32:5
 loop-holds : tie.Need-loop-holds Inv-loop μ-loop
 loop-holds c = let s = c .before .before in answers-start (s .args .records) (s .args .answers .now) (s .args .out .now) (s .args .at) (s .fits .at .fits)
 
--- src/lines.rt:33:9
 put-answer-requires : tie.Need-put-answer-requires Inv-loop μ-loop
 put-answer-requires c κs = search needs
 
--- src/lines.rt:34:9
 add-i : tie.Need-add-i Inv-loop μ-loop
 add-i c = search needs
 
--- src/lines.rt:32:5
 loop-less : tie.Need-loop-less Inv-loop μ-loop
 loop-less c = search needs
 
--- src/lines.rt:32:5
 loop-again : tie.Need-loop-again Inv-loop μ-loop
 loop-again c = let l = c .before .before .before .before .before .loop in let s = c .before .before .before .before .before .before .before .before .args in answers-on (s .records) (s .answers .now) _ (l .out) _ (s .at) (l .to) (l .i) _ (l .inv) (c .before .before .before .before .loop-test .taken) (c .before .before .put-answer .ensures)
 
--- src/lines.rt:26:1
 same-length : tie.Need-same-length Inv-loop μ-loop
 same-length c = c .before .loop .inv .same-length
 
--- src/lines.rt:26:1
 returns : tie.Need-returns Inv-loop μ-loop
 returns c = let l = c .before .loop in let s = c .before .before .before .before .args in answers-end (s .records) (s .answers .now) _ (l .out) (s .at) (l .to) (l .i) (l .inv) (c .loop-test .left)
 

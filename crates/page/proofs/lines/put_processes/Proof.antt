@@ -16,31 +16,24 @@ Inv-loop out₀ at processes report to₀ p₀ out to p = Going (processLines 0 
 abbrev μ-loop : tie.MeasureT-loop
 μ-loop out₀ at processes report to₀ p₀ out to p = processes - p
 
--- src/lines.rt:79:5
 loop-holds : tie.Need-loop-holds Inv-loop μ-loop
 loop-holds c = let s = c .before .before in processes-start (s .args .processes) (s .args .report .now) (s .args .out .now) (s .args .at) (s .fits .at .fits)
 
--- src/lines.rt:80:9
 put-process-requires : tie.Need-put-process-requires Inv-loop μ-loop
 put-process-requires c κs = search needs
 
--- src/lines.rt:81:9
 add-p : tie.Need-add-p Inv-loop μ-loop
 add-p c = search needs
 
--- src/lines.rt:79:5
 loop-less : tie.Need-loop-less Inv-loop μ-loop
 loop-less c = search needs
 
--- src/lines.rt:79:5
 loop-again : tie.Need-loop-again Inv-loop μ-loop
 loop-again c = let l = c .before .before .before .before .before .loop in let s = c .before .before .before .before .before .before .before .before .args in processes-on (s .processes) (s .report .now) _ (l .out) _ (s .at) (l .to) (l .p) _ (l .inv) (c .before .before .before .before .loop-test .taken) (c .before .before .put-process .ensures)
 
--- src/lines.rt:73:1
 same-length : tie.Need-same-length Inv-loop μ-loop
 same-length c = c .before .loop .inv .same-length
 
--- src/lines.rt:73:1
 returns : tie.Need-returns Inv-loop μ-loop
 returns c = let l = c .before .loop in let s = c .before .before .before .before .args in processes-end (s .processes) (s .report .now) _ (l .out) (s .at) (l .to) (l .p) (l .inv) (c .loop-test .left)
 

@@ -8,55 +8,42 @@ use Rattle.page.proofs.lines.put_registers.Lts as lts
 use Rattle.page.proofs.read.word.Reads as word-reads
 use Rattle.page.proofs.text.put_number.Reads as put-number-reads
 
--- src/lines.rt:44:33
 word-requires : tie.Need-word-requires
 word-requires c κs = search needs
 
--- src/lines.rt:44:9
 put-number-requires : tie.Need-put-number-requires
 put-number-requires c κs = search needs
 
--- src/lines.rt:45:45
 add-word : tie.Need-add-word
 add-word c = search needs
 
--- src/lines.rt:45:32
 word-requires-2 : tie.Need-word-requires-2
 word-requires-2 c κs = search needs
 
--- src/lines.rt:45:9
 put-number-requires-2 : tie.Need-put-number-requires-2
 put-number-requires-2 c κs = search needs
 
--- src/lines.rt:46:45
 add-word-2 : tie.Need-add-word-2
 add-word-2 c = search needs
 
--- src/lines.rt:46:32
 word-requires-3 : tie.Need-word-requires-3
 word-requires-3 c κs = search needs
 
--- src/lines.rt:46:9
 put-number-requires-3 : tie.Need-put-number-requires-3
 put-number-requires-3 c κs = search needs
 
--- src/lines.rt:47:37
 add-word-3 : tie.Need-add-word-3
 add-word-3 c = search needs
 
--- src/lines.rt:47:24
 word-requires-4 : tie.Need-word-requires-4
 word-requires-4 c κs = search needs
 
--- src/lines.rt:47:5
 put-number-requires-4 : tie.Need-put-number-requires-4
 put-number-requires-4 c κs = search needs
 
--- src/lines.rt:40:1
 same-length : tie.Need-same-length
 same-length c = search needs
 
--- src/lines.rt:40:1
 returns : tie.Need-returns
 returns c = let s = c .before .before .before .before .before .before .before .before .before .before .before .before .before .before .before .before .before .before .before .before .before .before .args in registers-put (s .report .now) (s .from) _ _ _ _ (s .out .now) _ _ _ _ (s .at) _ _ _ _ (c .before .before .before .before .before .before .before .before .before .before .before .before .before .before .before .before .before .before .word .ensures) (c .before .before .before .before .before .before .before .before .before .before .before .before .before .word2 .ensures) (c .before .before .before .before .before .before .before .before .word3 .ensures) (c .before .before .before .word4 .ensures) (c .before .before .before .before .before .before .before .before .before .before .before .before .before .before .before .before .before .put-number .ensures) (c .before .before .before .before .before .before .before .before .before .before .before .before .put-number2 .ensures) (c .before .before .before .before .before .before .before .put-number3 .ensures) (c .before .before .put-number4 .ensures)
 

@@ -9,63 +9,48 @@ use Rattle.page.proofs.lines.put_registers.Reads as put-registers-reads
 use Rattle.page.proofs.read.byte.Reads as byte-reads
 use Rattle.page.proofs.text.put_number.Reads as put-number-reads
 
--- src/lines.rt:55:33
 byte-requires : tie.Need-byte-requires
 byte-requires c κs = search needs
 
--- src/lines.rt:55:9
 put-number-requires : tie.Need-put-number-requires
 put-number-requires c κs = search needs
 
--- src/lines.rt:56:45
 add-byte : tie.Need-add-byte
 add-byte c = search needs
 
--- src/lines.rt:56:32
 byte-requires-2 : tie.Need-byte-requires-2
 byte-requires-2 c κs = search needs
 
--- src/lines.rt:56:9
 put-number-requires-2 : tie.Need-put-number-requires-2
 put-number-requires-2 c κs = search needs
 
--- src/lines.rt:57:45
 add-byte-2 : tie.Need-add-byte-2
 add-byte-2 c = search needs
 
--- src/lines.rt:57:32
 byte-requires-3 : tie.Need-byte-requires-3
 byte-requires-3 c κs = search needs
 
--- src/lines.rt:57:9
 put-number-requires-3 : tie.Need-put-number-requires-3
 put-number-requires-3 c κs = search needs
 
--- src/lines.rt:58:45
 add-byte-3 : tie.Need-add-byte-3
 add-byte-3 c = search needs
 
--- src/lines.rt:58:32
 byte-requires-4 : tie.Need-byte-requires-4
 byte-requires-4 c κs = search needs
 
--- src/lines.rt:58:9
 put-number-requires-4 : tie.Need-put-number-requires-4
 put-number-requires-4 c κs = search needs
 
--- src/lines.rt:59:35
 add-put-registers : tie.Need-add-put-registers
 add-put-registers c = search needs
 
--- src/lines.rt:59:5
 put-registers-requires : tie.Need-put-registers-requires
 put-registers-requires c κs = search needs
 
--- src/lines.rt:51:1
 same-length : tie.Need-same-length
 same-length c = search needs
 
--- src/lines.rt:51:1
 returns : tie.Need-returns
 returns c = let s = c .before .before .before .before .before .before .before .before .before .before .before .before .before .before .before .before .before .before .before .before .before .before .before .before .before .before .args in state-put (s .report .now) (s .from) _ _ _ _ (s .out .now) _ _ _ _ _ (s .at) _ _ _ _ _ (c .before .before .before .before .before .before .before .before .before .before .before .before .before .before .before .before .before .before .before .before .before .before .byte .ensures .0) (c .before .before .before .before .before .before .before .before .before .before .before .before .before .before .before .before .before .byte2 .ensures .0) (c .before .before .before .before .before .before .before .before .before .before .before .before .byte3 .ensures .0) (c .before .before .before .before .before .before .before .byte4 .ensures .0) (c .before .before .before .before .before .before .before .before .before .before .before .before .before .before .before .before .before .before .before .before .before .put-number .ensures) (c .before .before .before .before .before .before .before .before .before .before .before .before .before .before .before .before .put-number2 .ensures) (c .before .before .before .before .before .before .before .before .before .before .before .put-number3 .ensures) (c .before .before .before .before .before .before .put-number4 .ensures) (c .before .before .put-registers .ensures)
 

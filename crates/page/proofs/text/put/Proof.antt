@@ -6,31 +6,24 @@ use Rattle.page.proofs.text.put.Tie as tie
 use Rattle.page.proofs.text.put.Reads as reads
 use Rattle.page.proofs.text.put.Lts as lts
 
--- src/text.rt:19:9
 slice-write-out : tie.Need-slice-write-out
 slice-write-out c = search needs
 
--- src/text.rt:20:16
 add-result : tie.Need-add-result
 add-result c = search needs
 
--- src/text.rt:20:9
 same-length : tie.Need-same-length
 same-length c = search needs
 
--- src/text.rt:20:9
 returns : tie.Need-returns
 returns c = let s = c .before .args in put-one (s .byte) (s .out .now) (s .at) (omega arith)
 
--- src/text.rt:22:26
 add-result-2 : tie.Need-add-result-2
 add-result-2 c = search needs
 
--- src/text.rt:15:1
 returns-2 : tie.Need-returns-2
 returns-2 c = let s = c .before .before .args in put-past (s .byte) (s .out .now) (s .at) (c .if2 .taken) (c .before .if1 .left)
 
--- src/text.rt:15:1
 returns-3 : tie.Need-returns-3
 returns-3 c = let s = c .before .before .args in put-none (s .byte) (s .out .now) (s .at) (c .before .before .fits .at .fits) (c .if2 .left)
 

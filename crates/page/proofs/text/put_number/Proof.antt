@@ -9,27 +9,21 @@ use Rattle.page.proofs.text.put.Reads as put-reads
 use Rattle.page.proofs.text.put_text.Reads as put-text-reads
 use Rattle.page.proofs.text.spell.Reads as spell-reads
 
--- src/text.rt:65:9
 spell-requires : tie.Need-spell-requires
 spell-requires c κs = search needs
 
--- src/text.rt:66:32
 slice-aggregate-put-text : tie.Need-slice-aggregate-put-text
 slice-aggregate-put-text c = search needs
 
--- src/text.rt:66:9
 put-text-requires : tie.Need-put-text-requires
 put-text-requires c κs = search needs
 
--- src/text.rt:67:5
 put-requires : tie.Need-put-requires
 put-requires c κs = search needs
 
--- src/text.rt:61:1
 same-length : tie.Need-same-length
 same-length c = search needs
 
--- src/text.rt:61:1
 returns : tie.Need-returns
 returns c = let s = c .before .before .before .before .before .before .before .before .before .before .before .before .args in number-put (c .before .before .before .before .before .before .before .before .before .spell .last .1 .0) (s .out .now) _ _ (c .before .before .before .before .before .before .before .before .before .spell .result) (s .at) _ _ (s .n) (s .after) (c .before .before .before .before .before .before .before .before .before .spell .ensures .0) (c .before .before .before .before .before .before .put-text .ensures) (c .before .before .put .ensures)
 

@@ -15,35 +15,27 @@ Inv-loop out₀ at text from to₀ i₀ out to i = Going (drop from text) out₀
 abbrev μ-loop : tie.MeasureT-loop
 μ-loop out₀ at text from to₀ i₀ out to i = lib.ListN.length text - i
 
--- src/text.rt:31:5
 loop-holds : tie.Need-loop-holds Inv-loop μ-loop
 loop-holds c = going-start _ _ _ (let f = c .before .before .fits .at .fits in omega arith)
 
--- src/text.rt:32:27
 shared-slice-read-put : tie.Need-shared-slice-read-put Inv-loop μ-loop
 shared-slice-read-put c = search needs
 
--- src/text.rt:32:9
 put-requires : tie.Need-put-requires Inv-loop μ-loop
 put-requires c κs = search needs
 
--- src/text.rt:33:9
 add-i : tie.Need-add-i Inv-loop μ-loop
 add-i c = search needs
 
--- src/text.rt:31:5
 loop-less : tie.Need-loop-less Inv-loop μ-loop
 loop-less c = search needs
 
--- src/text.rt:31:5
 loop-again : tie.Need-loop-again Inv-loop μ-loop
 loop-again c = let l = c .before .before .before .before .before .before .loop in let s = c .before .before .before .before .before .before .before .before .before .args in text-on (s .text .now) _ (l .out) _ (s .from) (s .at) (l .to) (l .i) _ (l .inv) (c .before .before .before .before .before .loop-test .taken) (c .before .before .put .ensures)
 
--- src/text.rt:26:1
 same-length : tie.Need-same-length Inv-loop μ-loop
 same-length c = c .before .loop .inv .same-length
 
--- src/text.rt:26:1
 returns : tie.Need-returns Inv-loop μ-loop
 returns c = let l = c .before .loop in let s = c .before .before .before .before .args in text-end (s .text .now) _ (l .out) (s .from) (s .at) (l .to) (l .i) (l .inv) (c .loop-test .left)
 

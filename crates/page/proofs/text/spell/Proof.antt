@@ -13,39 +13,30 @@ Inv-loop n text₀ i₀ rest₀ text i rest = Spelling n text i rest
 abbrev μ-loop : tie.MeasureT-loop
 μ-loop n text₀ i₀ rest₀ text i rest = i
 
--- src/text.rt:50:5
 loop-holds : tie.Need-loop-holds Inv-loop μ-loop
 loop-holds c = spelling-start _ _ (c .pre) (c .fits .n .fits)
 
--- src/text.rt:51:19
 digit-requires : tie.Need-digit-requires Inv-loop μ-loop
 digit-requires c κs = search needs
 
--- src/text.rt:51:9
 element-write-text : tie.Need-element-write-text Inv-loop μ-loop
 element-write-text c = c .before .before .loop .inv .within
 
--- src/text.rt:53:9
 sub-i : tie.Need-sub-i Inv-loop μ-loop
 sub-i c = spelling-first _ _ _ _ (c .before .before .loop .inv) (c .before .loop-test .taken)
 
--- src/text.rt:50:5
 loop-less : tie.Need-loop-less Inv-loop μ-loop
 loop-less c = let h = spelling-first _ _ _ _ (c .before .before .loop .inv) (c .before .loop-test .taken) in omega arith
 
--- src/text.rt:50:5
 loop-again : tie.Need-loop-again Inv-loop μ-loop
 loop-again c = let l = c .before .before .loop in spelling-on _ (l .text) (l .i) (l .rest) _ (l .inv) (c .before .loop-test .taken) (c .digit .ensures)
 
--- src/text.rt:55:15
 digit-requires-2 : tie.Need-digit-requires-2 Inv-loop μ-loop
 digit-requires-2 c κs = search needs
 
--- src/text.rt:55:5
 element-write-text-2 : tie.Need-element-write-text-2 Inv-loop μ-loop
 element-write-text-2 c = c .before .before .loop .inv .within
 
--- src/text.rt:45:1
 returns : tie.Need-returns Inv-loop μ-loop
 returns c = let l = c .before .before .loop in spelling-end _ (l .text) (l .i) (l .rest) _ (l .inv) (c .before .loop-test .left) (c .digit2 .ensures)
 

@@ -6,27 +6,21 @@ use Rattle.process.proofs.checkpoint.issue.Tie as tie
 use Rattle.process.proofs.checkpoint.issue.Reads as reads
 use Rattle.process.proofs.checkpoint.issue.Lts as lts
 
--- src/checkpoint.rt:49:5
 element-write-row : tie.Need-element-write-row
 element-write-row c = search needs
 
--- src/checkpoint.rt:50:5
 element-write-row-2 : tie.Need-element-write-row-2
 element-write-row-2 c = search needs
 
--- src/checkpoint.rt:51:5
 element-write-row-3 : tie.Need-element-write-row-3
 element-write-row-3 c = search needs
 
--- src/checkpoint.rt:52:5
 element-write-row-4 : tie.Need-element-write-row-4
 element-write-row-4 c = search needs
 
--- src/checkpoint.rt:53:5
 element-write-row-5 : tie.Need-element-write-row-5
 element-write-row-5 c = search needs
 
--- src/checkpoint.rt:46:1
 returns : tie.Need-returns
 returns c = issued-became (c .args .row .now)
 

@@ -9,15 +9,12 @@ use Rattle.process.proofs.checkpoint.keep.Reads as reads
 use Rattle.process.proofs.checkpoint.keep.Lts as lts
 use Rattle.backup.proofs.place.sync_in.Reads as sync-in-reads
 
--- src/checkpoint.rt:60:8
 element-copy-out-if1 : tie.Need-element-copy-out-if1
 element-copy-out-if1 c = search needs
 
--- src/checkpoint.rt:61:9
 sync-in-requires : tie.Need-sync-in-requires
 sync-in-requires c κs = search needs
 
--- src/checkpoint.rt:57:1
 returns : tie.Need-returns
 returns c =
     let a = c .before .before .before .before .before .args in
@@ -25,7 +22,6 @@ returns c =
     keeps-became (a .row .now) (a .log .now) (a .head .now) (k .last .0) (k .last .1 .0) (checkpointOf (a .c))
     (backed-call (a .row .now) (a .log .now) (a .head .now) (λ v. sync v (checkpointOf (a .c))) (k .last .0) (k .last .1 .0) (k .result) (c .before .before .before .if1 .taken) (k .ensures))
 
--- src/checkpoint.rt:57:1
 returns-2 : tie.Need-returns-2
 returns-2 c =
     let a = c .before .before .args in

@@ -7,43 +7,33 @@ use Rattle.process.proofs.checkpoint.snapshot.Tie as tie
 use Rattle.process.proofs.checkpoint.snapshot.Reads as reads
 use Rattle.process.proofs.checkpoint.snapshot.Lts as lts
 
--- src/checkpoint.rt:33:13
 element-copy-out-t4 : tie.Need-element-copy-out-t4
 element-copy-out-t4 c = search needs
 
--- src/checkpoint.rt:34:13
 element-copy-out-t7 : tie.Need-element-copy-out-t7
 element-copy-out-t7 c = search needs
 
--- src/checkpoint.rt:35:13
 element-copy-out-t10 : tie.Need-element-copy-out-t10
 element-copy-out-t10 c = search needs
 
--- src/checkpoint.rt:36:13
 element-copy-out-t13 : tie.Need-element-copy-out-t13
 element-copy-out-t13 c = search needs
 
--- src/checkpoint.rt:37:13
 element-copy-out-t16 : tie.Need-element-copy-out-t16
 element-copy-out-t16 c = search needs
 
--- src/checkpoint.rt:38:13
 element-copy-out-t19 : tie.Need-element-copy-out-t19
 element-copy-out-t19 c = search needs
 
--- src/checkpoint.rt:39:13
 element-copy-out-t22 : tie.Need-element-copy-out-t22
 element-copy-out-t22 c = search needs
 
--- src/checkpoint.rt:40:13
 element-copy-out-t25 : tie.Need-element-copy-out-t25
 element-copy-out-t25 c = search needs
 
--- src/checkpoint.rt:41:13
 element-copy-out-t28 : tie.Need-element-copy-out-t28
 element-copy-out-t28 c = search needs
 
--- src/checkpoint.rt:29:1
 returns : tie.Need-returns
 unfolding processOf machineOf
 returns c = λ mail log head. refl

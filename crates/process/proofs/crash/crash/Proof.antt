@@ -8,43 +8,34 @@ use Rattle.process.proofs.crash.crash.Lts as lts
 use Rattle.process.proofs.promotion.promote.Reads as promote-reads
 use Rattle.process.proofs.crash.unprotect.Reads as unprotect-reads
 
--- src/promotion.rt:94:8
 element-copy-out-if1 : tie.Need-element-copy-out-if1
 element-copy-out-if1 c = search needs
 
--- src/promotion.rt:95:9
 returns : tie.Need-returns
 returns c = let a = c .before .before .args in crashed-none (a .row .now) (a .mail .now) (a .log .now) (a .head .now) (a .channels) (a .b) (c .if1 .taken)
 
--- src/promotion.rt:97:8
 element-copy-out-if2 : tie.Need-element-copy-out-if2
 element-copy-out-if2 c = search needs
 
--- src/promotion.rt:98:9
 promote-requires : tie.Need-promote-requires
 promote-requires c κs = search needs
 
--- src/promotion.rt:99:9
 returns-2 : tie.Need-returns-2
 returns-2 c =
     let a = c .before .before .before .before .before .before .before .args in
     crashed-promoted (a .row .now) (a .mail .now) (a .log .now) (a .head .now) (a .channels) (a .b) (c .before .before .before .before .before .if1 .left) (c .promote .last .0) (c .promote .last .1 .0) (c .before .before .before .if2 .taken) (c .promote .ensures)
 
--- src/promotion.rt:101:8
 element-copy-out-if3 : tie.Need-element-copy-out-if3
 element-copy-out-if3 c = search needs
 
--- src/promotion.rt:102:9
 unprotect-requires : tie.Need-unprotect-requires
 unprotect-requires c κs = search needs
 
--- src/promotion.rt:91:1
 returns-3 : tie.Need-returns-3
 returns-3 c =
     let a = c .before .before .before .before .before .before .before .before .args in
     crashed-unprotected (a .row .now) (a .mail .now) (a .log .now) (a .head .now) (a .channels) (a .b) (c .before .before .before .before .before .before .if1 .left) (c .before .before .before .before .if2 .left) (c .unprotect .last .0) (c .before .before .if3 .taken) (c .unprotect .ensures)
 
--- src/promotion.rt:91:1
 returns-4 : tie.Need-returns-4
 returns-4 c =
     let a = c .before .before .before .before .before .before .args in

@@ -6,11 +6,9 @@ use Rattle.process.proofs.crash.unprotect.Tie as tie
 use Rattle.process.proofs.crash.unprotect.Reads as reads
 use Rattle.process.proofs.crash.unprotect.Lts as lts
 
--- src/promotion.rt:87:5
 element-write-row : tie.Need-element-write-row
 element-write-row c = search needs
 
--- src/promotion.rt:84:1
 returns : tie.Need-returns
 returns c = unprotected-became (c .args .row .now)
 

@@ -8,22 +8,18 @@ use Rattle.process.proofs.delivery.counts.Reads as reads
 use Rattle.process.proofs.delivery.counts.Lts as lts
 use Rattle.backup.proofs.place.count_in.Reads as count-in-reads
 
--- src/delivery.rt:55:8
 element-copy-out-if1 : tie.Need-element-copy-out-if1
 element-copy-out-if1 c = search needs
 
--- src/delivery.rt:56:9
 returns : tie.Need-returns
 returns c =
     λ log.
     let a = c .before .before .args in
     counts-became (a .row .now) log (a .head .now) log (a .head .now) (backed-none (a .row .now) log (a .head .now) count (c .if1 .taken))
 
--- src/delivery.rt:58:5
 count-in-requires : tie.Need-count-in-requires
 count-in-requires c κs = search needs
 
--- src/delivery.rt:52:1
 returns-2 : tie.Need-returns-2
 returns-2 c =
     λ log.

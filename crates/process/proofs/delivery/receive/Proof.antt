@@ -9,37 +9,29 @@ use Rattle.process.proofs.delivery.save.Reads as save-reads
 use Rattle.process.proofs.mailbox.append.Reads as append-reads
 use Rattle.process.proofs.row.wide.Reads as wide-reads
 
--- src/delivery.rt:33:18
 element-copy-out-unread : tie.Need-element-copy-out-unread
 element-copy-out-unread c = search needs
 
--- src/delivery.rt:34:9
 wide-requires : tie.Need-wide-requires
 wide-requires c κs = search needs
 
--- src/delivery.rt:36:9
 returns : tie.Need-returns
 returns c =
     let a = c .before .before .before .args in
     received-none (a .row .now) (a .mail .now) (a .log .now) (a .head .now) (a .port) (a .channel) (a .word) (let w = c .before .wide .ensures in let t = c .if1 .taken in omega arith)
 
--- src/delivery.rt:38:5
 save-requires : tie.Need-save-requires
 save-requires c κs = search needs
 
--- src/delivery.rt:39:5
 append-requires : tie.Need-append-requires
 append-requires c κs = search needs
 
--- src/delivery.rt:40:19
 add-row : tie.Need-add-row
 add-row c = search needs
 
--- src/delivery.rt:40:5
 element-write-row : tie.Need-element-write-row
 element-write-row c = search needs
 
--- src/delivery.rt:30:1
 returns-2 : tie.Need-returns-2
 returns-2 c =
     let a = c .before .before .before .before .before .before .before .before .before .args in

@@ -8,22 +8,18 @@ use Rattle.process.proofs.delivery.save.Reads as reads
 use Rattle.process.proofs.delivery.save.Lts as lts
 use Rattle.backup.proofs.place.arrive_in.Reads as arrive-in-reads
 
--- src/delivery.rt:23:8
 element-copy-out-if1 : tie.Need-element-copy-out-if1
 element-copy-out-if1 c = search needs
 
--- src/delivery.rt:24:9
 arrive-in-requires : tie.Need-arrive-in-requires
 arrive-in-requires c κs = search needs
 
--- src/delivery.rt:20:1
 returns : tie.Need-returns
 returns c =
     let a = c .before .before .before .before .before .args in
     let k = c .arrive-in in
     backed-call (a .row .now) (a .log .now) (a .head .now) (λ v. arrive v (a .port) (a .word)) (k .last .0) (k .last .1 .0) (k .result) (c .before .before .before .if1 .taken) (k .ensures)
 
--- src/delivery.rt:20:1
 returns-2 : tie.Need-returns-2
 returns-2 c =
     let a = c .before .before .args in

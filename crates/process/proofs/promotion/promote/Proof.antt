@@ -15,30 +15,24 @@ use Rattle.process.proofs.promotion.readdress.Reads as readdress-reads
 use Rattle.process.proofs.promotion.restore.Reads as restore-reads
 use Rattle.process.proofs.row.wide.Reads as wide-reads
 
--- src/promotion.rt:74:9
 fail-over-in-requires : tie.Need-fail-over-in-requires
 fail-over-in-requires c κs = search needs
 
--- src/promotion.rt:75:9
 wide-requires : tie.Need-wide-requires
 wide-requires c κs = search needs
 
--- src/promotion.rt:77:9
 returns : tie.Need-returns
 returns c =
     let a = c .before .before .before .args in
     let n = ap (λ (p : Promotion). p .len) (c .before .before .fail-over-in .ensures) in
     promoted-none (a .row .now) (a .mail .now) (a .log .now) (a .head .now) (a .channels) (let w = c .before .wide .ensures in let t = c .if1 .taken in omega arith)
 
--- src/promotion.rt:79:5
 readdress-requires : tie.Need-readdress-requires
 readdress-requires c κs = search needs
 
--- src/promotion.rt:80:5
 restore-requires : tie.Need-restore-requires
 restore-requires c κs = search needs
 
--- src/promotion.rt:71:1
 returns-2 : tie.Need-returns-2
 returns-2 c =
     let a = c .before .before .before .before .before .before .before .args in

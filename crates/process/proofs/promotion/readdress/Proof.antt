@@ -18,43 +18,33 @@ Inv-loop mail₀ log len channels i₀ mail i = Filling mail₀ log len channels
 abbrev μ-loop : tie.MeasureT-loop
 μ-loop mail₀ log len channels i₀ mail i = len - i
 
--- src/promotion.rt:41:5
 loop-holds : tie.Need-loop-holds Inv-loop μ-loop
 loop-holds c = filling-start _ _ _ _
 
--- src/promotion.rt:42:25
 port-in-requires : tie.Need-port-in-requires Inv-loop μ-loop
 port-in-requires c κs = search needs
 
--- src/promotion.rt:42:13
 wide-requires : tie.Need-wide-requires Inv-loop μ-loop
 wide-requires c κs = search needs
 
--- src/promotion.rt:43:13
 word-in-requires : tie.Need-word-in-requires Inv-loop μ-loop
 word-in-requires c κs = search needs
 
--- src/promotion.rt:44:25
 mul-append : tie.Need-mul-append Inv-loop μ-loop
 mul-append c = search needs
 
--- src/promotion.rt:44:25
 array-read-append : tie.Need-array-read-append Inv-loop μ-loop
 array-read-append c = search needs
 
--- src/promotion.rt:44:9
 append-requires : tie.Need-append-requires Inv-loop μ-loop
 append-requires c κs = search needs
 
--- src/promotion.rt:45:9
 add-i : tie.Need-add-i Inv-loop μ-loop
 add-i c = search needs
 
--- src/promotion.rt:41:5
 loop-less : tie.Need-loop-less Inv-loop μ-loop
 loop-less c = search needs
 
--- src/promotion.rt:41:5
 loop-again : tie.Need-loop-again Inv-loop μ-loop
 loop-again c =
     let a = c .before .before .before .before .before .before .before .args in
@@ -65,7 +55,6 @@ loop-again c =
     (c .before .before .before .wide .ensures ∙ ap (λ (n : ℕ). n % 4) (c .before .before .before .before .port-in .ensures (omega arith)))
     (c .before .before .word-in .ensures (omega arith)) (c .append .ensures)
 
--- src/promotion.rt:36:1
 returns : tie.Need-returns Inv-loop μ-loop
 returns c =
     let a = c .before .before .args in

@@ -8,67 +8,51 @@ use Rattle.process.proofs.promotion.restore.Tie as tie
 use Rattle.process.proofs.promotion.restore.Reads as reads
 use Rattle.process.proofs.promotion.restore.Lts as lts
 
--- src/promotion.rt:53:18
 element-copy-out-row : tie.Need-element-copy-out-row
 element-copy-out-row c = search needs
 
--- src/promotion.rt:53:5
 element-write-row : tie.Need-element-write-row
 element-write-row c = search needs
 
--- src/promotion.rt:54:5
 element-write-row-2 : tie.Need-element-write-row-2
 element-write-row-2 c = search needs
 
--- src/promotion.rt:55:5
 element-write-row-3 : tie.Need-element-write-row-3
 element-write-row-3 c = search needs
 
--- src/promotion.rt:56:5
 element-write-row-4 : tie.Need-element-write-row-4
 element-write-row-4 c = search needs
 
--- src/promotion.rt:57:5
 element-write-row-5 : tie.Need-element-write-row-5
 element-write-row-5 c = search needs
 
--- src/promotion.rt:58:5
 element-write-row-6 : tie.Need-element-write-row-6
 element-write-row-6 c = search needs
 
--- src/promotion.rt:59:5
 element-write-row-7 : tie.Need-element-write-row-7
 element-write-row-7 c = search needs
 
--- src/promotion.rt:60:5
 element-write-row-8 : tie.Need-element-write-row-8
 element-write-row-8 c = search needs
 
--- src/promotion.rt:61:5
 element-write-row-9 : tie.Need-element-write-row-9
 element-write-row-9 c = search needs
 
--- src/promotion.rt:62:5
 element-write-row-10 : tie.Need-element-write-row-10
 element-write-row-10 c = search needs
 
--- src/promotion.rt:63:5
 element-write-row-11 : tie.Need-element-write-row-11
 element-write-row-11 c = search needs
 
--- src/promotion.rt:64:5
 element-write-row-12 : tie.Need-element-write-row-12
 element-write-row-12 c = search needs
 
--- src/promotion.rt:65:5
 element-write-row-13 : tie.Need-element-write-row-13
 element-write-row-13 c = search needs
 
--- src/promotion.rt:66:5
 element-write-row-14 : tie.Need-element-write-row-14
 element-write-row-14 c = search needs
 
--- src/promotion.rt:50:1
 returns : tie.Need-returns
 unfolding restoredIn
 returns c =

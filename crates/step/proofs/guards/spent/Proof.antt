@@ -6,19 +6,15 @@ use Rattle.step.proofs.guards.spent.Tie as tie
 use Rattle.step.proofs.guards.spent.Reads as reads
 use Rattle.step.proofs.guards.spent.Lts as lts
 
--- src/guards.rt:29:5
 element-copy-out-if1 : tie.Need-element-copy-out-if1
 element-copy-out-if1 c = search needs
 
--- src/guards.rt:29:28
 element-copy-out-result : tie.Need-element-copy-out-result
 element-copy-out-result c = search needs
 
--- src/guards.rt:26:1
 returns : tie.Need-returns
 returns c = rw (ne-eqb _ 0 (c .before .if1 .taken))
 
--- src/guards.rt:26:1
 returns-2 : tie.Need-returns-2
 returns-2 c = rw (eq-eqb _ 0 (c .if1 .left))
 

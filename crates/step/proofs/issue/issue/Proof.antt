@@ -1,4 +1,4 @@
-use Rattle.store.specs.declared.entry.Item.the-variants.{Sync}
+use Rattle.state.specs.declared.entry.Item.the-variants.{Sync}
 use Rattle.step.proofs.Issuing.{at-its-index, issues-40, issues-41, issues-38, issues-done}
 use native.Mathlib.Omega.{arith}
 use borrow.Author.Needs.{needs}
@@ -8,32 +8,26 @@ use Rattle.step.proofs.issue.issue.Reads as reads
 use Rattle.step.proofs.issue.issue.Lts as lts
 use Rattle.process.proofs.checkpoint.issue.Reads as issue-reads
 use Rattle.process.proofs.checkpoint.snapshot.Reads as snapshot-reads
-use Rattle.store.proofs.board.index16.Reads as index16-reads
-use Rattle.store.proofs.board.place.Reads as place-reads
-use Rattle.store.proofs.board.push.Reads as push-reads
-use Rattle.store.proofs.moved.refused.Reads as refused-reads
+use Rattle.state.proofs.board.index16.Reads as index16-reads
+use Rattle.state.proofs.board.place.Reads as place-reads
+use Rattle.state.proofs.board.push.Reads as push-reads
+use Rattle.state.proofs.moved.refused.Reads as refused-reads
 
--- src/issue.rt:28:9
 index16-requires : tie.Need-index16-requires
 index16-requires c κs = search needs
 
--- src/issue.rt:29:8
 mul-if1 : tie.Need-mul-if1
 mul-if1 c = search needs
 
--- src/issue.rt:29:8
 index-1-if1 : tie.Need-index-1-if1
 index-1-if1 c = search needs
 
--- src/issue.rt:29:8
 index-2-if1 : tie.Need-index-2-if1
 index-2-if1 c = search needs
 
--- src/issue.rt:30:9
 refused-requires : tie.Need-refused-requires
 refused-requires c κs = search needs
 
--- src/issue.rt:30:9
 returns : tie.Need-returns
 returns c =
     let s = c .before .before .before .before in
@@ -41,19 +35,15 @@ returns c =
     at-its-index (p .result) (s .args .a) (p .ensures .1)
     (λ e. issues-40 (s .args .rows .now) (s .args .boards .now) (s .args .waits .now) (p .result) _ (c .before .if1 .taken) (rw (← e) (c .refused .ensures)))
 
--- src/issue.rt:32:8
 mul-if2 : tie.Need-mul-if2
 mul-if2 c = search needs
 
--- src/issue.rt:32:8
 element-copy-out-if2 : tie.Need-element-copy-out-if2
 element-copy-out-if2 c = search needs
 
--- src/issue.rt:33:9
 refused-requires-2 : tie.Need-refused-requires-2
 refused-requires-2 c κs = search needs
 
--- src/issue.rt:33:9
 returns-2 : tie.Need-returns-2
 returns-2 c =
     let s = c .before .before .before .before .before .before in
@@ -61,39 +51,30 @@ returns-2 c =
     at-its-index (p .result) (s .args .a) (p .ensures .1)
     (λ e. issues-41 (s .args .rows .now) (s .args .boards .now) (s .args .waits .now) (p .result) _ (c .before .before .before .if1 .left) (c .before .if2 .taken) (rw (← e) (c .refused2 .ensures)))
 
--- src/issue.rt:35:21
 mul-index16 : tie.Need-mul-index16
 mul-index16 c = search needs
 
--- src/issue.rt:35:21
 index-1-index16 : tie.Need-index-1-index16
 index-1-index16 c = search needs
 
--- src/issue.rt:35:21
 index-2-index16 : tie.Need-index-2-index16
 index-2-index16 c = search needs
 
--- src/issue.rt:35:9
 index16-requires-2 : tie.Need-index16-requires-2
 index16-requires-2 c κs = search needs
 
--- src/issue.rt:36:8
 mul-if3 : tie.Need-mul-if3
 mul-if3 c = search needs
 
--- src/issue.rt:36:8
 index-1-if3 : tie.Need-index-1-if3
 index-1-if3 c = search needs
 
--- src/issue.rt:36:8
 index-2-if3 : tie.Need-index-2-if3
 index-2-if3 c = search needs
 
--- src/issue.rt:37:9
 refused-requires-3 : tie.Need-refused-requires-3
 refused-requires-3 c κs = search needs
 
--- src/issue.rt:37:9
 returns-3 : tie.Need-returns-3
 returns-3 c =
     let b = c .before .before .before .index162 in
@@ -102,63 +83,48 @@ returns-3 c =
     at-its-index (p .result) (s .args .a) (p .ensures .1)
     (λ e. issues-38 (s .args .rows .now) (s .args .boards .now) (s .args .waits .now) (p .result) _ (b .result) (b .ensures .1) (c .before .before .before .before .before .before .before .if1 .left) (c .before .before .before .before .before .if2 .left) (c .before .if3 .taken) (rw (← e) (c .refused3 .ensures)))
 
--- src/issue.rt:39:20
 mul-place : tie.Need-mul-place
 mul-place c = search needs
 
--- src/issue.rt:39:20
 index-1-place : tie.Need-index-1-place
 index-1-place c = search needs
 
--- src/issue.rt:39:9
 place-requires : tie.Need-place-requires
 place-requires c κs = search needs
 
--- src/issue.rt:40:34
 mul-snapshot : tie.Need-mul-snapshot
 mul-snapshot c = search needs
 
--- src/issue.rt:40:34
 index-1-snapshot : tie.Need-index-1-snapshot
 index-1-snapshot c = search needs
 
--- src/issue.rt:40:9
 snapshot-requires : tie.Need-snapshot-requires
 snapshot-requires c κs = search needs
 
--- src/issue.rt:41:23
 mul-issue : tie.Need-mul-issue
 mul-issue c = search needs
 
--- src/issue.rt:41:23
 index-1-issue : tie.Need-index-1-issue
 index-1-issue c = search needs
 
--- src/issue.rt:41:5
 issue-requires : tie.Need-issue-requires
 issue-requires c κs = search needs
 
--- src/issue.rt:42:10
 mul-push : tie.Need-mul-push
 mul-push c = search needs
 
--- src/issue.rt:42:10
 index-1-push : tie.Need-index-1-push
 index-1-push c = search needs
 
--- src/issue.rt:42:5
 push-requires : tie.Need-push-requires
 push-requires c κs = search needs
 
--- src/issue.rt:43:5
 mul-waits : tie.Need-mul-waits
 mul-waits c = search needs
 
--- src/issue.rt:43:5
 element-write-waits : tie.Need-element-write-waits
 element-write-waits c = search needs
 
--- src/issue.rt:20:1
 returns-4 : tie.Need-returns-4
 returns-4 c =
     let b = c .before .before .before .before .before .before .before .before .before .before .index162 in

@@ -1,5 +1,5 @@
 use mathlib.Core.Path.{sym, _∙_}
-use Rattle.store.specs.declared.entry.Item.the-variants.{Word}
+use Rattle.state.specs.declared.entry.Item.the-variants.{Word}
 use Rattle.step.proofs.Sending.{send-at-its-index, send-suppressed, send-37, send-38, send-39, send-queued}
 use native.Mathlib.Omega.{arith}
 use borrow.Author.Needs.{needs}
@@ -10,48 +10,39 @@ use Rattle.step.proofs.send.send.Lts as lts
 use Rattle.instruction.proofs.instruction.queue_send.Reads as queue-send-reads
 use Rattle.instruction.proofs.instruction.suppress_send.Reads as suppress-send-reads
 use Rattle.std.proofs.num.wrapping_add_u32.Reads as wrapping-add-u32-reads
-use Rattle.store.proofs.channel.held.Reads as held-reads
-use Rattle.store.proofs.channel.index32.Reads as index32-reads
+use Rattle.state.proofs.channel.held.Reads as held-reads
+use Rattle.state.proofs.channel.index32.Reads as index32-reads
 use Rattle.step.proofs.guards.spent.Reads as spent-reads
-use Rattle.store.proofs.board.index16.Reads as index16-reads
-use Rattle.store.proofs.board.place.Reads as place-reads
-use Rattle.store.proofs.board.push.Reads as push-reads
-use Rattle.store.proofs.moved.alone.Reads as alone-reads
-use Rattle.store.proofs.moved.refused.Reads as refused-reads
+use Rattle.state.proofs.board.index16.Reads as index16-reads
+use Rattle.state.proofs.board.place.Reads as place-reads
+use Rattle.state.proofs.board.push.Reads as push-reads
+use Rattle.state.proofs.moved.alone.Reads as alone-reads
+use Rattle.state.proofs.moved.refused.Reads as refused-reads
 
--- src/send.rt:39:9
 index16-requires : tie.Need-index16-requires
 index16-requires c κs = search needs
 
--- src/send.rt:40:8
 mul-if1 : tie.Need-mul-if1
 mul-if1 c = search needs
 
--- src/send.rt:40:8
 index-1-if1 : tie.Need-index-1-if1
 index-1-if1 c = search needs
 
--- src/send.rt:40:8
 index-2-if1 : tie.Need-index-2-if1
 index-2-if1 c = search needs
 
--- src/send.rt:41:23
 mul-suppress-send : tie.Need-mul-suppress-send
 mul-suppress-send c = search needs
 
--- src/send.rt:41:23
 index-1-suppress-send : tie.Need-index-1-suppress-send
 index-1-suppress-send c = search needs
 
--- src/send.rt:41:9
 suppress-send-requires : tie.Need-suppress-send-requires
 suppress-send-requires c κs = search needs
 
--- src/send.rt:42:9
 alone-requires : tie.Need-alone-requires
 alone-requires c κs = search needs
 
--- src/send.rt:42:9
 returns : tie.Need-returns
 returns c =
     let s = c .before .before .before .before .before .before in
@@ -59,23 +50,18 @@ returns c =
     send-at-its-index (p .result) (s .args .a) (p .ensures .1)
     (λ e. send-suppressed (s .args .reader .now) (s .args .rows .now) (s .args .boards .now) (s .args .unread .now) (s .args .queued .now) (p .result) (s .args .channel) (s .args .word) _ (c .before .suppress-send .last .0) (c .before .before .before .if1 .taken) (c .before .suppress-send .ensures) (c .alone .ensures))
 
--- src/send.rt:48:14
 mul-spent : tie.Need-mul-spent
 mul-spent c = search needs
 
--- src/send.rt:48:14
 index-1-spent : tie.Need-index-1-spent
 index-1-spent c = search needs
 
--- src/send.rt:48:8
 spent-requires : tie.Need-spent-requires
 spent-requires c κs = search needs
 
--- src/send.rt:49:9
 refused-requires : tie.Need-refused-requires
 refused-requires c κs = search needs
 
--- src/send.rt:49:9
 returns-2 : tie.Need-returns-2
 returns-2 c =
     let s = c .before .before .before .before .before .before .before in
@@ -84,39 +70,30 @@ returns-2 c =
     send-at-its-index (p .result) (s .args .a) (p .ensures .1)
     (λ e. send-37 (s .args .reader .now) (s .args .rows .now) (s .args .boards .now) (s .args .unread .now) (s .args .queued .now) (p .result) (s .args .channel) (s .args .word) _ (omega arith) (sym (c .before .before .spent .ensures) ∙ c .before .if2 .taken) (rw (← e) (c .refused .ensures)))
 
--- src/send.rt:51:21
 mul-index16 : tie.Need-mul-index16
 mul-index16 c = search needs
 
--- src/send.rt:51:21
 index-1-index16 : tie.Need-index-1-index16
 index-1-index16 c = search needs
 
--- src/send.rt:51:21
 index-2-index16 : tie.Need-index-2-index16
 index-2-index16 c = search needs
 
--- src/send.rt:51:9
 index16-requires-2 : tie.Need-index16-requires-2
 index16-requires-2 c κs = search needs
 
--- src/send.rt:52:8
 mul-if3 : tie.Need-mul-if3
 mul-if3 c = search needs
 
--- src/send.rt:52:8
 index-1-if3 : tie.Need-index-1-if3
 index-1-if3 c = search needs
 
--- src/send.rt:52:8
 index-2-if3 : tie.Need-index-2-if3
 index-2-if3 c = search needs
 
--- src/send.rt:53:9
 refused-requires-2 : tie.Need-refused-requires-2
 refused-requires-2 c κs = search needs
 
--- src/send.rt:53:9
 returns-3 : tie.Need-returns-3
 returns-3 c =
     let s = c .before .before .before .before .before .before .before .before .before .before .before in
@@ -126,43 +103,33 @@ returns-3 c =
     send-at-its-index (p .result) (s .args .a) (p .ensures .1)
     (λ e. send-38 (s .args .reader .now) (s .args .rows .now) (s .args .boards .now) (s .args .unread .now) (s .args .queued .now) (p .result) (s .args .channel) (s .args .word) _ (omega arith) (sym (c .before .before .before .before .before .before .spent .ensures) ∙ c .before .before .before .before .before .if2 .left) (b .result) (b .ensures .1) (c .before .if3 .taken) (rw (← e) (c .refused2 .ensures)))
 
--- src/send.rt:55:9
 index32-requires : tie.Need-index32-requires
 index32-requires c κs = search needs
 
--- src/send.rt:56:13
 mul-held : tie.Need-mul-held
 mul-held c = search needs
 
--- src/send.rt:56:13
 element-copy-out-held : tie.Need-element-copy-out-held
 element-copy-out-held c = search needs
 
--- src/send.rt:56:24
 mul-held-2 : tie.Need-mul-held-2
 mul-held-2 c = search needs
 
--- src/send.rt:56:24
 element-copy-out-held-2 : tie.Need-element-copy-out-held-2
 element-copy-out-held-2 c = search needs
 
--- src/send.rt:56:35
 mul-held-3 : tie.Need-mul-held-3
 mul-held-3 c = search needs
 
--- src/send.rt:56:35
 element-copy-out-held-3 : tie.Need-element-copy-out-held-3
 element-copy-out-held-3 c = search needs
 
--- src/send.rt:56:8
 held-requires : tie.Need-held-requires
 held-requires c κs = search needs
 
--- src/send.rt:57:9
 refused-requires-3 : tie.Need-refused-requires-3
 refused-requires-3 c κs = search needs
 
--- src/send.rt:57:9
 returns-4 : tie.Need-returns-4
 returns-4 c =
     let s = c .before .before .before .before .before .before .before .before .before .before .before .before .before .before .before .before .before in
@@ -173,63 +140,48 @@ returns-4 c =
     send-at-its-index (p .result) (s .args .a) (p .ensures .1)
     (λ e. send-39 (s .args .reader .now) (s .args .rows .now) (s .args .boards .now) (s .args .unread .now) (s .args .queued .now) (p .result) (s .args .channel) (s .args .word) _ (omega arith) (sym (c .before .before .before .before .before .before .before .before .before .before .before .before .spent .ensures) ∙ c .before .before .before .before .before .before .before .before .before .before .before .if2 .left) (b .result) (b .ensures .1) (c .before .before .before .before .before .before .before .if3 .left) (k .result) (k .ensures .1) (sym (c .before .before .held .ensures) ∙ c .before .if4 .taken) (rw (← e) (c .refused3 .ensures)))
 
--- src/send.rt:59:20
 mul-place : tie.Need-mul-place
 mul-place c = search needs
 
--- src/send.rt:59:20
 index-1-place : tie.Need-index-1-place
 index-1-place c = search needs
 
--- src/send.rt:59:9
 place-requires : tie.Need-place-requires
 place-requires c κs = search needs
 
--- src/send.rt:60:16
 mul-queue-send : tie.Need-mul-queue-send
 mul-queue-send c = search needs
 
--- src/send.rt:60:16
 index-1-queue-send : tie.Need-index-1-queue-send
 index-1-queue-send c = search needs
 
--- src/send.rt:60:5
 queue-send-requires : tie.Need-queue-send-requires
 queue-send-requires c κs = search needs
 
--- src/send.rt:61:10
 mul-push : tie.Need-mul-push
 mul-push c = search needs
 
--- src/send.rt:61:10
 index-1-push : tie.Need-index-1-push
 index-1-push c = search needs
 
--- src/send.rt:61:5
 push-requires : tie.Need-push-requires
 push-requires c κs = search needs
 
--- src/send.rt:62:44
 mul-wrapping-add-u32 : tie.Need-mul-wrapping-add-u32
 mul-wrapping-add-u32 c = search needs
 
--- src/send.rt:62:44
 element-copy-out-wrapping-add-u32 : tie.Need-element-copy-out-wrapping-add-u32
 element-copy-out-wrapping-add-u32 c = search needs
 
--- src/send.rt:62:17
 wrapping-add-u32-requires : tie.Need-wrapping-add-u32-requires
 wrapping-add-u32-requires c κs = search needs
 
--- src/send.rt:62:5
 mul-queued : tie.Need-mul-queued
 mul-queued c = search needs
 
--- src/send.rt:62:5
 element-write-queued : tie.Need-element-write-queued
 element-write-queued c = search needs
 
--- src/send.rt:27:1
 returns-5 : tie.Need-returns-5
 returns-5 c =
     let s = c .before .before .before .before .before .before .before .before .before .before .before .before .before .before .before .before .before .before .before .before .before .before .before .before in

@@ -9,129 +9,99 @@ use Rattle.instruction.proofs.instruction.compute.Reads as compute-reads
 use Rattle.instruction.proofs.instruction.examine.Reads as examine-reads
 use Rattle.step.proofs.send.send.Reads as send-reads
 use Rattle.step.proofs.take.take.Reads as take-reads
-use Rattle.store.proofs.board.index16.Reads as index16-reads
-use Rattle.store.proofs.board.wide.Reads as wide-reads
-use Rattle.store.proofs.moved.alone.Reads as alone-reads
-use Rattle.store.proofs.moved.refused.Reads as refused-reads
-use Rattle.sixes.proofs.fetch.fetch.Reads as fetch-reads
+use Rattle.state.proofs.board.index16.Reads as index16-reads
+use Rattle.state.proofs.board.wide.Reads as wide-reads
+use Rattle.state.proofs.moved.alone.Reads as alone-reads
+use Rattle.state.proofs.moved.refused.Reads as refused-reads
+use Rattle.records.proofs.fetch.fetch.Reads as fetch-reads
 
--- src/step.rt:37:9
 index16-requires : tie.Need-index16-requires
 index16-requires c κs = search needs
 
--- src/step.rt:38:31
 mul-wide : tie.Need-mul-wide
 mul-wide c = search needs
 
--- src/step.rt:38:31
 element-copy-out-wide : tie.Need-element-copy-out-wide
 element-copy-out-wide c = search needs
 
--- src/step.rt:38:26
 wide-requires : tie.Need-wide-requires
 wide-requires c κs = search needs
 
--- src/step.rt:38:47
 mul-wide-2 : tie.Need-mul-wide-2
 mul-wide-2 c = search needs
 
--- src/step.rt:38:47
 index-1-wide : tie.Need-index-1-wide
 index-1-wide c = search needs
 
--- src/step.rt:38:47
 index-2-wide : tie.Need-index-2-wide
 index-2-wide c = search needs
 
--- src/step.rt:38:42
 wide-requires-2 : tie.Need-wide-requires-2
 wide-requires-2 c κs = search needs
 
--- src/step.rt:38:9
 fetch-requires : tie.Need-fetch-requires
 fetch-requires c κs = search needs
 
--- src/step.rt:39:19
 mul-examine : tie.Need-mul-examine
 mul-examine c = search needs
 
--- src/step.rt:39:19
 index-1-examine : tie.Need-index-1-examine
 index-1-examine c = search needs
 
--- src/step.rt:39:29
 mul-examine-2 : tie.Need-mul-examine-2
 mul-examine-2 c = search needs
 
--- src/step.rt:39:29
 index-1-examine-2 : tie.Need-index-1-examine-2
 index-1-examine-2 c = search needs
 
--- src/step.rt:39:40
 mul-examine-3 : tie.Need-mul-examine-3
 mul-examine-3 c = search needs
 
--- src/step.rt:39:40
 element-copy-out-examine : tie.Need-element-copy-out-examine
 element-copy-out-examine c = search needs
 
--- src/step.rt:39:11
 examine-requires : tie.Need-examine-requires
 examine-requires c κs = search needs
 
--- src/step.rt:40:27
 enum-told : tie.Need-enum-told
 enum-told c = search needs
 
--- src/step.rt:40:27
 refused-requires : tie.Need-refused-requires
 refused-requires c κs = search needs
 
--- src/step.rt:41:27
 enum-told-2 : tie.Need-enum-told-2
 enum-told-2 c = search needs
 
--- src/step.rt:41:27
 refused-requires-2 : tie.Need-refused-requires-2
 refused-requires-2 c κs = search needs
 
--- src/step.rt:43:21
 enum-told-3 : tie.Need-enum-told-3
 enum-told-3 c = search needs
 
--- src/step.rt:43:21
 mul-compute : tie.Need-mul-compute
 mul-compute c = search needs
 
--- src/step.rt:43:21
 index-1-compute : tie.Need-index-1-compute
 index-1-compute c = search needs
 
--- src/step.rt:43:13
 compute-requires : tie.Need-compute-requires
 compute-requires c κs = search needs
 
--- src/step.rt:44:13
 alone-requires : tie.Need-alone-requires
 alone-requires c κs = search needs
 
--- src/step.rt:50:24
 enum-known-at : tie.Need-enum-known-at
 enum-known-at c = search needs
 
--- src/step.rt:50:32
 take-requires : tie.Need-take-requires
 take-requires c κs = search needs
 
--- src/step.rt:51:24
 enum-known-channel : tie.Need-enum-known-channel
 enum-known-channel c = search needs
 
--- src/step.rt:51:43
 send-requires : tie.Need-send-requires
 send-requires c κs = search needs
 
--- src/step.rt:22:1
 returns : tie.Need-returns
 returns c =
     let s = c .before .before .before .before .before .before .before .before .before .before .before .before .before .before in
@@ -143,7 +113,6 @@ returns c =
     step-at-its-index (p .result) (s .args .a) (p .ensures .1)
     (λ e. steps-35 (s .args .table .now) (s .args .start .now) (s .args .lengths .now) (s .args .reader .now) (s .args .port .now) (s .args .rows .now) (s .args .mails .now) (s .args .boards .now) (s .args .unread .now) (s .args .queued .now) (p .result) _ (j .result) (rw (← f, ← k) (j .ensures)) (record { seen = x .result; examined = x .ensures; is = c .before .enum-told .given .1 }) (rw (← e) (c .refused .ensures)))
 
--- src/step.rt:22:1
 returns-2 : tie.Need-returns-2
 returns-2 c =
     let s = c .before .before .before .before .before .before .before .before .before .before .before .before .before .before in
@@ -155,7 +124,6 @@ returns-2 c =
     step-at-its-index (p .result) (s .args .a) (p .ensures .1)
     (λ e. steps-36 (s .args .table .now) (s .args .start .now) (s .args .lengths .now) (s .args .reader .now) (s .args .port .now) (s .args .rows .now) (s .args .mails .now) (s .args .boards .now) (s .args .unread .now) (s .args .queued .now) (p .result) _ (j .result) (rw (← f, ← k) (j .ensures)) (record { seen = x .result; examined = x .ensures; is = c .before .enum-told2 .given .1 }) (rw (← e) (c .refused2 .ensures)))
 
--- src/step.rt:22:1
 returns-3 : tie.Need-returns-3
 returns-3 c =
     let s = c .before .before .before .before .before .before .before .before .before .before .before .before .before .before .before .before in
@@ -167,7 +135,6 @@ returns-3 c =
     step-at-its-index (p .result) (s .args .a) (p .ensures .1)
     (λ e. steps-computed (s .args .table .now) (s .args .start .now) (s .args .lengths .now) (s .args .reader .now) (s .args .port .now) (s .args .rows .now) (s .args .mails .now) (s .args .boards .now) (s .args .unread .now) (s .args .queued .now) (p .result) _ (j .result) (rw (← f, ← k) (j .ensures)) (c .before .compute .last .0) (record { seen = x .result; examined = x .ensures; is = c .before .before .before .enum-told3 .given .1 }) (c .before .compute .ensures) (c .alone .ensures))
 
--- src/step.rt:22:1
 returns-4 : tie.Need-returns-4
 returns-4 c =
     let s = c .before .before .before .before .before .before .before .before .before .before .before .before .before .before .before .before .before .before in
@@ -179,7 +146,6 @@ returns-4 c =
     step-at-its-index (p .result) (s .args .a) (p .ensures .1)
     (λ e. steps-taken (s .args .table .now) (s .args .start .now) (s .args .lengths .now) (s .args .reader .now) (s .args .port .now) (s .args .rows .now) (s .args .mails .now) (s .args .boards .now) (s .args .unread .now) (s .args .queued .now) (p .result) _ (j .result) (rw (← f, ← k) (j .ensures)) (c .before .before .before .before .before .at .given .0 .0) (record { seen = x .result; examined = x .ensures; is = c .before .before .before .before .before .at .given .1 }) (rw (← e) (c .take .ensures)))
 
--- src/step.rt:22:1
 returns-5 : tie.Need-returns-5
 returns-5 c =
     let s = c .before .before .before .before .before .before .before .before .before .before .before .before .before .before .before .before .before .before .before in

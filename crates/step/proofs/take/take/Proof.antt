@@ -10,33 +10,27 @@ use Rattle.instruction.proofs.instruction.take_word.Reads as take-word-reads
 use Rattle.process.proofs.mail.channel_of.Reads as channel-of-reads
 use Rattle.process.proofs.mail.word_of.Reads as word-of-reads
 use Rattle.std.proofs.num.wrapping_sub_u32.Reads as wrapping-sub-u32-reads
-use Rattle.store.proofs.channel.index32.Reads as index32-reads
+use Rattle.state.proofs.channel.index32.Reads as index32-reads
 use Rattle.step.proofs.guards.spent.Reads as spent-reads
-use Rattle.store.proofs.board.index16.Reads as index16-reads
-use Rattle.store.proofs.moved.alone.Reads as alone-reads
-use Rattle.store.proofs.moved.refused.Reads as refused-reads
+use Rattle.state.proofs.board.index16.Reads as index16-reads
+use Rattle.state.proofs.moved.alone.Reads as alone-reads
+use Rattle.state.proofs.moved.refused.Reads as refused-reads
 
--- src/take.rt:31:9
 index16-requires : tie.Need-index16-requires
 index16-requires c κs = search needs
 
--- src/take.rt:32:14
 mul-spent : tie.Need-mul-spent
 mul-spent c = search needs
 
--- src/take.rt:32:14
 index-1-spent : tie.Need-index-1-spent
 index-1-spent c = search needs
 
--- src/take.rt:32:8
 spent-requires : tie.Need-spent-requires
 spent-requires c κs = search needs
 
--- src/take.rt:33:9
 refused-requires : tie.Need-refused-requires
 refused-requires c κs = search needs
 
--- src/take.rt:33:9
 returns : tie.Need-returns
 returns c =
     let s = c .before .before .before .before .before in
@@ -44,11 +38,9 @@ returns c =
     take-at-its-index (p .result) (s .args .a) (p .ensures .1)
     (λ e. take-37 (s .args .port .now) (s .args .rows .now) (s .args .mails .now) (s .args .unread .now) (p .result) (s .args .code) (s .args .register) (s .args .at) _ (sym (c .before .before .spent .ensures) ∙ c .before .if1 .taken) (rw (← e) (c .refused .ensures)))
 
--- src/take.rt:36:9
 refused-requires-2 : tie.Need-refused-requires-2
 refused-requires-2 c κs = search needs
 
--- src/take.rt:36:9
 returns-2 : tie.Need-returns-2
 returns-2 c =
     let s = c .before .before .before .before .before .before in
@@ -56,87 +48,66 @@ returns-2 c =
     take-at-its-index (p .result) (s .args .a) (p .ensures .1)
     (λ e. take-none (s .args .port .now) (s .args .rows .now) (s .args .mails .now) (s .args .unread .now) (p .result) (s .args .code) (s .args .register) (s .args .at) _ (c .before .if2 .taken))
 
--- src/take.rt:38:13
 mul-x : tie.Need-mul-x
 mul-x c = search needs
 
--- src/take.rt:38:13
 mul-x-2 : tie.Need-mul-x-2
 mul-x-2 c = search needs
 
--- src/take.rt:38:13
 index-1-x : tie.Need-index-1-x
 index-1-x c = search needs
 
--- src/take.rt:38:13
 index-2-x : tie.Need-index-2-x
 index-2-x c = search needs
 
--- src/take.rt:39:9
 channel-of-requires : tie.Need-channel-of-requires
 channel-of-requires c κs = search needs
 
--- src/take.rt:40:9
 index32-requires : tie.Need-index32-requires
 index32-requires c κs = search needs
 
--- src/take.rt:41:15
 mul-take-word : tie.Need-mul-take-word
 mul-take-word c = search needs
 
--- src/take.rt:41:15
 index-1-take-word : tie.Need-index-1-take-word
 index-1-take-word c = search needs
 
--- src/take.rt:41:29
 mul-take-word-2 : tie.Need-mul-take-word-2
 mul-take-word-2 c = search needs
 
--- src/take.rt:41:29
 index-1-take-word-2 : tie.Need-index-1-take-word-2
 index-1-take-word-2 c = search needs
 
--- src/take.rt:41:64
 mul-take-word-3 : tie.Need-mul-take-word-3
 mul-take-word-3 c = search needs
 
--- src/take.rt:41:64
 element-copy-out-take-word : tie.Need-element-copy-out-take-word
 element-copy-out-take-word c = search needs
 
--- src/take.rt:41:5
 take-word-requires : tie.Need-take-word-requires
 take-word-requires c κs = search needs
 
--- src/take.rt:42:44
 mul-wrapping-sub-u32 : tie.Need-mul-wrapping-sub-u32
 mul-wrapping-sub-u32 c = search needs
 
--- src/take.rt:42:44
 element-copy-out-wrapping-sub-u32 : tie.Need-element-copy-out-wrapping-sub-u32
 element-copy-out-wrapping-sub-u32 c = search needs
 
--- src/take.rt:42:17
 wrapping-sub-u32-requires : tie.Need-wrapping-sub-u32-requires
 wrapping-sub-u32-requires c κs = search needs
 
--- src/take.rt:42:5
 mul-unread : tie.Need-mul-unread
 mul-unread c = search needs
 
--- src/take.rt:42:5
 element-write-unread : tie.Need-element-write-unread
 element-write-unread c = search needs
 
--- src/take.rt:46:15
 word-of-requires : tie.Need-word-of-requires
 word-of-requires c κs = search needs
 
--- src/take.rt:43:5
 alone-requires : tie.Need-alone-requires
 alone-requires c κs = search needs
 
--- src/take.rt:19:1
 returns-3 : tie.Need-returns-3
 returns-3 c =
     let s = c .before .before .before .before .before .before .before .before .before .before .before .before .before .before .before .before in

@@ -14,35 +14,27 @@ Inv-loop table p mask left₀ left = Left (decodeTable table) p mask left
 abbrev μ-loop : tie.MeasureT-loop
 μ-loop table p mask left₀ left = left
 
--- src/instructions.rt:57:5
 loop-holds : tie.Need-loop-holds Inv-loop μ-loop
 loop-holds c = left-all _ _ (c .before .args .mask) (c .before .fits .mask .fits)
 
--- src/instructions.rt:59:13
 end-is-requires : tie.Need-end-is-requires Inv-loop μ-loop
 end-is-requires c κs = search needs
 
--- src/instructions.rt:60:13
 returns : tie.Need-returns Inv-loop μ-loop
 returns c = let s = c .before .before .before .before .before .args in let l = c .before .before .before .loop in left-fails (s .table .now) (s .p) (s .mask) (l .left) (l .inv) (c .before .before .loop-test .taken) (c .before .end-is .result) (c .before .end-is .ensures) (c .if1 .taken)
 
--- src/instructions.rt:62:17
 shl-left : tie.Need-shl-left Inv-loop μ-loop
 shl-left c = low (c .before .before .before .loop .inv) (c .before .before .loop-test .taken) .0
 
--- src/instructions.rt:62:9
 sub-left : tie.Need-sub-left Inv-loop μ-loop
 sub-left c = can-clear (c .before .before .before .loop .inv) (c .before .before .loop-test .taken)
 
--- src/instructions.rt:57:5
 loop-less : tie.Need-loop-less Inv-loop μ-loop
 loop-less c = clears (c .before .before .before .loop .inv) (c .before .before .loop-test .taken)
 
--- src/instructions.rt:57:5
 loop-again : tie.Need-loop-again Inv-loop μ-loop
 loop-again c = let s = c .before .before .before .before .before .args in let l = c .before .before .before .loop in left-passes (s .table .now) (s .p) (s .mask) (l .left) (l .inv) (c .before .before .loop-test .taken) (c .before .end-is .result) (c .before .end-is .ensures) (c .if1 .left)
 
--- src/instructions.rt:52:1
 returns-2 : tie.Need-returns-2 Inv-loop μ-loop
 returns-2 c = left-none _ _ _ (c .before .loop .left) (c .before .loop .inv) (c .loop-test .left)
 

@@ -12,67 +12,51 @@ use Rattle.table.proofs.instructions.end_is.Reads as end-is-reads
 use Rattle.table.proofs.instructions.mask_ok.Reads as mask-ok-reads
 use Rattle.table.proofs.instructions.wider.Reads as wider-reads
 
--- src/instructions.rt:91:25
 end-is-requires : tie.Need-end-is-requires
 end-is-requires c κs = search needs
 
--- src/instructions.rt:92:25
 mask-ok-requires : tie.Need-mask-ok-requires
 mask-ok-requires c κs = search needs
 
--- src/instructions.rt:93:25
 end-is-requires-2 : tie.Need-end-is-requires-2
 end-is-requires-2 c κs = search needs
 
--- src/instructions.rt:94:25
 wider-requires : tie.Need-wider-requires
 wider-requires c κs = search needs
 
--- src/instructions.rt:83:1
 returns : tie.Need-returns
 returns c = set-is _ _ _ _ (c .before .match .keys1)
 
--- src/instructions.rt:83:1
 returns-2 : tie.Need-returns-2
 returns-2 c = second _ 4 _ _ (c .before .if1 .taken) refl ∙ add-is _ _ _ _ (c .before .before .before .match .keys2)
 
--- src/instructions.rt:83:1
 returns-3 : tie.Need-returns-3
 returns-3 c = failed _ 4 _ (c .if1 .left) ∙ add-is _ _ _ _ (c .before .before .match .keys2)
 
--- src/instructions.rt:83:1
 returns-4 : tie.Need-returns-4
 returns-4 c = second _ 4 _ _ (c .before .if2 .taken) (c .end-is .ensures) ∙ take-is _ _ _ _ (c .before .before .before .match .keys3)
 
--- src/instructions.rt:83:1
 returns-5 : tie.Need-returns-5
 returns-5 c = failed _ 4 _ (c .if2 .left) ∙ take-is _ _ _ _ (c .before .before .match .keys3)
 
--- src/instructions.rt:83:1
 returns-6 : tie.Need-returns-6
 returns-6 c = second _ 3 _ _ (c .before .if3 .taken) (c .mask-ok .ensures) ∙ first-is _ _ _ _ (c .before .before .before .match .keys4)
 
--- src/instructions.rt:83:1
 returns-7 : tie.Need-returns-7
 returns-7 c = failed _ 3 _ (c .if3 .left) ∙ first-is _ _ _ _ (c .before .before .match .keys4)
 
--- src/instructions.rt:83:1
 returns-8 : tie.Need-returns-8
 returns-8 c = second _ 4 _ _ (c .before .if4 .taken) (c .end-is2 .ensures) ∙ send-is _ _ _ _ (c .before .before .before .match .keys5)
 
--- src/instructions.rt:83:1
 returns-9 : tie.Need-returns-9
 returns-9 c = failed _ 4 _ (c .if4 .left) ∙ send-is _ _ _ _ (c .before .before .match .keys5)
 
--- src/instructions.rt:83:1
 returns-10 : tie.Need-returns-10
 returns-10 c = second _ 4 _ _ (c .before .if5 .taken) (ap (λ (x : ℕ). leb x (c .before .before .before .before .before .args .n)) (c .wider .ensures)) ∙ jump-is _ _ _ _ (c .before .before .before .match .keys6)
 
--- src/instructions.rt:83:1
 returns-11 : tie.Need-returns-11
 returns-11 c = failed _ 4 _ (c .if5 .left) ∙ jump-is _ _ _ _ (c .before .before .match .keys6)
 
--- src/instructions.rt:83:1
 returns-12 : tie.Need-returns-12
 returns-12 c = let no = c .match .rest in none-is _ _ _ _ (no .0 .0 .0 .0 .0 .1) (no .0 .0 .0 .0 .1) (no .0 .0 .0 .1) (no .0 .0 .1) (no .0 .1) (no .1)
 

@@ -7,19 +7,15 @@ use Rattle.table.proofs.instructions.mask_ok.Reads as reads
 use Rattle.table.proofs.instructions.mask_ok.Lts as lts
 use Rattle.table.proofs.instructions.channels_pass.Reads as channels-pass-reads
 
--- src/instructions.rt:74:9
 returns : tie.Need-returns
 returns c = too-few _ _ _ (c .before .before .fits .mask .fits) (c .if1 .taken)
 
--- src/instructions.rt:77:9
 returns-2 : tie.Need-returns-2
 returns-2 c = too-many _ _ _ (c .before .before .before .fits .mask .fits) (c .if2 .taken)
 
--- src/instructions.rt:79:5
 channels-pass-requires : tie.Need-channels-pass-requires
 channels-pass-requires c κs = search needs
 
--- src/instructions.rt:68:1
 returns-3 : tie.Need-returns-3
 returns-3 c = by-channels _ _ _ (c .before .before .before .before .fits .mask .fits) (c .before .before .if1 .left) (c .before .if2 .left) _ (c .channels-pass .ensures)
 

@@ -10,7 +10,7 @@ use Rattle.table.proofs.instructions.program_ok.Statement.{statement}
 use Rattle.table.proofs.instructions.program_ok.Tie as tie
 use Rattle.table.proofs.instructions.program_ok.Reads as reads
 use Rattle.table.proofs.instructions.program_ok.Lts as lts
-use Rattle.sixes.proofs.fetch.fetch.Reads as fetch-reads
+use Rattle.records.proofs.fetch.fetch.Reads as fetch-reads
 use Rattle.table.proofs.instructions.instruction_ok.Reads as instruction-ok-reads
 
 abbrev Inv-loop : tie.InvT-loop
@@ -19,19 +19,15 @@ Inv-loop table p n program k₀ k = Walked (placePasses (decodeTable table) p n 
 abbrev μ-loop : tie.MeasureT-loop
 μ-loop table p n program k₀ k = n - k
 
--- src/instructions.rt:105:5
 loop-holds : tie.Need-loop-holds Inv-loop μ-loop
 loop-holds c = walk-start _ _
 
--- src/instructions.rt:106:41
 fetch-requires : tie.Need-fetch-requires Inv-loop μ-loop
 fetch-requires c κs = search needs
 
--- src/instructions.rt:106:13
 instruction-ok-requires : tie.Need-instruction-ok-requires Inv-loop μ-loop
 instruction-ok-requires c κs = search needs
 
--- src/instructions.rt:107:13
 returns : tie.Need-returns Inv-loop μ-loop
 unfolding programOk
 returns c =
@@ -40,15 +36,12 @@ returns c =
     let t = decodeTable (s .table .now) in
     walk-fails (placePasses t (s .p) (s .n) (s .program .now)) (s .n) k (c .before .instruction-ok .result) (c .before .before .before .loop-test .taken) (c .before .instruction-ok .ensures ∙ ap (passes t (s .p) (s .n)) (c .before .before .fetch .ensures)) (c .if1 .taken)
 
--- src/instructions.rt:109:9
 add-k : tie.Need-add-k Inv-loop μ-loop
 add-k c = search needs
 
--- src/instructions.rt:105:5
 loop-less : tie.Need-loop-less Inv-loop μ-loop
 loop-less c = search needs
 
--- src/instructions.rt:105:5
 loop-again : tie.Need-loop-again Inv-loop μ-loop
 loop-again c =
     let s = c .before .before .before .before .before .before .before .args in
@@ -56,7 +49,6 @@ loop-again c =
     let t = decodeTable (s .table .now) in
     walk-on (placePasses t (s .p) (s .n) (s .program .now)) (s .n) k (c .before .instruction-ok .result) (c .before .before .before .before .loop .inv) (c .before .before .before .loop-test .taken) (c .before .instruction-ok .ensures ∙ ap (passes t (s .p) (s .n)) (c .before .before .fetch .ensures)) (c .if1 .left)
 
--- src/instructions.rt:100:1
 returns-2 : tie.Need-returns-2 Inv-loop μ-loop
 unfolding programOk
 returns-2 c = walk-end _ _ (c .before .loop .k) (c .before .loop .inv) (c .loop-test .left)

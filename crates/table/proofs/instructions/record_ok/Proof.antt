@@ -7,33 +7,26 @@ use Rattle.table.proofs.instructions.record_ok.Tie as tie
 use Rattle.table.proofs.instructions.record_ok.Reads as reads
 use Rattle.table.proofs.instructions.record_ok.Lts as lts
 use Rattle.table.proofs.instructions.program_ok.Reads as program-ok-reads
-use Rattle.sixes.proofs.bytes.wide.Reads as wide-reads
+use Rattle.records.proofs.bytes.wide.Reads as wide-reads
 
--- src/instructions.rt:119:31
 shared-slice-read-wide : tie.Need-shared-slice-read-wide
 shared-slice-read-wide c = search needs
 
--- src/instructions.rt:119:26
 wide-requires : tie.Need-wide-requires
 wide-requires c κs = search needs
 
--- src/instructions.rt:119:41
 sub-program-ok : tie.Need-sub-program-ok
 sub-program-ok c = search needs
 
--- src/instructions.rt:119:41
 part-program-ok-start : tie.Need-part-program-ok-start
 part-program-ok-start c = search needs
 
--- src/instructions.rt:119:41
 part-program-ok-end : tie.Need-part-program-ok-end
 part-program-ok-end c = search needs
 
--- src/instructions.rt:119:5
 program-ok-requires : tie.Need-program-ok-requires
 program-ok-requires c κs = search needs
 
--- src/instructions.rt:115:1
 returns : tie.Need-returns
 returns c = let s = c .before .before .before .before .before .before .args in c .program-ok .ensures ∙ lent-program _ (s .p) _ (s .rest .now) (c .before .before .wide .ensures)
 

@@ -1,0 +1,54 @@
+-- One record of a schedule, in the lists (document 01, "What each move replies").
+use mathlib.Core.Path.{_≡_}
+use mathlib.Core.Logic.{_≢_}
+use mathlib.Core.Bool.{Bool, not, cond, _&&_}
+use mathlib.Core.List.{List}
+use Prim.Native.Nat.{ℕ, zero, suc, _<_}
+use lib.Dec.{eqb, leb}
+use lib.ListN.{getD}
+use Rattle.rules.specs.Table.{Table}
+use Rattle.rules.specs.Cabinet.{Cabinet}
+use Rattle.rules.specs.Moves.{judged}
+use Rattle.rules.specs.Schedule.{command}
+use Rattle.state.specs.declared.entry.Entry.{Entry}
+use Rattle.state.specs.declared.moved.Answer.{Answer}
+use Rattle.state.specs.declared.moved.Moved.{Moved}
+use Rattle.state.specs.Store.{Store, Holds, blankEntry}
+use Rattle.state.specs.Moved.{Reachable, Answered, Turned}
+use Rattle.bus.specs.Transmits.{oldestPlace}
+use Rattle.state.specs.Wired.{Wired}
+use Rattle.command.specs.Plan.{Lent, Suits}
+
+-- 33, or 0
+abbrev pub beyondOf : ℕ → ℕ → ℕ
+beyondOf a most = cond (leb most a) 33 0
+
+-- "33 if a is no process, board or channel of this table", by the move; 32 for an unknown one
+unfoldable pub numberOf : ℕ → ℕ → ℕ → ℕ → ℕ → ℕ
+numberOf boards processes channels a zero = 32
+numberOf boards processes channels a (suc zero) = beyondOf a processes
+numberOf boards processes channels a (suc (suc zero)) = beyondOf a processes
+numberOf boards processes channels a (suc (suc (suc zero))) = beyondOf a boards
+numberOf boards processes channels a (suc (suc (suc (suc zero)))) = beyondOf a channels
+numberOf boards processes channels a (suc (suc (suc (suc (suc zero))))) = beyondOf a boards
+numberOf boards processes channels a (suc (suc (suc (suc (suc (suc n)))))) = 32
+
+-- "The word is 0 except in a feed."
+abbrev pub wordedOf : ℕ → ℕ → Bool
+wordedOf mv word = not (eqb mv 4) && not (eqb word 0)
+
+-- "Any record: 32 for an unknown move or a word that should be 0"
+unfoldable pub judgeOf : ℕ → ℕ → ℕ → ℕ → ℕ → ℕ → ℕ
+unfolding numberOf
+judgeOf boards processes channels mv a word = cond (wordedOf mv word) 32 (numberOf boards processes channels a mv)
+
+-- every move but a carry
+pub record Turns (l : Lent) (s : Store) (mv a word : ℕ) (s′ : Store) (r : Moved) : Type 0 where
+  pub turned : (t : Table) (entries : List Entry) (c : Cabinet) → Reachable t c → Suits t l → Holds t s entries c → mv ≢ 3
+      → Turned t s′ entries c (command mv a word) (judged t c (command mv a word)) r
+
+-- a carry, which is handed the oldest entry of the board's queue
+pub record Carries (boards processes channels : ℕ) (sender reader port : List ℕ) (s : Store) (a word : ℕ) (oldest : Entry) (s′ : Store) (r : Answer) : Type 0 where
+  pub carried : (t : Table) (entries : List Entry) (c : Cabinet) → Reachable t c → Wired t sender reader port → boards ≡ t .boards
+      → Holds t s entries c → (a < t .boards → oldest ≡ getD entries (oldestPlace (s .boards) a) blankEntry)
+      → Answered t s′ entries c (command 3 a word) (judged t c (command 3 a word)) r

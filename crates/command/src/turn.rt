@@ -1,0 +1,184 @@
+// One record of a schedule: 32 and 33, which any record may be answered, and then its move.
+ghost use mathlib.Core.Path.{_≡_};
+ghost use mathlib.Core.Bool.{cond};
+ghost use Rattle.state.specs.Store.{storeOf};
+ghost use Rattle.command.specs.Plan.{lentOf};
+ghost use Rattle.command.specs.Turns.{beyondOf, numberOf, wordedOf, judgeOf, Turns, Carries};
+use backup::place::HEAD;
+use bus::inject::inject;
+use bus::transmit::transmit;
+use crash::crash::crash;
+use process::mail::MAIL;
+use process::row::ROW;
+use state::board::BOARD_ROW;
+use state::board::wide;
+use state::entry::Entry;
+use state::moved::Answer;
+use state::moved::Moved;
+use state::moved::alone;
+use state::moved::refusal;
+use state::moved::refused;
+use step::issue::issue;
+use step::step::step;
+
+// 33 where a is none of so many.
+fn beyond(a: u32, most: usize) -> u32
+    ensures { λ r. ⌜ r ≡ beyondOf a most ⌝ }
+{
+    if wide(a) >= most { 33 } else { 0 }
+}
+
+// "33 if a is no process, board or channel of this table", by the move; 32 for an unknown one, and 0 for neither.
+fn number(boards: usize, processes: usize, channels: usize, mv: u8, a: u32) -> u32
+    ensures { λ r. ⌜ r ≡ numberOf boards processes channels a mv ⌝ }
+{
+    match mv {
+        1 => beyond(a, processes),
+        2 => beyond(a, processes),
+        3 => beyond(a, boards),
+        4 => beyond(a, channels),
+        5 => beyond(a, boards),
+        _ => 32,
+    }
+}
+
+// "The word is 0 except in a feed."
+fn worded(mv: u8, word: u32) -> bool
+    ensures { λ r. ⌜ r ≡ wordedOf mv word ⌝ }
+{
+    mv != 4 && word != 0
+}
+
+// "Any record: 32 for an unknown move or a word that should be 0", then 33; 0 for neither.
+pub fn judge(boards: usize, processes: usize, channels: usize, mv: u8, a: u32, word: u32) -> u32
+    ensures { λ r. ⌜ r ≡ judgeOf boards processes channels mv a word ⌝ }
+{
+    if worded(mv, word) {
+        return 32;
+    }
+    number(boards, processes, channels, mv, a)
+}
+
+// Every move but a carry, whose entry the loop hands over.
+pub fn turn(
+    table: &[u8],
+    boards_many: usize,
+    processes: usize,
+    channels: usize,
+    start: &[u32; 16],
+    lengths: &[u32; 16],
+    sender: &[u32; 32],
+    reader: &[u32; 32],
+    port: &[u32; 32],
+    ins: &[u32; 64],
+    arity: &[u32; 16],
+    rows: &mut [[u32; ROW]; 16],
+    mails: &mut [[u64; MAIL]; 16],
+    logs: &mut [[u64; MAIL]; 16],
+    heads: &mut [[u32; HEAD]; 16],
+    boards: &mut [[u32; BOARD_ROW]; 16],
+    unread: &mut [u32; 32],
+    queued: &mut [u32; 32],
+    waits: &mut [u32; 16],
+    mv: u8,
+    a: u32,
+    word: u32,
+) -> Moved
+    ensures { λ r. ⌜ Turns (lentOf (now (table .entry)) «boards_many» processes channels (now (start .entry)) (now (lengths .entry)) (now (sender .entry)) (now (reader .entry)) (now (port .entry)) (now (ins .entry)) (now (arity .entry))) (storeOf (now (rows .entry)) (now (mails .entry)) (now (logs .entry)) (now (heads .entry)) (now (boards .entry)) (now (unread .entry)) (now (queued .entry)) (now (waits .entry))) mv a word (storeOf (now (rows .exit)) (now (mails .exit)) (now (logs .exit)) (now (heads .exit)) (now (boards .exit)) (now (unread .exit)) (now (queued .exit)) (now (waits .exit))) r ⌝ }
+{
+    let number = judge(boards_many, processes, channels, mv, a, word);
+    if number != 0 {
+        return refused(number, a);
+    }
+    match mv {
+        1 => step(
+            table,
+            start,
+            lengths,
+            reader,
+            port,
+            rows,
+            mails,
+            boards,
+            unread,
+            queued,
+            a,
+        ),
+        2 => issue(rows, boards, waits, a),
+        4 => alone(inject(
+            sender,
+            reader,
+            port,
+            rows,
+            mails,
+            logs,
+            heads,
+            unread,
+            queued,
+            a,
+            word,
+        )),
+        5 => alone(crash(
+            boards_many,
+            processes,
+            channels,
+            sender,
+            reader,
+            ins,
+            arity,
+            rows,
+            mails,
+            logs,
+            heads,
+            boards,
+            unread,
+            queued,
+            waits,
+            a,
+        )),
+        _ => refused(32, a),
+    }
+}
+
+// A carry, of a board whose oldest entry this is.
+pub fn carry(
+    boards_many: usize,
+    processes: usize,
+    channels: usize,
+    sender: &[u32; 32],
+    reader: &[u32; 32],
+    port: &[u32; 32],
+    rows: &mut [[u32; ROW]; 16],
+    mails: &mut [[u64; MAIL]; 16],
+    logs: &mut [[u64; MAIL]; 16],
+    heads: &mut [[u32; HEAD]; 16],
+    boards: &mut [[u32; BOARD_ROW]; 16],
+    unread: &mut [u32; 32],
+    queued: &mut [u32; 32],
+    waits: &mut [u32; 16],
+    a: u32,
+    word: u32,
+    oldest: Entry,
+) -> Answer
+    ensures { λ r. ⌜ Carries «boards_many» processes channels (now (sender .entry)) (now (reader .entry)) (now (port .entry)) (storeOf (now (rows .entry)) (now (mails .entry)) (now (logs .entry)) (now (heads .entry)) (now (boards .entry)) (now (unread .entry)) (now (queued .entry)) (now (waits .entry))) a word oldest (storeOf (now (rows .exit)) (now (mails .exit)) (now (logs .exit)) (now (heads .exit)) (now (boards .exit)) (now (unread .exit)) (now (queued .exit)) (now (waits .exit))) r ⌝ }
+{
+    let number = judge(boards_many, processes, channels, 3, a, word);
+    if number != 0 {
+        return refusal(number, a);
+    }
+    transmit(
+        sender,
+        reader,
+        port,
+        rows,
+        mails,
+        logs,
+        heads,
+        boards,
+        unread,
+        queued,
+        waits,
+        a,
+        oldest,
+    )
+}

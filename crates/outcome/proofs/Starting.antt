@@ -1,0 +1,222 @@
+-- The start in the lists: what is true between two rounds of seating, and that fresh lists with their rows seated hold the table's start.
+use mathlib.Core.Path.{_≡_, refl, ap, sym, _∙_, subst}
+use mathlib.Core.Bool.{false}
+use mathlib.Core.List.{List, [], _∷_, map}
+use Prim.Native.Nat.{ℕ, zero, suc, _+_, _≤_, _<_, _^_}
+use native.Mathlib.Omega.{arith}
+use native.Mathlib.Nat.{not-suc-le-zero}
+use lib.ListN.{length, getD, set, replicate, length-set, length-replicate, getD-replicate}
+use lib.Seq.{getD-set-same, getD-set-other}
+use Rattle.facts.specs.Tests.{by-eq, by-lt}
+use Rattle.facts.specs.Lists.{listed, listed-same, map-listed, written-out}
+use Rattle.facts.specs.Indexing.{getD-map, getD-replicate-any}
+use Rattle.facts.specs.Rings.{ring}
+use Rattle.backup.specs.Limits.{ports}
+use Rattle.backup.specs.Replica.{fit, savedOn}
+use Rattle.backup.specs.Place.{viewIn, tallyIn, Sound}
+use Rattle.process.specs.Row.{machineOf, standbyOf, processOf, Kept}
+use Rattle.process.proofs.Rows.{Words, stored}
+use Rattle.rules.specs.Table.{Table, Placement, placementAt, channelAt}
+use Rattle.rules.specs.Judge.{Accepted}
+use Rattle.rules.specs.Machine.{booted}
+use Rattle.rules.specs.Cabinet as rules
+use Rattle.rules.specs.Cabinet.{Process, placed, started, nobody, processAt, outboxAt, unreadOn, inFlight, waiting}
+use Rattle.rules.proofs.Tables.{primary-ok, standby-ok}
+use Rattle.rules.proofs.Counting.{flight-none}
+use Rattle.state.specs.declared.entry.Entry.{Entry}
+use Rattle.state.specs.Store.{Store, storeOf, Holds, blankEntry, processIn, outboxIn, deadIn, flag}
+use Rattle.outcome.specs.Starts.{seatedIn, Fresh, Seats}
+
+-- ---- a list of one value
+
+listed-one : {A : Type 0} (a : A) (n : ℕ) → replicate n a ≡ listed (λ _. a) n
+listed-one a zero = refl
+listed-one {A} a (suc n) = ap (λ (l : List A). a ∷ l) (listed-one a n)
+
+-- ---- a fresh backup and a seated row
+
+abbrev pub zeros : ℕ → List ℕ
+zeros n = replicate n 0
+
+fresh-sound : Sound (zeros 48) (zeros 11)
+unfolding viewIn fit
+fresh-sound = record { log-length = refl; head-length = refl; is-fit = refl; tallies = none-saved }
+  where
+    none-saved : (p : ℕ) → p < ports → tallyIn (zeros 11) p ≡ savedOn p (viewIn (zeros 48) (zeros 11) .log)
+    none-saved p l = getD-replicate 11 (7 + p) 0 0 (omega arith)
+
+abbrev seatedRow : ℕ → ℕ → List ℕ
+seatedRow primary standby = seatedIn (zeros 15) primary standby
+
+seated-words : (primary standby : ℕ) → primary < 2 ^ 32 → standby < 2 ^ 32 → Words (seatedRow primary standby)
+seated-words primary standby a b =
+    stored 13 standby b (stored 12 1 (omega arith) (stored {l = zeros 15} 0 primary a (record { word = λ i. rw (getD-replicate-any {A = ℕ} 15 i 0) (omega arith) })))
+
+seated-kept : (primary standby : ℕ) → primary < 2 ^ 32 → standby < 2 ^ 32 → Kept (seatedRow primary standby) (zeros 48) (zeros 48) (zeros 11)
+seated-kept primary standby a b = record {
+  row-length = refl;
+  mail-length = refl;
+  unread = omega arith;
+  words = seated-words primary standby a b .word;
+  flag = omega arith;
+  sound = fresh-sound;
+}
+
+-- it is the process that the table places there
+seated-is : (x : Placement) → processOf (seatedRow (x .primary) (x .standby)) (zeros 48) (zeros 48) (zeros 11) ≡ placed x
+unfolding processOf machineOf standbyOf viewIn placed booted
+seated-is x = refl
+
+-- ---- fresh lists with their rows seated
+
+module _ (t : Table) (ok : Accepted t) (rows′ mails logs heads boards : List (List ℕ)) (unread queued waits : List ℕ) (entries : List Entry)
+    (mails-is : mails ≡ replicate 16 (zeros 48)) (logs-is : logs ≡ replicate 16 (zeros 48)) (heads-is : heads ≡ replicate 16 (zeros 11))
+    (boards-is : boards ≡ replicate 16 (zeros 3)) (unread-is : unread ≡ zeros 32) (queued-is : queued ≡ zeros 32) (waits-is : waits ≡ zeros 16)
+    (entries-is : entries ≡ replicate 512 blankEntry) (rows-length : length rows′ ≡ 16)
+    (row-at : (p : ℕ) → p < length (t .processes) → getD rows′ p [] ≡ seatedRow (placementAt t p .primary) (placementAt t p .standby)) where
+  abbrev s : Store
+  s = storeOf rows′ mails logs heads boards unread queued waits
+
+  -- one of 16
+  one-of : (l : List (List ℕ)) (x : List ℕ) → l ≡ replicate 16 x → (p : ℕ) → p < 16 → getD l p [] ≡ x
+  one-of l x e p h = ap (λ (k : List (List ℕ)). getD k p []) e ∙ getD-replicate 16 p x [] h
+
+  below : (p : ℕ) → p < length (t .processes) → p < 16
+  below p h = let a = ok .processes-high in omega arith
+
+  below-boards : (b : ℕ) → b < t .boards → b < 16
+  below-boards b h = let a = ok .boards-high in omega arith
+
+  process-at : (p : ℕ) → p < length (t .processes) → processIn s p ≡ placed (placementAt t p)
+  process-at p h =
+      (λ i. processOf (row-at p h i) (one-of mails (zeros 48) mails-is p (below p h) i) (one-of logs (zeros 48) logs-is p (below p h) i) (one-of heads (zeros 11) heads-is p (below p h) i))
+      ∙ seated-is (placementAt t p)
+
+  abbrev nowhere : Placement
+  nowhere = record { primary = 0; standby = 0; code = [] }
+
+  all-processes : started t .processes ≡ listed (processIn s) (length (t .processes))
+  unfolding started
+  all-processes =
+      ap (map placed) (written-out (t .processes) (length (t .processes)) nowhere refl)
+      ∙ map-listed placed (placementAt t) (length (t .processes))
+      ∙ listed-same (λ p. placed (placementAt t p)) (processIn s) (length (t .processes)) (λ p h. sym (process-at p h))
+
+  board-at : (b : ℕ) → b < t .boards → getD boards b [] ≡ zeros 3
+  board-at b h = one-of boards (zeros 3) boards-is b (below-boards b h)
+
+  -- no entry in any queue
+  queue-at : (b : ℕ) → b < t .boards → [] ≡ outboxIn boards entries b
+  unfolding outboxIn ring
+  queue-at b h = rw (board-at b h)
+
+  live-at : (b : ℕ) → b < t .boards → false ≡ deadIn boards b
+  live-at b h = rw (board-at b h)
+
+  mailbox-is : (p : ℕ) → p < length (t .processes) → processAt (started t) p .machine .mailbox ≡ []
+  unfolding started placed booted
+  mailbox-is p h = ap (λ (x : Process). x .machine .mailbox) (getD-map placed (t .processes) p nowhere nobody h)
+
+  outbox-is : (b : ℕ) → outboxAt (started t) b ≡ []
+  unfolding started
+  outbox-is b = getD-replicate-any {A = List rules.Item} (t .boards) b []
+
+  in-flight : (k : ℕ) → inFlight k (started t .outboxes) ≡ 0
+  unfolding started
+  in-flight k = flight-none k (t .boards)
+
+  a-word : (b : ℕ) → b < t .boards → b < 2 ^ 32
+  a-word b h = let a = ok .boards-high in omega arith
+
+  kept-at : (p : ℕ) → p < length (t .processes) → Kept (getD rows′ p []) (getD mails p []) (getD logs p []) (getD heads p [])
+  kept-at p h =
+      rw (row-at p h, one-of mails (zeros 48) mails-is p (below p h), one-of logs (zeros 48) logs-is p (below p h), one-of heads (zeros 11) heads-is p (below p h))
+      (seated-kept (placementAt t p .primary) (placementAt t p .standby) (a-word _ (primary-ok t ok p h)) (a-word _ (standby-ok t ok p h)))
+
+  number-at : (l : List ℕ) (n : ℕ) → l ≡ zeros n → (k : ℕ) → getD l k 0 ≡ 0
+  number-at l n e k = ap (λ (x : List ℕ). getD x k 0) e ∙ getD-replicate-any {A = ℕ} n k 0
+
+  pub start-held : Holds t s entries (started t)
+  unfolding started
+  start-held = record {
+    processes = all-processes;
+    outboxes = listed-one {A = List rules.Item} [] (t .boards) ∙ listed-same (λ _. []) (outboxIn boards entries) (t .boards) queue-at;
+    dead = listed-one false (t .boards) ∙ listed-same (λ _. false) (deadIn boards) (t .boards) live-at;
+    kept = kept-at;
+    first-small = λ b h. rw (board-at b h) (omega arith);
+    count-small = λ b h. rw (board-at b h) (omega arith);
+    board-length = λ b h. rw (board-at b h);
+    unread-is = λ k h r. number-at unread 32 unread-is k ∙ ap (unreadOn k) (sym (mailbox-is (channelAt t k .reader) r));
+    queued-is = λ k h. number-at queued 32 queued-is k ∙ sym (in-flight k);
+    waits-is = λ p h. number-at waits 16 waits-is p ∙ ap (λ (q : List rules.Item). flag (waiting p q)) (sym (outbox-is (processAt (started t) p .board)));
+    rows-length = rows-length;
+    mails-length = ap length mails-is;
+    logs-length = ap length logs-is;
+    heads-length = ap length heads-is;
+    boards-length = ap length boards-is;
+    unread-length = ap length unread-is;
+    queued-length = ap length queued-is;
+    waits-length = ap length waits-is;
+    entries-length = ap length entries-is ∙ length-replicate 512 blankEntry;
+  }
+
+-- ---- seating, row by row
+
+-- i of the rows have been seated
+pub record Seating (rows : List (List ℕ)) (primary standby : List ℕ) (most : ℕ) (rows′ : List (List ℕ)) (i : ℕ) : Type 0 where
+  pub so-far : i ≤ most
+  pub same-length : length rows′ ≡ length rows
+  pub seated-at : length rows ≡ 16 → (p : ℕ) → p < 16 → p < i → getD rows′ p [] ≡ seatedIn (getD rows p []) (getD primary p 0) (getD standby p 0)
+  pub others : (p : ℕ) → i ≤ p → getD rows′ p [] ≡ getD rows p []
+
+pub seating-start : (rows : List (List ℕ)) (primary standby : List ℕ) (most : ℕ) → Seating rows primary standby most rows 0
+seating-start rows primary standby most =
+    record { so-far = omega arith; same-length = refl; seated-at = λ _ p _ h. absurd (not-suc-le-zero h); others = λ p h. refl }
+
+module _ (rows : List (List ℕ)) (primary standby : List ℕ) (most : ℕ) (rows′ : List (List ℕ)) (i : ℕ) (h : Seating rows primary standby most rows′ i) where
+  pub seating-on : (row : List ℕ) → i < most → row ≡ seatedIn (getD rows′ i []) (getD primary i 0) (getD standby i 0) → Seating rows primary standby most (set rows′ i row) (i + 1)
+  seating-on row l e = record {
+    so-far = omega arith;
+    same-length = length-set rows′ i row ∙ h .same-length;
+    seated-at = λ z p k m.
+        by-eq p i
+        (λ f. subst (λ (j : ℕ). getD (set rows′ i row) j [] ≡ seatedIn (getD rows j []) (getD primary j 0) (getD standby j 0)) (sym f)
+        (getD-set-same rows′ i row [] (let a = h .same-length in omega arith) ∙ e ∙ ap (λ (r : List ℕ). seatedIn r (getD primary i 0) (getD standby i 0)) (h .others i (omega arith))))
+        (λ f. getD-set-other rows′ i p row [] f ∙ h .seated-at z p k (omega arith));
+    others = λ p k. getD-set-other rows′ i p row [] (λ f. omega arith) ∙ h .others p (omega arith);
+  }
+
+  pub seating-end : (processes : ℕ) → most ≤ i → most ≤ processes → (most < 16 → most ≡ processes) → Seats rows primary standby processes rows′
+  seating-end processes l k m =
+      let at : length rows ≡ 16 → (p : ℕ) → p < 16 → p < processes → getD rows′ p [] ≡ seatedIn (getD rows p []) (getD primary p 0) (getD standby p 0) =
+      λ z p u v. h .seated-at z p u (by-lt most 16 (λ w. let e = m w in omega arith) (λ w. omega arith)) in
+      record {
+        same-length = h .same-length;
+        seated-at = at;
+        others = λ p u. h .others p (let w = h .so-far in omega arith);
+        holds = λ t mails logs heads boards unread queued waits entries ok places fresh.
+            let z : length rows ≡ 16 = ap length (fresh .rows-is) in
+            start-held t ok rows′ mails logs heads boards unread queued waits entries (fresh .mails-is) (fresh .logs-is) (fresh .heads-is) (fresh .boards-is)
+            (fresh .unread-is) (fresh .queued-is) (fresh .waits-is) (fresh .entries-is) (h .same-length ∙ z)
+            (λ p u.
+            let v : p < 16 = (let a = ok .processes-high in omega arith) in
+            at z p v (rw (places .processes-is) u)
+            ∙ (λ j. seatedIn (getD (fresh .rows-is j) p []) (places .primary-at p u j) (places .standby-at p u j))
+            ∙ ap (λ (r : List ℕ). seatedIn r (placementAt t p .primary) (placementAt t p .standby)) (getD-replicate 16 p (zeros 15) [] v));
+      }
+
+-- ---- lists as an array of zeros and an array of blank entries come out
+
+pub fresh-made : (entries : List Entry) → entries ≡ replicate 512 blankEntry
+    → Fresh (storeOf (replicate 16 (zeros 15)) (replicate 16 (zeros 48)) (replicate 16 (zeros 48)) (replicate 16 (zeros 11)) (replicate 16 (zeros 3)) (zeros 32) (zeros 32) (zeros 16)) entries
+fresh-made entries e = record {
+  rows-is = refl;
+  mails-is = refl;
+  logs-is = refl;
+  heads-is = refl;
+  boards-is = refl;
+  unread-is = refl;
+  queued-is = refl;
+  waits-is = refl;
+  entries-is = e;
+}

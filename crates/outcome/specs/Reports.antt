@@ -1,0 +1,31 @@
+-- The report (document 01: "The report: board, place, unread count and hold-back, a byte each, then four registers."
+-- "Bytes beyond those are untouched.").
+use mathlib.Core.Path.{_≡_}
+use mathlib.Core.List.{List, [], _∷_}
+use Prim.Native.Nat.{ℕ, _+_, _*_, _≤_}
+use lib.ListN.{length, getD}
+use lib.Seq.{sets}
+use Rattle.rules.specs.Table.{Table}
+use Rattle.rules.specs.Cabinet.{Cabinet}
+use Rattle.rules.specs.Bytes.{allBytes, written}
+use Rattle.rules.specs.Run.{reportBytes}
+use Rattle.state.specs.declared.entry.Entry.{Entry}
+use Rattle.state.specs.Store.{storeOf, Holds}
+use Rattle.state.specs.Moved.{Reachable}
+use Rattle.outcome.specs.Written.{low, twentyBytes}
+
+-- a line's first four bytes: "board, place, unread count and hold-back"
+abbrev pub headBytes : List ℕ → List ℕ
+headBytes row = low (getD row 0 0) ∷ low (getD row 1 0) ∷ low (getD row 14 0) ∷ low (getD row 6 0) ∷ []
+
+-- the p-th line of a buffer, a row's; where the buffer has no room for it, nothing
+pub record LinePut (row buffer : List ℕ) (p : ℕ) (buffer′ : List ℕ) : Type 0 where
+  pub fits : 20 * p + 20 ≤ length buffer → buffer′ ≡ sets buffer (20 * p) (twentyBytes row)
+  pub same-length : length buffer′ ≡ length buffer
+
+-- The report of a cabinet that the lists hold, whatever the lists are that the call isn't lent.
+pub record Reports (rows : List (List ℕ)) (processes : ℕ) (report report′ : List ℕ) : Type 0 where
+  pub reported : (t : Table) (mails logs heads boards : List (List ℕ)) (unread queued waits : List ℕ) (entries : List Entry) (c : Cabinet) → Reachable t c
+      → Holds t (storeOf rows mails logs heads boards unread queued waits) entries c → processes ≡ length (t .processes) → 20 * processes ≤ length report
+      → report′ ≡ written (allBytes reportBytes (c .processes)) report
+  pub same-length : length report′ ≡ length report

@@ -1,0 +1,78 @@
+// The report in bytes: "board, place, unread count and hold-back, a byte each, then four registers."
+ghost use mathlib.Core.Path.{_≡_};
+ghost use Prim.Native.Nat.{_+_, _%_, _≤_};
+ghost use lib.ListN.{length};
+ghost use lib.Seq.{sets};
+ghost use Rattle.rules.specs.Bytes.{wordBytes};
+ghost use Rattle.outcome.specs.Reports.{headBytes, LinePut, Reports};
+use process::row::BOARD;
+use process::row::PC;
+use process::row::R0;
+use process::row::R1;
+use process::row::R2;
+use process::row::R3;
+use process::row::ROW;
+use process::row::SUPPRESS;
+use process::row::UNREAD;
+
+fn low(x: u32) -> u8
+    ensures { λ r. ⌜ r ≡ x % 256 ⌝ }
+{
+    (x % 256) as u8
+}
+
+// A word in four bytes.
+fn put_word(report: &mut [u8], at: usize, word: u32)
+    requires { ⌜ at + 4 ≤ length (now report) ⌝ }
+    ensures { λ _. ⌜ now (report .exit) ≡ sets (now (report .entry)) at (wordBytes word) ⌝ }
+{
+    report[at] = low(word / 16777216);
+    report[at + 1] = low(word / 65536);
+    report[at + 2] = low(word / 256);
+    report[at + 3] = low(word);
+}
+
+// A line's first four bytes.
+fn put_head(row: &[u32; ROW], report: &mut [u8], at: usize)
+    requires { ⌜ at + 4 ≤ length (now report) ⌝ }
+    ensures { λ _. ⌜ now (report .exit) ≡ sets (now (report .entry)) at (headBytes (now (row .entry))) ⌝ }
+{
+    report[at] = low(row[BOARD]);
+    report[at + 1] = low(row[PC]);
+    report[at + 2] = low(row[UNREAD]);
+    report[at + 3] = low(row[SUPPRESS]);
+}
+
+// The p-th line, of 20 bytes; a buffer that has no room for it stays as it is.
+fn put_line(row: &[u32; ROW], report: &mut [u8], p: usize)
+    ensures { λ _. ⌜ LinePut (now (row .entry)) (now (report .entry)) p (now (report .exit)) ⌝ }
+{
+    if p >= report.len() / 20 {
+        return;
+    }
+    let at = 20 * p;
+    put_head(row, report, at);
+    put_word(report, at + 4, row[R0]);
+    put_word(report, at + 8, row[R1]);
+    put_word(report, at + 12, row[R2]);
+    put_word(report, at + 16, row[R3]);
+}
+
+// No more than there are rows.
+pub fn at_most_16(n: usize) -> usize
+    ensures { λ r. ⌜ (r ≤ 16) × (n ≤ 16 → r ≡ n) ⌝ }
+{
+    if n > 16 { 16 } else { n }
+}
+
+// A line for each process. Bytes beyond stay.
+pub fn write_report(rows: &[[u32; ROW]; 16], processes: usize, report: &mut [u8])
+    ensures { λ _. ⌜ Reports (now (rows .entry)) processes (now (report .entry)) (now (report .exit)) ⌝ }
+{
+    let n = at_most_16(processes);
+    let mut p = 0;
+    while p < n {
+        put_line(&rows[p], report, p);
+        p += 1;
+    }
+}

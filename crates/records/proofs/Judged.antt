@@ -1,0 +1,146 @@
+-- A schedule judged test by test, and a run judged number by number.
+use mathlib.Core.Path.{_≡_, refl, ap, ap₂, sym, _∙_}
+use mathlib.Core.Bool.{Bool, true, false, cond}
+use mathlib.Core.List.{List}
+use Prim.Native.Nat.{ℕ, _+_, _*_, _/_, _≤_, _<_}
+use native.Mathlib.Omega.{arith}
+use lib.Dec.{eqb, leb}
+use lib.ListN.{length}
+use borrow.Author.Tests.{le-leb, lt-leb, eq-eqb, ne-eqb}
+use Rattle.facts.specs.Tests.{and-both, by-eq}
+use Rattle.facts.specs.Ranges.{and-fails}
+use Rattle.rules.specs.Format.{lengthField, versionIn, orNumber, processesIn, validateTable}
+use Rattle.rules.specs.Schedule.{commandsMost, commandsIn, scheduleOk, validateSchedule}
+use Rattle.rules.specs.Run.{validateRun}
+use Rattle.records.specs.Commands.{ScheduleJudged, judgedRun}
+use Rattle.records.specs.declared.schedule.Judged.{Judged}
+
+-- ---- a schedule
+
+module _ (bytes : List ℕ) where
+  -- what all four tests ask
+  pub record Whole : Type 0 where
+    pub long : 3 ≤ length bytes
+    pub true-field : 2 + lengthField bytes ≡ length bytes
+    pub whole : 3 + 6 * commandsIn bytes ≡ length bytes
+    pub few : commandsIn bytes ≤ commandsMost
+
+  pub tested : (field : ℕ) → field ≡ lengthField bytes → 3 ≤ length bytes → field + 2 ≡ length bytes → 3 + 6 * commandsIn bytes ≡ length bytes → commandsIn bytes ≤ commandsMost → Whole
+  tested field e long true-field whole few = record { long = long; true-field = omega arith; whole = whole; few = few }
+
+  holds : Whole → scheduleOk bytes ≡ true
+  unfolding scheduleOk
+  holds w =
+      and-both (leb 3 (length bytes)) _ (le-leb 3 (length bytes) (w .long))
+      (and-both (eqb (2 + lengthField bytes) (length bytes)) _ (eq-eqb (2 + lengthField bytes) (length bytes) (w .true-field))
+      (and-both (eqb (3 + 6 * commandsIn bytes) (length bytes)) _ (eq-eqb (3 + 6 * commandsIn bytes) (length bytes) (w .whole))
+      (le-leb (commandsIn bytes) commandsMost (w .few))))
+
+  passes : Whole → validateSchedule bytes ≡ orNumber (eqb (versionIn bytes) 1) 10 0
+  unfolding validateSchedule
+  passes w = ap (λ (test : Bool). orNumber test 9 (orNumber (eqb (versionIn bytes) 1) 10 0)) (holds w)
+
+module _ (bytes : List ℕ) (r : Judged) where
+  judged-as : (n : ℕ) → validateSchedule bytes ≡ n → r .number ≡ n → r .records ≡ cond (eqb n 0) (commandsIn bytes) 0 → ScheduleJudged bytes r
+  judged-as n v e f = record { number-is = e ∙ sym v; records-is = f ∙ ap (λ (x : ℕ). cond (eqb x 0) (commandsIn bytes) 0) (sym v) }
+
+  fails-9 : scheduleOk bytes ≡ false → (r .number ≡ 9) × (r .records ≡ 0) → ScheduleJudged bytes r
+  unfolding validateSchedule
+  fails-9 h e = judged-as 9 (ap (λ (test : Bool). orNumber test 9 (orNumber (eqb (versionIn bytes) 1) 10 0)) h) (e .0) (e .1)
+
+  pub short-9 : length bytes < 3 → (r .number ≡ 9) × (r .records ≡ 0) → ScheduleJudged bytes r
+  unfolding scheduleOk
+  short-9 h = fails-9 (rw (lt-leb 3 (length bytes) h))
+
+  pub field-9 : (field : ℕ) → field ≡ lengthField bytes → (field + 2 ≡ length bytes → ⊥) → (r .number ≡ 9) × (r .records ≡ 0) → ScheduleJudged bytes r
+  unfolding scheduleOk
+  field-9 field e h = fails-9 (and-fails (leb 3 (length bytes)) _ (rw (ne-eqb (2 + lengthField bytes) (length bytes) (λ z. h (omega arith)))))
+
+  pub broken-9 : (3 + 6 * commandsIn bytes ≡ length bytes → ⊥) → (r .number ≡ 9) × (r .records ≡ 0) → ScheduleJudged bytes r
+  unfolding scheduleOk
+  broken-9 h =
+      fails-9
+      (and-fails (leb 3 (length bytes)) _ (and-fails (eqb (2 + lengthField bytes) (length bytes)) _ (rw (ne-eqb (3 + 6 * commandsIn bytes) (length bytes) h))))
+
+  pub many-9 : commandsMost < commandsIn bytes → (r .number ≡ 9) × (r .records ≡ 0) → ScheduleJudged bytes r
+  unfolding scheduleOk
+  many-9 h =
+      fails-9
+      (and-fails (leb 3 (length bytes)) _
+      (and-fails (eqb (2 + lengthField bytes) (length bytes)) _
+      (and-fails (eqb (3 + 6 * commandsIn bytes) (length bytes)) _ (lt-leb (commandsIn bytes) commandsMost h))))
+
+  pub version-10 : Whole bytes → (versionIn bytes ≡ 1 → ⊥) → (r .number ≡ 10) × (r .records ≡ 0) → ScheduleJudged bytes r
+  version-10 w h e = judged-as 10 (passes bytes w ∙ ap (λ (test : Bool). orNumber test 10 0) (ne-eqb (versionIn bytes) 1 h)) (e .0) (e .1)
+
+  pub accepted-0 : Whole bytes → versionIn bytes ≡ 1 → r .number ≡ 0 → r .records ≡ commandsIn bytes → ScheduleJudged bytes r
+  accepted-0 w h e f = judged-as 0 (passes bytes w ∙ ap (λ (test : Bool). orNumber test 10 0) (eq-eqb (versionIn bytes) 1 h)) e f
+
+-- ---- a run
+
+-- the numbers in order, from those of the table and of the schedule and the tests of the two buffers
+abbrev inOrder : ℕ → ℕ → Bool → Bool → ℕ
+inOrder table schedule answers report =
+    orNumber (eqb table 0) table (orNumber (eqb schedule 0) schedule (orNumber answers 11 (orNumber report 12 0)))
+
+table-first : (table schedule : ℕ) (answers report : Bool) → (table ≡ 0 → ⊥) → table ≡ inOrder table schedule answers report
+table-first table schedule answers report h = rw (ne-eqb table 0 h)
+
+schedule-next : (table schedule : ℕ) (answers report : Bool) → table ≡ 0 → (schedule ≡ 0 → ⊥) → schedule ≡ inOrder table schedule answers report
+schedule-next table schedule answers report e h = rw (eq-eqb table 0 e, ne-eqb schedule 0 h)
+
+module _ (number processes : ℕ) (judged : Judged) (answered reported : ℕ) where
+  pub run-table : (number ≡ 0 → ⊥) → number ≡ judgedRun number processes judged answered reported
+  unfolding judgedRun
+  run-table h = table-first number (judged .number) (leb (6 * judged .records) answered) (leb (20 * processes) reported) h
+
+  pub run-schedule : number ≡ 0 → (judged .number ≡ 0 → ⊥) → judged .number ≡ judgedRun number processes judged answered reported
+  unfolding judgedRun
+  run-schedule e h = schedule-next number (judged .number) (leb (6 * judged .records) answered) (leb (20 * processes) reported) e h
+
+  module _ (e : number ≡ 0) (f : judged .number ≡ 0) where
+    pub run-answers : answered / 6 < judged .records → 11 ≡ judgedRun number processes judged answered reported
+    unfolding judgedRun
+    run-answers h = rw (eq-eqb number 0 e, eq-eqb (judged .number) 0 f, lt-leb (6 * judged .records) answered (omega arith))
+
+    module _ (g : judged .records ≤ answered / 6) where
+      enough : leb (6 * judged .records) answered ≡ true
+      enough = le-leb (6 * judged .records) answered (omega arith)
+
+      pub run-report : reported / 20 < processes → 12 ≡ judgedRun number processes judged answered reported
+      unfolding judgedRun
+      run-report h = rw (eq-eqb number 0 e, eq-eqb (judged .number) 0 f, enough, lt-leb (20 * processes) reported (omega arith))
+
+      pub run-accepted : processes ≤ reported / 20 → 0 ≡ judgedRun number processes judged answered reported
+      unfolding judgedRun
+      run-accepted h = rw (eq-eqb number 0 e, eq-eqb (judged .number) 0 f, enough, le-leb (20 * processes) reported (omega arith))
+
+-- ---- of a table and a schedule that were judged it is the rules' number
+
+in-order : (table schedule answers report : List ℕ)
+    → inOrder (validateTable table) (validateSchedule schedule) (leb (6 * commandsIn schedule) (length answers)) (leb (20 * processesIn table) (length report))
+    ≡ validateRun table schedule answers report
+unfolding validateRun
+in-order table schedule answers report = refl
+
+-- where both numbers are 0 the two tests agree; where one isn't they don't matter
+same-order : (table schedule : ℕ) (a b c d : Bool) → (table ≡ 0 → schedule ≡ 0 → (a ≡ c) × (b ≡ d)) → inOrder table schedule a b ≡ inOrder table schedule c d
+same-order table schedule a b c d h =
+    by-eq table 0
+    (λ e. by-eq schedule 0
+    (λ f. let g = h e f in ap₂ (inOrder table schedule) (g .0) (g .1))
+    (λ n. sym (schedule-next table schedule a b e n) ∙ schedule-next table schedule c d e n))
+    (λ n. sym (table-first table schedule a b n) ∙ table-first table schedule c d n)
+
+pub run-is : (table schedule answers report : List ℕ) (number processes : ℕ) (judged : Judged)
+    → number ≡ validateTable table → (number ≡ 0 → processes ≡ processesIn table) → ScheduleJudged schedule judged
+    → judgedRun number processes judged (length answers) (length report) ≡ validateRun table schedule answers report
+unfolding judgedRun
+run-is table schedule answers report number processes judged e f j =
+    same-order number (judged .number) _ _ (leb (6 * commandsIn schedule) (length answers)) (leb (20 * processesIn table) (length report))
+    (λ z y. (
+      ap (λ (n : ℕ). leb (6 * n) (length answers)) (j .records-is ∙ ap (λ (x : ℕ). cond (eqb x 0) (commandsIn schedule) 0) (sym (j .number-is) ∙ y)),
+      ap (λ (p : ℕ). leb (20 * p) (length report)) (f z),
+    ))
+    ∙ ap₂ (λ (x y : ℕ). inOrder x y (leb (6 * commandsIn schedule) (length answers)) (leb (20 * processesIn table) (length report))) e (j .number-is)
+    ∙ in-order table schedule answers report

@@ -1,0 +1,30 @@
+-- A schedule as the code judges and reads it, and the rules' commands.
+use mathlib.Core.Path.{_≡_}
+use mathlib.Core.Bool.{cond}
+use mathlib.Core.List.{List}
+use Prim.Native.Nat.{ℕ, _*_}
+use lib.Dec.{eqb, leb}
+use Rattle.rules.specs.Moves as rules
+use Rattle.rules.specs.Format.{orNumber}
+use Rattle.rules.specs.Schedule.{commandsIn, command, validateSchedule}
+use Rattle.records.specs.declared.schedule.Command.{Command}
+use Rattle.records.specs.declared.schedule.Judged.{Judged}
+
+-- the rules' command
+abbrev pub commandOf : Command → rules.Command
+commandOf c = command (c .mv) (c .a) (c .word)
+
+-- what judging a schedule finds: its number, and how many commands it has, none where it is refused
+pub record ScheduleJudged (schedule : List ℕ) (r : Judged) : Type 0 where
+  pub number-is : r .number ≡ validateSchedule schedule
+  pub records-is : r .records ≡ cond (eqb (validateSchedule schedule) 0) (commandsIn schedule) 0
+
+-- 0, or the number that refuses a run: from the table's number and its processes, the judged schedule, and the buffers' lengths.
+-- (proofs/Judged.antt: of the table and the schedule that were judged it is the rules' `validateRun`.)
+unfoldable pub judgedRun : ℕ → ℕ → Judged → ℕ → ℕ → ℕ
+judgedRun number processes judged answered reported =
+    orNumber (eqb number 0) number
+    (orNumber (eqb (judged .number) 0) (judged .number)
+    (orNumber (leb (6 * judged .records) answered) 11
+    (orNumber (leb (20 * processes) reported) 12
+    0)))

@@ -1,0 +1,23 @@
+// One instruction of a program, read where it stands in the table.
+ghost use mathlib.Core.Path.{_≡_};
+ghost use Rattle.records.specs.Fetch.{fetched};
+use crate::six::six_at;
+
+// Code, `a` and operand, as the six bytes say them.
+pub struct Instruction {
+    pub code: u8,
+    pub a: u32,
+    pub operand: u32,
+}
+
+// The k-th instruction of the program that begins at byte `at`; all 0 where the bytes end before it does.
+pub fn fetch(table: &[u8], at: usize, k: usize) -> Instruction
+    ensures { λ r. ⌜ r ≡ fetched (now (table .entry)) at k ⌝ }
+{
+    let s = six_at(table, at, k);
+    Instruction {
+        code: s.first,
+        a: s.second as u32,
+        operand: s.word,
+    }
+}

@@ -1,0 +1,98 @@
+// A schedule's bytes: numbers 9 and 10, and its commands; then the numbers of a whole run.
+ghost use mathlib.Core.Path.{_≡_};
+ghost use Rattle.rules.specs.Schedule.{decodeSchedule, command};
+ghost use Rattle.records.specs.Commands.{commandOf, ScheduleJudged, judgedRun};
+ghost use lib.ListN.{getD};
+use crate::bytes::pair;
+use crate::head::VERSION;
+use crate::six::six_at;
+
+// Where the commands begin: behind the length's two bytes and the version.
+const FIRST_COMMAND: usize = 3;
+
+const COMMANDS_MOST: usize = 10000;
+
+// What judging a schedule finds: 0 or the number that refuses it, and how many commands it has (0 where it is refused).
+pub struct Judged {
+    pub number: u8,
+    pub records: usize,
+}
+
+// A schedule record: move, `a` and word.
+pub struct Command {
+    pub mv: u8,
+    pub a: u8,
+    pub word: u32,
+}
+
+fn refused(number: u8) -> Judged
+    ensures { λ r. ⌜ (r .number ≡ number) × (r .records ≡ 0) ⌝ }
+{
+    Judged { number, records: 0 }
+}
+
+// 9: "schedule under 3 bytes, wrong length field, broken record or over 10,000"; 10: "its version".
+pub fn judge_schedule(schedule: &[u8]) -> Judged
+    ensures { λ r. ⌜ ScheduleJudged (now (schedule .entry)) r ⌝ }
+{
+    let len = schedule.len();
+    if len < FIRST_COMMAND {
+        return refused(9);
+    }
+    let field = pair(schedule[0], schedule[1]);
+    let version = schedule[VERSION];
+    let records = (len - FIRST_COMMAND) / 6;
+    if field + 2 != len {
+        return refused(9);
+    }
+    if FIRST_COMMAND + 6 * records != len {
+        return refused(9);
+    }
+    if records > COMMANDS_MOST {
+        return refused(9);
+    }
+    if version != 1 {
+        return refused(10);
+    }
+    Judged { number: 0, records }
+}
+
+// The i-th command of a schedule; one of zeros from its end on.
+pub fn command_at(schedule: &[u8], i: usize) -> Command
+    ensures { λ r. ⌜ commandOf r ≡ getD (decodeSchedule (now (schedule .entry))) i (command 0 0 0) ⌝ }
+{
+    let s = six_at(schedule, FIRST_COMMAND, i);
+    Command {
+        mv: s.first,
+        a: s.second,
+        word: s.word,
+    }
+}
+
+// 0, or the number that refuses a run, lowest first: those of the table, those of the schedule, then
+// "11 answer buffer under six bytes a record; 12 report buffer under 20 bytes a process".
+pub fn judge_run(
+    table_number: u8,
+    processes: usize,
+    schedule: Judged,
+    answers: usize,
+    report: usize,
+) -> u8
+    ensures { λ r. ⌜ r ≡ judgedRun «table_number» processes schedule answers report ⌝ }
+{
+    let schedule_number = schedule.number;
+    let records = schedule.records;
+    if table_number != 0 {
+        return table_number;
+    }
+    if schedule_number != 0 {
+        return schedule_number;
+    }
+    if answers / 6 < records {
+        return 11;
+    }
+    if report / 20 < processes {
+        return 12;
+    }
+    0
+}

@@ -1,0 +1,97 @@
+-- How lent arrays of numbers and one flat array of entries stand for a cabinet of the rules.
+use mathlib.Core.Path.{_≡_}
+use mathlib.Core.Bool.{Bool, not, cond}
+use mathlib.Core.List.{List, [], _∷_, map}
+use Prim.Native.Nat.{ℕ, _≤_, _<_}
+use lib.Dec.{eqb}
+use lib.ListN.{length, getD}
+use Rattle.facts.specs.Lists.{listed}
+use Rattle.facts.specs.Rings.{ring}
+use Rattle.backup.specs.Place.{checkpointOf}
+use Rattle.process.specs.Row.{processOf, Kept}
+use Rattle.rules.specs.Table.{Table, channelAt}
+use Rattle.rules.specs.Machine.{Mail}
+use Rattle.rules.specs.Cabinet as rules
+use Rattle.rules.specs.Cabinet.{Cabinet, Process, outboxMost, unreadOn, inFlight, waiting, processAt, outboxAt}
+use Rattle.state.specs.declared.entry.Entry.{Entry}
+use Rattle.state.specs.declared.entry.Item.{Item}
+use Rattle.state.specs.declared.entry.Item.the-variants.{Word, Sync}
+
+-- ---- the lists
+
+-- For each process a row, a mailbox, a log and a head; for each board a row: where its ring begins, how many entries it has, and whether the
+-- board is dead; for each channel its unread words and its words in queues; for each process whether a checkpoint of it waits.
+pub record Store : Type 0 where
+  pub rows : List (List ℕ)
+  pub mails : List (List ℕ)
+  pub logs : List (List ℕ)
+  pub heads : List (List ℕ)
+  pub boards : List (List ℕ)
+  pub unread : List ℕ
+  pub queued : List ℕ
+  pub waits : List ℕ
+
+abbrev pub storeOf : List (List ℕ) → List (List ℕ) → List (List ℕ) → List (List ℕ) → List (List ℕ) → List ℕ → List ℕ → List ℕ → Store
+storeOf rows mails logs heads boards unread queued waits =
+    record { rows = rows; mails = mails; logs = logs; heads = heads; boards = boards; unread = unread; queued = queued; waits = waits }
+
+-- process p as the lists have it
+abbrev pub processIn : Store → ℕ → Process
+processIn s p = processOf (getD (s .rows) p []) (getD (s .mails) p []) (getD (s .logs) p []) (getD (s .heads) p [])
+
+-- board b's cells
+abbrev pub firstIn : List (List ℕ) → ℕ → ℕ
+firstIn boards b = getD (getD boards b []) 0 0
+
+abbrev pub countIn : List (List ℕ) → ℕ → ℕ
+countIn boards b = getD (getD boards b []) 1 0
+
+abbrev pub deadIn : List (List ℕ) → ℕ → Bool
+deadIn boards b = not (eqb (getD (getD boards b []) 2 0) 0)
+
+-- ---- entries
+
+abbrev pub itemOf : Item → rules.Item
+itemOf (Word channel word) = rules.message (record { channel = channel; word = word })
+itemOf (Sync process c) = rules.checkpoint process (checkpointOf c)
+
+-- what stands where no entry was ever put
+unfoldable pub blankEntry : Entry
+blankEntry = record { item = Word 0 0 }
+
+-- board b's queue, oldest entry first
+unfoldable pub outboxIn : List (List ℕ) → List Entry → ℕ → List rules.Item
+unfolding blankEntry
+outboxIn boards entries b = map (λ (e : Entry). itemOf (e .item)) (ring blankEntry entries b (firstIn boards b) (countIn boards b))
+
+-- ---- the cabinet
+
+-- a Bool as a number
+abbrev pub flag : Bool → ℕ
+flag b = cond b 1 0
+
+-- The lists hold this cabinet of table t.
+pub record Holds (t : Table) (s : Store) (entries : List Entry) (c : Cabinet) : Type 0 where
+  pub processes : c .processes ≡ listed (processIn s) (length (t .processes))
+  pub outboxes : c .outboxes ≡ listed (outboxIn (s .boards) entries) (t .boards)
+  pub dead : c .dead ≡ listed (deadIn (s .boards)) (t .boards)
+  -- each process's lists are kept, and each ring is one
+  pub kept : (p : ℕ) → p < length (t .processes) → Kept (getD (s .rows) p []) (getD (s .mails) p []) (getD (s .logs) p []) (getD (s .heads) p [])
+  pub first-small : (b : ℕ) → b < t .boards → firstIn (s .boards) b < outboxMost
+  pub count-small : (b : ℕ) → b < t .boards → countIn (s .boards) b ≤ outboxMost
+  pub board-length : (b : ℕ) → b < t .boards → length (getD (s .boards) b []) ≡ 3
+  -- the totals are what a count made afresh gives
+  pub unread-is : (k : ℕ) → k < length (t .channels) → channelAt t k .reader < length (t .processes)
+      → getD (s .unread) k 0 ≡ unreadOn k (processAt c (channelAt t k .reader) .machine .mailbox)
+  pub queued-is : (k : ℕ) → k < length (t .channels) → getD (s .queued) k 0 ≡ inFlight k (c .outboxes)
+  pub waits-is : (p : ℕ) → p < length (t .processes) → getD (s .waits) p 0 ≡ flag (waiting p (outboxAt c (processAt c p .board)))
+  -- lengths
+  pub rows-length : length (s .rows) ≡ 16
+  pub mails-length : length (s .mails) ≡ 16
+  pub logs-length : length (s .logs) ≡ 16
+  pub heads-length : length (s .heads) ≡ 16
+  pub boards-length : length (s .boards) ≡ 16
+  pub unread-length : length (s .unread) ≡ 32
+  pub queued-length : length (s .queued) ≡ 32
+  pub waits-length : length (s .waits) ≡ 16
+  pub entries-length : length entries ≡ 512

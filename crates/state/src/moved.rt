@@ -1,0 +1,60 @@
+// What a move answers, and the entry that joins a queue by it.
+ghost use mathlib.Core.Path.{_≡_};
+ghost use Rattle.state.specs.Store.{blankEntry};
+ghost use Rattle.state.specs.Moved.{refusalOf, aloneOf, refusedWith};
+use crate::board::ENTRIES;
+use crate::entry::Entry;
+use crate::entry::Item;
+
+// An answer's three numbers.
+pub struct Answer {
+    pub code: u32,
+    pub a: u32,
+    pub word: u32,
+}
+
+// An answer, and the place of an entry that joins a queue, which is no place where none does.
+pub struct Moved {
+    pub answer: Answer,
+    pub at: usize,
+    pub entry: Entry,
+}
+
+pub fn blank() -> Entry
+    ensures { λ r. ⌜ r ≡ blankEntry ⌝ }
+{
+    Entry {
+        item: Item::Word {
+            channel: 0,
+            word: 0,
+        },
+    }
+}
+
+// A refusal repeats a with word 0.
+pub fn refusal(code: u32, a: u32) -> Answer
+    ensures { λ r. ⌜ r ≡ refusalOf code a ⌝ }
+{
+    Answer {
+        code: code,
+        a: a,
+        word: 0,
+    }
+}
+
+// An answer with no entry.
+pub fn alone(answer: Answer) -> Moved
+    ensures { λ r. ⌜ r ≡ aloneOf answer ⌝ }
+{
+    Moved {
+        answer: answer,
+        at: ENTRIES,
+        entry: blank(),
+    }
+}
+
+pub fn refused(code: u32, a: u32) -> Moved
+    ensures { λ r. ⌜ r ≡ refusedWith code a ⌝ }
+{
+    alone(refusal(code, a))
+}
