@@ -77,14 +77,13 @@ pub fn turn(
     logs: &mut [[u64; MAIL]; 16],
     heads: &mut [[u32; HEAD]; 16],
     boards: &mut [[u32; BOARD_ROW]; 16],
-    unread: &mut [u32; 32],
-    queued: &mut [u32; 32],
+    totals: &mut [u32; 32],
     waits: &mut [u32; 16],
     mv: u8,
     a: u32,
     word: u32,
 ) -> Moved
-    ensures { λ r. ⌜ Turns (lentOf (now (table .entry)) «boards_many» processes channels (now (start .entry)) (now (lengths .entry)) (now (sender .entry)) (now (reader .entry)) (now (port .entry)) (now (ins .entry)) (now (arity .entry))) (storeOf (now (rows .entry)) (now (mails .entry)) (now (logs .entry)) (now (heads .entry)) (now (boards .entry)) (now (unread .entry)) (now (queued .entry)) (now (waits .entry))) mv a word (storeOf (now (rows .exit)) (now (mails .exit)) (now (logs .exit)) (now (heads .exit)) (now (boards .exit)) (now (unread .exit)) (now (queued .exit)) (now (waits .exit))) r ⌝ }
+    ensures { λ r. ⌜ Turns (lentOf (now (table .entry)) «boards_many» processes channels (now (start .entry)) (now (lengths .entry)) (now (sender .entry)) (now (reader .entry)) (now (port .entry)) (now (ins .entry)) (now (arity .entry))) (storeOf (now (rows .entry)) (now (mails .entry)) (now (logs .entry)) (now (heads .entry)) (now (boards .entry)) (now (totals .entry)) (now (waits .entry))) mv a word (storeOf (now (rows .exit)) (now (mails .exit)) (now (logs .exit)) (now (heads .exit)) (now (boards .exit)) (now (totals .exit)) (now (waits .exit))) r ⌝ }
 {
     let number = judge(boards_many, processes, channels, mv, a, word);
     if number != 0 {
@@ -100,8 +99,7 @@ pub fn turn(
             rows,
             mails,
             boards,
-            unread,
-            queued,
+            totals,
             a,
         ),
         2 => issue(rows, boards, waits, a),
@@ -113,8 +111,7 @@ pub fn turn(
             mails,
             logs,
             heads,
-            unread,
-            queued,
+            totals,
             a,
             word,
         )),
@@ -131,8 +128,7 @@ pub fn turn(
             logs,
             heads,
             boards,
-            unread,
-            queued,
+            totals,
             waits,
             a,
         )),
@@ -153,14 +149,13 @@ pub fn carry(
     logs: &mut [[u64; MAIL]; 16],
     heads: &mut [[u32; HEAD]; 16],
     boards: &mut [[u32; BOARD_ROW]; 16],
-    unread: &mut [u32; 32],
-    queued: &mut [u32; 32],
+    totals: &mut [u32; 32],
     waits: &mut [u32; 16],
     a: u32,
     word: u32,
     oldest: Entry,
 ) -> Answer
-    ensures { λ r. ⌜ Carries «boards_many» processes channels (now (sender .entry)) (now (reader .entry)) (now (port .entry)) (storeOf (now (rows .entry)) (now (mails .entry)) (now (logs .entry)) (now (heads .entry)) (now (boards .entry)) (now (unread .entry)) (now (queued .entry)) (now (waits .entry))) a word oldest (storeOf (now (rows .exit)) (now (mails .exit)) (now (logs .exit)) (now (heads .exit)) (now (boards .exit)) (now (unread .exit)) (now (queued .exit)) (now (waits .exit))) r ⌝ }
+    ensures { λ r. ⌜ Carries «boards_many» processes channels (now (sender .entry)) (now (reader .entry)) (now (port .entry)) (storeOf (now (rows .entry)) (now (mails .entry)) (now (logs .entry)) (now (heads .entry)) (now (boards .entry)) (now (totals .entry)) (now (waits .entry))) a word oldest (storeOf (now (rows .exit)) (now (mails .exit)) (now (logs .exit)) (now (heads .exit)) (now (boards .exit)) (now (totals .exit)) (now (waits .exit))) r ⌝ }
 {
     let number = judge(boards_many, processes, channels, 3, a, word);
     if number != 0 {
@@ -175,8 +170,7 @@ pub fn carry(
         logs,
         heads,
         boards,
-        unread,
-        queued,
+        totals,
         waits,
         a,
         oldest,

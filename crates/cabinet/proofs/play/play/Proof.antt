@@ -22,11 +22,11 @@ use Rattle.state.proofs.moved.blank.Reads as blank-reads
 use Rattle.records.proofs.schedule.command_at.Reads as command-at-reads
 
 abbrev Inv-loop : tie.InvT-loop
-Inv-loop table schedule records boards-many processes channels start lengths sender reader port ins arity rows₀ mails₀ logs₀ heads₀ boards₀ unread₀ queued₀ waits₀ answers₀ entries₀ i₀ rows mails logs heads boards unread queued waits answers entries i =
-    Playing (lentOf table boards-many processes channels start lengths sender reader port ins arity) schedule records (storeOf rows₀ mails₀ logs₀ heads₀ boards₀ unread₀ queued₀ waits₀) entries₀ answers₀ i (storeOf rows mails logs heads boards unread queued waits) entries answers × (length answers ≡ length answers₀)
+Inv-loop table schedule records boards-many processes channels start lengths sender reader port ins arity rows₀ mails₀ logs₀ heads₀ boards₀ totals₀ waits₀ answers₀ entries₀ i₀ rows mails logs heads boards totals waits answers entries i =
+    Playing (lentOf table boards-many processes channels start lengths sender reader port ins arity) schedule records (storeOf rows₀ mails₀ logs₀ heads₀ boards₀ totals₀ waits₀) entries₀ answers₀ i (storeOf rows mails logs heads boards totals waits) entries answers × (length answers ≡ length answers₀)
 
 abbrev μ-loop : tie.MeasureT-loop
-μ-loop table schedule records boards-many processes channels start lengths sender reader port ins arity rows₀ mails₀ logs₀ heads₀ boards₀ unread₀ queued₀ waits₀ answers₀ entries₀ i₀ rows mails logs heads boards unread queued waits answers entries i =
+μ-loop table schedule records boards-many processes channels start lengths sender reader port ins arity rows₀ mails₀ logs₀ heads₀ boards₀ totals₀ waits₀ answers₀ entries₀ i₀ rows mails logs heads boards totals waits answers entries i =
     records - i
 
 blank-requires : tie.Need-blank-requires Inv-loop μ-loop
