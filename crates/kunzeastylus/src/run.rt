@@ -1,8 +1,8 @@
-// The run for programs in other languages: one exported call on lent bytes, its three numbers in one.
+// The run, exported: its three numbers in one, since an exported call returns one.
 ghost use mathlib.Core.Path.{_≡_};
 ghost use Prim.Native.Nat.{_≤_, _<_};
 ghost use Rattle.rules.specs.Schedule.{commandsMost};
-ghost use Rattle.cabinet_call.specs.Exported.{flagOf, packedOf, Exported};
+ghost use Rattle.kunzeastylus.specs.Packed.{flagOf, packedOf, RunsPacked};
 use cabinet::run::Verdict;
 use cabinet::run::run;
 
@@ -12,7 +12,7 @@ fn flag(quiet: bool) -> u64
     if quiet { 1 } else { 0 }
 }
 
-// Number, quiet and records as one number: number + 256 quiet + 2^32 records.
+// number + 256 quiet + 2^32 records
 fn packed(r: Verdict) -> u64
     requires { ⌜ r .records ≤ commandsMost ⌝ }
     ensures { λ n. ⌜ (n ≡ packedOf r) × (r .number < 256) ⌝ }
@@ -23,13 +23,16 @@ fn packed(r: Verdict) -> u64
 
 // The run of a table and a schedule, whatever bytes they are, with two lent buffers.
 #[no_mangle]
-pub extern "C" fn cabinet_run(
+pub extern "C" fn ks_run(
     table: &[u8],
     schedule: &[u8],
     answers: &mut [u8],
     report: &mut [u8],
 ) -> u64
-    ensures { λ n. ⌜ Exported (now (table .entry)) (now (schedule .entry)) (now (answers .entry)) (now (report .entry)) n (now (answers .exit)) (now (report .exit)) ⌝ }
+    ensures {
+        λ n. ⌜ RunsPacked (now (table .entry)) (now (schedule .entry)) (now (answers .entry)) (now (report .entry)) n
+            (now (answers .exit)) (now (report .exit)) ⌝
+    }
 {
     packed(run(table, schedule, answers, report))
 }

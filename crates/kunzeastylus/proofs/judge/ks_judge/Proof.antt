@@ -1,8 +1,8 @@
--- `judge`: what the decoder and the two judgements promise, put together.
-use Rattle.table_call.proofs.Judging.{together}
+-- `ks_judge`: what the decoder and the two judgements promise, put together.
+use Rattle.kunzeastylus.proofs.Judging.{together}
 use borrow.Author.Needs.{needs}
-use Rattle.table_call.proofs.judge.Statement.{statement}
-use Rattle.table_call.proofs.judge.Tie as tie
+use Rattle.kunzeastylus.proofs.judge.ks_judge.Statement.{statement}
+use Rattle.kunzeastylus.proofs.judge.ks_judge.Tie as tie
 
 decode-requires : tie.Need-decode-requires
 decode-requires c κs = search needs
@@ -24,7 +24,7 @@ returns c =
     rw (c .judge-run .ensures)
     (together (x .table .now) (x .schedule .now) (d .result) (s .result) (x .answers) (x .report) (d .ensures) (s .ensures))
 
-pub judge-spec : {M : Type 1} → statement M
-judge-spec =
+pub ks-judge-spec : {M : Type 1} → statement M
+ks-judge-spec =
     tie.close
     (tie.spec decode-requires judge-schedule-requires judge-run-requires cast-result returns)

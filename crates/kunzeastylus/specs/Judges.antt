@@ -1,4 +1,4 @@
--- The exported call's promise: for buffers given by their lengths it is the rules' number, which looks at nothing else of them.
+-- The promise of `ks_judge`: for buffers given by their lengths it is the rules' number, which looks at nothing else of them.
 use mathlib.Core.Path.{_≡_}
 use mathlib.Core.List.{List}
 use Prim.Native.Nat.{ℕ}

@@ -8,7 +8,7 @@ use Rattle.records.specs.declared.schedule.Judged.{Judged}
 use Rattle.records.proofs.Judged.{run-is}
 use Rattle.table.specs.Plan.{Decodes}
 use Rattle.table.specs.declared.Decoded.{Decoded}
-use Rattle.table_call.specs.Exported.{Judges}
+use Rattle.kunzeastylus.specs.Judges.{Judges}
 
 pub together : (table schedule : List ℕ) (d : Decoded) (j : Judged) (answered reported : ℕ) → Decodes table d → ScheduleJudged schedule j
     → Judges table schedule answered reported (judgedRun (d .number) (d .plan .processes) j answered reported)
