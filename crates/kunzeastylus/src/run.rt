@@ -29,10 +29,8 @@ pub extern "C" fn ks_run(
     answers: &mut [u8],
     report: &mut [u8],
 ) -> u64
-    ensures {
-        λ n. ⌜ RunsPacked (now (table .entry)) (now (schedule .entry)) (now (answers .entry)) (now (report .entry)) n
-            (now (answers .exit)) (now (report .exit)) ⌝
-    }
+    ensures { λ n. ⌜ RunsPacked (now (table .entry)) (now (schedule .entry)) (now (answers .entry)) (now (report .entry)) n
+        (now (answers .exit)) (now (report .exit)) ⌝ }
 {
     packed(run(table, schedule, answers, report))
 }

@@ -1,7 +1,7 @@
 // Cases of the judging of a run, each with its number, compared with stdout: M1 to M6 of document 01, every way of each number from 1 to
 // 12 alone, what is still accepted beside it, and pairs that show the order. Each case is a sound table or schedule with a few bytes changed.
-use libc::STDOUT_FILENO;
 use kunzeastylus::judge::ks_judge;
+use libc::STDOUT_FILENO;
 
 // Document 01's sample: one process with TAKE, ADD, SEND, JUMP.
 const SAMPLE: [u8; 37] = [
@@ -470,7 +470,10 @@ fn order() {
         b"an instruction and a schedule of one byte",
         ks_judge(&table, &s, 12, 20),
     );
-    line(b"an instruction and short buffers", ks_judge(&table, &s, 0, 0));
+    line(
+        b"an instruction and short buffers",
+        ks_judge(&table, &s, 0, 0),
+    );
 }
 
 fn main() {
