@@ -6,7 +6,8 @@ use Prim.Native.Nat.{ℕ, _+_, _*_, _/_, _%_, _≤_, _<_}
 use native.Mathlib.Omega.{arith}
 use lib.Dec.{eqb}
 use borrow.Author.Tests.{eq-eqb, ne-eqb}
-use Rattle.rules.specs.Run.{Ran, run}
+use Rattle.rules.specs.Run.{Buffers, Ran, ranOf}
+use Rattle.rules.specs.Transparency.{FailureTransparency}
 use Rattle.rules.specs.Schedule.{commandsMost}
 use Rattle.cabinet.specs.Runs.{ranBy, Runs}
 use Rattle.cabinet.specs.declared.run.Verdict.{Verdict}
@@ -25,16 +26,17 @@ records-back : (number records : ℕ) → number < 256 → (quiet : Bool) → re
 records-back number records h true = omega arith
 records-back number records h false = omega arith
 
-module _ (table schedule answers report : List ℕ) (r : Verdict) (answers′ report′ : List ℕ) (h : Runs table schedule answers report r answers′ report′) where
+module _ (table schedule : List ℕ) (before : Buffers) (r : Verdict) (after : Buffers) (h : Runs table schedule before r after) where
   pub few : r .records ≤ commandsMost
-  few = rw (ap (λ (x : Ran). x .records) (h .ran)) (run-few table schedule answers report)
+  few = rw (ap (λ (x : Ran). x .records) (h .ran)) (run-few table schedule before)
 
-  pub exported : (n : ℕ) → r .number < 256 → n ≡ packedOf r → Exported table schedule answers report n answers′ report′
+  pub exported : (n : ℕ) → r .number < 256 → n ≡ packedOf r → Exported table schedule before n after
   exported n small e =
       let a : numberIn n ≡ r .number = ap numberIn e ∙ number-back (r .number) (r .records) small (r .quiet) in
       let b : recordsIn n ≡ r .records = ap recordsIn e ∙ records-back (r .number) (r .records) small (r .quiet) in
       let d : quietIn n ≡ r .quiet = ap quietIn e ∙ quiet-back (r .number) (r .records) small (r .quiet) in
+      let same : ranOf (numberIn n) (recordsIn n) (quietIn n) after ≡ ranBy r after = λ i. ranOf (a i) (b i) (d i) after in
       record {
-        ran = (λ i. ranBy (a i) (b i) (d i) answers′ report′) ∙ h .ran;
-        failure-transparent = λ z. h .failure-transparent (sym a ∙ z);
+        ran = same ∙ h .ran;
+        failure-transparent = λ z. subst (FailureTransparency table schedule) (sym same) (h .failure-transparent (sym a ∙ z));
       }

@@ -1,12 +1,11 @@
--- The exported call's promise: the three numbers that it packs into one, and both buffers, are those of the rules' run; and demand 3.
+-- The exported call's promise: the three numbers that it packs into one, and the buffers, are those of the rules' run; and demand 3.
 use mathlib.Core.Path.{_≡_}
 use mathlib.Core.Bool.{Bool, cond}
 use mathlib.Core.List.{List}
 use Prim.Native.Nat.{ℕ, _+_, _*_, _/_, _%_}
 use lib.Dec.{eqb}
-use Rattle.rules.specs.Run.{run}
+use Rattle.rules.specs.Run.{Buffers, ranOf, run}
 use Rattle.rules.specs.Transparency.{FailureTransparency}
-use Rattle.cabinet.specs.Runs.{ranBy}
 use Rattle.cabinet.specs.declared.run.Verdict.{Verdict}
 
 abbrev pub flagOf : Bool → ℕ
@@ -26,6 +25,6 @@ quietIn n = eqb (n / 256 % 2) 1
 abbrev pub recordsIn : ℕ → ℕ
 recordsIn n = n / 4294967296
 
-pub record Exported (table schedule answers report : List ℕ) (n : ℕ) (answers′ report′ : List ℕ) : Type 0 where
-  pub ran : ranBy (numberIn n) (recordsIn n) (quietIn n) answers′ report′ ≡ run table schedule answers report
-  pub failure-transparent : numberIn n ≡ 0 → FailureTransparency table schedule answers report
+pub record Exported (table schedule : List ℕ) (before : Buffers) (n : ℕ) (after : Buffers) : Type 0 where
+  pub ran : ranOf (numberIn n) (recordsIn n) (quietIn n) after ≡ run table schedule before
+  pub failure-transparent : numberIn n ≡ 0 → FailureTransparency table schedule (ranOf (numberIn n) (recordsIn n) (quietIn n) after)

@@ -2,6 +2,7 @@
 ghost use mathlib.Core.Path.{_≡_};
 ghost use Prim.Native.Nat.{_≤_, _<_};
 ghost use Rattle.rules.specs.Schedule.{commandsMost};
+ghost use Rattle.rules.specs.Run.{buffersOf};
 ghost use Rattle.cabinet_call.specs.Exported.{flagOf, packedOf, Exported};
 use cabinet::run::Verdict;
 use cabinet::run::run;
@@ -29,7 +30,8 @@ pub extern "C" fn cabinet_run(
     answers: &mut [u8],
     report: &mut [u8],
 ) -> u64
-    ensures { λ n. ⌜ Exported (now (table .entry)) (now (schedule .entry)) (now (answers .entry)) (now (report .entry)) n (now (answers .exit)) (now (report .exit)) ⌝ }
+    ensures { λ n. ⌜ Exported (now (table .entry)) (now (schedule .entry)) (buffersOf (now (answers .entry)) (now (report .entry))) n
+        (buffersOf (now (answers .exit)) (now (report .exit))) ⌝ }
 {
     packed(run(table, schedule, answers, report))
 }

@@ -1,3 +1,4 @@
+use Rattle.rules.specs.Run.{buffersOf}
 use Rattle.cabinet_call.proofs.Packing.{few, exported}
 use native.Mathlib.Omega.{arith}
 use borrow.Author.Needs.{needs}
@@ -12,7 +13,7 @@ run-requires : tie.Need-run-requires
 run-requires c κs = search needs
 
 packed-requires : tie.Need-packed-requires
-packed-requires c κs = let s = c .before .before .before .before .before .before .before .before .before .before .before .args in few (s .table .now) (s .schedule .now) (s .answers .now) (s .report .now) (c .before .before .before .before .run .result) _ _ (c .before .before .before .before .run .ensures)
+packed-requires c κs = let s = c .before .before .before .before .before .before .before .before .before .before .before .args in few (s .table .now) (s .schedule .now) (buffersOf (s .answers .now) (s .report .now)) (c .before .before .before .before .run .result) _ (c .before .before .before .before .run .ensures)
 
 same-length : tie.Need-same-length
 same-length c = search needs
@@ -21,7 +22,7 @@ same-length-2 : tie.Need-same-length-2
 same-length-2 c = search needs
 
 returns : tie.Need-returns
-returns c = let s = c .before .before .before .before .before .before .before .before .before .before .before .before .args in exported (s .table .now) (s .schedule .now) (s .answers .now) (s .report .now) (c .before .before .before .before .before .run .result) _ _ (c .before .before .before .before .before .run .ensures) (c .packed .result) (c .packed .ensures .1) (c .packed .ensures .0)
+returns c = let s = c .before .before .before .before .before .before .before .before .before .before .before .before .args in exported (s .table .now) (s .schedule .now) (buffersOf (s .answers .now) (s .report .now)) (c .before .before .before .before .before .run .result) _ (c .before .before .before .before .before .run .ensures) (c .packed .result) (c .packed .ensures .1) (c .packed .ensures .0)
 
 pub cabinet-run-spec : {M : Type 1} → statement M
 cabinet-run-spec =
