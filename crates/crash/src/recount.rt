@@ -45,7 +45,11 @@ fn unread_of(row: &[u32; ROW], mail: &[u64; MAIL], k: usize) -> u32
 fn unread_at(rows: &[[u32; ROW]; 16], mails: &[[u64; MAIL]; 16], p: usize, k: usize) -> u32
     ensures { λ r. ⌜ r ≡ unreadIn (now (rows .entry)) (now (mails .entry)) p k ⌝ }
 {
-    if p < 16 { unread_of(&rows[p], &mails[p], k) } else { 0 }
+    if p < 16 {
+        unread_of(&rows[p], &mails[p], k)
+    } else {
+        0
+    }
 }
 
 // Each of n totals less its channel's unread words: the words in queues are left.
