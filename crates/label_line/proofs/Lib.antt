@@ -1,0 +1,6 @@
+-- Why the label line labels.
+pub mod Sequences
+pub mod Phases
+pub mod Turns
+pub mod Plain
+pub mod Spacing

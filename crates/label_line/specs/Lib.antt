@@ -1,0 +1,4 @@
+-- The label line (document 02, W-203): read Line, then Outlet; Spaced for the plain cabinet's programs; Labels for the calls' promises.
+pub mod Line
+pub mod Outlet
+pub mod Spaced
