@@ -2,3 +2,4 @@
 pub mod Line
 pub mod Outlet
 pub mod Spaced
+pub mod Labels

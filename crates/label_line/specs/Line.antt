@@ -51,14 +51,18 @@ lineTable first = record {
 
 -- ---- the table's bytes
 
-unfoldable pub lineBytes : ℕ → List ℕ
-lineBytes first =
+abbrev pub lineLength : ℕ
+lineLength = 84
+
+-- around the four of the first serial
+abbrev pub bytesAround : List ℕ → List ℕ
+bytesAround serial =
     -- length, version, boards, processes, channels; then the channels' ends
     0 ∷ 82 ∷ 1 ∷ 2 ∷ 2 ∷ 3
     ∷ 255 ∷ 0 ∷ 0 ∷ 1 ∷ 1 ∷ 255
     -- process 0
     ∷ 0 ∷ 1 ∷ 7
-    ∷ 1 ∷ 1 ∷ (wordBytes first
+    ∷ 1 ∷ 1 ∷ (serial
     ++ (1 ∷ 2 ∷ 0 ∷ 0 ∷ 0 ∷ 1
     ∷ 3 ∷ 0 ∷ 0 ∷ 0 ∷ 0 ∷ 0
     ∷ 5 ∷ 0 ∷ 0 ∷ 0 ∷ 0 ∷ 1
@@ -72,3 +76,6 @@ lineBytes first =
     ∷ 5 ∷ 0 ∷ 0 ∷ 0 ∷ 0 ∷ 2
     ∷ 6 ∷ 1 ∷ 0 ∷ 0 ∷ 0 ∷ 1
     ∷ []))
+
+unfoldable pub lineBytes : ℕ → List ℕ
+lineBytes first = bytesAround (wordBytes first)

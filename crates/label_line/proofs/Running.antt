@@ -1,0 +1,65 @@
+-- The run of a first serial: 46 and nothing touched, or the cabinet's run of its table, whose promise gives the labels.
+use mathlib.Core.Path.{_≡_, refl, ap, sym, _∙_, subst}
+use mathlib.Core.Bool.{Bool, true, false, cond}
+use mathlib.Core.List.{List}
+use Prim.Native.Nat.{ℕ, _≤_, _<_}
+use native.Mathlib.Omega.{arith}
+use lib.Dec.{leb}
+use lib.ListN.{length}
+use borrow.Author.Tests.{leb-true, le-leb}
+use Rattle.rules.specs.Moves.{numbered}
+use Rattle.rules.specs.Format.{decodeTable}
+use Rattle.rules.specs.Schedule.{commandsMost, decodeSchedule}
+use Rattle.rules.specs.Run.{Ran, run, refusedWith}
+use Rattle.rules.specs.Transparency.{readAnswers, answersIn}
+use Rattle.rules.proofs.Valid.{length-sixes}
+use Rattle.cabinet.specs.Runs.{ranBy, Runs}
+use Rattle.cabinet.specs.declared.run.Verdict.{Verdict}
+use Rattle.cabinet.proofs.Running.{run-few}
+use Rattle.label_line.specs.Line.{serialMost, lineNumber, lineTable, lineBytes}
+use Rattle.label_line.specs.Labels.{Makes, Labelled, lineRun, RunsLine}
+use Rattle.label_line.specs.declared.MadeTable.{MadeTable}
+use Rattle.label_line.proofs.Tables.{line-decoded}
+use Rattle.label_line.proofs.Labelling.{labelled}
+
+-- whether a table was made shows in the number
+low : (first : ℕ) (m : MadeTable) → Makes first m → m .number ≡ 0 → leb first serialMost ≡ true
+low first m h z = go (leb first serialMost) refl (sym (h .number-is) ∙ z)
+  where
+    go : (b : Bool) → leb first serialMost ≡ b → cond {A = ℕ} b 0 46 ≡ 0 → leb first serialMost ≡ true
+    go true e n = e
+    go false e n = absurd (omega arith)
+
+high : (first : ℕ) (m : MadeTable) → Makes first m → (m .number ≡ 0 → ⊥) → leb first serialMost ≡ false
+high first m h z = go (leb first serialMost) refl (h .number-is)
+  where
+    go : (b : Bool) → leb first serialMost ≡ b → m .number ≡ cond {A = ℕ} b 0 46 → leb first serialMost ≡ false
+    go true e n = absurd (z n)
+    go false e n = e
+
+module _ (first : ℕ) (schedule answers report : List ℕ) (m : MadeTable) (made : Makes first m) where
+  pub refused : (m .number ≡ 0 → ⊥) → RunsLine first schedule answers report (record { number = m .number; records = 0; quiet = false }) answers report
+  unfolding lineRun
+  refused z =
+      let beyond : leb first serialMost ≡ false = high first m made z in
+      let number : m .number ≡ 46 = rw beyond at (made .number-is) in
+      record { ran = rw (beyond, number); labelled = λ e. absurd (z e) }
+
+  pub ran-line : (r : Verdict) (answers′ report′ : List ℕ) → m .number ≡ 0 → Runs (m .bytes) schedule answers report r answers′ report′
+      → RunsLine first schedule answers report r answers′ report′
+  unfolding lineRun
+  ran-line r answers′ report′ z runs =
+      let within : leb first serialMost ≡ true = low first m made z in
+      let bytes : m .bytes ≡ lineBytes first = rw within at (made .bytes-are) in
+      let few : r .records ≤ commandsMost = rw (ap (λ (x : Ran). x .records) (runs .ran)) (run-few (m .bytes) schedule answers report) in
+      let many : length (readAnswers (r .records) answers′) ≡ r .records = length-sixes numbered (r .records) answers′ in
+      record {
+        ran = rw within (rw (← bytes) (runs .ran));
+        labelled = λ e.
+            let f = runs .failure-transparent e in
+            let said : decodeTable (m .bytes) ≡ lineTable first = made .says z in
+            let same = ap answersIn (runs .ran) in
+            labelled first (leb-true first serialMost within) (decodeSchedule schedule) (readAnswers (r .records) answers′) (r .quiet) (rw many few)
+            (f .actions) (f .end) (rw said at (f .ran)) (rw same (f .injected)) (rw same (f .same-trace))
+            (λ q p. rw said at (f .no-step (sym (ap (λ (x : Ran). x .quiet) (runs .ran)) ∙ q) p));
+      }

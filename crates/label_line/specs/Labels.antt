@@ -1,0 +1,57 @@
+-- What the label line promises of a run, and its two calls' contracts.
+use mathlib.Core.Path.{_≡_}
+use mathlib.Core.Bool.{Bool, true, cond}
+use mathlib.Core.List.{List, IsPrefix}
+use Prim.Native.Nat.{ℕ, _+_, _^_, _≤_, _<_}
+use lib.Dec.{leb}
+use lib.ListN.{length, getD, replicate}
+use Rattle.rules.specs.Moves.{Command, Numbers}
+use Rattle.rules.specs.Format.{decodeTable, validateTable}
+use Rattle.rules.specs.Schedule.{decodeSchedule}
+use Rattle.rules.specs.Run.{Ran, run, refusedWith}
+use Rattle.rules.specs.Transparency.{readAnswers}
+use Rattle.cabinet.specs.Runs.{ranBy}
+use Rattle.cabinet.specs.declared.run.Verdict.{Verdict}
+use Rattle.label_line.specs.Line.{serialMost, lineNumber, lineTable, lineLength, lineBytes}
+use Rattle.label_line.specs.Outlet.{labels, cartons, printed, serials, inARow}
+use Rattle.label_line.specs.Spaced.{TakesOften}
+use Rattle.label_line.specs.declared.MadeTable.{MadeTable}
+
+-- Of the commands of a schedule, their answers, and whether the run ended quiet; whatever crashes are among them.
+pub record Labelled (first : ℕ) (commands : List Command) (answers : List Numbers) (quiet : Bool) : Type 0 where
+  -- "With one crash at any place or none, the outlet's words so far are a beginning of that sequence."
+  pub beginning : IsPrefix (printed answers) (labels first (cartons commands answers))
+  -- "When the run ends quiet they are all of it"
+  pub all-printed : quiet ≡ true → printed answers ≡ labels first (cartons commands answers)
+  -- "no serial repeats, none is skipped": the serials are first, first + 1, ..
+  pub in-a-row : serials (printed answers) ≡ inARow first (length (serials (printed answers)))
+  pub no-repeat : (i j : ℕ) → i < length (serials (printed answers)) → j < length (serials (printed answers))
+      → getD (serials (printed answers)) i 0 ≡ getD (serials (printed answers)) j 0 → i ≡ j
+  -- and none wraps, not even when every carton has its label
+  pub no-wrap : first + length (cartons commands answers) ≤ 2 ^ 32
+
+-- ---- the table
+
+-- The table of any first serial: "46, a first serial above 4,294,957,295, its only refusal; no table is then made" (zeros, no table at all).
+pub record Makes (first : ℕ) (r : MadeTable) : Type 0 where
+  pub number-is : r .number ≡ lineNumber first
+  pub bytes-are : r .bytes ≡ cond (leb first serialMost) (lineBytes first) (replicate lineLength 0)
+  -- what is made, the reader accepts, and it says what the label line's table says
+  pub accepted : r .number ≡ 0 → validateTable (r .bytes) ≡ 0
+  pub says : r .number ≡ 0 → decodeTable (r .bytes) ≡ lineTable first
+  -- "In the plain cabinet neither program does nine instructions in a row without a take."
+  pub takes-often : r .number ≡ 0 → TakesOften (decodeTable (r .bytes))
+
+-- ---- the run
+
+-- 46, or the run of the table
+unfoldable pub lineRun : ℕ → List ℕ → List ℕ → List ℕ → Ran
+unfolding run refusedWith
+lineRun first schedule answers report =
+    cond (leb first serialMost) (run (lineBytes first) schedule answers report) (refusedWith 46 answers report)
+
+-- A run of any first serial and any bytes of a schedule, with two buffers of any length.
+pub record RunsLine (first : ℕ) (schedule answers report : List ℕ) (r : Verdict) (answers′ report′ : List ℕ) : Type 0 where
+  pub ran : ranBy (r .number) (r .records) (r .quiet) answers′ report′ ≡ lineRun first schedule answers report
+  -- of the bytes then in `answers`
+  pub labelled : r .number ≡ 0 → Labelled first (decodeSchedule schedule) (readAnswers (r .records) answers′) (r .quiet)
