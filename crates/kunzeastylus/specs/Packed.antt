@@ -1,4 +1,4 @@
--- The promise of `ks_run`: the run's, with its three numbers in one. Document 01: "An accepted run returns 0, its number of records, and
+-- Three numbers in one, and the promise of `ks_run`: the run's, with its three in one. Document 01: "An accepted run returns 0, its number of records, and
 -- whether it ended quiet."
 use mathlib.Core.Path.{_≡_}
 use mathlib.Core.Bool.{Bool, cond}
@@ -19,9 +19,12 @@ packedOf r = r .number + 256 * flagOf (r .quiet) + 4294967296 * r .records
 abbrev pub verdictIn : ℕ → Verdict
 verdictIn n = record { number = n % 256; records = n / 4294967296; quiet = eqb (n / 256 % 2) 1 }
 
--- of any bytes of a table and a schedule, and two buffers of any length
-pub record RunsPacked (table schedule answers report : List ℕ) (n : ℕ) (answers′ report′ : List ℕ) : Type 0 where
+-- what a call promises of the three numbers that it returns in one
+pub record Packed (promised : Verdict → Type 0) (n : ℕ) : Type 0 where
   -- the number is those three and nothing else: every other bit is 0
   pub exact : n ≡ packedOf (verdictIn n)
-  -- and they, with both buffers, are the run's: those of the rules, and demand 3
-  pub runs : Runs table schedule answers report (verdictIn n) answers′ report′
+  pub keeps : promised (verdictIn n)
+
+-- of any bytes of a table and a schedule, and two buffers of any length: the run's promise, those of the rules and demand 3
+abbrev pub RunsPacked : List ℕ → List ℕ → List ℕ → List ℕ → ℕ → List ℕ → List ℕ → Type 0
+RunsPacked table schedule answers report n answers′ report′ = Packed (λ r. Runs table schedule answers report r answers′ report′) n

@@ -63,3 +63,17 @@ module _ (first : ℕ) (schedule answers report : List ℕ) (m : MadeTable) (mad
             (f .actions) (f .end) (rw said at (f .ran)) (rw same (f .injected)) (rw same (f .same-trace))
             (λ q p. rw said at (f .no-step (sym (ap (λ (x : Ran). x .quiet) (runs .ran)) ∙ q) p));
       }
+
+-- ---- a run has at most 10,000 records
+
+few-by : (b : Bool) (first : ℕ) (schedule answers report : List ℕ)
+    → cond b (run (lineBytes first) schedule answers report) (refusedWith 46 answers report) .records ≤ commandsMost
+unfolding refusedWith
+few-by true first schedule answers report = run-few (lineBytes first) schedule answers report
+few-by false first schedule answers report = omega arith
+
+pub line-few : (first : ℕ) (schedule answers report : List ℕ) (r : Verdict) (answers′ report′ : List ℕ)
+    → RunsLine first schedule answers report r answers′ report′ → r .records ≤ commandsMost
+unfolding lineRun
+line-few first schedule answers report r answers′ report′ h =
+    rw (ap (λ (x : Ran). x .records) (h .ran)) (few-by (leb first serialMost) first schedule answers report)

@@ -1,5 +1,6 @@
 -- `ks_run`: the run's promise, with what it returned packed.
-use Rattle.kunzeastylus.proofs.Packing.{few, runs-packed}
+use Rattle.kunzeastylus.proofs.Packing.{few, keeps-packed}
+use Rattle.cabinet.specs.Runs.{Runs}
 use borrow.Author.Needs.{needs}
 use Rattle.kunzeastylus.proofs.run.ks_run.Statement.{statement}
 use Rattle.kunzeastylus.proofs.run.ks_run.Tie as tie
@@ -23,8 +24,8 @@ returns : tie.Need-returns
 returns c =
     let s = c .before .before .before .before .before .before .before .before .before .before .before .before .args in
     let r = c .before .before .before .before .before .run in
-    runs-packed (s .table .now) (s .schedule .now) (s .answers .now) (s .report .now) (r .result) _ _ (r .ensures) (c .packed .result)
-    (c .packed .ensures .1) (c .packed .ensures .0)
+    keeps-packed (λ v. Runs (s .table .now) (s .schedule .now) (s .answers .now) (s .report .now) v _ _) (r .result) (r .ensures)
+    (c .packed .ensures .1) (c .packed .result) (c .packed .ensures .0)
 
 pub ks-run-spec : {M : Type 1} → statement M
 ks-run-spec = tie.close (tie.spec run-requires packed-requires same-length same-length-2 returns)
