@@ -3,7 +3,7 @@ use mathlib.Core.Path.{_≡_, refl, ap, sym, _∙_, subst}
 use mathlib.Core.Bool.{Bool, true, false, cond, _&&_}
 use mathlib.Core.Option.{none, some}
 use mathlib.Core.List.{List, [], _∷_, IsPrefix}
-use Prim.Native.Nat.{ℕ, suc, _+_, _^_, _≤_}
+use Prim.Native.Nat.{ℕ, suc, _+_, _^_, _≤_, _<_}
 use native.Mathlib.Omega.{arith}
 use lib.Dec.{eqb}
 use lib.ListN.{length}
@@ -35,7 +35,7 @@ module _ (first : ℕ) (small : first ≤ serialMost) (commands : List Command) 
     (actions : List Action) (end : Reference) (ran : referenceRun (lineTable first) (referenceStart (lineTable first)) actions ≡ some end)
     (injected : injections actions ≡ fedOf commands answers) (same-trace : end .trace ≡ traceOf answers)
     (no-step : quiet ≡ true → (p : ℕ) → act (lineTable first) end (step p) ≡ none) where
-  fits : first + length (cartons commands answers) ≤ 2 ^ 32
+  fits : first + length (cartons commands answers) < 2 ^ 32
   fits = omega (arith, length-wordsOn scanner (fedOf commands answers), length-fedOf commands answers)
 
   plain : PlainLine first (cartons commands answers) end
@@ -45,7 +45,7 @@ module _ (first : ℕ) (small : first ≤ serialMost) (commands : List Command) 
   printed-is = ap (wordsOn outlet) same-trace
 
   labels-are : wordLabels first (cartons commands answers) ≡ labels first (cartons commands answers)
-  labels-are = wordLabels-labels first (cartons commands answers) fits
+  labels-are = wordLabels-labels first (cartons commands answers) (omega (arith, fits))
 
   begins : IsPrefix (printed answers) (labels first (cartons commands answers))
   begins = rw (← printed-is, ← labels-are) (plain-begins first (cartons commands answers) end plain)

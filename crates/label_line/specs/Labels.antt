@@ -2,7 +2,7 @@
 use mathlib.Core.Path.{_≡_}
 use mathlib.Core.Bool.{Bool, true, cond}
 use mathlib.Core.List.{List, IsPrefix}
-use Prim.Native.Nat.{ℕ, _+_, _^_, _≤_, _<_}
+use Prim.Native.Nat.{ℕ, _+_, _^_, _<_}
 use lib.Dec.{leb}
 use lib.ListN.{length, getD, replicate}
 use Rattle.rules.specs.Moves.{Command, Numbers}
@@ -27,8 +27,8 @@ pub record Labelled (first : ℕ) (commands : List Command) (answers : List Numb
   pub in-a-row : serials (printed answers) ≡ inARow first (length (serials (printed answers)))
   pub no-repeat : (i j : ℕ) → i < length (serials (printed answers)) → j < length (serials (printed answers))
       → getD (serials (printed answers)) i 0 ≡ getD (serials (printed answers)) j 0 → i ≡ j
-  -- and none wraps, not even when every carton has its label
-  pub no-wrap : first + length (cartons commands answers) ≤ 2 ^ 32
+  -- and none wraps: with a label for every carton even the serial after the last fits 32 bits
+  pub no-wrap : first + length (cartons commands answers) < 2 ^ 32
 
 -- ---- the table
 
