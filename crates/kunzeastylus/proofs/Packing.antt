@@ -6,7 +6,7 @@ use Prim.Native.Nat.{ℕ, _+_, _*_, _/_, _%_, _≤_, _<_}
 use native.Mathlib.Omega.{arith}
 use lib.Dec.{eqb}
 use borrow.Author.Tests.{eq-eqb, ne-eqb}
-use Rattle.rules.specs.Run.{Ran, run}
+use Rattle.rules.specs.Run.{Buffers, Ran}
 use Rattle.rules.specs.Schedule.{commandsMost}
 use Rattle.cabinet.specs.Runs.{Runs}
 use Rattle.cabinet.specs.declared.run.Verdict.{Verdict}
@@ -37,6 +37,5 @@ keeps-packed promised r h small n e =
     let same : verdictIn n ≡ r = ap verdictIn e ∙ verdictIn-packedOf r small in
     record { exact = e ∙ ap packedOf (sym same); keeps = subst promised (sym same) h }
 
-pub few : (table schedule answers report : List ℕ) (r : Verdict) (answers′ report′ : List ℕ) → Runs table schedule answers report r answers′ report′
-    → r .records ≤ commandsMost
-few table schedule answers report r answers′ report′ h = rw (ap (λ (x : Ran). x .records) (h .ran)) (run-few table schedule answers report)
+pub few : (table schedule : List ℕ) (before : Buffers) (r : Verdict) (after : Buffers) → Runs table schedule before r after → r .records ≤ commandsMost
+few table schedule before r after h = rw (ap (λ (x : Ran). x .records) (h .ran)) (run-few table schedule before)

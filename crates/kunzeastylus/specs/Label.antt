@@ -2,6 +2,7 @@
 use mathlib.Core.Path.{_≡_}
 use mathlib.Core.List.{List}
 use Prim.Native.Nat.{ℕ}
+use Rattle.rules.specs.Run.{Buffers}
 use Rattle.label_line.specs.Line.{lineNumber}
 use Rattle.label_line.specs.Labels.{Makes, RunsLine}
 use Rattle.kunzeastylus.specs.Packed.{Packed}
@@ -13,5 +14,5 @@ pub record MakesInto (first : ℕ) (before : List ℕ) (n : ℕ) (after : List �
   pub untouched : (n ≡ 0 → ⊥) → after ≡ before
 
 -- The run of a first serial and a schedule.
-abbrev pub RunsLinePacked : ℕ → List ℕ → List ℕ → List ℕ → ℕ → List ℕ → List ℕ → Type 0
-RunsLinePacked first schedule answers report n answers′ report′ = Packed (λ r. RunsLine first schedule answers report r answers′ report′) n
+abbrev pub RunsLinePacked : ℕ → List ℕ → Buffers → ℕ → Buffers → Type 0
+RunsLinePacked first schedule before n after = Packed (λ r. RunsLine first schedule before r after) n

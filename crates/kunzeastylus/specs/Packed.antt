@@ -1,10 +1,11 @@
--- Three numbers in one, and the promise of `ks_run`: the run's, with its three in one. Document 01: "An accepted run returns 0, its number of records, and
--- whether it ended quiet."
+-- Three numbers in one, and the promise of `ks_run`: the run's, with its three in one. Document 01: "An accepted run returns 0, its number of
+-- records, and whether it ended quiet."
 use mathlib.Core.Path.{_≡_}
 use mathlib.Core.Bool.{Bool, cond}
 use mathlib.Core.List.{List}
 use Prim.Native.Nat.{ℕ, _+_, _*_, _/_, _%_}
 use lib.Dec.{eqb}
+use Rattle.rules.specs.Run.{Buffers}
 use Rattle.cabinet.specs.Runs.{Runs}
 use Rattle.cabinet.specs.declared.run.Verdict.{Verdict}
 
@@ -25,6 +26,7 @@ pub record Packed (promised : Verdict → Type 0) (n : ℕ) : Type 0 where
   pub exact : n ≡ packedOf (verdictIn n)
   pub keeps : promised (verdictIn n)
 
--- of any bytes of a table and a schedule, and two buffers of any length: the run's promise, those of the rules and demand 3
-abbrev pub RunsPacked : List ℕ → List ℕ → List ℕ → List ℕ → ℕ → List ℕ → List ℕ → Type 0
-RunsPacked table schedule answers report n answers′ report′ = Packed (λ r. Runs table schedule answers report r answers′ report′) n
+-- of any bytes of a table and a schedule, and buffers of any length, these before it, those after it: the run's promise, the rules' outcome
+-- and demand 3
+abbrev pub RunsPacked : List ℕ → List ℕ → Buffers → ℕ → Buffers → Type 0
+RunsPacked table schedule before n after = Packed (λ r. Runs table schedule before r after) n

@@ -1,4 +1,5 @@
 // The label line, exported: its table and its run (document 02, W-203).
+ghost use Rattle.rules.specs.Run.{buffersOf};
 ghost use Rattle.kunzeastylus.specs.Label.{MakesInto, RunsLinePacked};
 use crate::run::packed;
 use label_line::TABLE;
@@ -28,8 +29,8 @@ pub extern "C" fn ks_label_run(
     answers: &mut [u8],
     report: &mut [u8],
 ) -> u64
-    ensures { λ n. ⌜ RunsLinePacked first (now (schedule .entry)) (now (answers .entry)) (now (report .entry)) n
-        (now (answers .exit)) (now (report .exit)) ⌝ }
+    ensures { λ n. ⌜ RunsLinePacked first (now (schedule .entry)) (buffersOf (now (answers .entry)) (now (report .entry))) n
+        (buffersOf (now (answers .exit)) (now (report .exit))) ⌝ }
 {
     packed(run_line(first, schedule, answers, report))
 }

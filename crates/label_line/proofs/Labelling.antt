@@ -1,17 +1,15 @@
 -- From demand 3 to labels: a run whose words are those of a plain run of the label line's table.
 use mathlib.Core.Path.{_≡_, refl, ap, sym, _∙_, subst}
 use mathlib.Core.Bool.{Bool, true, false, cond, _&&_}
-use mathlib.Core.Option.{none, some}
 use mathlib.Core.List.{List, [], _∷_, IsPrefix}
 use Prim.Native.Nat.{ℕ, suc, _+_, _^_, _≤_, _<_}
 use native.Mathlib.Omega.{arith}
 use lib.Dec.{eqb}
 use lib.ListN.{length}
-use Rattle.rules.specs.Machine.{Mail}
-use Rattle.rules.specs.Reference.{Reference, Action, step, act, referenceStart, referenceRun, injections}
+use Rattle.rules.specs.Machine.{Mail, Machine}
 use Rattle.rules.specs.Moves.{Command, Numbers}
 use Rattle.rules.specs.Schedule.{commandsMost}
-use Rattle.rules.specs.Transparent.{traceOf, fedOf}
+use Rattle.rules.specs.Transparent.{Transparent, traceOf, fedOf}
 use Rattle.label_line.specs.Line.{serialMost, scanner, outlet, lineTable}
 use Rattle.label_line.specs.Outlet.{labels, wordsOn, cartons, printed, serials, inARow}
 use Rattle.label_line.specs.Labels.{Labelled}
@@ -32,23 +30,23 @@ length-fedOf (r ∷ rs) (n ∷ l) = go (eqb (r .move) 4 && eqb (n .code) 4) (len
     go false h = omega arith
 
 module _ (first : ℕ) (small : first ≤ serialMost) (commands : List Command) (answers : List Numbers) (quiet : Bool) (few : length answers ≤ commandsMost)
-    (actions : List Action) (end : Reference) (ran : referenceRun (lineTable first) (referenceStart (lineTable first)) actions ≡ some end)
-    (injected : injections actions ≡ fedOf commands answers) (same-trace : end .trace ≡ traceOf answers)
-    (no-step : quiet ≡ true → (p : ℕ) → act (lineTable first) end (step p) ≡ none) where
+    (machines : List Machine) (x : Transparent (lineTable first) (fedOf commands answers) (traceOf answers) quiet machines) where
   fits : first + length (cartons commands answers) < 2 ^ 32
   fits = omega (arith, length-wordsOn scanner (fedOf commands answers), length-fedOf commands answers)
 
-  plain : PlainLine first (cartons commands answers) end
-  plain = subst (λ (l : List Mail). PlainLine first (wordsOn scanner l) end) injected (plain-line first (omega arith) actions end ran)
+  plain : PlainLine first (cartons commands answers) (x .end)
+  plain =
+      subst (λ (l : List Mail). PlainLine first (wordsOn scanner l) (x .end)) (x .injected)
+      (plain-line first (omega arith) (x .actions) (x .end) (x .ran))
 
-  printed-is : wordsOn outlet (end .trace) ≡ printed answers
-  printed-is = ap (wordsOn outlet) same-trace
+  printed-is : wordsOn outlet (x .end .trace) ≡ printed answers
+  printed-is = ap (wordsOn outlet) (x .same-trace)
 
   labels-are : wordLabels first (cartons commands answers) ≡ labels first (cartons commands answers)
   labels-are = wordLabels-labels first (cartons commands answers) (omega (arith, fits))
 
   begins : IsPrefix (printed answers) (labels first (cartons commands answers))
-  begins = rw (← printed-is, ← labels-are) (plain-begins first (cartons commands answers) end plain)
+  begins = rw (← printed-is, ← labels-are) (plain-begins first (cartons commands answers) (x .end) plain)
 
   row : serials (printed answers) ≡ inARow first (length (serials (printed answers)))
   row = serials-in-a-row first (cartons commands answers) (printed answers) begins
@@ -56,7 +54,7 @@ module _ (first : ℕ) (small : first ≤ serialMost) (commands : List Command) 
   pub labelled : Labelled first commands answers quiet
   labelled = record {
     beginning = begins;
-    all-printed = λ q. sym printed-is ∙ plain-ends first (cartons commands answers) end plain (no-step q) ∙ labels-are;
+    all-printed = λ q. sym printed-is ∙ plain-ends first (cartons commands answers) (x .end) plain (x .no-step q) ∙ labels-are;
     in-a-row = row;
     no-repeat = in-a-row-apart first (serials (printed answers)) row;
     no-wrap = fits;

@@ -10,8 +10,8 @@ use borrow.Author.Tests.{leb-true, le-leb}
 use Rattle.rules.specs.Moves.{numbered}
 use Rattle.rules.specs.Format.{decodeTable}
 use Rattle.rules.specs.Schedule.{commandsMost, decodeSchedule}
-use Rattle.rules.specs.Run.{Ran, run, refusedWith}
-use Rattle.rules.specs.Transparency.{readAnswers, answersIn}
+use Rattle.rules.specs.Run.{Buffers, Ran, run, refusedWith}
+use Rattle.rules.specs.Transparency.{answersIn}
 use Rattle.rules.proofs.Valid.{length-sixes}
 use Rattle.cabinet.specs.Runs.{ranBy, Runs}
 use Rattle.cabinet.specs.declared.run.Verdict.{Verdict}
@@ -37,43 +37,38 @@ high first m h z = go (leb first serialMost) refl (h .number-is)
     go true e n = absurd (z n)
     go false e n = e
 
-module _ (first : ℕ) (schedule answers report : List ℕ) (m : MadeTable) (made : Makes first m) where
-  pub refused : (m .number ≡ 0 → ⊥) → RunsLine first schedule answers report (record { number = m .number; records = 0; quiet = false }) answers report
+module _ (first : ℕ) (schedule : List ℕ) (before : Buffers) (m : MadeTable) (made : Makes first m) where
+  pub refused : (m .number ≡ 0 → ⊥) → RunsLine first schedule before (record { number = m .number; records = 0; quiet = false }) before
   unfolding lineRun
   refused z =
       let beyond : leb first serialMost ≡ false = high first m made z in
       let number : m .number ≡ 46 = rw beyond at (made .number-is) in
       record { ran = rw (beyond, number); labelled = λ e. absurd (z e) }
 
-  pub ran-line : (r : Verdict) (answers′ report′ : List ℕ) → m .number ≡ 0 → Runs (m .bytes) schedule answers report r answers′ report′
-      → RunsLine first schedule answers report r answers′ report′
+  pub ran-line : (r : Verdict) (after : Buffers) → m .number ≡ 0 → Runs (m .bytes) schedule before r after → RunsLine first schedule before r after
   unfolding lineRun
-  ran-line r answers′ report′ z runs =
+  ran-line r after z runs =
       let within : leb first serialMost ≡ true = low first m made z in
       let bytes : m .bytes ≡ lineBytes first = rw within at (made .bytes-are) in
-      let few : r .records ≤ commandsMost = rw (ap (λ (x : Ran). x .records) (runs .ran)) (run-few (m .bytes) schedule answers report) in
-      let many : length (readAnswers (r .records) answers′) ≡ r .records = length-sixes numbered (r .records) answers′ in
+      let few : r .records ≤ commandsMost = rw (ap (λ (x : Ran). x .records) (runs .ran)) (run-few (m .bytes) schedule before) in
+      let many : length (answersIn (ranBy r after)) ≡ r .records = length-sixes numbered (r .records) (after .answers) in
       record {
         ran = rw within (rw (← bytes) (runs .ran));
         labelled = λ e.
-            let f = runs .failure-transparent e in
-            let said : decodeTable (m .bytes) ≡ lineTable first = made .says z in
-            let same = ap answersIn (runs .ran) in
-            labelled first (leb-true first serialMost within) (decodeSchedule schedule) (readAnswers (r .records) answers′) (r .quiet) (rw many few)
-            (f .actions) (f .end) (rw said at (f .ran)) (rw same (f .injected)) (rw same (f .same-trace))
-            (λ q p. rw said at (f .no-step (sym (ap (λ (x : Ran). x .quiet) (runs .ran)) ∙ q) p));
+            labelled first (leb-true first serialMost within) (decodeSchedule schedule) (answersIn (ranBy r after)) (r .quiet) (rw many few) _
+            (rw (made .says z) at (runs .failure-transparent e));
       }
 
 -- ---- a run has at most 10,000 records
 
-few-by : (b : Bool) (first : ℕ) (schedule answers report : List ℕ)
-    → cond b (run (lineBytes first) schedule answers report) (refusedWith 46 answers report) .records ≤ commandsMost
+few-by : (b : Bool) (first : ℕ) (schedule : List ℕ) (before : Buffers)
+    → cond b (run (lineBytes first) schedule before) (refusedWith 46 before) .records ≤ commandsMost
 unfolding refusedWith
-few-by true first schedule answers report = run-few (lineBytes first) schedule answers report
-few-by false first schedule answers report = omega arith
+few-by true first schedule before = run-few (lineBytes first) schedule before
+few-by false first schedule before = omega arith
 
-pub line-few : (first : ℕ) (schedule answers report : List ℕ) (r : Verdict) (answers′ report′ : List ℕ)
-    → RunsLine first schedule answers report r answers′ report′ → r .records ≤ commandsMost
+pub line-few : (first : ℕ) (schedule : List ℕ) (before : Buffers) (r : Verdict) (after : Buffers) → RunsLine first schedule before r after
+    → r .records ≤ commandsMost
 unfolding lineRun
-line-few first schedule answers report r answers′ report′ h =
-    rw (ap (λ (x : Ran). x .records) (h .ran)) (few-by (leb first serialMost) first schedule answers report)
+line-few first schedule before r after h =
+    rw (ap (λ (x : Ran). x .records) (h .ran)) (few-by (leb first serialMost) first schedule before)

@@ -8,8 +8,8 @@ use lib.ListN.{length, getD, replicate}
 use Rattle.rules.specs.Moves.{Command, Numbers}
 use Rattle.rules.specs.Format.{decodeTable, validateTable}
 use Rattle.rules.specs.Schedule.{decodeSchedule}
-use Rattle.rules.specs.Run.{Ran, run, refusedWith}
-use Rattle.rules.specs.Transparency.{readAnswers}
+use Rattle.rules.specs.Run.{Buffers, Ran, run, refusedWith}
+use Rattle.rules.specs.Transparency.{answersIn}
 use Rattle.cabinet.specs.Runs.{ranBy}
 use Rattle.cabinet.specs.declared.run.Verdict.{Verdict}
 use Rattle.label_line.specs.Line.{serialMost, lineNumber, lineTable, lineLength, lineBytes}
@@ -45,13 +45,13 @@ pub record Makes (first : ℕ) (r : MadeTable) : Type 0 where
 -- ---- the run
 
 -- 46, or the run of the table
-unfoldable pub lineRun : ℕ → List ℕ → List ℕ → List ℕ → Ran
+unfoldable pub lineRun : ℕ → List ℕ → Buffers → Ran
 unfolding run refusedWith
-lineRun first schedule answers report =
-    cond (leb first serialMost) (run (lineBytes first) schedule answers report) (refusedWith 46 answers report)
+lineRun first schedule before = cond (leb first serialMost) (run (lineBytes first) schedule before) (refusedWith 46 before)
 
--- A run of any first serial and any bytes of a schedule, with two buffers of any length.
-pub record RunsLine (first : ℕ) (schedule answers report : List ℕ) (r : Verdict) (answers′ report′ : List ℕ) : Type 0 where
-  pub ran : ranBy (r .number) (r .records) (r .quiet) answers′ report′ ≡ lineRun first schedule answers report
-  -- of the bytes then in `answers`
-  pub labelled : r .number ≡ 0 → Labelled first (decodeSchedule schedule) (readAnswers (r .records) answers′) (r .quiet)
+-- A run of any first serial and any bytes of a schedule, with buffers of any length: these before it, those after it.
+pub record RunsLine (first : ℕ) (schedule : List ℕ) (before : Buffers) (r : Verdict) (after : Buffers) : Type 0 where
+  -- number, records, quiet and buffers: refused, nothing is written
+  pub ran : ranBy r after ≡ lineRun first schedule before
+  -- the labels of an accepted run, about the answers in the buffer as the call left it and the `quiet` that it returned
+  pub labelled : r .number ≡ 0 → Labelled first (decodeSchedule schedule) (answersIn (ranBy r after)) (r .quiet)

@@ -2,6 +2,7 @@
 // serial, makes the table and runs schedules on it, with nothing but the cabinet's promises.
 ghost use mathlib.Core.Path.{_≡_};
 ghost use Prim.Native.Nat.{_%_, _≤_};
+ghost use Rattle.rules.specs.Run.{buffersOf};
 ghost use Rattle.label_line.specs.Line.{frameBytes, instructionIn, lineBytes};
 ghost use Rattle.label_line.specs.Labels.{Makes, RunsLine};
 use cabinet::run::Verdict;
@@ -112,7 +113,8 @@ pub fn make_table(first: u32) -> MadeTable
 
 // A schedule on the table of a first serial.
 pub fn run_line(first: u32, schedule: &[u8], answers: &mut [u8], report: &mut [u8]) -> Verdict
-    ensures { λ r. ⌜ RunsLine first (now (schedule .entry)) (now (answers .entry)) (now (report .entry)) r (now (answers .exit)) (now (report .exit)) ⌝ }
+    ensures { λ r. ⌜ RunsLine first (now (schedule .entry)) (buffersOf (now (answers .entry)) (now (report .entry))) r
+        (buffersOf (now (answers .exit)) (now (report .exit))) ⌝ }
 {
     let made = make_table(first);
     let number = made.number;

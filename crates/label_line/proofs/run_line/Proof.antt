@@ -1,3 +1,4 @@
+use Rattle.rules.specs.Run.{buffersOf}
 use Rattle.label_line.proofs.Running.{refused, ran-line}
 use borrow.Author.Needs.{needs}
 use Rattle.label_line.proofs.run_line.Statement.{statement}
@@ -13,7 +14,7 @@ make-table-requires c κs = search needs
 returns : tie.Need-returns
 returns c =
     let s = c .before .before .before .before .before .before .args in
-    refused (s .first) (s .schedule .now) (s .answers .now) (s .report .now) (c .before .before .make-table .result) (c .before .before .make-table .ensures) (c .if1 .taken)
+    refused (s .first) (s .schedule .now) (buffersOf (s .answers .now) (s .report .now)) (c .before .before .make-table .result) (c .before .before .make-table .ensures) (c .if1 .taken)
 
 slice-aggregate-run : tie.Need-slice-aggregate-run
 slice-aggregate-run c = search needs
@@ -30,8 +31,8 @@ same-length-2 c = search needs
 returns-2 : tie.Need-returns-2
 returns-2 c =
     let s = c .before .before .before .before .before .before .before .before .before .before .before .before .before .before .args in
-    ran-line (s .first) (s .schedule .now) (s .answers .now) (s .report .now) (c .before .before .before .before .before .before .before .before .before .before .make-table .result) (c .before .before .before .before .before .before .before .before .before .before .make-table .ensures)
-    (c .before .before .before .before .run .result) _ _ (c .before .before .before .before .before .before .before .before .if1 .left) (c .before .before .before .before .run .ensures)
+    ran-line (s .first) (s .schedule .now) (buffersOf (s .answers .now) (s .report .now)) (c .before .before .before .before .before .before .before .before .before .before .make-table .result) (c .before .before .before .before .before .before .before .before .before .before .make-table .ensures)
+    (c .before .before .before .before .run .result) _ (c .before .before .before .before .before .before .before .before .if1 .left) (c .before .before .before .before .run .ensures)
 
 pub run-line-spec : {M : Type 1} → statement M
 run-line-spec =

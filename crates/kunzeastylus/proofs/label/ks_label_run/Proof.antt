@@ -1,4 +1,5 @@
 -- `ks_label_run`: the label line's run, with what it returned packed.
+use Rattle.rules.specs.Run.{buffersOf}
 use Rattle.label_line.specs.Labels.{RunsLine}
 use Rattle.label_line.proofs.Running.{line-few}
 use Rattle.kunzeastylus.proofs.Packing.{keeps-packed}
@@ -13,7 +14,7 @@ packed-requires : tie.Need-packed-requires
 packed-requires c κs =
     let s = c .before .before .before .before .before .before .before .before .before .before .args in
     let r = c .before .before .before .before .run-line in
-    line-few (s .first) (s .schedule .now) (s .answers .now) (s .report .now) (r .result) _ _ (r .ensures)
+    line-few (s .first) (s .schedule .now) (buffersOf (s .answers .now) (s .report .now)) (r .result) _ (r .ensures)
 
 same-length : tie.Need-same-length
 same-length c = search needs
@@ -25,7 +26,7 @@ returns : tie.Need-returns
 returns c =
     let s = c .before .before .before .before .before .before .before .before .before .before .before .args in
     let r = c .before .before .before .before .before .run-line in
-    keeps-packed (λ v. RunsLine (s .first) (s .schedule .now) (s .answers .now) (s .report .now) v _ _) (r .result) (r .ensures)
+    keeps-packed (λ v. RunsLine (s .first) (s .schedule .now) (buffersOf (s .answers .now) (s .report .now)) v _) (r .result) (r .ensures)
     (c .packed .ensures .1) (c .packed .result) (c .packed .ensures .0)
 
 pub ks-label-run-spec : {M : Type 1} → statement M
