@@ -9,7 +9,8 @@ use lib.ListN.{set, replicate}
 use borrow.Author.Tests.{le-leb, lt-leb}
 use Rattle.rules.specs.Format.{decodeTable, validateTable}
 use Rattle.rules.proofs.ReadBack.{word-back}
-use Rattle.label_line.specs.Line.{serialMost, lineNumber, lineTable, lineLength, lineBytes, frameBytes, instructionIn}
+use Rattle.label_line.specs.Line.{serialMost, lineNumber, lineTable, lineLength, lineBytes}
+use Rattle.label_line.specs.Puts.{frameBytes, instructionIn}
 use Rattle.label_line.specs.Labels.{Makes}
 use Rattle.label_line.proofs.Spacing.{takes-often}
 

@@ -1,8 +1,7 @@
 -- The label line's table (document 02, W-203): "one scanner, one numbering program and one printer program on two boards".
 use mathlib.Core.List.{List, [], _∷_, _++_}
-use Prim.Native.Nat.{ℕ, _+_, _/_, _%_, _^_}
+use Prim.Native.Nat.{ℕ}
 use lib.Dec.{leb}
-use lib.ListN.{set, replicate}
 use Rattle.rules.specs.Table.{environment, Channel, Instruction, SET, ADD, TAKE, SEND, JUMP, Table}
 use Rattle.rules.specs.Bytes.{wordBytes}
 use Rattle.rules.specs.Format.{orNumber}
@@ -67,17 +66,3 @@ lineBytes first =
     ++ ((0 ∷ 1 ∷ 7 ∷ []) ++ (six 1 1 first ++ (six 1 2 1 ++ (six 3 0 0 ++ (six 5 0 1 ++ (six 5 1 1 ++ (six 2 1 2 ++ (six 6 2 2
     -- process 1
     ++ ((1 ∷ 0 ∷ 4 ∷ []) ++ (six 1 1 1 ++ (six 3 0 1 ++ (six 5 0 2 ++ six 6 1 1)))))))))))))))
-
--- ---- how they are put together
-
--- without the instructions
-unfoldable pub frameBytes : List ℕ
-frameBytes =
-    (0 ∷ 82 ∷ 1 ∷ 2 ∷ 2 ∷ 3 ∷ []) ++ ((255 ∷ 0 ∷ []) ++ ((0 ∷ 1 ∷ []) ++ ((1 ∷ 255 ∷ [])
-    ++ ((0 ∷ 1 ∷ 7 ∷ []) ++ (replicate 42 0 ++ ((1 ∷ 0 ∷ 4 ∷ []) ++ replicate 24 0))))))
-
--- with an instruction at a place
-unfoldable pub instructionIn : List ℕ → ℕ → ℕ → ℕ → ℕ → List ℕ
-instructionIn l at code a operand =
-    set (set (set (set (set (set l at code) (at + 1) a) (at + 2) (operand / 2 ^ 24)) (at + 3) (operand / 2 ^ 16 % 2 ^ 8)) (at + 4) (operand / 2 ^ 8 % 2 ^ 8))
-    (at + 5) (operand % 2 ^ 8)

@@ -3,7 +3,8 @@
 ghost use mathlib.Core.Path.{_≡_};
 ghost use Prim.Native.Nat.{_%_, _≤_};
 ghost use Rattle.rules.specs.Run.{buffersOf};
-ghost use Rattle.label_line.specs.Line.{frameBytes, instructionIn, lineBytes};
+ghost use Rattle.label_line.specs.Line.{lineBytes};
+ghost use Rattle.label_line.specs.Puts.{frameBytes, instructionIn};
 ghost use Rattle.label_line.specs.Labels.{Makes, RunsLine};
 use cabinet::run::Verdict;
 use cabinet::run::run;

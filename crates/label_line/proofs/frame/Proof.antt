@@ -1,5 +1,5 @@
 use mathlib.Core.Path.{refl}
-use Rattle.label_line.specs.Line.{frameBytes}
+use Rattle.label_line.specs.Puts.{frameBytes}
 use borrow.Author.Needs.{needs}
 use Rattle.label_line.proofs.frame.Statement.{statement}
 use Rattle.label_line.proofs.frame.Tie as tie
