@@ -8,7 +8,7 @@ use lib.Dec.{eqb}
 use borrow.Author.Tests.{ne-eqb}
 use Rattle.rules.specs.Table.{Instruction, SET, ADD, TAKE, FIRST, SEND, JUMP, NONE}
 use Rattle.rules.specs.Format.{instruction}
-use Rattle.rules.specs.Moves.{Move, stepMove, issueMove, transmitMove, injectMove, crashMove, unknown, moveOf, Refusal, unknownMove, strayWord, noProcess, noBoard, noChannel, transmitDead, crashDead, isHalted, noWordToTake, noWordForFirst, eventsFull, sendBlocked, syncBlocked, sendHeld, injectHeld, noBackup, syncWaits, outboxEmpty, notOutside, otherCrashed, refusalNumber, missing}
+use Rattle.rules.specs.Moves.{Move, stepMove, issueMove, transmitMove, injectMove, crashMove, unknown, moveOf, Refusal, unknownMove, strayWord, noProcess, noBoard, noChannel, transmitDead, crashDead, isHalted, noWordToTake, noWordForFirst, eventsFull, instructionsFull, sendBlocked, syncBlocked, sendHeld, injectHeld, noBackup, syncWaits, outboxEmpty, notOutside, otherCrashed, refusalNumber, missing}
 
 -- ---- moves
 
@@ -71,6 +71,7 @@ refusalNumber-listed isHalted = record { low = omega arith; high = omega arith }
 refusalNumber-listed noWordToTake = record { low = omega arith; high = omega arith }
 refusalNumber-listed noWordForFirst = record { low = omega arith; high = omega arith }
 refusalNumber-listed eventsFull = record { low = omega arith; high = omega arith }
+refusalNumber-listed instructionsFull = record { low = omega arith; high = omega arith }
 refusalNumber-listed sendBlocked = record { low = omega arith; high = omega arith }
 refusalNumber-listed syncBlocked = record { low = omega arith; high = omega arith }
 refusalNumber-listed sendHeld = record { low = omega arith; high = omega arith }
