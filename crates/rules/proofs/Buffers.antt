@@ -50,14 +50,14 @@ module _ (t : Table) (n : ℕ) (c : Cabinet) (h : Many n c) where
   send-many : (p : ℕ) (x : Process) (m : Machine) (mail : Mail) (k : ℕ) → Leaves (Many n) (send t c p x m mail k)
   unfolding send
   send-many p x m mail (suc k) = leaves (one p _)
-  send-many p x m mail zero = after-guard _ _ _ λ _. after-guard _ _ _ λ _. after-guard _ _ _ λ _. after-guard _ _ _ λ _. leaves (one p _)
+  send-many p x m mail zero = after-guard _ _ _ λ _. after-guard _ _ _ λ _. after-guard _ _ _ λ _. leaves (one p _)
 
   outcome-many : (p : ℕ) (x : Process) (o : Outcome) → Leaves (Many n) (stepFrom t c p x o)
   unfolding stepFrom
   outcome-many p x halted = unmoved
   outcome-many p x noMail = unmoved
   outcome-many p x (moved m internal) = after-guard _ _ _ λ _. leaves (one p _)
-  outcome-many p x (moved m (took mail)) = after-guard _ _ _ λ _. after-guard _ _ _ λ _. leaves (one p _)
+  outcome-many p x (moved m (took mail)) = after-guard _ _ _ λ _. leaves (one p _)
   outcome-many p x (moved m (sent mail)) = send-many p x m mail (x .suppress)
 
   item-many : (b : ℕ) (rest : List Item) (i : Item) → Leaves (Many n) (transmitItem t (record { processes = c .processes; outboxes = set (c .outboxes) b rest; dead = c .dead }) i)

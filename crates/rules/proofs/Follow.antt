@@ -9,11 +9,11 @@ use lib.Dec.{eqb}
 use lib.ListN.{length, getD, set, length-set}
 use lib.Seq.{set-getD}
 use borrow.Author.Tests.{leb-false, not-false}
-use Rattle.facts.specs.Tests.{no-way}
+use Rattle.facts.specs.Tests.{no-way, or-left, or-right}
 use Rattle.rules.specs.Table.{Table, channelAt, codeOf, portOf}
 use Rattle.rules.specs.Machine.{Mail, Machine, booted, Act, internal, took, sent, Outcome, halted, noMail, moved, localStep}
 use Rattle.rules.specs.Reference.{Reference, Action, referenceRun, injections}
-use Rattle.rules.specs.Cabinet.{instructionsMost, eventsMost, Since, Process, Item, message, checkpoint, Cabinet, processAt, outboxAt, limited, exhausted, overrun, waiting}
+use Rattle.rules.specs.Cabinet.{instructionsMost, eventsMost, Since, Process, Item, message, checkpoint, Cabinet, processAt, outboxAt, limited, exhausted, overrun, owing, waiting}
 use Rattle.rules.specs.Moves.{Answer, numbers, withProcess, withOutbox, advanced, send, stepFrom, step, counting, oneDone, oneSent, oneTaken, issued, snapshot, issue}
 use Rattle.rules.specs.Judge.{Accepted}
 use Rattle.rules.specs.Transparent.{traceOf}
@@ -77,8 +77,12 @@ not-overrun x h safe = leb-false instructionsMost (x .since .instructions) (rw s
 allows-done : (x : Process) → overrun x ≡ false → limited x ≡ true → Allows internal (x .since)
 allows-done x long safe = record { instruction = not-overrun x long safe; event = λ h. omega arith }
 
-allows-act : (x : Process) (k : Act) → busy1 k ≡ 1 → exhausted x ≡ false → overrun x ≡ false → limited x ≡ true → Allows k (x .since)
-allows-act x k one spent long safe = record { instruction = not-overrun x long safe; event = λ _. omega (arith, not-exhausted x spent safe) }
+allows-act : (x : Process) (k : Act) → busy1 k ≡ 1 → owing x ≡ false → limited x ≡ true → Allows k (x .since)
+unfolding owing
+allows-act x k one none safe = record {
+  instruction = not-overrun x (or-right (exhausted x) (overrun x) none) safe;
+  event = λ _. omega (arith, not-exhausted x (or-left (exhausted x) (overrun x) none) safe);
+}
 
 none-waits : (t : Table) (p : ℕ) (q : List Item) → waiting p q ≡ false → checkpoints (mine t p q) ≡ 0
 none-waits t p [] h = refl
@@ -131,10 +135,10 @@ module _ {t : Table} (ok : Accepted t) {c : Cabinet} {s : Reference} (inv : Inva
       leaves (wait-only (advanced m (processAt c p .since) h (processAt c p)) (same-boards refl refl)
       (good-suppressed ok (in-table inv hp) (inv .good p hp) z e))
   follow-send m mail zero z e =
-      after-guard _ _ _ λ spent. after-guard _ _ _ λ long. after-guard _ _ _ λ _. after-guard _ _ _ λ _.
+      after-guard _ _ _ λ limit. after-guard _ _ _ λ _. after-guard _ _ _ λ _.
       leaves (wait-joined (advanced m (counting oneSent (processAt c p)) 0 (processAt c p)) (message mail) (same-boards refl refl)
       (step-own t ok p (in-table inv hp) e)
-      (good-send ok (in-table inv hp) (inv .good p hp) z e (allows-act (processAt c p) (sent mail) refl spent long)))
+      (good-send ok (in-table inv hp) (inv .good p hp) z e (allows-act (processAt c p) (sent mail) refl limit)))
 
   follow-outcome : (o : Outcome) → localStep (codeOf t p) (processAt c p .machine) ≡ o
       → Yields (λ d a. Follows t d s (traced1 a) []) (stepFrom t c p (processAt c p) o)
@@ -148,9 +152,9 @@ module _ {t : Table} (ok : Accepted t) {c : Cabinet} {s : Reference} (inv : Inva
       (good-silent ok (in-table inv hp) {k = internal} (inv .good p hp) (record { is = e }) refl (allows-done x long)))
   follow-outcome (moved m (took mail)) e =
       let x : Process = processAt c p in
-      after-guard _ _ _ λ spent. after-guard _ _ _ λ long.
+      after-guard _ _ _ λ limit.
       leaves (wait-only (advanced m (counting (oneTaken (portOf t p (mail .channel))) x) (x .suppress) x) (same-boards refl refl)
-      (good-silent ok (in-table inv hp) {k = took mail} (inv .good p hp) (record { is = e }) refl (allows-act x (took mail) refl spent long)))
+      (good-silent ok (in-table inv hp) {k = took mail} (inv .good p hp) (record { is = e }) refl (allows-act x (took mail) refl limit)))
   follow-outcome (moved m (sent mail)) e = follow-send m mail (processAt c p .suppress) refl (record { is = e })
 
   pub follow-step : Yields (λ d a. Follows t d s (traced1 a) []) (step t c p)

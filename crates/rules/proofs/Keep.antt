@@ -52,7 +52,7 @@ module _ (t : Table) (c : Cabinet) (small : length (c .processes) ≤ environmen
   unfolding send
   send-room p m mail e (suc h) = leaves (stays p m (sent mail) e _ _)
   send-room p m mail e zero =
-      after-guard _ _ _ λ _. after-guard _ _ _ λ _. after-guard _ _ _ λ _. after-guard _ _ _ λ free.
+      after-guard _ _ _ λ _. after-guard _ _ _ λ _. after-guard _ _ _ λ free.
       leaves (step-room p m (sent mail) e (mail .channel ∷ []) (admit t c (mail .channel) small free rm) _ _ _
       (λ k. let j = flight-join k (c .outboxes) (processAt c p .board) (message mail) in omega arith))
 
@@ -62,7 +62,7 @@ module _ (t : Table) (c : Cabinet) (small : length (c .processes) ≤ environmen
   outcome-room p noMail e = unmoved
   outcome-room p (moved m internal) e = after-guard _ _ _ λ _. leaves (stays p m internal e _ _)
   outcome-room p (moved m (took mail)) e =
-      after-guard _ _ _ λ _. after-guard _ _ _ λ _.
+      after-guard _ _ _ λ _.
       leaves (stays p m (took mail) e _ _)
   outcome-room p (moved m (sent mail)) e = send-room p m mail e (processAt c p .suppress)
 

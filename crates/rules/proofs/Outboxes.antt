@@ -37,14 +37,14 @@ module _ (t : Table) (c : Cabinet) (h : OutboxBounds c) where
   send-short : (p : ℕ) (m : Machine) (mail : Mail) (n : ℕ) → Leaves OutboxBounds (send t c p (processAt c p) m mail n)
   unfolding send
   send-short p m mail (suc n) = leaves h
-  send-short p m mail zero = after-guard _ _ _ λ _. after-guard _ _ _ λ _. after-guard _ _ _ λ free. after-guard _ _ _ λ _. leaves (joined (processAt c p .board) (message mail) free)
+  send-short p m mail zero = after-guard _ _ _ λ _. after-guard _ _ _ λ free. after-guard _ _ _ λ _. leaves (joined (processAt c p .board) (message mail) free)
 
   outcome-short : (p : ℕ) (o : Outcome) → Leaves OutboxBounds (stepFrom t c p (processAt c p) o)
   unfolding stepFrom
   outcome-short p halted = unmoved
   outcome-short p noMail = unmoved
   outcome-short p (moved m internal) = after-guard _ _ _ λ _. leaves h
-  outcome-short p (moved m (took mail)) = after-guard _ _ _ λ _. after-guard _ _ _ λ _. leaves h
+  outcome-short p (moved m (took mail)) = after-guard _ _ _ λ _. leaves h
   outcome-short p (moved m (sent mail)) = send-short p m mail (processAt c p .suppress)
 
   issue-short : (p : ℕ) → Leaves OutboxBounds (issue t c p)

@@ -128,6 +128,11 @@ exhausted x = limited x && leb eventsMost (x .since .events)
 unfoldable pub overrun : Process → Bool
 overrun x = limited x && leb instructionsMost (x .since .instructions)
 
+-- "A backed process now also owes a sync": for its acts, or for its instructions
+unfoldable pub owing : Process → Bool
+unfolding exhausted overrun
+owing x = exhausted x || overrun x
+
 -- how many unread words of a mailbox are of channel k
 abbrev pub unreadOn : ℕ → List Mail → ℕ
 unreadOn k [] = 0
