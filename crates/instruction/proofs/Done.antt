@@ -13,7 +13,7 @@ use Rattle.rules.specs.Cabinet.{Since, Process, limited}
 use Rattle.rules.specs.Moves.{advanced, counting, oneDone}
 use Rattle.process.specs.Row.{machineOf, standbyOf, processOf, Kept}
 use Rattle.process.specs.Change.{Became}
-use Rattle.instruction.specs.Instruction.{afterSend, bumped, oneIn, tallied, TallyRoom, Calculates, Computes, Queues}
+use Rattle.instruction.specs.Instruction.{afterSend, bumped, oneIn, tallied, TallyRoom, Evaluates, Computes, Queues}
 use Rattle.process.proofs.Rows.{spelled, limited-is}
 use Rattle.instruction.proofs.Cells.{kept-other, tally-fits, tallied-is, anotherSend, going, queued-became}
 
@@ -85,7 +85,7 @@ act-same f h x = go (limited x)
 
 -- ---- a SET, an ADD or a JUMP, and a SEND
 
-pub computes : (row : List ℕ) (code a operand : ℕ) (row′ : List ℕ) → Calculates row code a operand row′ → Computes row code a operand (tallied row′ 15)
+pub computes : (row : List ℕ) (code a operand : ℕ) (row′ : List ℕ) → Evaluates row code a operand row′ → Computes row code a operand (tallied row′ 15)
 computes row code a operand row′ c program n mail log head k i room =
     and-done row mail log head row′ mail _ (λ x. x .since) (λ x. x .suppress) refl (c program n mail log head k i) room
 

@@ -109,8 +109,8 @@ pub record Loads (row : List ℕ) (code a x : ℕ) (row′ : List ℕ) : Type 0 
   pub fits : mailIn x .channel < 2 ^ 32
 
 -- What a SET, an ADD or a JUMP does to registers and place: machine and nothing else.
-abbrev pub Calculates : List ℕ → ℕ → ℕ → ℕ → List ℕ → Type 0
-Calculates row code a operand row′ =
+abbrev pub Evaluates : List ℕ → ℕ → ℕ → ℕ → List ℕ → Type 0
+Evaluates row code a operand row′ =
     (program : List Instruction) (n : ℕ) (mail log head : List ℕ) → Kept row mail log head → Intends program row mail n code a operand Internal
     → Became row mail log head row′ mail log head (λ x. advanced (afterInternal code a operand (machineOf row mail)) (x .since) (x .suppress) x)
 

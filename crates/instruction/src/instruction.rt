@@ -4,7 +4,7 @@
 ghost use mathlib.Core.Path.{_≡_};
 ghost use Prim.Native.Nat.{_+_, _%_, _^_, _<_};
 ghost use lib.ListN.{getD};
-ghost use Rattle.instruction.specs.Instruction.{bumped, oneIn, tallied, Loads, Examined, Sought, Calculates, Computes, Takes, Suppresses, Queues};
+ghost use Rattle.instruction.specs.Instruction.{bumped, oneIn, tallied, Loads, Examined, Sought, Evaluates, Computes, Takes, Suppresses, Queues};
 use crate::mailbox::look;
 use crate::mailbox::remove;
 use process::mail::MAIL;
@@ -124,8 +124,8 @@ fn sum(row: &[u32; ROW], a: u32, b: u32) -> u32
 }
 
 // What a SET, an ADD or a JUMP does to registers and place.
-fn calculate(row: &mut [u32; ROW], code: u8, a: u32, operand: u32)
-    ensures { λ _. ⌜ Calculates (now (row .entry)) code a operand (now (row .exit)) ⌝ }
+fn evaluate(row: &mut [u32; ROW], code: u8, a: u32, operand: u32)
+    ensures { λ _. ⌜ Evaluates (now (row .entry)) code a operand (now (row .exit)) ⌝ }
 {
     match code {
         1 => {
@@ -151,7 +151,7 @@ fn calculate(row: &mut [u32; ROW], code: u8, a: u32, operand: u32)
 pub fn compute(row: &mut [u32; ROW], code: u8, a: u32, operand: u32)
     ensures { λ _. ⌜ Computes (now (row .entry)) code a operand (now (row .exit)) ⌝ }
 {
-    calculate(row, code, a, operand);
+    evaluate(row, code, a, operand);
     tally(row, INSTRUCTIONS);
 }
 

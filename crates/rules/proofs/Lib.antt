@@ -48,6 +48,7 @@ pub mod Buffers
 pub mod Cases
 pub mod Marked
 pub mod MoveCases
+pub mod LongCases
 pub mod FormatCases
 pub mod PageCases
 pub mod ReferenceCases

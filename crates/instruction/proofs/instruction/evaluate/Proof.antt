@@ -1,10 +1,10 @@
 use native.Mathlib.Omega.{arith}
-use Rattle.instruction.proofs.Computing.{calculates-set, calculates-add, calculates-on, calculates-jump, calculates-none}
+use Rattle.instruction.proofs.Computing.{evaluates-set, evaluates-add, evaluates-on, evaluates-jump, evaluates-none}
 use borrow.Author.Needs.{needs}
-use Rattle.instruction.proofs.instruction.calculate.Statement.{statement}
-use Rattle.instruction.proofs.instruction.calculate.Tie as tie
-use Rattle.instruction.proofs.instruction.calculate.Reads as reads
-use Rattle.instruction.proofs.instruction.calculate.Lts as lts
+use Rattle.instruction.proofs.instruction.evaluate.Statement.{statement}
+use Rattle.instruction.proofs.instruction.evaluate.Tie as tie
+use Rattle.instruction.proofs.instruction.evaluate.Reads as reads
+use Rattle.instruction.proofs.instruction.evaluate.Lts as lts
 use Rattle.instruction.proofs.instruction.bump.Reads as bump-reads
 use Rattle.instruction.proofs.instruction.cell.Reads as cell-reads
 use Rattle.instruction.proofs.instruction.register.Reads as register-reads
@@ -48,27 +48,27 @@ element-write-row-3 c = search needs
 
 returns : tie.Need-returns
 returns c =
-    rw (c .bump .ensures, c .before .before .cell .ensures) (calculates-set _ _ _ _ (c .before .before .before .match .keys1) (c .before .before .before .before .fits .operand .fits))
+    rw (c .bump .ensures, c .before .before .cell .ensures) (evaluates-set _ _ _ _ (c .before .before .before .match .keys1) (c .before .before .before .before .fits .operand .fits))
 
 returns-2 : tie.Need-returns-2
 returns-2 c =
     rw (c .bump2 .ensures, c .before .before .cell2 .ensures)
-    (calculates-add _ _ _ _ (c .before .before .before .before .before .match .keys2) _ (c .before .before .before .sum .ensures))
+    (evaluates-add _ _ _ _ (c .before .before .before .before .before .match .keys2) _ (c .before .before .before .sum .ensures))
 
 returns-3 : tie.Need-returns-3
 returns-3 c =
     rw (c .bump3 .ensures)
-    (calculates-on _ _ _ _ (c .before .before .before .before .before .match .keys3) (rw (c .before .before .before .register .ensures) at (c .before .before .if1 .taken)))
+    (evaluates-on _ _ _ _ (c .before .before .before .before .before .match .keys3) (rw (c .before .before .before .register .ensures) at (c .before .before .if1 .taken)))
 
 returns-4 : tie.Need-returns-4
 returns-4 c =
-    calculates-jump _ _ _ _ (c .before .before .before .match .keys3) (rw (c .before .register .ensures) at (c .if1 .left)) (c .before .before .before .before .fits .operand .fits)
+    evaluates-jump _ _ _ _ (c .before .before .before .match .keys3) (rw (c .before .register .ensures) at (c .if1 .left)) (c .before .before .before .before .fits .operand .fits)
 
 returns-5 : tie.Need-returns-5
-returns-5 c = let r = c .match .rest in calculates-none _ _ _ _ (r .0 .0 .1) (r .0 .1) (r .1)
+returns-5 c = let r = c .match .rest in evaluates-none _ _ _ _ (r .0 .0 .1) (r .0 .1) (r .1)
 
-pub calculate-spec : {M : Type 1} → statement M
-calculate-spec =
+pub evaluate-spec : {M : Type 1} → statement M
+evaluate-spec =
     tie.close
     (tie.spec
     cell-requires
