@@ -101,36 +101,47 @@ module _ {H : Type 0} {goal : List Message} {log₀ : List ℕ} {len : ℕ} {log
 abbrev pub Placed : List ℕ → ℕ → Type 0
 Placed log len = (length log ≡ logMost) × (onPorts (messages len log) ≡ true)
 
--- due is what is still to go
-pub record Sifting (log₀ : List ℕ) (len : ℕ) (taken log left : List ℕ) (due i kept : ℕ) : Type 0 where
+-- due is what is still to go, and each message looked at was a round
+pub record Sifting (log₀ : List ℕ) (len : ℕ) (taken log left : List ℕ) (due i kept rounds : ℕ) : Type 0 where
   pub passing : Passing (Placed log₀ len) (remaining taken (messages len log₀)) log₀ len log left i kept
   pub four : length left ≡ ports
   pub owed : due ≡ allTaken left
+  pub metered : rounds ≡ i
 
-pub sifting-start : (log : List ℕ) (len : ℕ) (taken : List ℕ) → length taken ≡ ports → Sifting log len taken log taken (allTaken taken) 0 0
-sifting-start log len taken h = record { passing = passing-start log len taken 0 0 (omega arith) (omega arith); four = h; owed = refl }
+pub sifting-start : (log : List ℕ) (len : ℕ) (taken : List ℕ) → length taken ≡ ports → Sifting log len taken log taken (allTaken taken) 0 0 0
+sifting-start log len taken h = record { passing = passing-start log len taken 0 0 (omega arith) (omega arith); four = h; owed = refl; metered = refl }
 
-module _ {log₀ : List ℕ} {len : ℕ} {taken log left : List ℕ} {due i kept : ℕ} (f : Sifting log₀ len taken log left due i kept) (h : i < len)
+module _ {log₀ : List ℕ} {len : ℕ} {taken log left : List ℕ} {due i kept rounds : ℕ}
+    (f : Sifting log₀ len taken log left due i kept rounds) (h : i < len)
     (s : ℕ) (e : s ≡ portIn (getD log i 0) % 4) where
-  pub sifting-goes : 0 < getD left s 0 → Sifting log₀ len taken log (set left s (getD left s 0 - 1)) (due - 1) (i + 1) kept
+  pub sifting-goes : 0 < getD left s 0 → Sifting log₀ len taken log (set left s (getD left s 0 - 1)) (due - 1) (i + 1) kept (rounds + 1)
   sifting-goes g = record {
     passing = passing-goes (f .passing) h s (λ k. e ∙ passing-lane (f .passing) h (k .1)) g;
     four = length-set left s (getD left s 0 - 1) ∙ f .four;
     owed = (let a = f .owed in let b = allTaken-less left s (omega arith) g in omega arith);
+    metered = ap (λ (n : ℕ). n + 1) (f .metered);
   }
 
-  pub sifting-stays : getD left s 0 ≡ 0 → len ≤ logMost → Sifting log₀ len taken (set log kept (getD log i 0)) left due (i + 1) (kept + 1)
+  pub sifting-stays : getD left s 0 ≡ 0 → len ≤ logMost → Sifting log₀ len taken (set log kept (getD log i 0)) left due (i + 1) (kept + 1) (rounds + 1)
   sifting-stays z small = record {
     passing = passing-stays (f .passing) h (λ k. k .0) (λ k. ap (takenOn left) (sym (e ∙ passing-lane (f .passing) h (k .1))) ∙ z) small;
     four = f .four;
     owed = f .owed;
+    metered = ap (λ (n : ℕ). n + 1) (f .metered);
   }
 
 -- ---- the second loop: what stands behind moves up
 
-abbrev pub Moving : List ℕ → ℕ → ℕ → ℕ → List ℕ → ℕ → ℕ → Type 0
-Moving log₁ len i₁ kept₁ log i kept =
-    Passing (length log₁ ≡ logMost) (messages kept₁ log₁ ++ remaining [] (drop i₁ (messages len log₁))) log₁ len log [] i kept
+pub record Moving (log₁ : List ℕ) (len i₁ kept₁ rounds₁ : ℕ) (log : List ℕ) (i kept rounds : ℕ) : Type 0 where
+  pub passing : Passing (length log₁ ≡ logMost) (messages kept₁ log₁ ++ remaining [] (drop i₁ (messages len log₁))) log₁ len log [] i kept
+  pub metered : rounds + i₁ ≡ rounds₁ + i
+
+pub moving-start : (log : List ℕ) (len i kept rounds : ℕ) → i ≤ len → kept ≤ i → Moving log len i kept rounds log i kept rounds
+moving-start log len i kept rounds h k = record { passing = passing-start log len [] i kept h k; metered = refl }
+
+pub moving-on : {log₁ : List ℕ} {len i₁ kept₁ rounds₁ : ℕ} {log : List ℕ} {i kept rounds : ℕ} → Moving log₁ len i₁ kept₁ rounds₁ log i kept rounds → i < len
+    → len ≤ logMost → Moving log₁ len i₁ kept₁ rounds₁ (set log kept (getD log i 0)) (i + 1) (kept + 1) (rounds + 1)
+moving-on m h small = record { passing = passing-stays (m .passing) h (λ k. k) (λ _. refl) small; metered = (let a = m .metered in omega arith) }
 
 -- from i on two logs are the same
 same-behind : (log log′ : List ℕ) (len i : ℕ) → ((j : ℕ) → i ≤ j → getD log j 0 ≡ getD log′ j 0) → drop i (messages len log) ≡ drop i (messages len log′)
@@ -146,15 +157,16 @@ drop-all : (len : ℕ) (log : List ℕ) → drop len (messages len log) ≡ []
 drop-all len log = ap (λ (n : ℕ). drop n (messages len log)) (sym (messages-length len log)) ∙ drop-length (messages len log)
 
 -- the two loops together: nothing was due any more, or nothing stood behind
-pub passed : {log₀ : List ℕ} {len : ℕ} {taken log₁ left : List ℕ} {due i₁ kept₁ : ℕ} {log₂ : List ℕ} {kept : ℕ} → Sifting log₀ len taken log₁ left due i₁ kept₁
-    → (i₁ < len → due ≡ 0) → Moving log₁ len i₁ kept₁ log₂ len kept → Compacted log₀ len taken kept log₂
-passed {log₀} {len} {taken} {log₁} {left} {due} {i₁} {kept₁} {log₂} {kept} f z m = record {
-  no-more = m .few;
-  same-length = m .same-length ∙ f .passing .same-length;
+pub passed : {log₀ : List ℕ} {len : ℕ} {taken log₁ left : List ℕ} {due i₁ kept₁ rounds₁ : ℕ} {log₂ : List ℕ} {kept rounds : ℕ}
+    → Sifting log₀ len taken log₁ left due i₁ kept₁ rounds₁ → (i₁ < len → due ≡ 0) → Moving log₁ len i₁ kept₁ rounds₁ log₂ len kept rounds
+    → Compacted log₀ len taken kept log₂
+passed {log₀} {len} {taken} {log₁} {left} {due} {i₁} {kept₁} {log₂ = log₂} {kept = kept} f z m = record {
+  no-more = m .passing .few;
+  same-length = m .passing .same-length ∙ f .passing .same-length;
   rest = λ h k.
       let a : messages kept log₂ ++ remaining [] (drop len (messages len log₁)) ≡ messages kept log₂ =
       ap (λ (r : List Message). messages kept log₂ ++ remaining [] r) (drop-all len log₁) ∙ append-nil (messages kept log₂) in
-      sym a ∙ m .whole (f .passing .same-length ∙ h)
+      sym a ∙ m .passing .whole (f .passing .same-length ∙ h)
       ∙ ap (λ (r : List Message). messages kept₁ log₁ ++ r)
       (ap (remaining []) (same-behind log₁ log₀ len i₁ (f .passing .ahead)) ∙ none-taken [] (drop i₁ (messages len log₀)) (λ p. refl) ∙ sym behind)
       ∙ f .passing .whole (h, k);

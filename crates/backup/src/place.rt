@@ -159,7 +159,7 @@ fn all_taken(c: Checkpoint) -> usize
 }
 
 // Drops the oldest messages of each port, as many as were taken on it, in one pass over the first len, and counts its rounds: the first
-// loop looks for the `due` messages that go, the second moves up what stands behind the last of them. i is the rounds of both so far.
+// loop looks for the `due` messages that go, the second moves up what stands behind the last of them.
 fn compact(log: &mut [u64; LOG], len: usize, taken: [u32; 4], all: usize) -> Pass
     requires { ⌜ len ≤ logMost ⌝ }
     requires { ⌜ all ≡ allTaken taken ⌝ }
@@ -170,6 +170,7 @@ fn compact(log: &mut [u64; LOG], len: usize, taken: [u32; 4], all: usize) -> Pas
     let mut due = all;
     let mut i = 0;
     let mut kept = 0;
+    let mut rounds = 0;
     while i < len && due > 0 {
         let x = log[i];
         let s = lane(x);
@@ -182,15 +183,17 @@ fn compact(log: &mut [u64; LOG], len: usize, taken: [u32; 4], all: usize) -> Pas
             kept += 1;
         }
         i += 1;
+        rounds += 1;
     }
     while i < len {
         log[kept] = log[i];
         kept += 1;
         i += 1;
+        rounds += 1;
     }
     Pass {
         kept: kept,
-        rounds: i,
+        rounds: rounds,
     }
 }
 

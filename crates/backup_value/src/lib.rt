@@ -45,7 +45,7 @@ pub struct Reply {
 }
 
 // A sync's reply, and the rounds of all its loops but the check for 20.
-pub struct Metered {
+pub struct MeteredReply {
     pub reply: Reply,
     pub rounds: usize,
 }
@@ -238,7 +238,7 @@ pub fn count(b: Backup) -> Reply
 }
 
 // A checkpoint lands, with its rounds counted: 20, 21, 23. The look through the messages that tells 20 is not among them.
-pub fn metered_sync(b: Backup, c: Checkpoint) -> Metered
+pub fn metered_sync(b: Backup, c: Checkpoint) -> MeteredReply
     ensures { λ r. ⌜ Answered b (r .reply) (λ v. syncOf v (checkpointOf c)) ⌝ }
     ensures { λ r. ⌜ OnePass (view b) (checkpointOf c) (r .reply .number) (r .rounds) ⌝ }
 {
@@ -248,12 +248,12 @@ pub fn metered_sync(b: Backup, c: Checkpoint) -> Metered
         let mut head = h.head;
         let landed = backup::place::metered_sync_in(&mut log, &mut head, c);
         let reply = settled(b, landed.number, log, head);
-        return Metered {
+        return MeteredReply {
             reply: reply,
             rounds: landed.rounds,
         };
     }
-    Metered {
+    MeteredReply {
         reply: unfit(b),
         rounds: 0,
     }

@@ -27,9 +27,10 @@ returns c =
     let b = c .before .before .before .before .before .before .before .before .args .b in
     let o = c .before .before .before .before .before .before .before .opened in
     let k = c .before .metered-sync-in in
-    let y = c .before .before .before .before .before .before .if1 .taken in
-    (answered-so b (o .result) (o .ensures) (c .settled .result) _ (k .result .number) (k .last .0) (k .last .1 .0) y (k .ensures .0) (c .settled .ensures),
-    rounds-so b (o .result) (o .ensures) y _ (k .result .number) (k .result .rounds) _ (k .ensures .1) (c .settled .ensures .number-is))
+    let y = c .before .before .before .before .before .before .if1 .taken in (
+      answered-so b (o .result) (o .ensures) (c .settled .result) _ (k .result .number) (k .last .0) (k .last .1 .0) y (k .ensures .0) (c .settled .ensures),
+      rounds-so b (o .result) (o .ensures) y _ (k .result .number) (k .result .rounds) _ (k .ensures .1) (c .settled .ensures .number-is),
+    )
 
 unfit-requires : tie.Need-unfit-requires
 unfit-requires c κs = search needs
@@ -37,9 +38,10 @@ unfit-requires c κs = search needs
 returns-2 : tie.Need-returns-2
 returns-2 c =
     let a = c .before .before .before .args in
-    let o = c .before .before .opened in
-    (answered-20 (a .b) (o .result) (o .ensures) _ _ (c .before .if1 .left) (c .unfit .ensures .0) (c .unfit .ensures .1) (sync-unfit (view (a .b)) (checkpointOf (a .c))),
-    rounds-20 (view (a .b)) (checkpointOf (a .c)) _ (c .unfit .ensures .0))
+    let o = c .before .before .opened in (
+      answered-20 (a .b) (o .result) (o .ensures) _ _ (c .before .if1 .left) (c .unfit .ensures .0) (c .unfit .ensures .1) (sync-unfit (view (a .b)) (checkpointOf (a .c))),
+      rounds-20 (view (a .b)) (checkpointOf (a .c)) _ (c .unfit .ensures .0),
+    )
 
 pub metered-sync-spec : {M : Type 1} → statement M
 metered-sync-spec =

@@ -2,7 +2,7 @@ use mathlib.Core.Logic.{⊎-elim}
 use mathlib.Core.Path.{_≡_, refl, subst}
 use Prim.Native.Nat.{ℕ, _-_, _<_}
 use borrow.Author.Tests.{ltb-false}
-use Rattle.backup.proofs.Compacting.{Sifting, sifting-start, sifting-goes, sifting-stays, Moving, passing-start, passing-stays, passed}
+use Rattle.backup.proofs.Compacting.{Sifting, sifting-start, sifting-goes, sifting-stays, Moving, moving-start, moving-on, passed}
 use borrow.Author.Needs.{needs}
 use native.Mathlib.Omega.{arith}
 use Rattle.backup.proofs.place.compact.Statement.{statement}
@@ -12,16 +12,16 @@ use Rattle.backup.proofs.place.compact.Lts as lts
 use Rattle.backup.proofs.place.lane.Reads as lane-reads
 
 abbrev Inv-loop : tie.InvT-loop
-Inv-loop log₀ len all left₀ due₀ i₀ kept₀ log left due i kept = Sifting log₀ len left₀ log left due i kept
+Inv-loop log₀ len all left₀ due₀ i₀ kept₀ rounds₀ log left due i kept rounds = Sifting log₀ len left₀ log left due i kept rounds
 
 abbrev μ-loop : tie.MeasureT-loop
-μ-loop log₀ len all left₀ due₀ i₀ kept₀ log left due i kept = len - i
+μ-loop log₀ len all left₀ due₀ i₀ kept₀ rounds₀ log left due i kept rounds = len - i
 
 abbrev Inv-loop2 : tie.InvT-loop2
-Inv-loop2 log₀ len all due i₀ kept₀ log i kept = Moving log₀ len i₀ kept₀ log i kept
+Inv-loop2 log₀ len all due i₀ kept₀ rounds₀ log i kept rounds = Moving log₀ len i₀ kept₀ rounds₀ log i kept rounds
 
 abbrev μ-loop2 : tie.MeasureT-loop2
-μ-loop2 log₀ len all due i₀ kept₀ log i kept = len - i
+μ-loop2 log₀ len all due i₀ kept₀ rounds₀ log i kept rounds = len - i
 
 loop-holds : tie.Need-loop-holds Inv-loop μ-loop Inv-loop2 μ-loop2
 loop-holds c = search needs
@@ -65,6 +65,9 @@ add-kept c = search needs
 add-i : tie.Need-add-i Inv-loop μ-loop Inv-loop2 μ-loop2
 add-i c = search needs
 
+add-rounds : tie.Need-add-rounds Inv-loop μ-loop Inv-loop2 μ-loop2
+add-rounds c = search needs
+
 loop-less : tie.Need-loop-less Inv-loop μ-loop Inv-loop2 μ-loop2
 loop-less c = search needs
 
@@ -100,24 +103,28 @@ add-kept-2 c = search needs
 add-i-2 : tie.Need-add-i-2 Inv-loop μ-loop Inv-loop2 μ-loop2
 add-i-2 c = search needs
 
+add-rounds-2 : tie.Need-add-rounds-2 Inv-loop μ-loop Inv-loop2 μ-loop2
+add-rounds-2 c = search needs
+
 loop2-less : tie.Need-loop2-less Inv-loop μ-loop Inv-loop2 μ-loop2
 loop2-less c = search needs
 
 loop2-again : tie.Need-loop2-again Inv-loop μ-loop Inv-loop2 μ-loop2
-loop2-again c =
-    passing-stays (c .before .before .loop2 .inv) (c .before .loop2-test .taken) (λ k. k) (λ _. refl) (c .before .before .before .before .before .pre .0)
+loop2-again c = moving-on (c .before .before .loop2 .inv) (c .before .loop2-test .taken) (c .before .before .before .before .before .pre .0)
 
 returns : tie.Need-returns Inv-loop μ-loop Inv-loop2 μ-loop2
 returns c =
     let a = c .before .before .before .before .args in
     let l = c .before .before .before .loop in
     let m = c .before .loop2 in
-    let e : m .i ≡ a .len = (let h = m .inv .looked in omega arith) in
+    let e : m .i ≡ a .len = (let h = m .inv .passing .looked in omega arith) in
     let z : l .i < a .len → l .due ≡ 0 = ⊎-elim
     (λ w _. let h = ltb-false 0 (l .due) (w .1 .left) in omega arith)
     (λ w h. absurd (omega arith))
-    (c .before .before .loop-test .came) in
-    (passed (l .inv) z (subst (λ (i : ℕ). Moving (l .log) (a .len) (l .i) (l .kept) (m .log) i (m .kept)) e (m .inv)), e)
+    (c .before .before .loop-test .came) in (
+      passed (l .inv) z (subst (λ (i : ℕ). Moving (l .log) (a .len) (l .i) (l .kept) (l .rounds) (m .log) i (m .kept) (m .rounds)) e (m .inv)),
+      (let f = l .inv .metered in let g = m .inv .metered in omega arith),
+    )
 
 pub compact-spec : {M : Type 1} → statement M
 compact-spec =
@@ -141,6 +148,7 @@ compact-spec =
     element-write-log
     add-kept
     add-i
+    add-rounds
     loop-less
     loop-again
     loop2-holds
@@ -150,6 +158,7 @@ compact-spec =
     element-write-log-2
     add-kept-2
     add-i-2
+    add-rounds-2
     loop2-less
     loop2-again
     returns)

@@ -52,10 +52,12 @@ returns-4 : tie.Need-returns-4
 returns-4 c =
     let a = c .before .before .before .before .before .before .before .before .before .before .before .before .args in
     let z = sym (c .before .before .before .all-taken .ensures) ∙ c .before .before .if4 .taken in
-    let w = c .before .before .before .before .before .wide .ensures in
-    (rw (c .restate .ensures, w)
-    (sync-done (a .log .now) (a .head .now) (a .c) _ (a .log .now) (c .before .before .before .before .before .before .before .before .before .before .if1 .left) (sym (c .before .before .before .before .before .before .before .before .lacks .ensures) ∙ c .before .before .before .before .before .before .before .if2 .left)
-    (compacted-none (a .log .now) _ (takenOf (a .c)) refl z)), rounds-none (a .log .now) (a .head .now) (a .c) z)
+    let w = c .before .before .before .before .before .wide .ensures in (
+      rw (c .restate .ensures, w)
+          (sync-done (a .log .now) (a .head .now) (a .c) _ (a .log .now) (c .before .before .before .before .before .before .before .before .before .before .if1 .left) (sym (c .before .before .before .before .before .before .before .before .lacks .ensures) ∙ c .before .before .before .before .before .before .before .if2 .left)
+          (compacted-none (a .log .now) _ (takenOf (a .c)) refl z)),
+      rounds-none (a .log .now) (a .head .now) (a .c) z,
+    )
 
 compact-requires : tie.Need-compact-requires
 compact-requires c κs = search needs
@@ -70,11 +72,12 @@ returns-5 : tie.Need-returns-5
 returns-5 c =
     let a = c .before .before .before .before .before .before .before .before .before .before .before .before .before .before .before .args in
     let k = c .before .before .before .compact in
-    let w = c .before .before .before .before .before .before .before .before .wide .ensures in
-    (rw (c .restate2 .ensures)
-    (sync-done (a .log .now) (a .head .now) (a .c) (k .result .kept) (k .last .0) (c .before .before .before .before .before .before .before .before .before .before .before .before .before .if1 .left) (sym (c .before .before .before .before .before .before .before .before .before .before .before .lacks .ensures) ∙ c .before .before .before .before .before .before .before .before .before .before .if2 .left)
-    (subst (λ (n : ℕ). Compacted (a .log .now) n (takenOf (a .c)) (k .result .kept) (k .last .0)) w (k .ensures .0))),
-    rounds-all (a .log .now) (a .head .now) (a .c) _ (λ z. c .before .before .before .before .before .if4 .left (c .before .before .before .before .before .before .all-taken .ensures ∙ z)) (k .ensures .1 ∙ w))
+    let w = c .before .before .before .before .before .before .before .before .wide .ensures in (
+      rw (c .restate2 .ensures)
+          (sync-done (a .log .now) (a .head .now) (a .c) (k .result .kept) (k .last .0) (c .before .before .before .before .before .before .before .before .before .before .before .before .before .if1 .left) (sym (c .before .before .before .before .before .before .before .before .before .before .before .lacks .ensures) ∙ c .before .before .before .before .before .before .before .before .before .before .if2 .left)
+          (subst (λ (n : ℕ). Compacted (a .log .now) n (takenOf (a .c)) (k .result .kept) (k .last .0)) w (k .ensures .0))),
+      rounds-all (a .log .now) (a .head .now) (a .c) _ (λ z. c .before .before .before .before .before .if4 .left (c .before .before .before .before .before .before .all-taken .ensures ∙ z)) (k .ensures .1 ∙ w),
+    )
 
 pub metered-sync-in-spec : {M : Type 1} → statement M
 metered-sync-in-spec =
