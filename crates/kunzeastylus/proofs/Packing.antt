@@ -6,7 +6,7 @@ use Prim.Native.Nat.{ℕ, _+_, _*_, _/_, _%_, _≤_, _<_}
 use native.Mathlib.Omega.{arith}
 use lib.Dec.{eqb}
 use borrow.Author.Tests.{eq-eqb, ne-eqb}
-use Rattle.rules.specs.Run.{Ran, run}
+use Rattle.rules.specs.Run.{Buffers, Ran}
 use Rattle.rules.specs.Schedule.{commandsMost}
 use Rattle.cabinet.specs.Runs.{Runs}
 use Rattle.cabinet.specs.declared.run.Verdict.{Verdict}
@@ -32,14 +32,14 @@ verdictIn-packedOf r h i = record {
   quiet = quiet-back (r .number) (r .records) h (r .quiet) i;
 }
 
-module _ (table schedule answers report : List ℕ) (r : Verdict) (answers′ report′ : List ℕ) (h : Runs table schedule answers report r answers′ report′) where
+module _ (table schedule : List ℕ) (before : Buffers) (r : Verdict) (after : Buffers) (h : Runs table schedule before r after) where
   pub few : r .records ≤ commandsMost
-  few = rw (ap (λ (x : Ran). x .records) (h .ran)) (run-few table schedule answers report)
+  few = rw (ap (λ (x : Ran). x .records) (h .ran)) (run-few table schedule before)
 
-  pub runs-packed : (n : ℕ) → r .number < 256 → n ≡ packedOf r → RunsPacked table schedule answers report n answers′ report′
+  pub runs-packed : (n : ℕ) → r .number < 256 → n ≡ packedOf r → RunsPacked table schedule before n after
   runs-packed n small e =
       let same : verdictIn n ≡ r = ap verdictIn e ∙ verdictIn-packedOf r small in
       record {
         exact = e ∙ ap packedOf (sym same);
-        runs = subst (λ v. Runs table schedule answers report v answers′ report′) (sym same) h;
+        runs = subst (λ v. Runs table schedule before v after) (sym same) h;
       }

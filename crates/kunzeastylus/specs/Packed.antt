@@ -5,6 +5,7 @@ use mathlib.Core.Bool.{Bool, cond}
 use mathlib.Core.List.{List}
 use Prim.Native.Nat.{ℕ, _+_, _*_, _/_, _%_}
 use lib.Dec.{eqb}
+use Rattle.rules.specs.Run.{Buffers}
 use Rattle.cabinet.specs.Runs.{Runs}
 use Rattle.cabinet.specs.declared.run.Verdict.{Verdict}
 
@@ -19,9 +20,9 @@ packedOf r = r .number + 256 * flagOf (r .quiet) + 4294967296 * r .records
 abbrev pub verdictIn : ℕ → Verdict
 verdictIn n = record { number = n % 256; records = n / 4294967296; quiet = eqb (n / 256 % 2) 1 }
 
--- of any bytes of a table and a schedule, and two buffers of any length
-pub record RunsPacked (table schedule answers report : List ℕ) (n : ℕ) (answers′ report′ : List ℕ) : Type 0 where
+-- of any bytes of a table and a schedule, and buffers of any length: these before it, those after it
+pub record RunsPacked (table schedule : List ℕ) (before : Buffers) (n : ℕ) (after : Buffers) : Type 0 where
   -- the number is those three and nothing else: every other bit is 0
   pub exact : n ≡ packedOf (verdictIn n)
-  -- and they, with both buffers, are the run's: those of the rules, and demand 3
-  pub runs : Runs table schedule answers report (verdictIn n) answers′ report′
+  -- and they, with the buffers, are the run's: those of the rules, and demand 3
+  pub runs : Runs table schedule before (verdictIn n) after

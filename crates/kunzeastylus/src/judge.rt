@@ -1,5 +1,6 @@
 // The judging of a run, exported: by which number it would be refused.
 ghost use Rattle.kunzeastylus.specs.Judges.{Judges};
+use records::schedule::Lengths;
 use records::schedule::judge_run;
 use records::schedule::judge_schedule;
 use table::decode;
@@ -13,5 +14,9 @@ pub extern "C" fn ks_judge(table: &[u8], schedule: &[u8], answers: usize, report
     let number = d.number;
     let processes = d.plan.processes;
     let s = judge_schedule(schedule);
-    judge_run(number, processes, s, answers, report) as u32
+    let lengths = Lengths {
+        answers: answers,
+        report: report,
+    };
+    judge_run(number, processes, s, lengths) as u32
 }

@@ -2,6 +2,7 @@
 ghost use mathlib.Core.Path.{_≡_};
 ghost use Prim.Native.Nat.{_≤_, _<_};
 ghost use Rattle.rules.specs.Schedule.{commandsMost};
+ghost use Rattle.rules.specs.Run.{buffersOf};
 ghost use Rattle.kunzeastylus.specs.Packed.{flagOf, packedOf, RunsPacked};
 use cabinet::run::Verdict;
 use cabinet::run::run;
@@ -29,8 +30,8 @@ pub extern "C" fn ks_run(
     answers: &mut [u8],
     report: &mut [u8],
 ) -> u64
-    ensures { λ n. ⌜ RunsPacked (now (table .entry)) (now (schedule .entry)) (now (answers .entry)) (now (report .entry)) n
-        (now (answers .exit)) (now (report .exit)) ⌝ }
+    ensures { λ n. ⌜ RunsPacked (now (table .entry)) (now (schedule .entry)) (buffersOf (now (answers .entry)) (now (report .entry))) n
+        (buffersOf (now (answers .exit)) (now (report .exit))) ⌝ }
 {
     packed(run(table, schedule, answers, report))
 }

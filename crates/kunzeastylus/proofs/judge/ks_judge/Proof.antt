@@ -22,7 +22,7 @@ returns c =
     let d = c .before .before .decode in
     let s = c .before .judge-schedule in
     rw (c .judge-run .ensures)
-    (together (x .table .now) (x .schedule .now) (d .result) (s .result) (x .answers) (x .report) (d .ensures) (s .ensures))
+    (together (x .table .now) (x .schedule .now) (d .result) (s .result) _ (d .ensures) (s .ensures))
 
 pub ks-judge-spec : {M : Type 1} → statement M
 ks-judge-spec =

@@ -1,4 +1,5 @@
 -- `ks_run`: the run's promise, with what it returned packed.
+use Rattle.rules.specs.Run.{buffersOf}
 use Rattle.kunzeastylus.proofs.Packing.{few, runs-packed}
 use borrow.Author.Needs.{needs}
 use Rattle.kunzeastylus.proofs.run.ks_run.Statement.{statement}
@@ -11,7 +12,7 @@ packed-requires : tie.Need-packed-requires
 packed-requires c κs =
     let s = c .before .before .before .before .before .before .before .before .before .before .before .args in
     let r = c .before .before .before .before .run in
-    few (s .table .now) (s .schedule .now) (s .answers .now) (s .report .now) (r .result) _ _ (r .ensures)
+    few (s .table .now) (s .schedule .now) (buffersOf (s .answers .now) (s .report .now)) (r .result) _ (r .ensures)
 
 same-length : tie.Need-same-length
 same-length c = search needs
@@ -23,7 +24,7 @@ returns : tie.Need-returns
 returns c =
     let s = c .before .before .before .before .before .before .before .before .before .before .before .before .args in
     let r = c .before .before .before .before .before .run in
-    runs-packed (s .table .now) (s .schedule .now) (s .answers .now) (s .report .now) (r .result) _ _ (r .ensures) (c .packed .result)
+    runs-packed (s .table .now) (s .schedule .now) (buffersOf (s .answers .now) (s .report .now)) (r .result) _ (r .ensures) (c .packed .result)
     (c .packed .ensures .1) (c .packed .ensures .0)
 
 pub ks-run-spec : {M : Type 1} → statement M
