@@ -40,6 +40,8 @@ pub mod Reached
 -- Tables and runs in bytes.
 pub mod Valid
 pub mod ReadBack
+pub mod Encoding
+pub mod Apart
 pub mod AcceptedRun
 pub mod Buffers
 -- Cases, computed: M1 to M13, then those that only a case can tell.

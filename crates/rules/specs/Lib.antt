@@ -10,6 +10,7 @@ pub mod Bounds
 pub mod Transparent
 pub mod Bytes
 pub mod Format
+pub mod Encode
 pub mod Schedule
 pub mod Run
 pub mod Transparency

@@ -1,0 +1,46 @@
+use native.Mathlib.Omega.{arith}
+use borrow.Author.Needs.{needs}
+use Rattle.writer.proofs.lists.judge_lists.Statement.{statement}
+use Rattle.writer.proofs.lists.judge_lists.Tie as tie
+use Rattle.writer.proofs.lists.judge_lists.Reads as reads
+use Rattle.writer.proofs.lists.judge_lists.Lts as lts
+use Rattle.table.proofs.counts.counts_fit.Reads as counts-fit-reads
+use Rattle.writer.proofs.lists.lists_ok.Reads as lists-ok-reads
+use Rattle.writer.proofs.lists.wider.Reads as wider-reads
+
+wider-requires : tie.Need-wider-requires
+wider-requires c κs = search needs
+
+wider-requires-2 : tie.Need-wider-requires-2
+wider-requires-2 c κs = search needs
+
+wider-requires-3 : tie.Need-wider-requires-3
+wider-requires-3 c κs = search needs
+
+counts-fit-requires : tie.Need-counts-fit-requires
+counts-fit-requires c κs = search needs
+
+returns : tie.Need-returns
+returns c = search needs
+
+lists-ok-requires : tie.Need-lists-ok-requires
+lists-ok-requires c κs = search needs
+
+returns-2 : tie.Need-returns-2
+returns-2 c = search needs
+
+returns-3 : tie.Need-returns-3
+returns-3 c = search needs
+
+pub judge-lists-spec : {M : Type 1} → statement M
+judge-lists-spec =
+    tie.close
+    (tie.spec
+    wider-requires
+    wider-requires-2
+    wider-requires-3
+    counts-fit-requires
+    returns
+    lists-ok-requires
+    returns-2
+    returns-3)
