@@ -1,7 +1,7 @@
 /* The three proved calls from C, as board programmers, the driver bench and the service desk use them. bindings/examples/example.rs is the
  * same in Rust; both print examples/example.out.
  *
- *     cc -I include examples/example.c target/staticlib/lib{cabinet,table,backup}_call.a -o example
+ *     cc -I include examples/example.c target/staticlib/libkunzeastylus.a -o example
  *
  * What is lent has a piece of memory of its own, as long as needed and no longer, so that valgrind would see a byte beyond it touched.
  */
@@ -71,7 +71,7 @@ static struct piece first_records(size_t records) {
 }
 
 static uint64_t run(struct piece t, struct piece schedule, struct piece answers, struct piece report) {
-    return cabinet_run(t.at, t.len, schedule.at, schedule.len, answers.at, answers.len, report.at, report.len);
+    return ks_run(t.at, t.len, schedule.at, schedule.len, answers.at, answers.len, report.at, report.len);
 }
 
 static void show_record(const char *name, const uint32_t *state) {
@@ -91,12 +91,12 @@ static void board_programmer(void) {
     uint32_t *state = memory(KS_STATE * sizeof *state), *reply = memory(KS_STATE * sizeof *reply);
     printf("board programmer\nreplies");
     for (size_t i = 0; i < sizeof calls / sizeof calls[0]; i++) {
-        printf(" %u", backup_call(state, KS_STATE, calls[i], KS_CALL, reply, KS_STATE));
+        printf(" %u", ks_backup_call(state, KS_STATE, calls[i], KS_CALL, reply, KS_STATE));
     }
     printf("\n");
     show_record("saved", state);
     static const uint32_t take_over[KS_CALL] = {KS_TAKE_OVER};
-    printf("reply %u\n", backup_call(state, KS_STATE, take_over, KS_CALL, reply, KS_STATE));
+    printf("reply %u\n", ks_backup_call(state, KS_STATE, take_over, KS_CALL, reply, KS_STATE));
     show_record("taken over", reply);
     free(state);
     free(reply);
@@ -106,10 +106,10 @@ static void board_programmer(void) {
 static void driver_bench(void) {
     struct piece sound = table_of_version(1), other = table_of_version(9), schedule = first_records(20);
     struct piece answers = piece(KS_RECORD * 20), report = piece(KS_REPORT);
-    printf("driver bench\njudged %u", judge(sound.at, sound.len, schedule.at, schedule.len, answers.len, report.len));
-    printf(" %u", judge(other.at, other.len, schedule.at, schedule.len, answers.len, report.len));
-    printf(" %u", judge(sound.at, sound.len, schedule.at, schedule.len, answers.len - 1, report.len));
-    printf(" %u\n", judge(sound.at, sound.len, schedule.at, schedule.len, answers.len, report.len - 1));
+    printf("driver bench\njudged %u", ks_judge(sound.at, sound.len, schedule.at, schedule.len, answers.len, report.len));
+    printf(" %u", ks_judge(other.at, other.len, schedule.at, schedule.len, answers.len, report.len));
+    printf(" %u", ks_judge(sound.at, sound.len, schedule.at, schedule.len, answers.len - 1, report.len));
+    printf(" %u\n", ks_judge(sound.at, sound.len, schedule.at, schedule.len, answers.len, report.len - 1));
     printf("refused %u\n", (unsigned)ks_number(run(other, schedule, answers, report)));
     uint64_t result = run(sound, schedule, answers, report);
     printf("records %u\n", ks_records(result));

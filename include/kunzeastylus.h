@@ -1,11 +1,10 @@
-/* The proved calls for programs in C and C++: the run of a schedule, the judging of its input, and the backup record.
+/* The proved calls for programs in C and C++: the run of a schedule, the judging of its input, and the backup record. One library has them
+ * all, target/staticlib/libkunzeastylus.a, and exports nothing else:
  *
- *     rt staticlib cabinet_call        cabinet_run     target/staticlib/libcabinet_call.a
- *     rt staticlib table_call          judge           target/staticlib/libtable_call.a
- *     rt staticlib backup_call         backup_call     target/staticlib/libbackup_call.a
+ *     rt staticlib kunzeastylus
  *
- * All numbers are those of document 01. The calls keep nothing between them, allocate nothing and may be used from several threads at once;
- * cabinet_run uses some 40 KB of stack, the others less than 3.
+ * All numbers are those of document 01 (docs/NUMBERS.md has each in a line). The calls keep nothing between them, allocate nothing and may
+ * be used from several threads at once; ks_run uses some 40 KB of stack, the others less than 3. Of the C library they call memcpy and memset.
  * Each lent piece of memory is a pointer and a length. Its pointer is not null, not even where the length is 0, and what is lent to be
  * written overlaps nothing else that is lent. Otherwise the calls ask nothing of their caller: any bytes, any lengths.
  */
@@ -93,18 +92,18 @@ enum ks_backup_reply {
     KS_BACKUP_UNKNOWN = 26    /* no such call */
 };
 
-enum ks_backup_call { KS_NEW = 0, KS_ARRIVE = 1, KS_COUNT = 2, KS_BACKUP_SYNC = 3, KS_TAKE_OVER = 4 };
+enum ks_asked { KS_NEW = 0, KS_ARRIVE = 1, KS_COUNT = 2, KS_BACKUP_SYNC = 3, KS_TAKE_OVER = 4 };
 
 /* ---- the calls */
 
 /* The run of a schedule on a table. The result is unpacked by ks_number, ks_quiet and ks_records. An accepted run writes six bytes a record
  * to answers and 20 bytes a process to report, and nothing beyond those; a refused one writes nothing at all. */
-uint64_t cabinet_run(const uint8_t *table, size_t table_len, const uint8_t *schedule, size_t schedule_len, uint8_t *answers,
-                     size_t answers_len, uint8_t *report, size_t report_len);
+uint64_t ks_run(const uint8_t *table, size_t table_len, const uint8_t *schedule, size_t schedule_len, uint8_t *answers, size_t answers_len,
+                uint8_t *report, size_t report_len);
 
 /* By which number a run of these would be refused with buffers of these lengths, or 0. Nothing is run. */
-uint32_t judge(const uint8_t *table, size_t table_len, const uint8_t *schedule, size_t schedule_len, size_t answers_len,
-               size_t report_len);
+uint32_t ks_judge(const uint8_t *table, size_t table_len, const uint8_t *schedule, size_t schedule_len, size_t answers_len,
+                  size_t report_len);
 
 /* A call of the backup record. state is KS_STATE numbers: how many words are saved, count, place, four registers, then 48 pairs of slot and
  * word. call is KS_CALL numbers, its own and its arguments:
@@ -114,11 +113,11 @@ uint32_t judge(const uint8_t *table, size_t table_len, const uint8_t *schedule, 
  *     KS_BACKUP_SYNC  place, four registers, four numbers taken (a slot each)
  *     KS_TAKE_OVER                                              state stays, reply (KS_STATE numbers) becomes what is handed over
  * A refused call leaves state as it was; but for KS_TAKE_OVER, reply is left as it was. */
-uint32_t backup_call(uint32_t *state, size_t state_len, const uint32_t *call, size_t call_len, uint32_t *reply, size_t reply_len);
+uint32_t ks_backup_call(uint32_t *state, size_t state_len, const uint32_t *call, size_t call_len, uint32_t *reply, size_t reply_len);
 
 /* ---- helpers */
 
-/* cabinet_run's result is number + 256 * quiet + 2^32 * records. */
+/* ks_run's result is number + 256 * quiet + 2^32 * records, and every other bit is 0. */
 static inline enum ks_refusal ks_number(uint64_t result) { return (enum ks_refusal)(result & 255); }
 static inline int ks_quiet(uint64_t result) { return (int)(result >> 8 & 1); }
 static inline uint32_t ks_records(uint64_t result) { return (uint32_t)(result >> 32); }

@@ -1,6 +1,6 @@
-// The proved libraries are where `rt staticlib` writes them, below the repository's root.
+// The proved library is where `rt staticlib kunzeastylus` writes it, below the repository's root.
 fn main() {
-    let libraries = concat!(env!("CARGO_MANIFEST_DIR"), "/../target/staticlib");
-    println!("cargo:rustc-link-search=native={libraries}");
-    println!("cargo:rerun-if-changed={libraries}");
+    let folder = concat!(env!("CARGO_MANIFEST_DIR"), "/../target/staticlib");
+    println!("cargo:rustc-link-search=native={folder}");
+    println!("cargo:rerun-if-changed={folder}");
 }

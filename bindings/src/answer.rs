@@ -28,8 +28,7 @@ numbers! {
         /// Backed, and acts are 8.
         OwesSync = 37,
         QueueFull = 38,
-        /// The channel is held.
-        Held = 39,
+        ChannelHeld = 39,
         NoBackup = 40,
         /// One sync is waiting.
         SyncWaiting = 41,

@@ -18,9 +18,9 @@ numbers! {
         Taken = 23,
         /// The count is 16.
         Count = 24,
-        /// Of `backup_call` alone: a lent slice has another length than it should. Never met here.
+        /// Of `ks_backup_call` alone: a lent slice has another length than it should. Never met here.
         Missized = 25,
-        /// Of `backup_call` alone: no such call. Never met here.
+        /// Of `ks_backup_call` alone: no such call. Never met here.
         Unknown = 26,
     }
 }
@@ -104,7 +104,7 @@ impl Backup {
     }
 
     fn call(&mut self, call: [u32; 10], reply: &mut [u32; STATE]) -> Result<(), BackupRefusal> {
-        match calls::backup_call(&mut self.numbers, &call, reply) {
+        match calls::ks_backup_call(&mut self.numbers, &call, reply) {
             0 => Ok(()),
             number => Err(u8::try_from(number).ok().and_then(BackupRefusal::of).expect("the record's numbers are 20 to 26")),
         }

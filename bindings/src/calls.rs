@@ -1,10 +1,10 @@
-//! The exported calls of the three libraries, and nothing else; the only unsafe code of the crate.
+//! The exported calls of the proved library, and nothing else; the only unsafe code of the crate.
 
 mod raw {
     // Each slice is a pointer and a length.
-    #[link(name = "cabinet_call", kind = "static")]
+    #[link(name = "kunzeastylus", kind = "static")]
     extern "C" {
-        pub fn cabinet_run(
+        pub fn ks_run(
             table: *const u8,
             table_len: usize,
             schedule: *const u8,
@@ -14,11 +14,8 @@ mod raw {
             report: *mut u8,
             report_len: usize,
         ) -> u64;
-    }
 
-    #[link(name = "table_call", kind = "static")]
-    extern "C" {
-        pub fn judge(
+        pub fn ks_judge(
             table: *const u8,
             table_len: usize,
             schedule: *const u8,
@@ -26,11 +23,8 @@ mod raw {
             answers: usize,
             report: usize,
         ) -> u32;
-    }
 
-    #[link(name = "backup_call", kind = "static")]
-    extern "C" {
-        pub fn backup_call(
+        pub fn ks_backup_call(
             state: *mut u32,
             state_len: usize,
             call: *const u32,
@@ -42,11 +36,11 @@ mod raw {
 }
 
 /// The number by which a run is refused or 0, plus 256 times quiet, plus 2^32 times the records.
-pub fn cabinet_run(table: &[u8], schedule: &[u8], answers: &mut [u8], report: &mut [u8]) -> u64 {
+pub fn ks_run(table: &[u8], schedule: &[u8], answers: &mut [u8], report: &mut [u8]) -> u64 {
     let (answers_len, report_len) = (answers.len(), report.len());
     // SAFETY: four slices that don't overlap, each with its own length; the first two are only read. The call asks nothing else.
     unsafe {
-        raw::cabinet_run(
+        raw::ks_run(
             table.as_ptr(),
             table.len(),
             schedule.as_ptr(),
@@ -60,13 +54,13 @@ pub fn cabinet_run(table: &[u8], schedule: &[u8], answers: &mut [u8], report: &m
 }
 
 /// The number by which a run is refused, or 0.
-pub fn judge(table: &[u8], schedule: &[u8], answers: usize, report: usize) -> u32 {
+pub fn ks_judge(table: &[u8], schedule: &[u8], answers: usize, report: usize) -> u32 {
     // SAFETY: two slices, each with its own length; the call only reads them and asks nothing else.
-    unsafe { raw::judge(table.as_ptr(), table.len(), schedule.as_ptr(), schedule.len(), answers, report) }
+    unsafe { raw::ks_judge(table.as_ptr(), table.len(), schedule.as_ptr(), schedule.len(), answers, report) }
 }
 
 /// The backup record's number, or 0.
-pub fn backup_call(state: &mut [u32], call: &[u32], reply: &mut [u32]) -> u32 {
+pub fn ks_backup_call(state: &mut [u32], call: &[u32], reply: &mut [u32]) -> u32 {
     // SAFETY: three slices that don't overlap, each with its own length; the second is only read. The call asks nothing else.
-    unsafe { raw::backup_call(state.as_mut_ptr(), state.len(), call.as_ptr(), call.len(), reply.as_mut_ptr(), reply.len()) }
+    unsafe { raw::ks_backup_call(state.as_mut_ptr(), state.len(), call.as_ptr(), call.len(), reply.as_mut_ptr(), reply.len()) }
 }

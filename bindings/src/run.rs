@@ -78,7 +78,7 @@ fn refusal(number: u32) -> Option<Refusal> {
 /// Runs a schedule on a table. `answers` needs six bytes a record and `report` 20 bytes a process; bytes beyond those are untouched, and a
 /// refused run touches none.
 pub fn run<'b>(table: &[u8], schedule: &[u8], answers: &'b mut [u8], report: &'b mut [u8]) -> Result<Run<'b>, Refusal> {
-    let result = calls::cabinet_run(table, schedule, answers, report);
+    let result = calls::ks_run(table, schedule, answers, report);
     if let Some(refusal) = refusal(result as u32 & 255) {
         return Err(refusal);
     }
@@ -89,5 +89,5 @@ pub fn run<'b>(table: &[u8], schedule: &[u8], answers: &'b mut [u8], report: &'b
 
 /// Whether a run of these with buffers of these lengths would be accepted. Nothing is run.
 pub fn judge(table: &[u8], schedule: &[u8], answers: usize, report: usize) -> Result<(), Refusal> {
-    refusal(calls::judge(table, schedule, answers, report)).map_or(Ok(()), Err)
+    refusal(calls::ks_judge(table, schedule, answers, report)).map_or(Ok(()), Err)
 }

@@ -1,7 +1,9 @@
-//! The enums have document 01's numbers, all of them and no others, here and in include/kunzeastylus.h; and the calls hand them on.
+//! The enums have document 01's numbers, all of them and no others, here and in include/kunzeastylus.h; docs/NUMBERS.md explains each; and
+//! the calls hand them on.
 use kunzeastylus::{judge, run, Backup, BackupRefusal, Code, Instruction, Move, Record, Refusal, Snapshot, STATE};
 
 const HEADER: &str = include_str!("../../include/kunzeastylus.h");
+const NUMBERS: &str = include_str!("../../docs/NUMBERS.md");
 
 /// A process with no instructions, which reads a channel from the outside.
 const TABLE: [u8; 11] = [0, 9, 1, 2, 1, 1, 255, 0, 0, 1, 0];
@@ -39,6 +41,18 @@ fn numbers() {
     numbered!(Move, "ks_move", 1..=5);
     numbered!(Instruction, "ks_instruction", 1..=6);
     assert!(Code::ALL.iter().all(|code| code.refused() == (code.number() >= 32)));
+}
+
+/// Each has its line in docs/NUMBERS.md, in the section of its kind.
+#[test]
+fn explained() {
+    let section = |title: &str| NUMBERS.split("\n## ").find(|section| section.starts_with(title)).expect("a section");
+    let has_line = |title: &str, number: u8| {
+        assert!(section(title).lines().any(|line| line.starts_with(&format!("| {number} |"))), "{title}: no line for {number}");
+    };
+    Refusal::ALL.iter().for_each(|refusal| has_line("Of a run", refusal.number()));
+    Code::ALL.iter().for_each(|code| has_line("Of a record", code.number()));
+    BackupRefusal::ALL.iter().for_each(|refusal| has_line("Of the backup record", refusal.number()));
 }
 
 #[test]

@@ -1,5 +1,5 @@
-// The backup record for programs in other languages: one exported call on lent numbers. A state is loaded into a `Backup`, the call
-// is made by value, and what it leaves is stored back.
+// The backup record on lent numbers, as programs in other languages lend them (crate kunzeastylus exports it). A state is loaded into a
+// `Backup`, the call is made by value, and what it leaves is stored back.
 ghost use mathlib.Core.Path.{_≡_};
 ghost use lib.ListN.{length};
 ghost use Rattle.backup_value.specs.Value.{view};
@@ -158,11 +158,10 @@ fn perform(state: &mut [u32], call: &[u32], reply: &mut [u32]) -> u32
     }
 }
 
-// The exported call. `state` is a backup in 103 numbers, `call` a number and its arguments: 0 new; 1 arrive: port, word; 2 count;
+// The call. `state` is a backup in 103 numbers, `call` a number and its arguments: 0 new; 1 arrive: port, word; 2 count;
 // 3 sync: place, four registers, four takes; 4 take over, which writes into `reply` what it hands over, laid out as a state. The
 // result is document 01's number, or 25 for a slice of another length, or 26 for a call of another number.
-#[no_mangle]
-pub extern "C" fn backup_call(state: &mut [u32], call: &[u32], reply: &mut [u32]) -> u32
+pub fn backup_call(state: &mut [u32], call: &[u32], reply: &mut [u32]) -> u32
     ensures { λ n. ⌜ Exported (now (state .entry)) (now (call .entry)) (now (reply .entry)) n (now (state .exit)) (now (reply .exit)) ⌝ }
 {
     if state.len() != STATE {

@@ -10,8 +10,8 @@ use Rattle.facts.specs.Tests.{by-lt}
 use Rattle.facts.specs.Lists.{part-rest}
 use Rattle.rules.specs.Bytes.{byteAt}
 use Rattle.rules.specs.Format.{lengthField, processesIn}
-use Rattle.rules.specs.Run.{Ran, run}
-use Rattle.rules.specs.Page.{pageOf, tableIn, scheduleIn, answersRoom, reportRoom, benchPage}
+use Rattle.rules.specs.Run.{Buffers, Ran, run}
+use Rattle.rules.specs.Page.{pageOf, tableIn, scheduleIn, benchBuffers, benchPage}
 use Rattle.cabinet.specs.Runs.{ranBy, Runs}
 use Rattle.cabinet.specs.declared.run.Verdict.{Verdict}
 use Rattle.cabinet.proofs.Running.{run-few}
@@ -23,22 +23,22 @@ use Rattle.bench_input.proofs.Room.{page-long, few-processes}
 -- ---- the run and its page
 
 -- the bytes of two lent slices are below 256, and so is a number in a byte
-pub printed : (number : ℕ) → number < 256 → (records : ℕ) (quiet : Bool) (answers : List ℕ) (processes : ℕ) (report : List ℕ)
-    → ((i : ℕ) → byteAt answers i < 256) → ((i : ℕ) → byteAt report i < 256) → (out : List ℕ) (r : ℕ) (out′ : List ℕ)
-    → Written (pageOf processes (ranBy number records quiet answers report)) out r out′ → Printed processes (ranBy number records quiet answers report) out r out′
-printed number hn records quiet answers processes report sa sr out r out′ w = record {
+pub printed : (ran : Ran) → ran .number < 256 → (processes : ℕ)
+    → ((i : ℕ) → byteAt (ran .buffers .answers) i < 256) → ((i : ℕ) → byteAt (ran .buffers .report) i < 256) → (out : List ℕ) (r : ℕ) (out′ : List ℕ)
+    → Written (pageOf processes ran) out r out′ → Printed processes ran out r out′
+printed ran hn processes sa sr out r out′ w = record {
   wrote = w;
-  room = λ hp hr. page-long processes (ranBy number records quiet answers report) (record { at = sa }) (record { at = sr }) hn hp hr;
+  room = λ hp hr. page-long processes ran (record { at = sa }) (record { at = sr }) hn hp hr;
 }
 
-pub run-page : (table schedule : List ℕ) (v : Verdict) (answers report : List ℕ) → Runs table schedule answersRoom reportRoom v answers report
+pub run-page : (table schedule : List ℕ) (v : Verdict) (after : Buffers) → Runs table schedule benchBuffers v after
     → (processes : ℕ) → processes ≡ processesIn table → (out : List ℕ) (r : ℕ) (out′ : List ℕ)
-    → Printed processes (ranBy (v .number) (v .records) (v .quiet) answers report) out r out′ → RunPrinted table schedule out r out′
+    → Printed processes (ranBy v after) out r out′ → RunPrinted table schedule out r out′
 unfolding partsPage
-run-page table schedule v answers report ran processes e out r out′ w =
-    let p : Printed (processesIn table) (run table schedule answersRoom reportRoom) out r out′ =
-    subst (λ (x : Ran). Printed (processesIn table) x out r out′) (ran .ran) (subst (λ (n : ℕ). Printed n (ranBy (v .number) (v .records) (v .quiet) answers report) out r out′) e w) in
-    record { wrote = p .wrote; room = p .room (few-processes table schedule answersRoom reportRoom) (run-few table schedule answersRoom reportRoom) }
+run-page table schedule v after ran processes e out r out′ w =
+    let p : Printed (processesIn table) (run table schedule benchBuffers) out r out′ =
+    subst (λ (x : Ran). Printed (processesIn table) x out r out′) (ran .ran) (subst (λ (n : ℕ). Printed n (ranBy v after) out r out′) e w) in
+    record { wrote = p .wrote; room = p .room (few-processes table schedule benchBuffers) (run-few table schedule benchBuffers) }
 
 -- ---- the cut
 

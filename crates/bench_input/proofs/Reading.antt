@@ -11,8 +11,8 @@ use borrow.Author.Tests.{ltb-true, lt-ltb, le-ltb, lt-leb, eqb-true}
 use Rattle.facts.specs.Tests.{by-lt}
 use Rattle.rules.specs.Format.{tableMost, lengthField, processesIn, orNumber, lengthOk, validateTable}
 use Rattle.rules.specs.Schedule.{commandsMost, commandsIn, scheduleOk, validateSchedule}
-use Rattle.rules.specs.Run.{validateRun, refusedWith, run}
-use Rattle.rules.specs.Page.{pageOf, tableIn, scheduleIn, answersRoom, reportRoom, refusedLine, benchPage}
+use Rattle.rules.specs.Run.{Buffers, validateRun, refusedWith, run}
+use Rattle.rules.specs.Page.{pageOf, tableIn, scheduleIn, benchBuffers, refusedLine, benchPage}
 use Rattle.bench_input.specs.Wanted.{scheduleRead, wantedOf, inputRoom, Wanted}
 use Rattle.bench_input.specs.Benched.{partsPage}
 
@@ -52,13 +52,13 @@ over-one : (table : List ℕ) → tableMost < lengthField table → validateTabl
 unfolding validateTable
 over-one table h = rw (over-not-ok table h)
 
-over-refused : (table schedule answers report : List ℕ) → tableMost < lengthField table → run table schedule answers report ≡ refusedWith 1 answers report
+over-refused : (table schedule : List ℕ) (buffers : Buffers) → tableMost < lengthField table → run table schedule buffers ≡ refusedWith 1 buffers
 unfolding run validateRun
-over-refused table schedule answers report h = rw (over-one table h)
+over-refused table schedule buffers h = rw (over-one table h)
 
-over-page : (processes : ℕ) (table schedule : List ℕ) → tableMost < lengthField table → pageOf processes (run table schedule answersRoom reportRoom) ≡ refusedLine 1
+over-page : (processes : ℕ) (table schedule : List ℕ) → tableMost < lengthField table → pageOf processes (run table schedule benchBuffers) ≡ refusedLine 1
 unfolding pageOf refusedWith
-over-page processes table schedule h = ap (pageOf processes) (over-refused table schedule answersRoom reportRoom h)
+over-page processes table schedule h = ap (pageOf processes) (over-refused table schedule benchBuffers h)
 
 -- so the page of the two parts is that of the input
 pub parts-page : (input : List ℕ) → partsPage (tableIn input) (scheduleIn input) ≡ benchPage input
@@ -95,9 +95,9 @@ nine-not-zero n = go (eqb n 0) refl
     go true e = refl
     go false e = e
 
-long-refused : (table schedule answers report : List ℕ) → scheduleRead ≤ length schedule → run table schedule answers report ≡ refusedWith (nineOr (validateTable table)) answers report
+long-refused : (table schedule : List ℕ) (buffers : Buffers) → scheduleRead ≤ length schedule → run table schedule buffers ≡ refusedWith (nineOr (validateTable table)) buffers
 unfolding run validateRun
-long-refused table schedule answers report h = rw (long-nine schedule h, nine-not-zero (validateTable table))
+long-refused table schedule buffers h = rw (long-nine schedule h, nine-not-zero (validateTable table))
 
 -- ---- what follows has no effect
 
@@ -109,14 +109,14 @@ settled have more h =
 -- a table with a length field over 6,260: two bytes are enough
 over-bench : (input : List ℕ) → tableMost < lengthField input → benchPage input ≡ refusedLine 1
 unfolding benchPage
-over-bench input h = ap (λ (b : Bool). cond b (refusedLine 1) (pageOf (processesIn (tableIn input)) (run (tableIn input) (scheduleIn input) answersRoom reportRoom))) (lt-ltb tableMost (lengthField input) h)
+over-bench input h = ap (λ (b : Bool). cond b (refusedLine 1) (pageOf (processesIn (tableIn input)) (run (tableIn input) (scheduleIn input) benchBuffers))) (lt-ltb tableMost (lengthField input) h)
 
 -- a schedule that is too long, and more behind it
 long-page : (table schedule more : List ℕ) → scheduleRead ≤ length schedule → partsPage table (schedule ++ more) ≡ partsPage table schedule
 unfolding partsPage
 long-page table schedule more h =
     let l = length-append schedule more in
-    ap (pageOf (processesIn table)) (long-refused table (schedule ++ more) answersRoom reportRoom (omega arith) ∙ sym (long-refused table schedule answersRoom reportRoom h))
+    ap (pageOf (processesIn table)) (long-refused table (schedule ++ more) benchBuffers (omega arith) ∙ sym (long-refused table schedule benchBuffers h))
 
 long-bench : (have more : List ℕ) → 2 + lengthField have + scheduleRead ≤ length have → benchPage (have ++ more) ≡ benchPage have
 long-bench have more h =

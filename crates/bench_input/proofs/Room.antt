@@ -14,7 +14,7 @@ use Rattle.rules.specs.Bytes.{byteAt}
 use Rattle.rules.specs.Format.{processesIn}
 use Rattle.rules.specs.Schedule.{commandsMost}
 use Rattle.rules.specs.Moves.{Numbers, numbered}
-use Rattle.rules.specs.Run.{Ran, run, accepted}
+use Rattle.rules.specs.Run.{Buffers, Ran, run, accepted}
 use Rattle.rules.specs.Transparency.{readAnswers}
 use Rattle.rules.specs.Page.{digits, decimal, recordsText, processText, quietText, refusedText, spaced, line, answerLine, answerLines, registerAt, processLine, processLines, quietLine, refusedLine, acceptedPage, pageOf}
 use Rattle.rules.proofs.Valid.{processes-counted, decoded-accepted}
@@ -139,21 +139,21 @@ four-long a b c d w x y z most ha hb hc hd h =
     let e3 = length-append c d in
     omega arith
 
-accepted-long : (processes : ℕ) (r : Ran) → Small (r .answers) → Small (r .report) → processes ≤ 16 → r .records ≤ commandsMost → length (acceptedPage processes r) ≤ pageRoom
+accepted-long : (processes : ℕ) (r : Ran) → Small (r .buffers .answers) → Small (r .buffers .report) → processes ≤ 16 → r .records ≤ commandsMost → length (acceptedPage processes r) ≤ pageRoom
 unfolding acceptedPage
 accepted-long processes r sa sr hp hr =
-    four-long (line (recordsText ∷ decimal (r .records) ∷ [])) (answerLines 1 (readAnswers (r .records) (r .answers))) (processLines 0 processes (r .report)) (quietLine (r .quiet))
+    four-long (line (recordsText ∷ decimal (r .records) ∷ [])) (answerLines 1 (readAnswers (r .records) (r .buffers .answers))) (processLines 0 processes (r .buffers .report)) (quietLine (r .quiet))
     14 (25 * r .records) (71 * processes) 8 pageRoom
     (two-long recordsText 4 (r .records) (omega arith))
-    (answers-long 1 (r .records) (r .answers) sa (omega arith))
-    (processes-long 0 processes (r .report) sr (omega arith))
+    (answers-long 1 (r .records) (r .buffers .answers) sa (omega arith))
+    (processes-long 0 processes (r .buffers .report) sr (omega arith))
     (two-long quietText 0 (cond (r .quiet) 1 0) (quiet-small (r .quiet)))
     (omega arith)
 
 refused-long : (n : ℕ) → n < 256 → length (refusedLine n) ≤ pageRoom
 refused-long n h = let a = two-long refusedText 2 n (omega arith) in omega arith
 
-pub page-long : (processes : ℕ) (r : Ran) → Small (r .answers) → Small (r .report) → r .number < 256 → (r .number ≡ 0 → processes ≤ 16) → r .records ≤ commandsMost
+pub page-long : (processes : ℕ) (r : Ran) → Small (r .buffers .answers) → Small (r .buffers .report) → r .number < 256 → (r .number ≡ 0 → processes ≤ 16) → r .records ≤ commandsMost
     → length (pageOf processes r) ≤ pageRoom
 unfolding pageOf
 page-long processes r sa sr hn hp hr = go (eqb (r .number) 0) refl
@@ -162,10 +162,10 @@ page-long processes r sa sr hn hp hr = go (eqb (r .number) 0) refl
     go true e = accepted-long processes r sa sr (hp (eqb-true (r .number) 0 e)) hr
     go false e = refused-long (r .number) hn
 
-pub few-processes : (table schedule answers report : List ℕ) → run table schedule answers report .number ≡ 0 → processesIn table ≤ 16
+pub few-processes : (table schedule : List ℕ) (buffers : Buffers) → run table schedule buffers .number ≡ 0 → processesIn table ≤ 16
 unfolding accepted
-few-processes table schedule answers report h =
-    let t = table-valid table schedule answers report (ap (λ (n : ℕ). eqb n 0) h) in
+few-processes table schedule buffers h =
+    let t = table-valid table schedule buffers (ap (λ (n : ℕ). eqb n 0) h) in
     let a = decoded-accepted table t .processes-high in
     let e = processes-counted table in
     omega arith

@@ -6,7 +6,7 @@ use lib.ListN.{length, take}
 use Rattle.rules.specs.Format.{processesMost, processesIn}
 use Rattle.rules.specs.Schedule.{commandsMost}
 use Rattle.rules.specs.Run.{Ran, run}
-use Rattle.rules.specs.Page.{pageOf, answersRoom, reportRoom, benchPage}
+use Rattle.rules.specs.Page.{pageOf, benchBuffers, benchPage}
 use Rattle.page.specs.Written.{Written}
 use Rattle.bench_input.specs.Wanted.{wantedOf}
 
@@ -17,7 +17,7 @@ pageRoom = 14 + 25 * commandsMost + 71 * processesMost + 8
 
 -- the page of a table and a schedule
 unfoldable pub partsPage : List ℕ → List ℕ → List ℕ
-partsPage table schedule = pageOf (processesIn table) (run table schedule answersRoom reportRoom)
+partsPage table schedule = pageOf (processesIn table) (run table schedule benchBuffers)
 
 -- A page written, and that a buffer of this size has room for it where the run is one that the cabinet can have made.
 pub record Printed (processes : ℕ) (ran : Ran) (out : List ℕ) (r : ℕ) (out′ : List ℕ) : Type 0 where

@@ -2,7 +2,7 @@
 // from standard input. Input that ends early is run as it is."
 ghost use mathlib.Core.Path.{_≡_};
 ghost use Prim.Native.Nat.{_≤_, min};
-ghost use Rattle.cabinet.specs.Runs.{ranBy};
+ghost use Rattle.rules.specs.Run.{buffersOf, ranOf};
 ghost use Rattle.bench_input.specs.Benched.{Printed, RunPrinted, Benched};
 use crate::bytes::length_field;
 use cabinet::run::run;
@@ -23,7 +23,7 @@ fn print(
     report: &[u8],
     out: &mut [u8],
 ) -> usize
-    ensures { λ r. ⌜ Printed processes (ranBy number records quiet (now (answers .entry)) (now (report .entry))) (now (out .entry)) r (now (out .exit)) ⌝ }
+    ensures { λ r. ⌜ Printed processes (ranOf number records quiet (buffersOf (now (answers .entry)) (now (report .entry)))) (now (out .entry)) r (now (out .exit)) ⌝ }
 {
     write_page(number, records, quiet, answers, processes, report, out)
 }

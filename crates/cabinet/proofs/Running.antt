@@ -10,6 +10,7 @@ use borrow.Author.Tests.{eqb-true, eq-eqb, ne-eqb, leb-true}
 use Rattle.facts.specs.Tests.{and-left, and-right}
 use Rattle.records.specs.Fetch.{fetched, instructionOf}
 use Rattle.records.specs.Commands.{ScheduleJudged, judgedRun}
+use Rattle.rules.specs.Transparency.{FailureTransparency}
 use Rattle.records.specs.declared.schedule.Judged.{Judged}
 use Rattle.records.proofs.Judged.{run-is}
 use Rattle.table.specs.Plan.{Plans, Decodes}
@@ -23,7 +24,7 @@ use Rattle.rules.specs.Format.{lengthField, processesIn, decodeTable, validateT
 use Rattle.rules.specs.Schedule.{commandsMost, commandsIn, command, decodeSchedule, scheduleOk, validateSchedule}
 use Rattle.rules.specs.Cabinet.{Cabinet, started, quiescent}
 use Rattle.rules.specs.Moves.{runFrom, numbers}
-use Rattle.rules.specs.Run.{Ran, answerBytes, reportBytes, validateRun, ranFrom, refusedWith, run, accepted}
+use Rattle.rules.specs.Run.{Buffers, buffersOf, lengthsOf, ranOf, answerBytes, reportBytes, validateRun, ranFrom, refusedWith, run, accepted}
 use Rattle.rules.proofs.Valid.{valid, test-passed, length-sixes, processes-counted, decoded-accepted}
 use Rattle.rules.proofs.AcceptedRun.{table-valid, schedule-valid, answers-fit, report-fits}
 use Rattle.rules.proofs.Theorem.{failure-transparency}
@@ -73,9 +74,9 @@ commands-many : (schedule : List ℕ) → length (decodeSchedule schedule) ≡ c
 unfolding decodeSchedule
 commands-many schedule = length-sixes command (commandsIn schedule) _
 
-passed : (table schedule answers report : List ℕ) → validateRun table schedule answers report ≡ 0 → accepted table schedule answers report ≡ true
+passed : (table schedule : List ℕ) (buffers : Buffers) → validateRun table schedule (lengthsOf buffers) ≡ 0 → accepted table schedule buffers ≡ true
 unfolding accepted ranFrom
-passed table schedule answers report h = rw h
+passed table schedule buffers h = rw h
 
 module _ (table schedule : List ℕ) (records : ℕ) (plan : Plan) (answers report answers′ report′ : List ℕ)
     (rows rows₀ mails₀ logs₀ heads₀ boards₀ : List (List ℕ)) (unread₀ queued₀ waits₀ : List ℕ) (s : Store) (quiet : Bool)
@@ -90,66 +91,68 @@ module _ (table schedule : List ℕ) (records : ℕ) (plan : Plan) (answers repo
   abbrev end : Cabinet
   end = runFrom t (started t) (decodeSchedule schedule) .cabinet
 
-  pub conducts : Conducts table schedule records plan answers report quiet answers′ report′
+  pub conducts : Conducts table schedule records plan (buffersOf answers report) quiet (buffersOf answers′ report′)
   unfolding ranFrom
   conducts = record {
     conducted = λ ok plans many.
-        let acc = passed table schedule answers report ok in
-        let tv = table-valid table schedule answers report acc in
+        let before = buffersOf answers report in
+        let acc = passed table schedule before ok in
+        let tv = table-valid table schedule before acc in
         let at : Accepted t = decoded-accepted table tv in
-        let few : commandsIn schedule ≤ commandsMost = commands-few schedule (schedule-valid table schedule answers report acc) in
         let su = suits table plan tv plans in
         let placed : Placed t (plan .primary) (plan .standby) (plan .processes) = record { processes-is = plans .processes-is; primary-at = plans .primary-at; standby-at = plans .standby-at } in
         let begins = seats .holds t mails₀ logs₀ heads₀ boards₀ unread₀ queued₀ waits₀ (replicate 512 blankEntry) at placed fresh in
         let so-many : records ≡ length (decodeSchedule schedule) = many ∙ sym (commands-many schedule) in
-        let played = plays .played t (record { accepted = at; suits = su; records-is = so-many; few = rw many few; room = rw many (answers-fit table schedule answers report acc); starts = begins }) in
-        let reach : Reachable t end = record { accepted = at; commands = decodeSchedule schedule; few = rw (← so-many, many) few; is-reached = refl } in
-        let room : 20 * plan .processes ≤ length report = rw (plans .processes-is, processes-counted table) (report-fits table schedule answers report acc) in
+        let played = plays .played t (record { accepted = at; suits = su; records-is = so-many; room = rw many (answers-fit table schedule before acc); starts = begins }) in
+        let reach : Reachable t end = record { accepted = at; commands = decodeSchedule schedule; is-reached = refl } in
+        let room : 20 * plan .processes ≤ length report = rw (plans .processes-is, processes-counted table) (report-fits table schedule before acc) in
         let r = reports .reported t (s .mails) (s .logs) (s .heads) (s .boards) (s .unread) (s .queued) (s .waits) (plays .entries) end reach (played .holds) (plans .processes-is) room in
         let q = quiets .answers t (s .logs) (s .heads) (s .unread) (s .queued) (s .waits) (plays .entries) end reach (su .programmed) (played .holds) (plans .boards-is) (plans .processes-is) in
-        λ i. record { number = 0; records = so-many i; quiet = q i; answers = played .answers-are i; report = r i };
+        λ i. record { number = 0; records = so-many i; quiet = q i; buffers = record { answers = played .answers-are i; report = r i } };
   }
 
 -- ---- the call
 
-module _ (table schedule answers report : List ℕ) (d : Decoded) (j : Judged) (is-d : Decodes table d) (is-j : ScheduleJudged schedule j) where
+module _ (table schedule : List ℕ) (before : Buffers) (d : Decoded) (j : Judged) (is-d : Decodes table d) (is-j : ScheduleJudged schedule j) where
   abbrev number : ℕ
-  number = judgedRun (d .number) (d .plan .processes) j (length answers) (length report)
+  number = judgedRun (d .number) (d .plan .processes) j (record { answers = length (before .answers); report = length (before .report) })
 
-  judged : number ≡ validateRun table schedule answers report
-  judged = run-is table schedule answers report (d .number) (d .plan .processes) j (is-d .number-is) (λ z. is-d .accepted z .processes-is ∙ processes-counted table) is-j
+  judged : number ≡ validateRun table schedule (lengthsOf before)
+  judged = run-is table schedule _ (d .number) (d .plan .processes) j (is-d .number-is) (λ z. is-d .accepted z .processes-is ∙ processes-counted table) is-j
 
-  pub refuses : (n : ℕ) → n ≡ number → (n ≡ 0 → ⊥) → Runs table schedule answers report (record { number = n; records = 0; quiet = false }) answers report
+  pub refuses : (n : ℕ) → n ≡ number → (n ≡ 0 → ⊥) → Runs table schedule before (record { number = n; records = 0; quiet = false }) before
   unfolding run refusedWith
   refuses n e h = record {
     ran = rw (← judged, ← e, ne-eqb n 0 h);
     failure-transparent = λ z. absurd (h z);
   }
 
-  pub accepts : (n : ℕ) → n ≡ number → n ≡ 0 → (quiet : Bool) (answers′ report′ : List ℕ) → Conducts table schedule (j .records) (d .plan) answers report quiet answers′ report′
-      → Runs table schedule answers report (record { number = 0; records = j .records; quiet = quiet }) answers′ report′
+  pub accepts : (n : ℕ) → n ≡ number → n ≡ 0 → (quiet : Bool) (after : Buffers) → Conducts table schedule (j .records) (d .plan) before quiet after
+      → Runs table schedule before (record { number = 0; records = j .records; quiet = quiet }) after
   unfolding run
-  accepts n e z quiet answers′ report′ h =
-      let ok : validateRun table schedule answers report ≡ 0 = sym judged ∙ sym e ∙ z in
-      let acc = passed table schedule answers report ok in
-      let fine : d .number ≡ 0 = is-d .number-is ∙ table-valid table schedule answers report acc in
-      let sv = schedule-valid table schedule answers report acc in
+  accepts n e z quiet after h =
+      let ok : validateRun table schedule (lengthsOf before) ≡ 0 = sym judged ∙ sym e ∙ z in
+      let acc = passed table schedule before ok in
+      let fine : d .number ≡ 0 = is-d .number-is ∙ table-valid table schedule before acc in
+      let sv = schedule-valid table schedule before acc in
       let many : j .records ≡ commandsIn schedule = is-j .records-is ∙ ap (λ (m : ℕ). cond (eqb m 0) (commandsIn schedule) 0) sv in
+      let same : ranOf 0 (j .records) quiet after ≡ run table schedule before =
+      h .conducted ok (is-d .accepted fine) many ∙ sym (ap (λ (m : ℕ). cond (eqb m 0) (ranFrom (decodeTable table) (decodeSchedule schedule) before) (refusedWith m before)) ok) in
       record {
-        ran = h .conducted ok (is-d .accepted fine) many ∙ sym (ap (λ (m : ℕ). cond (eqb m 0) (ranFrom (decodeTable table) (decodeSchedule schedule) answers report) (refusedWith m answers report)) ok);
-        failure-transparent = λ _. failure-transparency table schedule answers report acc;
+        ran = same;
+        failure-transparent = λ _. subst (FailureTransparency table schedule) (sym same) (failure-transparency table schedule before acc);
       }
 
 -- ---- a run has at most 10,000 records
 
-few-of : (b : Bool) (n : ℕ) (t : Table) (schedule answers report : List ℕ) → (b ≡ true → commandsIn schedule ≤ commandsMost)
-    → cond b (ranFrom t (decodeSchedule schedule) answers report) (refusedWith n answers report) .records ≤ commandsMost
+few-of : (b : Bool) (n : ℕ) (t : Table) (schedule : List ℕ) (buffers : Buffers) → (b ≡ true → commandsIn schedule ≤ commandsMost)
+    → cond b (ranFrom t (decodeSchedule schedule) buffers) (refusedWith n buffers) .records ≤ commandsMost
 unfolding ranFrom refusedWith
-few-of true n t schedule answers report h = rw (commands-many schedule) (h refl)
-few-of false n t schedule answers report h = omega arith
+few-of true n t schedule buffers h = rw (commands-many schedule) (h refl)
+few-of false n t schedule buffers h = omega arith
 
-pub run-few : (table schedule answers report : List ℕ) → run table schedule answers report .records ≤ commandsMost
+pub run-few : (table schedule : List ℕ) (buffers : Buffers) → run table schedule buffers .records ≤ commandsMost
 unfolding run
-run-few table schedule answers report =
-    few-of (eqb (validateRun table schedule answers report) 0) _ (decodeTable table) schedule answers report
-    (λ e. commands-few schedule (schedule-valid table schedule answers report (passed table schedule answers report (eqb-true _ 0 e))))
+run-few table schedule buffers =
+    few-of (eqb (validateRun table schedule (lengthsOf buffers)) 0) _ (decodeTable table) schedule buffers
+    (λ e. commands-few schedule (schedule-valid table schedule buffers (passed table schedule buffers (eqb-true _ 0 e))))

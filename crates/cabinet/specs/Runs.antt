@@ -7,23 +7,23 @@ use Rattle.table.specs.Plan.{Plans}
 use Rattle.table.specs.declared.plan.Plan.{Plan}
 use Rattle.rules.specs.Format.{decodeTable}
 use Rattle.rules.specs.Schedule.{commandsIn, decodeSchedule}
-use Rattle.rules.specs.Run.{Ran, validateRun, ranFrom, run}
+use Rattle.rules.specs.Run.{Buffers, lengthsOf, Ran, ranOf, validateRun, ranFrom, run}
 use Rattle.rules.specs.Transparency.{FailureTransparency}
 use Rattle.cabinet.specs.declared.run.Verdict.{Verdict}
 
--- what a call returned, with the two lent buffers at its end, as the rules' outcome of a run
-abbrev pub ranBy : ℕ → ℕ → Bool → List ℕ → List ℕ → Ran
-ranBy number records quiet answers report = record { number = number; records = records; quiet = quiet; answers = answers; report = report }
+-- what a call returned, with the lent buffers as it left them, as the rules' outcome of a run
+abbrev pub ranBy : Verdict → Buffers → Ran
+ranBy r after = ranOf (r .number) (r .records) (r .quiet) after
 
--- A run of any bytes of a table and a schedule, with two buffers of any length.
-pub record Runs (table schedule answers report : List ℕ) (r : Verdict) (answers′ report′ : List ℕ) : Type 0 where
-  -- result and both buffers are those of the rules' run: refused with the lowest number that applies and nothing written, or accepted
+-- A run of any bytes of a table and a schedule, with buffers of any length: these before it, those after it.
+pub record Runs (table schedule : List ℕ) (before : Buffers) (r : Verdict) (after : Buffers) : Type 0 where
+  -- demand 2: result and buffers are those of the rules' run: refused with the lowest number that applies and nothing written, or accepted
   -- with every answer and every line of the report, the bytes beyond them untouched
-  pub ran : ranBy (r .number) (r .records) (r .quiet) answers′ report′ ≡ run table schedule answers report
-  -- demand 3 of an accepted run, about the bytes then in `answers`
-  pub failure-transparent : r .number ≡ 0 → FailureTransparency table schedule answers report
+  pub ran : ranBy r after ≡ run table schedule before
+  -- demand 3 of an accepted run, about the answers in the buffer as the call left it and the `quiet` that it returned
+  pub failure-transparent : r .number ≡ 0 → FailureTransparency table schedule (ranBy r after)
 
 -- the part of it that an accepted run makes
-pub record Conducts (table schedule : List ℕ) (records : ℕ) (plan : Plan) (answers report : List ℕ) (quiet : Bool) (answers′ report′ : List ℕ) : Type 0 where
-  pub conducted : validateRun table schedule answers report ≡ 0 → Plans table plan → records ≡ commandsIn schedule
-      → ranBy 0 records quiet answers′ report′ ≡ ranFrom (decodeTable table) (decodeSchedule schedule) answers report
+pub record Conducts (table schedule : List ℕ) (records : ℕ) (plan : Plan) (before : Buffers) (quiet : Bool) (after : Buffers) : Type 0 where
+  pub conducted : validateRun table schedule (lengthsOf before) ≡ 0 → Plans table plan → records ≡ commandsIn schedule
+      → ranOf 0 records quiet after ≡ ranFrom (decodeTable table) (decodeSchedule schedule) before

@@ -1,5 +1,6 @@
 // The public call: a table and a schedule in, answers and a report into lent buffers, and a number, how many records were run, and
 // whether the cabinet ended quiet. Document 01, "What each move replies". All state is this call's own; nothing is kept between calls.
+ghost use Rattle.rules.specs.Run.{buffersOf};
 ghost use Rattle.cabinet.specs.Runs.{Runs, Conducts};
 use crate::play::play;
 use backup::place::HEAD;
@@ -8,6 +9,7 @@ use outcome::report::write_report;
 use outcome::start::seat;
 use process::mail::MAIL;
 use process::row::ROW;
+use records::schedule::Lengths;
 use records::schedule::judge_run;
 use records::schedule::judge_schedule;
 use state::board::BOARD_ROW;
@@ -30,7 +32,8 @@ fn conduct(
     answers: &mut [u8],
     report: &mut [u8],
 ) -> bool
-    ensures { λ r. ⌜ Conducts (now (table .entry)) (now (schedule .entry)) records plan (now (answers .entry)) (now (report .entry)) r (now (answers .exit)) (now (report .exit)) ⌝ }
+    ensures { λ r. ⌜ Conducts (now (table .entry)) (now (schedule .entry)) records plan (buffersOf (now (answers .entry)) (now (report .entry))) r
+        (buffersOf (now (answers .exit)) (now (report .exit))) ⌝ }
 {
     let boards_many = plan.boards;
     let processes = plan.processes;
@@ -92,7 +95,8 @@ fn conduct(
 
 // The run of a table and a schedule, whatever bytes they are.
 pub fn run(table: &[u8], schedule: &[u8], answers: &mut [u8], report: &mut [u8]) -> Verdict
-    ensures { λ r. ⌜ Runs (now (table .entry)) (now (schedule .entry)) (now (answers .entry)) (now (report .entry)) r (now (answers .exit)) (now (report .exit)) ⌝ }
+    ensures { λ r. ⌜ Runs (now (table .entry)) (now (schedule .entry)) (buffersOf (now (answers .entry)) (now (report .entry))) r
+        (buffersOf (now (answers .exit)) (now (report .exit))) ⌝ }
 {
     let d = decode(table);
     let s = judge_schedule(schedule);
@@ -100,7 +104,11 @@ pub fn run(table: &[u8], schedule: &[u8], answers: &mut [u8], report: &mut [u8])
     let plan = d.plan;
     let processes = plan.processes;
     let records = s.records;
-    let number = judge_run(table_number, processes, s, answers.len(), report.len());
+    let lengths = Lengths {
+        answers: answers.len(),
+        report: report.len(),
+    };
+    let number = judge_run(table_number, processes, s, lengths);
     if number != 0 {
         return Verdict {
             number: number,

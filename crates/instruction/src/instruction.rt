@@ -1,10 +1,10 @@
 // One instruction of a process: what it would do, looked at before anything is changed, and then what it does to the process's row and
 // mailbox. Document 01: "Instructions, each moving the place on by one unless said". Codes 1 to 6 are SET, ADD, TAKE, FIRST, SEND and
-// JUMP; no other is in an accepted table, and one is a SET here as in the rules.
+// JUMP; any other, which no accepted table has, is not executed.
 ghost use mathlib.Core.Path.{_≡_};
 ghost use Prim.Native.Nat.{_+_, _%_, _^_, _<_};
 ghost use lib.ListN.{getD};
-ghost use Rattle.instruction.specs.Instruction.{bumped, Loads, Examined, Sought, Computes, Takes, Suppresses, Queues};
+ghost use Rattle.instruction.specs.Instruction.{bumped, oneIn, tallied, Loads, Examined, Sought, Computes, Takes, Suppresses, Queues};
 use crate::mailbox::look;
 use crate::mailbox::remove;
 use process::mail::MAIL;
@@ -12,6 +12,7 @@ use process::mail::channel_of;
 use process::mail::word_of;
 use process::row::EVENTS;
 use process::row::PC;
+use process::row::PROTECTED;
 use process::row::R0;
 use process::row::R1;
 use process::row::ROW;
@@ -22,7 +23,7 @@ use process::row::wide;
 
 // What the instruction at a process's place would do.
 pub enum Intent {
-    // nothing: it is halted
+    // nothing: it is halted, or the code is none
     Halted,
     // nothing: a TAKE or a FIRST finds no such word
     NoMail,
@@ -62,6 +63,21 @@ fn bump(row: &mut [u32; ROW], i: usize)
     row[i] = std::num::wrapping_add_u32(row[i], 1);
 }
 
+// What an act of the process counts for. Document 01: "A backed process has acts".
+fn one(row: &[u32; ROW]) -> u32
+    ensures { λ r. ⌜ r ≡ oneIn (now (row .entry)) ⌝ }
+{
+    if row[PROTECTED] == 0 { 0 } else { 1 }
+}
+
+// An act more in a counter, if the process's acts are counted.
+fn tally(row: &mut [u32; ROW], i: usize)
+    requires { ⌜ i < 15 ⌝ }
+    ensures { λ _. ⌜ now (row .exit) ≡ tallied (now (row .entry)) i ⌝ }
+{
+    row[i] = std::num::wrapping_add_u32(row[i], one(row));
+}
+
 // A TAKE or a FIRST would take the oldest word that it names.
 fn seek(mail: &[u64; MAIL], unread: usize, code: u8, operand: u32) -> Intent
     ensures { λ r. ⌜ Sought (now (mail .entry)) unread code operand r ⌝ }
@@ -95,7 +111,7 @@ pub fn examine(
             channel: operand,
             word: register(row, a),
         },
-        _ => Intent::Internal,
+        _ => Intent::Halted,
     }
 }
 
@@ -111,6 +127,10 @@ pub fn compute(row: &mut [u32; ROW], code: u8, a: u32, operand: u32)
     ensures { λ _. ⌜ Computes (now (row .entry)) code a operand (now (row .exit)) ⌝ }
 {
     match code {
+        1 => {
+            row[cell(a)] = operand;
+            bump(row, PC);
+        }
         2 => {
             row[cell(a)] = sum(row, a, operand);
             bump(row, PC);
@@ -122,18 +142,15 @@ pub fn compute(row: &mut [u32; ROW], code: u8, a: u32, operand: u32)
                 row[PC] = operand;
             }
         }
-        _ => {
-            row[cell(a)] = operand;
-            bump(row, PC);
-        }
+        _ => {}
     }
 }
 
 // One more event, and the place moves on.
 fn event(row: &mut [u32; ROW])
-    ensures { λ _. ⌜ now (row .exit) ≡ bumped (bumped (now (row .entry)) 7) 1 ⌝ }
+    ensures { λ _. ⌜ now (row .exit) ≡ bumped (tallied (now (row .entry)) 7) 1 ⌝ }
 {
-    bump(row, EVENTS);
+    tally(row, EVENTS);
     bump(row, PC);
 }
 
@@ -147,8 +164,8 @@ fn load(row: &mut [u32; ROW], code: u8, a: u32, x: u64)
     }
 }
 
-// A TAKE or a FIRST is done: the word at an index of the mailbox leaves it, and counts as one more event and one more receive on its
-// port. Where no unread word stands there nothing changes.
+// A TAKE or a FIRST is done: the word at an index of the mailbox leaves it, and counts as an event and a receive on its port. Where no
+// unread word stands there nothing changes.
 pub fn take_word(
     row: &mut [u32; ROW],
     mail: &mut [u64; MAIL],
@@ -169,7 +186,7 @@ pub fn take_word(
     load(row, code, a, mail[at]);
     remove(mail, unread, at);
     row[UNREAD] = std::num::wrapping_sub_u32(row[UNREAD], 1);
-    bump(row, T0 + wide(port % 4));
+    tally(row, T0 + wide(port % 4));
     event(row);
 }
 
@@ -181,7 +198,7 @@ pub fn suppress_send(row: &mut [u32; ROW])
     bump(row, PC);
 }
 
-// A SEND is done whose word joins the outbox: one more event.
+// A SEND is done whose word joins the outbox: an event.
 pub fn queue_send(row: &mut [u32; ROW])
     ensures { λ _. ⌜ Queues (now (row .entry)) (now (row .exit)) ⌝ }
 {

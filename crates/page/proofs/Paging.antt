@@ -11,10 +11,11 @@ use borrow.Author.Tests.{ne-eqb}
 use Rattle.facts.specs.Tests.{by-lt}
 use Rattle.rules.specs.Bytes.{byteAt, written}
 use Rattle.rules.specs.Moves.{Numbers, numbered}
+use Rattle.rules.specs.Run.{Buffers, ranOf}
 use Rattle.rules.specs.Transparency.{readAnswers}
 use Rattle.rules.specs.Page.{digits, decimal, line, recordsText, quietText, refusedText, refusedLine, answerLine, answerLines, registerAt, processText, processLine, processLines, quietLine, acceptedPage, pageOf}
 use Rattle.page.specs.Put.{most, Put}
-use Rattle.page.specs.Written.{ranBy, Written}
+use Rattle.page.specs.Written.{Written}
 use Rattle.page.proofs.Putting.{put-then, line-then, line-more}
 use Rattle.page.proofs.Lining.{last-word}
 
@@ -24,12 +25,12 @@ pub refused-put : (number n : ℕ) (out o1 o2 : List ℕ) (r1 r2 : ℕ) → n �
     → Put (refusedLine number) out 0 r2 o2
 refused-put number n out o1 o2 r1 r2 e p q = line-then refusedText (decimal number) [] out o1 o2 0 r1 r2 p (last-word n number o1 o2 r1 r2 e q)
 
-pub accepted-put : (records processes m n : ℕ) (quiet : Bool) (answers report out o1 o2 o3 o4 o5 o6 : List ℕ) (r1 r2 r3 r4 r5 r6 : ℕ) → m ≡ records → n ≡ cond quiet 1 0
-    → Put (recordsText ++ (32 ∷ [])) out 0 r1 o1 → Put (decimal m ++ (10 ∷ [])) o1 r1 r2 o2 → Put (answerLines 1 (readAnswers records answers)) o2 r2 r3 o3
-    → Put (processLines 0 processes report) o3 r3 r4 o4 → Put (quietText ++ (32 ∷ [])) o4 r4 r5 o5 → Put (decimal n ++ (10 ∷ [])) o5 r5 r6 o6
-    → Put (acceptedPage processes (ranBy 0 records quiet answers report)) out 0 r6 o6
+pub accepted-put : (records processes m n : ℕ) (quiet : Bool) (buffers : Buffers) (out o1 o2 o3 o4 o5 o6 : List ℕ) (r1 r2 r3 r4 r5 r6 : ℕ) → m ≡ records → n ≡ cond quiet 1 0
+    → Put (recordsText ++ (32 ∷ [])) out 0 r1 o1 → Put (decimal m ++ (10 ∷ [])) o1 r1 r2 o2 → Put (answerLines 1 (readAnswers records (buffers .answers))) o2 r2 r3 o3
+    → Put (processLines 0 processes (buffers .report)) o3 r3 r4 o4 → Put (quietText ++ (32 ∷ [])) o4 r4 r5 o5 → Put (decimal n ++ (10 ∷ [])) o5 r5 r6 o6
+    → Put (acceptedPage processes (ranOf 0 records quiet buffers)) out 0 r6 o6
 unfolding acceptedPage
-accepted-put records processes m n quiet answers report out o1 o2 o3 o4 o5 o6 r1 r2 r3 r4 r5 r6 e f p1 p2 p3 p4 p5 p6 =
+accepted-put records processes m n quiet buffers out o1 o2 o3 o4 o5 o6 r1 r2 r3 r4 r5 r6 e f p1 p2 p3 p4 p5 p6 =
     let first = line-then recordsText (decimal records) [] out o1 o2 0 r1 r2 p1 (last-word m records o1 o2 r1 r2 e p2) in
     let last = line-then quietText (decimal (cond quiet 1 0)) [] o4 o5 o6 r4 r5 r6 p5 (last-word n (cond quiet 1 0) o5 o6 r5 r6 f p6) in
     put-then _ _ out o2 o6 0 r2 r6 first (put-then _ _ o2 o3 o6 r2 r3 r6 p3 (put-then _ _ o3 o4 o6 r3 r4 r6 p4 last))
@@ -110,17 +111,17 @@ processes-long p (suc n) report =
 pub refused-some : (number : ℕ) → 0 < length (refusedLine number)
 refused-some number = let e = line-next refusedText (decimal number) [] in omega arith
 
-module _ (records processes : ℕ) (quiet : Bool) (answers report : List ℕ) where
+module _ (records processes : ℕ) (quiet : Bool) (buffers : Buffers) where
   abbrev first : List ℕ
   first = line (recordsText ∷ decimal records ∷ [])
 
   abbrev middle : List ℕ
-  middle = answerLines 1 (readAnswers records answers)
+  middle = answerLines 1 (readAnswers records (buffers .answers))
 
   abbrev end : List ℕ
-  end = processLines 0 processes report
+  end = processLines 0 processes (buffers .report)
 
-  accepted-length : length (acceptedPage processes (ranBy 0 records quiet answers report)) ≡ length first + (length middle + (length end + length (quietLine quiet)))
+  accepted-length : length (acceptedPage processes (ranOf 0 records quiet buffers)) ≡ length first + (length middle + (length end + length (quietLine quiet)))
   unfolding acceptedPage
   accepted-length =
       let a = length-append first (middle ++ (end ++ quietLine quiet)) in
@@ -128,14 +129,14 @@ module _ (records processes : ℕ) (quiet : Bool) (answers report : List ℕ) wh
       let c = length-append end (quietLine quiet) in
       omega arith
 
-  pub accepted-some : 0 < length (acceptedPage processes (ranBy 0 records quiet answers report))
+  pub accepted-some : 0 < length (acceptedPage processes (ranOf 0 records quiet buffers))
   accepted-some = let e = accepted-length in let f = line-next recordsText (decimal records) [] in omega arith
 
-  pub accepted-answers : 8 * records ≤ length (acceptedPage processes (ranBy 0 records quiet answers report))
-  accepted-answers = let e = accepted-length in let f = answers-long 1 records answers in omega arith
+  pub accepted-answers : 8 * records ≤ length (acceptedPage processes (ranOf 0 records quiet buffers))
+  accepted-answers = let e = accepted-length in let f = answers-long 1 records (buffers .answers) in omega arith
 
-  pub accepted-processes : 20 * processes ≤ length (acceptedPage processes (ranBy 0 records quiet answers report))
-  accepted-processes = let e = accepted-length in let f = processes-long 0 processes report in omega arith
+  pub accepted-processes : 20 * processes ≤ length (acceptedPage processes (ranOf 0 records quiet buffers))
+  accepted-processes = let e = accepted-length in let f = processes-long 0 processes (buffers .report) in omega arith
 
 -- ---- room or no room
 
@@ -173,15 +174,15 @@ with-room page out out′ scratch scratch′ needed r some small p h q =
 
 -- ---- which page it is
 
-pub page-refused : (number records processes r : ℕ) (quiet : Bool) (answers report out out′ : List ℕ) → (number ≡ 0 → ⊥) → Written (refusedLine number) out r out′
-    → Written (pageOf processes (ranBy number records quiet answers report)) out r out′
+pub page-refused : (number records processes r : ℕ) (quiet : Bool) (buffers : Buffers) (out out′ : List ℕ) → (number ≡ 0 → ⊥) → Written (refusedLine number) out r out′
+    → Written (pageOf processes (ranOf number records quiet buffers)) out r out′
 unfolding pageOf
-page-refused number records processes r quiet answers report out out′ h w =
-    subst (λ (b : Bool). Written (cond b (acceptedPage processes (ranBy number records quiet answers report)) (refusedLine number)) out r out′) (sym (ne-eqb number 0 h)) w
+page-refused number records processes r quiet buffers out out′ h w =
+    subst (λ (b : Bool). Written (cond b (acceptedPage processes (ranOf number records quiet buffers)) (refusedLine number)) out r out′) (sym (ne-eqb number 0 h)) w
 
-pub page-accepted : (number records processes r : ℕ) (quiet : Bool) (answers report out out′ : List ℕ) → number ≡ 0
-    → Written (acceptedPage processes (ranBy 0 records quiet answers report)) out r out′
-    → Written (pageOf processes (ranBy number records quiet answers report)) out r out′
+pub page-accepted : (number records processes r : ℕ) (quiet : Bool) (buffers : Buffers) (out out′ : List ℕ) → number ≡ 0
+    → Written (acceptedPage processes (ranOf 0 records quiet buffers)) out r out′
+    → Written (pageOf processes (ranOf number records quiet buffers)) out r out′
 unfolding pageOf
-page-accepted number records processes r quiet answers report out out′ e w =
-    subst (λ (k : ℕ). Written (pageOf processes (ranBy k records quiet answers report)) out r out′) (sym e) w
+page-accepted number records processes r quiet buffers out out′ e w =
+    subst (λ (k : ℕ). Written (pageOf processes (ranOf k records quiet buffers)) out r out′) (sym e) w

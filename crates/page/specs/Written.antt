@@ -1,15 +1,9 @@
 -- A page written into a lent buffer, or answered with 0 where it has no room.
 use mathlib.Core.Path.{_≡_}
-use mathlib.Core.Bool.{Bool}
 use mathlib.Core.List.{List}
 use Prim.Native.Nat.{ℕ, _≤_, _<_}
 use lib.ListN.{length}
 use Rattle.rules.specs.Bytes.{written}
-use Rattle.rules.specs.Run.{Ran}
-
--- what a run returned, and the two buffers that it was lent, as the rules' outcome of a run
-abbrev pub ranBy : ℕ → ℕ → Bool → List ℕ → List ℕ → Ran
-ranBy number records quiet answers report = record { number = number; records = records; quiet = quiet; answers = answers; report = report }
 
 -- The page, the buffer before, what was returned, the buffer after.
 pub record Written (page out : List ℕ) (r : ℕ) (out′ : List ℕ) : Type 0 where

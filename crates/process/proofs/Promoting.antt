@@ -17,7 +17,7 @@ use Rattle.backup.specs.Place.{unpack, messages, viewIn, Sound, promotionIn}
 use Rattle.backup.specs.declared.place.Promotion.{Promotion}
 use Rattle.rules.specs.Table.{Table, channelOn}
 use Rattle.rules.specs.Machine.{Mail}
-use Rattle.rules.specs.Cabinet.{Process, Standby, noTakes}
+use Rattle.rules.specs.Cabinet.{Process, Standby, noneSince}
 use Rattle.rules.specs.Moves.{recovered, promoted, unprotected, afterCrash}
 use Rattle.process.specs.Row.{machineOf, standbyOf, processOf, mailsIn, Kept}
 use Rattle.process.specs.Change.{Became, RowBecame}
@@ -71,8 +71,7 @@ module _ (row mail log head channels : List ℕ) where
         machine = record { registers = v .registers; pc = v .pc; mailbox = mailbox };
         board = getD row 13 0;
         suppress = v .sent;
-        events = 0;
-        taken = noTakes;
+        since = noneSince;
         standby = none;
       } in
       let f : Fit (viewIn log head) = fit-parts (viewIn log head) (k .sound .is-fit) in

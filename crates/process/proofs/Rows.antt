@@ -1,10 +1,14 @@
 -- Rows: a row of known length written out, after which stores at its cells compute; and what a store keeps.
 use mathlib.Core.Path.{_≡_, refl, ap, sym, _∙_}
+use mathlib.Core.Bool.{Bool, true, false, not, cond}
+use mathlib.Core.Option.{none, some}
 use mathlib.Core.List.{List, [], _∷_}
 use Prim.Native.Nat.{ℕ, zero, suc, _≤_, _<_, _^_}
 use native.Mathlib.Omega.{arith}
+use lib.Dec.{eqb}
 use lib.ListN.{length, getD, set, length-set}
 use Rattle.facts.specs.Lists.{listed, written-out}
+use Rattle.rules.specs.Cabinet.{Standby, isSome, limited}
 use Rattle.rules.specs.Moves.{issued, unprotected}
 use Rattle.process.specs.Row.{rowLength, machineOf, standbyOf, processOf, Kept}
 use Rattle.process.specs.Change.{Became, RowBecame}
@@ -31,6 +35,15 @@ cleared k h = stored k 0 (omega arith) h
 -- what is read off the stores of a row is what is read off the same stores of it written out
 pub spelled : {A : Type 0} (row : List ℕ) (f : List ℕ → A) → length row ≡ rowLength → f row ≡ f (listed (λ i. getD row i 0) rowLength)
 spelled row f h = ap f (written-out row rowLength 0 h)
+
+-- a process is limited where its row says so
+pub limited-is : (row mail log head : List ℕ) → limited (processOf row mail log head) ≡ not (eqb (getD row 12 0) 0)
+unfolding processOf standbyOf
+limited-is row mail log head = go (eqb (getD row 12 0) 0) _
+  where
+    go : (b : Bool) (x : Standby) → isSome (cond b none (some x)) ≡ not b
+    go true x = refl
+    go false x = refl
 
 -- ---- issue
 

@@ -44,8 +44,7 @@ processOf row mail log head = record {
   machine = machineOf row mail;
   board = getD row 0 0;
   suppress = getD row 6 0;
-  events = getD row 7 0;
-  taken = getD row 8 0 ∷ getD row 9 0 ∷ getD row 10 0 ∷ getD row 11 0 ∷ [];
+  since = record { events = getD row 7 0; taken = getD row 8 0 ∷ getD row 9 0 ∷ getD row 10 0 ∷ getD row 11 0 ∷ [] };
   standby = standbyOf row log head;
 }
 

@@ -12,8 +12,10 @@ use Rattle.facts.specs.Ranges.{and-fails}
 use Rattle.rules.specs.Format.{lengthField, versionIn, orNumber, processesIn, validateTable}
 use Rattle.rules.specs.Schedule.{commandsMost, commandsIn, scheduleOk, validateSchedule}
 use Rattle.rules.specs.Run.{validateRun}
-use Rattle.records.specs.Commands.{ScheduleJudged, judgedRun}
+use Rattle.rules.specs.Run as run
+use Rattle.records.specs.Commands.{ScheduleJudged, lengthsIn, judgedRun}
 use Rattle.records.specs.declared.schedule.Judged.{Judged}
+use Rattle.records.specs.declared.schedule.Lengths.{Lengths}
 
 -- ---- a schedule
 
@@ -89,39 +91,39 @@ table-first table schedule answers report h = rw (ne-eqb table 0 h)
 schedule-next : (table schedule : ℕ) (answers report : Bool) → table ≡ 0 → (schedule ≡ 0 → ⊥) → schedule ≡ inOrder table schedule answers report
 schedule-next table schedule answers report e h = rw (eq-eqb table 0 e, ne-eqb schedule 0 h)
 
-module _ (number processes : ℕ) (judged : Judged) (answered reported : ℕ) where
-  pub run-table : (number ≡ 0 → ⊥) → number ≡ judgedRun number processes judged answered reported
+module _ (number processes : ℕ) (judged : Judged) (lengths : Lengths) where
+  pub run-table : (number ≡ 0 → ⊥) → number ≡ judgedRun number processes judged lengths
   unfolding judgedRun
-  run-table h = table-first number (judged .number) (leb (6 * judged .records) answered) (leb (20 * processes) reported) h
+  run-table h = table-first number (judged .number) (leb (6 * judged .records) (lengths .answers)) (leb (20 * processes) (lengths .report)) h
 
-  pub run-schedule : number ≡ 0 → (judged .number ≡ 0 → ⊥) → judged .number ≡ judgedRun number processes judged answered reported
+  pub run-schedule : number ≡ 0 → (judged .number ≡ 0 → ⊥) → judged .number ≡ judgedRun number processes judged lengths
   unfolding judgedRun
-  run-schedule e h = schedule-next number (judged .number) (leb (6 * judged .records) answered) (leb (20 * processes) reported) e h
+  run-schedule e h = schedule-next number (judged .number) (leb (6 * judged .records) (lengths .answers)) (leb (20 * processes) (lengths .report)) e h
 
   module _ (e : number ≡ 0) (f : judged .number ≡ 0) where
-    pub run-answers : answered / 6 < judged .records → 11 ≡ judgedRun number processes judged answered reported
+    pub run-answers : lengths .answers / 6 < judged .records → 11 ≡ judgedRun number processes judged lengths
     unfolding judgedRun
-    run-answers h = rw (eq-eqb number 0 e, eq-eqb (judged .number) 0 f, lt-leb (6 * judged .records) answered (omega arith))
+    run-answers h = rw (eq-eqb number 0 e, eq-eqb (judged .number) 0 f, lt-leb (6 * judged .records) (lengths .answers) (omega arith))
 
-    module _ (g : judged .records ≤ answered / 6) where
-      enough : leb (6 * judged .records) answered ≡ true
-      enough = le-leb (6 * judged .records) answered (omega arith)
+    module _ (g : judged .records ≤ lengths .answers / 6) where
+      enough : leb (6 * judged .records) (lengths .answers) ≡ true
+      enough = le-leb (6 * judged .records) (lengths .answers) (omega arith)
 
-      pub run-report : reported / 20 < processes → 12 ≡ judgedRun number processes judged answered reported
+      pub run-report : lengths .report / 20 < processes → 12 ≡ judgedRun number processes judged lengths
       unfolding judgedRun
-      run-report h = rw (eq-eqb number 0 e, eq-eqb (judged .number) 0 f, enough, lt-leb (20 * processes) reported (omega arith))
+      run-report h = rw (eq-eqb number 0 e, eq-eqb (judged .number) 0 f, enough, lt-leb (20 * processes) (lengths .report) (omega arith))
 
-      pub run-accepted : processes ≤ reported / 20 → 0 ≡ judgedRun number processes judged answered reported
+      pub run-accepted : processes ≤ lengths .report / 20 → 0 ≡ judgedRun number processes judged lengths
       unfolding judgedRun
-      run-accepted h = rw (eq-eqb number 0 e, eq-eqb (judged .number) 0 f, enough, le-leb (20 * processes) reported (omega arith))
+      run-accepted h = rw (eq-eqb number 0 e, eq-eqb (judged .number) 0 f, enough, le-leb (20 * processes) (lengths .report) (omega arith))
 
 -- ---- of a table and a schedule that were judged it is the rules' number
 
-in-order : (table schedule answers report : List ℕ)
-    → inOrder (validateTable table) (validateSchedule schedule) (leb (6 * commandsIn schedule) (length answers)) (leb (20 * processesIn table) (length report))
-    ≡ validateRun table schedule answers report
+in-order : (table schedule : List ℕ) (lengths : run.Lengths)
+    → inOrder (validateTable table) (validateSchedule schedule) (leb (6 * commandsIn schedule) (lengths .answers)) (leb (20 * processesIn table) (lengths .report))
+    ≡ validateRun table schedule lengths
 unfolding validateRun
-in-order table schedule answers report = refl
+in-order table schedule lengths = refl
 
 -- where both numbers are 0 the two tests agree; where one isn't they don't matter
 same-order : (table schedule : ℕ) (a b c d : Bool) → (table ≡ 0 → schedule ≡ 0 → (a ≡ c) × (b ≡ d)) → inOrder table schedule a b ≡ inOrder table schedule c d
@@ -132,15 +134,15 @@ same-order table schedule a b c d h =
     (λ n. sym (schedule-next table schedule a b e n) ∙ schedule-next table schedule c d e n))
     (λ n. sym (table-first table schedule a b n) ∙ table-first table schedule c d n)
 
-pub run-is : (table schedule answers report : List ℕ) (number processes : ℕ) (judged : Judged)
+pub run-is : (table schedule : List ℕ) (lengths : Lengths) (number processes : ℕ) (judged : Judged)
     → number ≡ validateTable table → (number ≡ 0 → processes ≡ processesIn table) → ScheduleJudged schedule judged
-    → judgedRun number processes judged (length answers) (length report) ≡ validateRun table schedule answers report
+    → judgedRun number processes judged lengths ≡ validateRun table schedule (lengthsIn lengths)
 unfolding judgedRun
-run-is table schedule answers report number processes judged e f j =
-    same-order number (judged .number) _ _ (leb (6 * commandsIn schedule) (length answers)) (leb (20 * processesIn table) (length report))
+run-is table schedule lengths number processes judged e f j =
+    same-order number (judged .number) _ _ (leb (6 * commandsIn schedule) (lengths .answers)) (leb (20 * processesIn table) (lengths .report))
     (λ z y. (
-      ap (λ (n : ℕ). leb (6 * n) (length answers)) (j .records-is ∙ ap (λ (x : ℕ). cond (eqb x 0) (commandsIn schedule) 0) (sym (j .number-is) ∙ y)),
-      ap (λ (p : ℕ). leb (20 * p) (length report)) (f z),
+      ap (λ (n : ℕ). leb (6 * n) (lengths .answers)) (j .records-is ∙ ap (λ (x : ℕ). cond (eqb x 0) (commandsIn schedule) 0) (sym (j .number-is) ∙ y)),
+      ap (λ (p : ℕ). leb (20 * p) (lengths .report)) (f z),
     ))
-    ∙ ap₂ (λ (x y : ℕ). inOrder x y (leb (6 * commandsIn schedule) (length answers)) (leb (20 * processesIn table) (length report))) e (j .number-is)
-    ∙ in-order table schedule answers report
+    ∙ ap₂ (λ (x y : ℕ). inOrder x y (leb (6 * commandsIn schedule) (lengths .answers)) (leb (20 * processesIn table) (lengths .report))) e (j .number-is)
+    ∙ in-order table schedule (lengthsIn lengths)

@@ -7,12 +7,18 @@ use lib.Dec.{eqb, leb}
 use Rattle.rules.specs.Moves as rules
 use Rattle.rules.specs.Format.{orNumber}
 use Rattle.rules.specs.Schedule.{commandsIn, command, validateSchedule}
+use Rattle.rules.specs.Run as run
 use Rattle.records.specs.declared.schedule.Command.{Command}
 use Rattle.records.specs.declared.schedule.Judged.{Judged}
+use Rattle.records.specs.declared.schedule.Lengths.{Lengths}
 
 -- the rules' command
 abbrev pub commandOf : Command → rules.Command
 commandOf c = command (c .mv) (c .a) (c .word)
+
+-- the rules' lengths of the lent buffers
+abbrev pub lengthsIn : Lengths → run.Lengths
+lengthsIn l = record { answers = l .answers; report = l .report }
 
 -- what judging a schedule finds: its number, and how many commands it has, none where it is refused
 pub record ScheduleJudged (schedule : List ℕ) (r : Judged) : Type 0 where
@@ -21,10 +27,10 @@ pub record ScheduleJudged (schedule : List ℕ) (r : Judged) : Type 0 where
 
 -- 0, or the number that refuses a run: from the table's number and its processes, the judged schedule, and the buffers' lengths.
 -- (proofs/Judged.antt: of the table and the schedule that were judged it is the rules' `validateRun`.)
-unfoldable pub judgedRun : ℕ → ℕ → Judged → ℕ → ℕ → ℕ
-judgedRun number processes judged answered reported =
+unfoldable pub judgedRun : ℕ → ℕ → Judged → Lengths → ℕ
+judgedRun number processes judged lengths =
     orNumber (eqb number 0) number
     (orNumber (eqb (judged .number) 0) (judged .number)
-    (orNumber (leb (6 * judged .records) answered) 11
-    (orNumber (leb (20 * processes) reported) 12
+    (orNumber (leb (6 * judged .records) (lengths .answers)) 11
+    (orNumber (leb (20 * processes) (lengths .report)) 12
     0)))

@@ -25,6 +25,12 @@ pub struct Command {
     pub word: u32,
 }
 
+// How long the lent buffers are.
+pub struct Lengths {
+    pub answers: usize,
+    pub report: usize,
+}
+
 fn refused(number: u8) -> Judged
     ensures { λ r. ⌜ (r .number ≡ number) × (r .records ≡ 0) ⌝ }
 {
@@ -71,17 +77,13 @@ pub fn command_at(schedule: &[u8], i: usize) -> Command
 
 // 0, or the number that refuses a run, lowest first: those of the table, those of the schedule, then
 // "11 answer buffer under six bytes a record; 12 report buffer under 20 bytes a process".
-pub fn judge_run(
-    table_number: u8,
-    processes: usize,
-    schedule: Judged,
-    answers: usize,
-    report: usize,
-) -> u8
-    ensures { λ r. ⌜ r ≡ judgedRun «table_number» processes schedule answers report ⌝ }
+pub fn judge_run(table_number: u8, processes: usize, schedule: Judged, lengths: Lengths) -> u8
+    ensures { λ r. ⌜ r ≡ judgedRun «table_number» processes schedule lengths ⌝ }
 {
     let schedule_number = schedule.number;
     let records = schedule.records;
+    let answers = lengths.answers;
+    let report = lengths.report;
     if table_number != 0 {
         return table_number;
     }

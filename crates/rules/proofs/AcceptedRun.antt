@@ -10,23 +10,23 @@ use Rattle.rules.specs.Table.{Table}
 use Rattle.rules.specs.Cabinet.{Cabinet, started, quiescent}
 use Rattle.rules.specs.Moves.{Command, numbers, turn, runFrom}
 use Rattle.rules.specs.Judge.{Accepted}
-use Rattle.rules.specs.Transparent.{answered, finished, Transparent}
+use Rattle.rules.specs.Transparent.{answered, finished, ListTransparent}
 use Rattle.rules.specs.Format.{orNumber, processesIn, decodeTable, validateTable}
 use Rattle.rules.specs.Schedule.{commandsIn, decodeSchedule, validateSchedule}
-use Rattle.rules.specs.Run.{validateRun, ranFrom, refusedWith, run, accepted}
+use Rattle.rules.specs.Run.{Buffers, lengthsOf, validateRun, ranFrom, refusedWith, run, accepted}
 use Rattle.rules.specs.Transparency.{answersIn, FailureTransparency}
 use Rattle.rules.proofs.Valid.{test-passed, further-passed, decoded-accepted}
 use Rattle.rules.proofs.ReadBack.{answers-back}
 
 -- ---- accepted is the number 0, of all twelve
 
-number-zero : (number : ℕ) (t : Table) (commands : List Command) (answers report : List ℕ)
-    → eqb (cond (eqb number 0) (ranFrom t commands answers report) (refusedWith number answers report) .number) 0 ≡ true
+number-zero : (number : ℕ) (t : Table) (commands : List Command) (buffers : Buffers)
+    → eqb (cond (eqb number 0) (ranFrom t commands buffers) (refusedWith number buffers) .number) 0 ≡ true
     → number ≡ 0
 unfolding refusedWith
-number-zero number t commands answers report h = go (eqb number 0) refl h
+number-zero number t commands buffers h = go (eqb number 0) refl h
   where
-    go : (b : Bool) → eqb number 0 ≡ b → eqb (cond b (ranFrom t commands answers report) (refusedWith number answers report) .number) 0 ≡ true → number ≡ 0
+    go : (b : Bool) → eqb number 0 ≡ b → eqb (cond b (ranFrom t commands buffers) (refusedWith number buffers) .number) 0 ≡ true → number ≡ 0
     go true e k = eqb-true number 0 e
     go false e k = eqb-true number 0 k
 
@@ -47,12 +47,12 @@ one-answer-each t c (r ∷ rs) = ap suc (one-answer-each t (turn t c r .cabinet)
 pub answered-length : (t : Table) (commands : List Command) → length (answered t commands) ≡ length commands
 answered-length t commands = length-map (runFrom t (started t) commands .answers) numbers ∙ one-answer-each t (started t) commands
 
-module _ (table schedule answers report : List ℕ) (h : accepted table schedule answers report ≡ true) where
-  pub run-valid : validateRun table schedule answers report ≡ 0
+module _ (table schedule : List ℕ) (buffers : Buffers) (h : accepted table schedule buffers ≡ true) where
+  pub run-valid : validateRun table schedule (lengthsOf buffers) ≡ 0
   unfolding accepted
-  run-valid = number-zero (validateRun table schedule answers report) (decodeTable table) (decodeSchedule schedule) answers report h
+  run-valid = number-zero (validateRun table schedule (lengthsOf buffers)) (decodeTable table) (decodeSchedule schedule) buffers h
 
-  pub run-is : run table schedule answers report ≡ ranFrom (decodeTable table) (decodeSchedule schedule) answers report
+  pub run-is : run table schedule buffers ≡ ranFrom (decodeTable table) (decodeSchedule schedule) buffers
   unfolding run
   run-is = rw run-valid
 
@@ -68,36 +68,38 @@ module _ (table schedule answers report : List ℕ) (h : accepted table schedule
   schedule-valid = number-passed (validateSchedule schedule) _ (number-passed (validateTable table) _ run-valid .1) .0
 
   -- what numbers 11 and 12 ask
-  buffers-fit : (6 * commandsIn schedule ≤ length answers) × (20 * processesIn table ≤ length report)
+  buffers-fit : (6 * commandsIn schedule ≤ length (buffers .answers)) × (20 * processesIn table ≤ length (buffers .report))
   unfolding validateRun
   buffers-fit =
-      let eleven = leb (6 * commandsIn schedule) (length answers) in
-      let twelve = leb (20 * processesIn table) (length report) in
-      let both = number-passed (validateSchedule schedule) _ (number-passed (validateTable table) _ run-valid .1) .1 in
-      (leb-true (6 * commandsIn schedule) (length answers) (test-passed eleven 10 _ both), leb-true (20 * processesIn table) (length report) (test-passed twelve 11 _ (further-passed eleven 10 _ both)))
+      let eleven = leb (6 * commandsIn schedule) (length (buffers .answers)) in
+      let twelve = leb (20 * processesIn table) (length (buffers .report)) in
+      let both = number-passed (validateSchedule schedule) _ (number-passed (validateTable table) _ run-valid .1) .1 in (
+        leb-true (6 * commandsIn schedule) (length (buffers .answers)) (test-passed eleven 10 _ both),
+        leb-true (20 * processesIn table) (length (buffers .report)) (test-passed twelve 11 _ (further-passed eleven 10 _ both)),
+      )
 
-  pub answers-fit : 6 * commandsIn schedule ≤ length answers
+  pub answers-fit : 6 * commandsIn schedule ≤ length (buffers .answers)
   answers-fit = buffers-fit .0
 
-  pub report-fits : 20 * processesIn table ≤ length report
+  pub report-fits : 20 * processesIn table ≤ length (buffers .report)
   report-fits = buffers-fit .1
 
   -- ---- the answers, read out of the buffer
 
-  pub answers-read : answersIn (run table schedule answers report) ≡ answered (decodeTable table) (decodeSchedule schedule)
+  pub answers-read : answersIn (run table schedule buffers) ≡ answered (decodeTable table) (decodeSchedule schedule)
   unfolding ranFrom
   answers-read =
       let t = decodeTable table in
       let commands = decodeSchedule schedule in
       rw (run-is, ← answered-length t commands) (answers-back (answered t commands) _)
 
-  pub quiet-is : run table schedule answers report .quiet ≡ quiescent (decodeTable table) (finished (decodeTable table) (decodeSchedule schedule))
+  pub quiet-is : run table schedule buffers .quiet ≡ quiescent (decodeTable table) (finished (decodeTable table) (decodeSchedule schedule))
   unfolding ranFrom
   quiet-is = rw run-is
 
   -- ---- from commands to bytes
 
-  pub of-bytes : Transparent (decodeTable table) (decodeSchedule schedule) → FailureTransparency table schedule answers report
+  pub of-bytes : ListTransparent (decodeTable table) (decodeSchedule schedule) → FailureTransparency table schedule (run table schedule buffers)
   of-bytes x = record {
     actions = x .actions;
     end = x .end;
@@ -109,9 +111,8 @@ module _ (table schedule answers report : List ℕ) (h : accepted table schedule
   }
 
 -- Demand 3 of every accepted run, once it is proved of every accepted table and every list of commands.
-pub transparent-runs : ((t : Table) → Accepted t → (commands : List Command) → Transparent t commands)
-    → (table schedule answers report : List ℕ) → accepted table schedule answers report ≡ true
-    → FailureTransparency table schedule answers report
-transparent-runs all table schedule answers report h =
-    of-bytes table schedule answers report h
-    (all (decodeTable table) (table-accepted table schedule answers report h) (decodeSchedule schedule))
+pub transparent-runs : ((t : Table) → Accepted t → (commands : List Command) → ListTransparent t commands)
+    → (table schedule : List ℕ) (buffers : Buffers) → accepted table schedule buffers ≡ true
+    → FailureTransparency table schedule (run table schedule buffers)
+transparent-runs all table schedule buffers h =
+    of-bytes table schedule buffers h (all (decodeTable table) (table-accepted table schedule buffers h) (decodeSchedule schedule))

@@ -12,9 +12,10 @@ use Rattle.facts.specs.Tests.{allOf, no-way, and-left, and-right, and-both}
 use Rattle.backup.specs.Limits.{pcMost}
 use Rattle.rules.specs.Bytes.{byteAt, number16, number32, sixes, wordBytes, allBytes}
 use Rattle.rules.specs.Format.{lengthField, versionIn, boardsIn, processesIn, channelsIn, recordsStart, recordBytes, programLength, recordLength, rests, decodeTable, lengthOk, countsFit, countsOk, recordsOk, extentOk, validateTable}
-use Rattle.rules.specs.Encode.{Lists, threes, instructionBytes, programBytes, recordsFor, bodyOf, encode, programLengths, total, listsOk, validateLists, programIn, placementsIn, instructionsIn, apart}
+use Rattle.rules.specs.Encode.{Lists, threes, instructionBytes, programBytes, recordsFor, bodyOf, encode, programLengths, total, listsOk, validateLists, programIn, placementsIn, instructionsIn, apart, WritesAs}
+
 use Rattle.rules.proofs.Valid.{valid}
-use Rattle.rules.proofs.Encoding.{Long}
+use Rattle.rules.proofs.Encoding.{Long, decode-encode, validate-encode}
 
 -- a list of bytes
 pub record Bytes (l : List ℕ) : Type 0 where
@@ -63,7 +64,7 @@ programBytes-programIn (suc n) l tail h b =
     let rest = programBytes n (programIn n (drop 6 l) ++ tail) in
     ap (λ (w : List ℕ). getD l 0 0 ∷ getD l 1 0 ∷ w ++ rest) (bytes-back (getD l 2 0) (getD l 3 0) (getD l 4 0) (getD l 5 0) (b .at 3) (b .at 4) (b .at 5))
     ∙ ap (λ (r : List ℕ). getD l 0 0 ∷ getD l 1 0 ∷ getD l 2 0 ∷ getD l 3 0 ∷ getD l 4 0 ∷ getD l 5 0 ∷ r)
-    (programBytes-programIn n (drop 6 l) tail (omega arith) (bytes-drop 6 b))
+        (programBytes-programIn n (drop 6 l) tail (omega arith) (bytes-drop 6 b))
     ∙ sym (rw e (ap (λ (m : List ℕ). take (suc (suc (suc (suc (suc (suc (6 * n))))))) m) (front6 l (omega arith))))
 
 -- ---- all records
@@ -88,13 +89,13 @@ records-back (suc n) rest h b =
     let later = drop (recordLength rest) rest in
     let d : length (drop 3 rest) ≡ length rest - 3 = length-drop 3 rest in
     let program : programBytes k (programIn k (drop 3 rest) ++ instructionsIn n later) ≡ take (6 * k) (drop 3 rest) =
-    programBytes-programIn k (drop 3 rest) (instructionsIn n later) (omega arith) (bytes-drop 3 b) in
+        programBytes-programIn k (drop 3 rest) (instructionsIn n later) (omega arith) (bytes-drop 3 b) in
     let tail : drop (3 * k) (programIn k (drop 3 rest) ++ instructionsIn n later) ≡ instructionsIn n later =
-    drop-at (programIn k (drop 3 rest)) (instructionsIn n later) (3 * k) (length-programIn k (drop 3 rest)) in
+        drop-at (programIn k (drop 3 rest)) (instructionsIn n later) (3 * k) (length-programIn k (drop 3 rest)) in
     let back : recordsFor n (placementsIn n later) (instructionsIn n later) ≡ later =
-    records-back n later (records-later n rest h) (bytes-drop (recordLength rest) b) in
+        records-back n later (records-later n rest h) (bytes-drop (recordLength rest) b) in
     let whole : take (6 * k) (drop 3 rest) ++ later ≡ drop 3 rest =
-    ap (λ (l : List ℕ). take (6 * k) (drop 3 rest) ++ l) (sym (drop-drop (6 * k) 3 rest)) ∙ take-append-drop (6 * k) (drop 3 rest) in
+        ap (λ (l : List ℕ). take (6 * k) (drop 3 rest) ++ l) (sym (drop-drop (6 * k) 3 rest)) ∙ take-append-drop (6 * k) (drop 3 rest) in
     rw (program, tail, back, whole) (sym (front3 rest (omega arith)))
 
 -- ---- the lists are as long as they say
@@ -119,6 +120,18 @@ length-instructionsIn (suc n) rest =
     let h = length-instructionsIn n (drop (recordLength rest) rest) in
     let p = length-programIn k (drop 3 rest) in
     rw (length-append (programIn k (drop 3 rest)) (instructionsIn n (drop (recordLength rest) rest))) (omega arith)
+
+-- three bytes a record and six an instruction
+length-records : (n : ℕ) (rest : List ℕ) → recordsOk n rest ≡ true → length rest ≡ 3 * n + 6 * total (programLengths n (placementsIn n rest))
+unfolding placementsIn
+length-records zero [] h = refl
+length-records zero (x ∷ rest) h = absurd (no-way (cc))
+length-records (suc n) rest h =
+    let later = drop (recordLength rest) rest in
+    let within = record-within n rest h in
+    let a = length-records n later (records-later n rest h) in
+    let d = length-drop (recordLength rest) rest in
+    omega arith
 
 -- ---- the whole table
 
@@ -154,6 +167,16 @@ module _ (bytes : List ℕ) (h : validateTable bytes ≡ 0) where
         instructions-long = length-instructionsIn n rest;
       }
 
+  -- so the table's length says how many instructions there are
+  pub length-apart : length bytes ≡ 6 + 2 * channelsIn bytes + 3 * processesIn bytes + 2 * length (apart bytes .instructions)
+  unfolding apart
+  length-apart =
+      let d = length-drop (recordsStart bytes) bytes in
+      let r = length-records (processesIn bytes) (recordBytes bytes) records-ok in
+      let w = pairs-within in
+      let i = length-instructionsIn (processesIn bytes) (recordBytes bytes) in
+      omega arith
+
   module _ (b : Bytes bytes) where
     body-back : bodyOf (apart bytes) ≡ versionIn bytes ∷ boardsIn bytes ∷ processesIn bytes ∷ channelsIn bytes ∷ drop 6 bytes
     unfolding apart placementsIn instructionsIn
@@ -162,7 +185,7 @@ module _ (bytes : List ℕ) (h : validateTable bytes ≡ 0) where
         let version : 1 ≡ versionIn bytes = sym (eqb-true (versionIn bytes) 1 (valid bytes h .version-ok)) in
         let records = records-back (processesIn bytes) (recordBytes bytes) records-ok (bytes-drop (recordsStart bytes) b) in
         let whole : take pairs (drop 6 bytes) ++ recordBytes bytes ≡ drop 6 bytes =
-        ap (λ (l : List ℕ). take pairs (drop 6 bytes) ++ l) (sym (drop-drop pairs 6 bytes)) ∙ take-append-drop pairs (drop 6 bytes) in
+            ap (λ (l : List ℕ). take pairs (drop 6 bytes) ++ l) (sym (drop-drop pairs 6 bytes)) ∙ take-append-drop pairs (drop 6 bytes) in
         ap (λ (l : List ℕ). 1 ∷ boardsIn bytes ∷ processesIn bytes ∷ channelsIn bytes ∷ take pairs (drop 6 bytes) ++ l) records
         ∙ (λ i. version i ∷ boardsIn bytes ∷ processesIn bytes ∷ channelsIn bytes ∷ whole i)
 
@@ -178,3 +201,14 @@ module _ (bytes : List ℕ) (h : validateTable bytes ≡ 0) where
         let high : length body / 2 ^ 8 ≡ byteAt bytes 0 = omega arith in
         let low : length body % 2 ^ 8 ≡ byteAt bytes 1 = omega arith in
         (λ i. high i ∷ low i ∷ body-back i) ∙ sym (front6 bytes (f .0))
+
+    pub validate-apart : validateLists (apart bytes) ≡ 0
+    unfolding apart countsOk
+    validate-apart = sym (validate-encode (apart bytes) apart-long (valid bytes h .counts-ok)) ∙ ap validateTable encode-apart ∙ h
+
+    pub apart-writes : WritesAs bytes (apart bytes)
+    apart-writes = record {
+      accepted = validate-apart;
+      says = sym (decode-encode (apart bytes) apart-long) ∙ ap decodeTable encode-apart;
+      bytes-back = encode-apart;
+    }

@@ -1,4 +1,4 @@
--- The two lent buffers: a run leaves them as long as they were, and what stands behind the written bytes as it was.
+-- The lent buffers: a run leaves them as long as they were, and what stands behind the written bytes as it was.
 use mathlib.Core.Path.{_≡_, refl, ap, sym, _∙_}
 use mathlib.Core.Bool.{Bool, true, false, cond}
 use mathlib.Core.List.{List, [], _∷_}
@@ -17,7 +17,7 @@ use Rattle.rules.specs.Transparent.{answered, finished}
 use Rattle.rules.specs.Bytes.{allBytes, written}
 use Rattle.rules.specs.Format.{processesIn, decodeTable}
 use Rattle.rules.specs.Schedule.{commandsIn, decodeSchedule, command}
-use Rattle.rules.specs.Run.{answerBytes, reportBytes, validateRun, ranFrom, refusedWith, run, accepted}
+use Rattle.rules.specs.Run.{Buffers, lengthsOf, answerBytes, reportBytes, validateRun, ranFrom, refusedWith, run, accepted}
 use Rattle.rules.proofs.Guards.{Leaves, unmoved, leaves, after-guard, after-turn}
 use Rattle.rules.proofs.Crashed.{crash-length}
 use Rattle.rules.proofs.Valid.{length-sixes, processes-counted}
@@ -114,33 +114,33 @@ pub record Lent (n : ℕ) (before after : List ℕ) : Type 0 where
 lent : (new buffer : List ℕ) (n : ℕ) → length new ≡ n → n ≤ length buffer → Lent n buffer (written new buffer)
 lent new buffer n e h = record { as-long = length-written new buffer (omega arith); untouched = behind-written new buffer n e }
 
-module _ (table schedule answers report : List ℕ) (h : accepted table schedule answers report ≡ true) where
-  pub answers-lent : Lent (6 * commandsIn schedule) answers (run table schedule answers report .answers)
+module _ (table schedule : List ℕ) (buffers : Buffers) (h : accepted table schedule buffers ≡ true) where
+  pub answers-lent : Lent (6 * commandsIn schedule) (buffers .answers) (run table schedule buffers .buffers .answers)
   unfolding ranFrom
   answers-lent =
-      rw (run-is table schedule answers report h)
-      (lent (allBytes answerBytes (answered (decodeTable table) (decodeSchedule schedule))) answers (6 * commandsIn schedule)
-      (answer-bytes table schedule) (answers-fit table schedule answers report h))
+      rw (run-is table schedule buffers h)
+      (lent (allBytes answerBytes (answered (decodeTable table) (decodeSchedule schedule))) (buffers .answers) (6 * commandsIn schedule)
+      (answer-bytes table schedule) (answers-fit table schedule buffers h))
 
-  pub report-lent : Lent (20 * processesIn table) report (run table schedule answers report .report)
+  pub report-lent : Lent (20 * processesIn table) (buffers .report) (run table schedule buffers .buffers .report)
   unfolding ranFrom
   report-lent =
-      rw (run-is table schedule answers report h)
-      (lent (allBytes reportBytes (finished (decodeTable table) (decodeSchedule schedule) .processes)) report (20 * processesIn table)
-      (report-bytes table schedule) (report-fits table schedule answers report h))
+      rw (run-is table schedule buffers h)
+      (lent (allBytes reportBytes (finished (decodeTable table) (decodeSchedule schedule) .processes)) (buffers .report) (20 * processesIn table)
+      (report-bytes table schedule) (report-fits table schedule buffers h))
 
 -- what is not accepted is refused
-refused-of : (b : Bool) (number : ℕ) (t : Table) (commands : List Command) (answers report : List ℕ)
-    → eqb (cond b (ranFrom t commands answers report) (refusedWith number answers report) .number) 0 ≡ false
-    → cond b (ranFrom t commands answers report) (refusedWith number answers report) ≡ refusedWith number answers report
+refused-of : (b : Bool) (number : ℕ) (t : Table) (commands : List Command) (buffers : Buffers)
+    → eqb (cond b (ranFrom t commands buffers) (refusedWith number buffers) .number) 0 ≡ false
+    → cond b (ranFrom t commands buffers) (refusedWith number buffers) ≡ refusedWith number buffers
 unfolding ranFrom
-refused-of true number t commands answers report h = absurd (no-way (cc))
-refused-of false number t commands answers report h = refl
+refused-of true number t commands buffers h = absurd (no-way (cc))
+refused-of false number t commands buffers h = refl
 
 -- "A refused one [..] returns the number alone, no records, not quiet, and writes to no lent buffer"
-pub refused-is : (table schedule answers report : List ℕ) → accepted table schedule answers report ≡ false
-    → run table schedule answers report ≡ refusedWith (validateRun table schedule answers report) answers report
+pub refused-is : (table schedule : List ℕ) (buffers : Buffers) → accepted table schedule buffers ≡ false
+    → run table schedule buffers ≡ refusedWith (validateRun table schedule (lengthsOf buffers)) buffers
 unfolding accepted
-refused-is table schedule answers report h =
-    let number = validateRun table schedule answers report in
-    refused-of (eqb number 0) number (decodeTable table) (decodeSchedule schedule) answers report h
+refused-is table schedule buffers h =
+    let number = validateRun table schedule (lengthsOf buffers) in
+    refused-of (eqb number 0) number (decodeTable table) (decodeSchedule schedule) buffers h

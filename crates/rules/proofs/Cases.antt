@@ -3,12 +3,12 @@ use mathlib.Core.Bool.{Bool, cond}
 use mathlib.Core.List.{List, [], _∷_, _++_, map}
 use Prim.Native.Nat.{ℕ, zero, suc, _*_, _/_, _%_, _^_}
 use lib.ListN.{length, drop, replicate}
-use Rattle.rules.specs.Table.{Channel, Instruction, SET, ADD, TAKE, FIRST, SEND, JUMP, Placement, Table}
+use Rattle.rules.specs.Table.{Channel, Instruction, SET, ADD, TAKE, FIRST, SEND, JUMP, NONE, Placement, Table}
 use Rattle.rules.specs.Moves.{Command, Numbers}
 use Rattle.rules.specs.Bytes.{byteAt, number32, wordBytes, allBytes}
 use Rattle.rules.specs.Format.{processesIn}
 use Rattle.rules.specs.Schedule.{command}
-use Rattle.rules.specs.Run.{Ran, run}
+use Rattle.rules.specs.Run.{buffersOf, Ran, run}
 use Rattle.rules.specs.Transparency.{answersIn}
 
 -- ---- schedules
@@ -57,6 +57,7 @@ instructionBytes (TAKE a k) = 3 ∷ a ∷ wordBytes k
 instructionBytes (FIRST a mask) = 4 ∷ a ∷ wordBytes mask
 instructionBytes (SEND a k) = 5 ∷ a ∷ wordBytes k
 instructionBytes (JUMP a n) = 6 ∷ a ∷ wordBytes n
+instructionBytes NONE = 0 ∷ 0 ∷ wordBytes 0
 
 abbrev pub tableBytes : Table → List ℕ
 tableBytes t =
@@ -71,7 +72,7 @@ tableBytes t =
 -- ---- a run, with buffers that are just long enough
 
 abbrev pub runOf : List ℕ → List Command → Ran
-runOf table l = run table (scheduleBytes l) (replicate (6 * length l) 0) (replicate (20 * processesIn table) 0)
+runOf table l = run table (scheduleBytes l) (buffersOf (replicate (6 * length l) 0) (replicate (20 * processesIn table) 0))
 
 -- the number that it returns
 abbrev pub numberOf : List ℕ → List Command → List (List ℕ)
@@ -112,7 +113,7 @@ processLines p (suc n) bytes =
     ∷ processLines (suc p) n (drop 20 bytes)
 
 abbrev pub reportOf : List ℕ → List Command → List (List ℕ)
-reportOf table l = processLines 0 (processesIn table) (runOf table l .report)
+reportOf table l = processLines 0 (processesIn table) (runOf table l .buffers .report)
 
 -- the bench program's page, as the numbers of its lines
 abbrev pub pageOf : List ℕ → List Command → List (List ℕ)

@@ -13,11 +13,19 @@ use Rattle.backup.specs.Limits.{pcMost}
 use Rattle.rules.specs.Table.{Placement, Table}
 use Rattle.rules.specs.Bytes.{number16, number32, sixes, wordBytes, allBytes}
 use Rattle.rules.specs.Format.{versionIn, boardsIn, processesIn, channelsIn, pairs, recordsStart, recordBytes, programLength, recordLength, rests, instruction, placementIn, decodeTable, orNumber, lengthOk, countsFit, countsOk, recordsOk, extentOk, tableNumber, validateTable}
-use Rattle.rules.specs.Encode.{Lists, threes, placedBy, tableOf, instructionBytes, programBytes, recordsFor, bodyOf, encode, programLengths, total, listsOk, validateLists, programIn, apart}
-use Rattle.rules.proofs.Valid.{counts-fit}
+use Rattle.rules.specs.Encode.{Lists, threes, placedBy, tableOf, instructionBytes, programBytes, recordsFor, bodyOf, encode, programLengths, total, listsOk, validateLists, programIn, placementsIn, instructionsIn, apart, ReadsAs}
+use Rattle.rules.proofs.Valid.{test-passed, further-passed, counts-fit}
 use Rattle.rules.proofs.ReadBack.{word-back}
 
 -- ---- numbers 5 to 8, where those before them pass
+
+passed4 : (a b c d : Bool) (n : ℕ) → a ≡ true → b ≡ true → c ≡ true → d ≡ true → orNumber a 1 (orNumber b 2 (orNumber c 3 (orNumber d 4 n))) ≡ n
+passed4 a b c d n ha hb hc hd = rw (ha, hb, hc, hd)
+
+pub table-number : (bytes : List ℕ) → lengthOk bytes ≡ true → eqb (versionIn bytes) 1 ≡ true → countsOk bytes ≡ true → extentOk bytes ≡ true
+    → validateTable bytes ≡ tableNumber (decodeTable bytes)
+unfolding validateTable
+table-number bytes = passed4 (lengthOk bytes) (eqb (versionIn bytes) 1) (countsOk bytes) (extentOk bytes) (tableNumber (decodeTable bytes))
 
 passed2 : (c d : Bool) (n : ℕ) → c ≡ true → d ≡ true → orNumber c 3 (orNumber d 4 n) ≡ n
 passed2 c d n hc hd = rw (hc, hd)
@@ -172,6 +180,12 @@ module _ (l : Lists) (h : Long l) where
         (le-leb (number16 (body / 2 ^ 8) (body % 2 ^ 8)) 6260 (omega arith))
         (eq-eqb (2 + number16 (body / 2 ^ 8) (body % 2 ^ 8)) (suc (suc body)) (omega arith)))
 
+    -- and judges it as the lists are judged
+    pub validate-encode : validateTable (encode l) ≡ validateLists l
+    unfolding countsOk encode
+    validate-encode =
+        table-number (encode l) lengthOk-encode refl counts extentOk-encode ∙ ap tableNumber decode-encode ∙ sym (lists-number l counts (long-ok l h))
+
 -- ---- taken apart again
 
 threes-take : (n : ℕ) (l : List ℕ) → 3 * n ≤ length l → allBytes (λ m. m) (threes (λ a b c. a ∷ b ∷ c ∷ []) n l) ≡ take (3 * n) l
@@ -207,7 +221,7 @@ instructions-recordsFor (suc n) ps is h =
     ) (take-append-drop (3 * k) is)
 
 pub apart-encode : (l : Lists) → Long l → apart (encode l) ≡ l
-unfolding apart encode
+unfolding apart placementsIn instructionsIn encode
 apart-encode l h =
     let records = recordsFor (l .processes) (l .placements) (l .instructions) in
     rw (
@@ -216,3 +230,26 @@ apart-encode l h =
       instructions-recordsFor (l .processes) (l .placements) (l .instructions) (h .instructions-long),
       take-at (l .ends) records (2 * l .channels) (h .ends-long),
     )
+
+-- ---- theorem: what is written reads back
+
+module _ (l : Lists) (h : validateLists l ≡ 0) where
+  pub counts-accepted : countsFit (l .boards) (l .processes) (l .channels) ≡ true
+  unfolding validateLists
+  counts-accepted = test-passed (countsFit (l .boards) (l .processes) (l .channels)) 2 (orNumber (listsOk l) 4 (tableNumber (tableOf l))) h
+
+  pub lists-accepted : listsOk l ≡ true
+  unfolding validateLists
+  lists-accepted =
+      test-passed (listsOk l) 3 (tableNumber (tableOf l))
+      (further-passed (countsFit (l .boards) (l .processes) (l .channels)) 2 (orNumber (listsOk l) 4 (tableNumber (tableOf l))) h)
+
+  -- "What it writes is accepted by the reader with the same contents."
+  pub encode-reads : ReadsAs l (encode l)
+  encode-reads =
+      let o = long l lists-accepted in
+      record {
+        accepted = validate-encode l o counts-accepted ∙ h;
+        says = decode-encode l o;
+        lists-back = apart-encode l o;
+      }

@@ -10,18 +10,18 @@ use lib.ListN.{length, getD, set, length-set}
 use lib.Seq.{set-getD}
 use borrow.Author.Tests.{leb-false, not-false}
 use Rattle.facts.specs.Tests.{no-way}
-use Rattle.rules.specs.Table.{Table, channelAt, codeOf}
+use Rattle.rules.specs.Table.{Table, channelAt, codeOf, portOf}
 use Rattle.rules.specs.Machine.{Mail, Machine, booted, internal, took, sent, Outcome, halted, noMail, moved, localStep}
 use Rattle.rules.specs.Reference.{Reference, Action, referenceRun, injections}
-use Rattle.rules.specs.Cabinet.{eventsMost, Process, Item, message, checkpoint, Cabinet, processAt, outboxAt, protected, exhausted, waiting}
-use Rattle.rules.specs.Moves.{Answer, numbers, withProcess, withOutbox, advanced, send, stepFrom, step, oneMore, issued, snapshot, issue}
+use Rattle.rules.specs.Cabinet.{eventsMost, Since, Process, Item, message, checkpoint, Cabinet, processAt, outboxAt, limited, exhausted, waiting}
+use Rattle.rules.specs.Moves.{Answer, numbers, withProcess, withOutbox, advanced, send, stepFrom, step, counting, oneSent, oneTaken, issued, snapshot, issue}
 use Rattle.rules.specs.Judge.{Accepted}
 use Rattle.rules.specs.Transparent.{traceOf}
 use Rattle.rules.proofs.Steps.{Steps}
 use Rattle.rules.proofs.Tables.{step-own}
 use Rattle.rules.proofs.Ahead.{checkpoints}
 use Rattle.rules.proofs.Good.{Good}
-use Rattle.rules.proofs.GoodMoves.{good-silent, good-suppressed, good-send, good-issued}
+use Rattle.rules.proofs.GoodMoves.{counting-limited, good-silent, good-suppressed, good-send, good-issued}
 use Rattle.rules.proofs.Invariant.{ownerOf, mine, machineAt, Invariant, in-table, its-outbox}
 use Rattle.rules.proofs.Frame.{SameSeat, same-boards, changed, OthersStay, change, join-others, join-own}
 use Rattle.rules.proofs.References.{run-append, injections-append}
@@ -64,9 +64,9 @@ stay {s = s} inv = record { actions = []; end = s; ran = refl; invariant = inv; 
 
 -- ---- what the checks say
 
-not-exhausted : (x : Process) → exhausted x ≡ false → protected x ≡ true → x .events < eventsMost
+not-exhausted : (x : Process) → exhausted x ≡ false → limited x ≡ true → x .since .events < eventsMost
 unfolding exhausted
-not-exhausted x h safe = leb-false eventsMost (x .events) (rw safe at h)
+not-exhausted x h safe = leb-false eventsMost (x .since .events) (rw safe at h)
 
 none-waits : (t : Table) (p : ℕ) (q : List Item) → waiting p q ≡ false → checkpoints (mine t p q) ≡ 0
 none-waits t p [] h = refl
@@ -116,11 +116,11 @@ module _ {t : Table} (ok : Accepted t) {c : Cabinet} {s : Reference} (inv : Inva
       → Yields (λ d a. Follows t d s (traced1 a) []) (send t c p (processAt c p) m mail h)
   unfolding send numbers traceOf advanced
   follow-send m mail (suc h) z e =
-      leaves (wait-only (advanced m (processAt c p .taken) (processAt c p .events) h (processAt c p)) (same-boards refl refl)
+      leaves (wait-only (advanced m (processAt c p .since) h (processAt c p)) (same-boards refl refl)
       (good-suppressed ok (in-table inv hp) (inv .good p hp) z e))
   follow-send m mail zero z e =
       after-guard _ _ _ λ limit. after-guard _ _ _ λ _. after-guard _ _ _ λ _.
-      leaves (wait-joined (advanced m (processAt c p .taken) (suc (processAt c p .events)) 0 (processAt c p)) (message mail) (same-boards refl refl)
+      leaves (wait-joined (advanced m (counting oneSent (processAt c p)) 0 (processAt c p)) (message mail) (same-boards refl refl)
       (step-own t ok p (in-table inv hp) e)
       (good-send ok (in-table inv hp) (inv .good p hp) z e (not-exhausted (processAt c p) limit)))
 
@@ -130,13 +130,15 @@ module _ {t : Table} (ok : Accepted t) {c : Cabinet} {s : Reference} (inv : Inva
   follow-outcome halted e = unmoved
   follow-outcome noMail e = unmoved
   follow-outcome (moved m internal) e =
-      leaves (wait-only (advanced m (processAt c p .taken) (processAt c p .events) (processAt c p .suppress) (processAt c p)) (same-boards refl refl)
-      (good-silent ok (in-table inv hp) {k = internal} (processAt c p .events) (inv .good p hp) (record { is = e }) refl (omega arith) (λ _ h. h)))
+      leaves (wait-only (advanced m (processAt c p .since) (processAt c p .suppress) (processAt c p)) (same-boards refl refl)
+      (good-silent ok (in-table inv hp) {k = internal} (processAt c p .since) (inv .good p hp) (record { is = e }) refl (λ _. refl) (λ _ h. h)))
   follow-outcome (moved m (took mail)) e =
+      let x : Process = processAt c p in
+      let more : Since → Since = oneTaken (portOf t p (mail .channel)) in
       after-guard _ _ _ λ limit.
-      leaves (wait-only (advanced m (oneMore t p mail (processAt c p .taken)) (suc (processAt c p .events)) (processAt c p .suppress) (processAt c p)) (same-boards refl refl)
-      (good-silent ok (in-table inv hp) {k = took mail} (suc (processAt c p .events)) (inv .good p hp) (record { is = e }) refl (omega arith)
-      (λ safe _. not-exhausted (processAt c p) limit safe)))
+      leaves (wait-only (advanced m (counting more x) (x .suppress) x) (same-boards refl refl)
+      (good-silent ok (in-table inv hp) {k = took mail} (counting more x) (inv .good p hp) (record { is = e }) refl (counting-limited more x)
+      (λ safe _. let a = not-exhausted x limit safe in let b = ap (λ (n : Since). n .events) (counting-limited more x safe) in omega arith)))
   follow-outcome (moved m (sent mail)) e = follow-send m mail (processAt c p .suppress) refl (record { is = e })
 
   pub follow-step : Yields (λ d a. Follows t d s (traced1 a) []) (step t c p)

@@ -13,7 +13,7 @@ use Rattle.backup.specs.Replica.{Message, Replica}
 use Rattle.rules.specs.Table.{Table, Instruction, codeOf, inputs, channelOn}
 use Rattle.rules.specs.Machine.{Mail, Machine, Act}
 use Rattle.rules.specs.Cabinet.{eventsMost, Standby, Process, Item}
-use Rattle.rules.proofs.Runs.{Run, _then_, sends, lastSend, tally, busy, busy-append, sends-busy, run-shorter}
+use Rattle.rules.proofs.Runs.{Run, _then_, sends, lastSend, countOf, busy, busy-append, sends-busy, run-shorter}
 use Rattle.rules.proofs.Ahead.{Ahead, checkpoints, ahead-total, ahead-left}
 
 -- ---- a replica
@@ -56,8 +56,7 @@ pub record Backed (t : Table) (p : ℕ) (items : List Item) (x : Process) (m : M
   -- the acts since the last checkpoint was issued
   pub since : List Act
   pub ahead : Ahead t p before m items since (x .machine)
-  pub is-taken : x .taken ≡ tally t p since
-  pub is-events : x .events ≡ busy since
+  pub is-since : x .since ≡ countOf t p since
   pub few : busy since ≤ eventsMost
   pub one : checkpoints items ≤ 1
 

@@ -1,5 +1,6 @@
 -- What is proved of document 01's definitions.
 -- Demand 3 over any list of commands, in the order to read. One machine, and what an accepted table gives:
+pub mod Decoded
 pub mod Steps
 pub mod Runs
 pub mod Tables

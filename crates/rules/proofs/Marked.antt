@@ -7,7 +7,7 @@ use lib.ListN.{replicate, set}
 use Rattle.backup.specs.Replica.{Message, Replica, Checkpoint, noRegisters, initial, fit, arrive, arriveNumber, countNumber, syncNumber, sync}
 use Rattle.rules.specs.Table.{SET, ADD}
 use Rattle.rules.specs.Moves.{guard, Command}
-use Rattle.rules.specs.Run.{run, accepted}
+use Rattle.rules.specs.Run.{Buffers, buffersOf, run, accepted}
 use Rattle.rules.proofs.Cases.{step, carry, feed, crash, times, scheduleBytes, channel, placement, cabinet, tableBytes, numberOf, codesOf, reportOf, pageOf, Case, case, given, said}
 
 -- "Sample table, hex"
@@ -109,6 +109,9 @@ unfolding arrive arriveNumber fit
 arrivals-fill = refl
 
 -- the theorem's one hypothesis holds of the sample
-pub sample-accepted : accepted sample (scheduleBytes samplePage) (replicate 120 0) (replicate 20 0) ≡ true
+abbrev pub sampleBuffers : Buffers
+sampleBuffers = buffersOf (replicate 120 0) (replicate 20 0)
+
+pub sample-accepted : accepted sample (scheduleBytes samplePage) sampleBuffers ≡ true
 unfolding accepted
 sample-accepted = refl

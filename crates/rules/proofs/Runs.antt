@@ -4,12 +4,12 @@ use mathlib.Core.Bool.{Bool, true, false}
 use mathlib.Core.List.{List, [], _∷_, _++_}
 use Prim.Native.Nat.{ℕ, suc, _+_, _≤_}
 use native.Mathlib.Omega.{arith}
-use lib.ListN.{length}
+use lib.ListN.{length, getD, set}
 use Rattle.facts.specs.Tests.{no-way}
-use Rattle.rules.specs.Table.{Table, Instruction}
+use Rattle.rules.specs.Table.{Table, Instruction, portOf}
 use Rattle.rules.specs.Machine.{Mail, Machine, Act, internal, took, sent, delivered}
-use Rattle.rules.specs.Cabinet.{noTakes}
-use Rattle.rules.specs.Moves.{oneMore}
+use Rattle.rules.specs.Cabinet.{Since, noTakes}
+use Rattle.rules.specs.Moves.{oneSent, oneTaken}
 use Rattle.rules.proofs.Steps.{Steps, step-later, step-left, pulled-length}
 
 pub data Run (code : List Instruction) : Machine → List Act → Machine → Type 0 where
@@ -84,7 +84,7 @@ takes (k ∷ ks) = takes1 k ++ takes ks
 -- the takes of process p, counted by port (document 01: "takes per slot")
 abbrev pub tally1 : Table → ℕ → Act → List ℕ → List ℕ
 tally1 t p internal n = n
-tally1 t p (took x) n = oneMore t p x n
+tally1 t p (took x) n = let port = portOf t p (x .channel) in set n port (suc (getD n port 0))
 tally1 t p (sent x) n = n
 
 abbrev pub tally : Table → ℕ → List Act → List ℕ
@@ -101,6 +101,17 @@ busy1 (sent x) = 1
 abbrev pub busy : List Act → ℕ
 busy [] = 0
 busy (k ∷ ks) = busy1 k + busy ks
+
+-- ---- what is counted of them
+
+-- one act more
+abbrev pub count1 : Table → ℕ → Act → Since → Since
+count1 t p internal n = n
+count1 t p (took x) n = oneTaken (portOf t p (x .channel)) n
+count1 t p (sent x) n = oneSent n
+
+abbrev pub countOf : Table → ℕ → List Act → Since
+countOf t p ks = record { events = busy ks; taken = tally t p ks }
 
 pub busy-append : (ks js : List Act) → busy (ks ++ js) ≡ busy ks + busy js
 busy-append [] js = omega arith

@@ -35,8 +35,7 @@ good-placed t p x =
       replay = record { ran = here; sent-so = refl; sealed = refl };
       since = [];
       ahead = level;
-      is-taken = refl;
-      is-events = refl;
+      is-since = refl;
       few = omega arith;
       one = omega arith;
     }

@@ -4,17 +4,16 @@ use mathlib.Core.Path.{_≡_}
 use mathlib.Core.Bool.{true}
 use mathlib.Core.List.{List}
 use Prim.Native.Nat.{ℕ}
-use lib.ListN.{replicate}
-use Rattle.rules.specs.Run.{accepted}
+use Rattle.rules.specs.Run.{Buffers, run, accepted}
 use Rattle.rules.specs.Transparency.{FailureTransparency}
 use Rattle.rules.proofs.Transparency.{transparent}
 use Rattle.rules.proofs.AcceptedRun.{transparent-runs}
 use Rattle.rules.proofs.Cases.{scheduleBytes}
-use Rattle.rules.proofs.Marked.{sample, samplePage, sample-accepted}
+use Rattle.rules.proofs.Marked.{sample, samplePage, sampleBuffers, sample-accepted}
 
-pub failure-transparency : (table schedule answers report : List ℕ) → accepted table schedule answers report ≡ true
-    → FailureTransparency table schedule answers report
+pub failure-transparency : (table schedule : List ℕ) (buffers : Buffers) → accepted table schedule buffers ≡ true
+    → FailureTransparency table schedule (run table schedule buffers)
 failure-transparency = transparent-runs transparent
 
-pub sample-transparent : FailureTransparency sample (scheduleBytes samplePage) (replicate 120 0) (replicate 20 0)
-sample-transparent = failure-transparency sample (scheduleBytes samplePage) (replicate 120 0) (replicate 20 0) sample-accepted
+pub sample-transparent : FailureTransparency sample (scheduleBytes samplePage) (run sample (scheduleBytes samplePage) sampleBuffers)
+sample-transparent = failure-transparency sample (scheduleBytes samplePage) sampleBuffers sample-accepted

@@ -11,7 +11,7 @@ use Rattle.rules.specs.Reference.{referenceStart, injections}
 use Rattle.rules.specs.Cabinet.{quiescent}
 use Rattle.rules.specs.Moves.{Command}
 use Rattle.rules.specs.Judge.{Accepted}
-use Rattle.rules.specs.Transparent.{Transparent, traceOf, fedOf, answered, finished}
+use Rattle.rules.specs.Transparent.{ListTransparent, traceOf, fedOf, answered, finished}
 use Rattle.rules.proofs.References.{run-append, injections-append}
 use Rattle.rules.proofs.Follow.{Follows}
 use Rattle.rules.proofs.Start.{reached}
@@ -19,7 +19,7 @@ use Rattle.rules.proofs.Quiet.{all-caught-up, same-machines, no-more}
 
 -- at a quiet end the reference machine goes on to the running machines
 finish : (t : Table) (commands : List Command) → Follows t (finished t commands) (referenceStart t) (traceOf (answered t commands)) (fedOf commands (answered t commands))
-    → (quiet : Bool) → quiescent t (finished t commands) ≡ quiet → Transparent t commands
+    → (quiet : Bool) → quiescent t (finished t commands) ≡ quiet → ListTransparent t commands
 unfolding referenceStart
 finish t commands f false q =
     record {
@@ -46,5 +46,5 @@ finish t commands f true q =
       no-step = λ _. no-more (f .invariant) q r;
     }
 
-pub transparent : (t : Table) → Accepted t → (commands : List Command) → Transparent t commands
+pub transparent : (t : Table) → Accepted t → (commands : List Command) → ListTransparent t commands
 transparent t ok commands = finish t commands (reached t ok commands .follows) (quiescent t (finished t commands)) refl

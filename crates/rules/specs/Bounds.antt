@@ -37,13 +37,13 @@ pub record BackupBounds (t : Table) (c : Cabinet) (p : ℕ) (s : Standby) : Type
   -- "and a count at most 16": it never passes the limit on acts, 8
   pub sent : s .replica .sent ≤ eventsMost
   -- "37 if backed and acts are 8"
-  pub events : processAt c p .events ≤ eventsMost
+  pub events : processAt c p .since .events ≤ eventsMost
   -- "takes per slot since the last issue"
-  pub taken : (port : ℕ) → takenOn (processAt c p .taken) port ≤ eventsMost
+  pub taken : (port : ℕ) → takenOn (processAt c p .since .taken) port ≤ eventsMost
   -- "A channel is held when its unread words and those in the queues are 8 or more together."
   pub occupied : (k : ℕ) → channelAt t k .reader ≡ p → occupancy t c k ≤ occupancyMost
   -- the saved words, less those taken since the backup's state, are the inbox
-  pub saved : mails t p (remaining (processAt c p .taken) (remaining (issuedTakes p (outboxAt c (processAt c p .board))) (s .replica .log))) ≡ processAt c p .machine .mailbox
+  pub saved : mails t p (remaining (processAt c p .since .taken) (remaining (issuedTakes p (outboxAt c (processAt c p .board))) (s .replica .log))) ≡ processAt c p .machine .mailbox
   -- no call of the backup is refused. "A word goes [..] to the sender's backup record, which counts it":
   pub counts : (b : ℕ) (x : Mail) (rest : List Item) → outboxAt c b ≡ message x ∷ rest → channelAt t (x .channel) .sender ≡ p → countNumber (s .replica) ≡ 0
   -- "to [..] the reader's backup record". "Where a process sends to itself, its one record saves the word and counts it."

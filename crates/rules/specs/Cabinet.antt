@@ -31,16 +31,20 @@ pub record Standby : Type 0 where
   pub board : ℕ
   pub replica : Replica
 
+-- what is counted since the last checkpoint was issued
+pub record Since : Type 0 where
+  -- receives and sends (acts)
+  pub events : ℕ
+  -- the receives among them, for each port (takes per slot)
+  pub taken : List ℕ
+
 pub record Process : Type 0 where
   pub machine : Machine
   -- the board it runs on
   pub board : ℕ
   -- sends still to be suppressed while the process rolls forward (document 01: hold-back)
   pub suppress : ℕ
-  -- receives and sends since the last checkpoint was issued (acts)
-  pub events : ℕ
-  -- the receives among them, for each port (takes per slot)
-  pub taken : List ℕ
+  pub since : Since
   pub standby : Option Standby
 
 -- "An entry of an outgoing queue is a word or a sync". A word names its channel and so, by the table, its sender.
@@ -58,6 +62,10 @@ pub record Cabinet : Type 0 where
 abbrev pub noTakes : List ℕ
 noTakes = 0 ∷ 0 ∷ 0 ∷ 0 ∷ []
 
+-- nothing counted yet
+abbrev pub noneSince : Since
+noneSince = record { events = 0; taken = noTakes }
+
 -- "each process on its primary board, [..] each backup record as it starts, all else 0"
 unfoldable pub placed : Placement → Process
 unfolding booted
@@ -65,8 +73,7 @@ placed x = record {
   machine = booted;
   board = x .primary;
   suppress = 0;
-  events = 0;
-  taken = noTakes;
+  since = noneSince;
   standby = some (record { board = x .standby; replica = initial });
 }
 
@@ -84,7 +91,7 @@ started t = record {
 -- stands for a process that the table doesn't have
 unfoldable pub nobody : Process
 unfolding booted
-nobody = record { machine = booted; board = 0; suppress = 0; events = 0; taken = noTakes; standby = none }
+nobody = record { machine = booted; board = 0; suppress = 0; since = noneSince; standby = none }
 
 abbrev pub processAt : Cabinet → ℕ → Process
 processAt c p = getD (c .processes) p nobody
@@ -99,13 +106,17 @@ abbrev pub isSome : {A : Type 0} → Option A → Bool
 isSome none = false
 isSome (some a) = true
 
--- has a live backup (backed)
+-- has a live backup (backed): what a sync and a sender's count ask
 abbrev pub protected : Process → Bool
 protected x = isSome (x .standby)
 
+-- "A backed process has acts": its events are counted, and limited by 37; what arrives for it is saved
+abbrev pub limited : Process → Bool
+limited x = isSome (x .standby)
+
 -- "if backed and acts are 8"
 unfoldable pub exhausted : Process → Bool
-exhausted x = protected x && leb eventsMost (x .events)
+exhausted x = limited x && leb eventsMost (x .since .events)
 
 -- how many unread words of a mailbox are of channel k
 abbrev pub unreadOn : ℕ → List Mail → ℕ

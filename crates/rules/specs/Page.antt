@@ -9,8 +9,8 @@ use Rattle.rules.specs.Bytes.{byteAt, number32}
 use Rattle.rules.specs.Format.{tableMost, processesMost, lengthField, processesIn}
 use Rattle.rules.specs.Schedule.{commandsMost}
 use Rattle.rules.specs.Moves.{Numbers}
-use Rattle.rules.specs.Run.{Ran, run, refusedWith}
-use Rattle.rules.specs.Transparency.{readAnswers}
+use Rattle.rules.specs.Run.{Buffers, Ran, run}
+use Rattle.rules.specs.Transparency.{answersIn}
 
 -- ---- text
 
@@ -87,7 +87,7 @@ unfoldable pub acceptedPage : ℕ → Ran → List ℕ
 unfolding decimal
 acceptedPage processes r =
     line (recordsText ∷ decimal (r .records) ∷ [])
-    ++ (answerLines 1 (readAnswers (r .records) (r .answers)) ++ (processLines 0 processes (r .report) ++ quietLine (r .quiet)))
+    ++ (answerLines 1 (answersIn r) ++ (processLines 0 processes (r .buffers .report) ++ quietLine (r .quiet)))
 
 -- the page of a run on a table with so many processes
 unfoldable pub pageOf : ℕ → Ran → List ℕ
@@ -104,15 +104,12 @@ abbrev pub scheduleIn : List ℕ → List ℕ
 scheduleIn input = drop (2 + lengthField input) input
 
 -- buffers that hold the answers and the report of every run
-abbrev pub answersRoom : List ℕ
-answersRoom = replicate (6 * commandsMost) 0
-
-abbrev pub reportRoom : List ℕ
-reportRoom = replicate (20 * processesMost) 0
+abbrev pub benchBuffers : Buffers
+benchBuffers = record { answers = replicate (6 * commandsMost) 0; report = replicate (20 * processesMost) 0 }
 
 -- what the program prints for all of its input: "A table length over 6,260 prints `refused 1`"
 unfoldable pub benchPage : List ℕ → List ℕ
 unfolding run pageOf decimal
 benchPage input =
     cond (ltb tableMost (lengthField input)) (refusedLine 1)
-    (pageOf (processesIn (tableIn input)) (run (tableIn input) (scheduleIn input) answersRoom reportRoom))
+    (pageOf (processesIn (tableIn input)) (run (tableIn input) (scheduleIn input) benchBuffers))

@@ -1,4 +1,4 @@
--- A whole run, from the bytes of a table and a schedule and the two lent buffers to the numbers that it returns and the buffers afterwards
+-- A whole run, from the bytes of a table and a schedule and the lent buffers to the numbers that it returns and the buffers afterwards
 -- (document 01, "What each move replies").
 use mathlib.Core.Bool.{Bool, false, cond}
 use mathlib.Core.List.{List, _∷_, _++_, map}
@@ -13,14 +13,34 @@ use Rattle.rules.specs.Bytes.{wordBytes, allBytes, written}
 use Rattle.rules.specs.Format.{processesIn, orNumber, decodeTable, validateTable}
 use Rattle.rules.specs.Schedule.{commandsIn, decodeSchedule, validateSchedule}
 
+-- the lent buffers, one for each list that a run writes
+pub record Buffers : Type 0 where
+  -- "One six-byte answer a record"
+  pub answers : List ℕ
+  -- "20 bytes a process"
+  pub report : List ℕ
+
+abbrev pub buffersOf : List ℕ → List ℕ → Buffers
+buffersOf answers report = record { answers = answers; report = report }
+
+-- how long they are, which is all of them that decides whether a run is refused
+pub record Lengths : Type 0 where
+  pub answers : ℕ
+  pub report : ℕ
+
+abbrev pub lengthsOf : Buffers → Lengths
+lengthsOf buffers = record { answers = length (buffers .answers); report = length (buffers .report) }
+
 -- "An accepted run returns 0, its number of records, and whether it ended quiet."
 pub record Ran : Type 0 where
   pub number : ℕ
   pub records : ℕ
   pub quiet : Bool
-  -- the two lent buffers afterwards
-  pub answers : List ℕ
-  pub report : List ℕ
+  -- the lent buffers afterwards
+  pub buffers : Buffers
+
+abbrev pub ranOf : ℕ → ℕ → Bool → Buffers → Ran
+ranOf number records quiet buffers = record { number = number; records = records; quiet = quiet; buffers = buffers }
 
 -- ---- what is written
 
@@ -42,39 +62,41 @@ reportBytes x =
 
 -- 0, or "lowest number first": those of the table, those of the schedule, then
 -- "11 answer buffer under six bytes a record; 12 report buffer under 20 bytes a process"
-unfoldable pub validateRun : List ℕ → List ℕ → List ℕ → List ℕ → ℕ
+unfoldable pub validateRun : List ℕ → List ℕ → Lengths → ℕ
 unfolding validateTable validateSchedule
-validateRun table schedule answers report =
+validateRun table schedule lengths =
     orNumber (eqb (validateTable table) 0) (validateTable table)
     (orNumber (eqb (validateSchedule schedule) 0) (validateSchedule schedule)
-    (orNumber (leb (6 * commandsIn schedule) (length answers)) 11
-    (orNumber (leb (20 * processesIn table) (length report)) 12
+    (orNumber (leb (6 * commandsIn schedule) (lengths .answers)) 11
+    (orNumber (leb (20 * processesIn table) (lengths .report)) 12
     0)))
 
 -- the run of a table and a list of commands: "It starts from the cabinet that the table gives"
-unfoldable pub ranFrom : Table → List Command → List ℕ → List ℕ → Ran
+unfoldable pub ranFrom : Table → List Command → Buffers → Ran
 unfolding started runFrom numbers quiescent
-ranFrom t commands answers report =
+ranFrom t commands buffers =
     let end = runFrom t (started t) commands in
     record {
       number = 0;
       records = length commands;
       quiet = quiescent t (end .cabinet);
-      answers = written (allBytes answerBytes (map numbers (end .answers))) answers;
-      report = written (allBytes reportBytes (end .cabinet .processes)) report;
+      buffers = record {
+        answers = written (allBytes answerBytes (map numbers (end .answers))) (buffers .answers);
+        report = written (allBytes reportBytes (end .cabinet .processes)) (buffers .report);
+      };
     }
 
 -- A refused run "returns the number alone, no records, not quiet, and writes to no lent buffer".
-unfoldable pub refusedWith : ℕ → List ℕ → List ℕ → Ran
-refusedWith number answers report = record { number = number; records = 0; quiet = false; answers = answers; report = report }
+unfoldable pub refusedWith : ℕ → Buffers → Ran
+refusedWith number buffers = ranOf number 0 false buffers
 
-unfoldable pub run : List ℕ → List ℕ → List ℕ → List ℕ → Ran
+unfoldable pub run : List ℕ → List ℕ → Buffers → Ran
 unfolding validateRun ranFrom refusedWith decodeTable decodeSchedule
-run table schedule answers report =
-    let number = validateRun table schedule answers report in
-    cond (eqb number 0) (ranFrom (decodeTable table) (decodeSchedule schedule) answers report) (refusedWith number answers report)
+run table schedule buffers =
+    let number = validateRun table schedule (lengthsOf buffers) in
+    cond (eqb number 0) (ranFrom (decodeTable table) (decodeSchedule schedule) buffers) (refusedWith number buffers)
 
 -- the run is accepted: it returns the number 0
-unfoldable pub accepted : List ℕ → List ℕ → List ℕ → List ℕ → Bool
+unfoldable pub accepted : List ℕ → List ℕ → Buffers → Bool
 unfolding run
-accepted table schedule answers report = eqb (run table schedule answers report .number) 0
+accepted table schedule buffers = eqb (run table schedule buffers .number) 0

@@ -11,12 +11,12 @@ use Rattle.facts.specs.Counts.{same, same-yes}
 use Rattle.backup.specs.Limits.{logMost, ports}
 use Rattle.process.specs.Row.{mailIn, machineOf, processOf}
 use Rattle.process.specs.Change.{Became}
-use Rattle.instruction.specs.Instruction.{Intends, Takes, Room, afterTake}
+use Rattle.instruction.specs.Instruction.{Intends, Takes, TallyRoom, afterTake}
 use Rattle.instruction.specs.declared.instruction.Intent.the-variants.{Take}
 use Rattle.rules.specs.Table.{Table, codeOf, channelAt, portOf}
 use Rattle.rules.specs.Machine.{Mail, Machine, took}
 use Rattle.rules.specs.Cabinet.{Cabinet, Process, processAt, unreadOn}
-use Rattle.rules.specs.Moves.{guard, refuse, accept, eventsFull, refusalNumber, received, numbers, advanced, step, stepFrom, withProcess}
+use Rattle.rules.specs.Moves.{guard, refuse, accept, eventsFull, refusalNumber, received, numbers, advanced, counting, oneTaken, step, stepFrom, withProcess}
 use Rattle.rules.proofs.Steps.{Steps}
 use Rattle.rules.proofs.Counting.{step-unread}
 use Rattle.rules.proofs.Tables.{input, few-ports}
@@ -29,13 +29,13 @@ use Rattle.state.proofs.Changing.{UnreadThen, changed}
 use Rattle.state.proofs.Totals.{unread-less}
 use Rattle.state.proofs.Ends.{read-inside}
 use Rattle.state.proofs.Owners.{unread-own}
-use Rattle.state.proofs.Tallies.{events-few, takes-few}
+use Rattle.state.proofs.Counters.{takes-few}
 use Rattle.state.proofs.Refusing.{turned-down}
 use Rattle.step.specs.Parts.{spentIn, TakeTurns}
-use Rattle.step.proofs.Stepping.{turned-to, machine-is, step-is, exhausted-is}
+use Rattle.step.proofs.Stepping.{turned-to, machine-is, step-is, exhausted-is, limited-here, events-room}
 
 -- a row's receives on a port
-taken-at : (row mail log head : List ℕ) (port : ℕ) → port < ports → getD row (8 + port) 0 ≡ getD (processOf row mail log head .taken) port 0
+taken-at : (row mail log head : List ℕ) (port : ℕ) → port < ports → getD row (8 + port) 0 ≡ getD (processOf row mail log head .since .taken) port 0
 unfolding processOf
 taken-at row mail log head zero l = refl
 taken-at row mail log head (suc zero) l = refl
@@ -68,7 +68,7 @@ module _ {t : Table} {s : Store} {entries : List Entry} {c : Cabinet} (reach : R
   m1 = afterTake code a at row mail
 
   abbrev taking : Process → Process
-  taking y = advanced m1 (set (y .taken) (portOf t p (x .channel)) (suc (getD (y .taken) (portOf t p (x .channel)) 0))) (suc (y .events)) (y .suppress) y
+  taking y = advanced m1 (counting (oneTaken (portOf t p (x .channel))) y) (y .suppress) y
 
   went : Steps (codeOf t p) (machineOf row mail) (took x) m1
   went = record { is = i .outcome }
@@ -106,24 +106,17 @@ module _ {t : Table} {s : Store} {entries : List Entry} {c : Cabinet} (reach : R
   port-there : portOf t p (x .channel) < ports
   port-there = let e = input t (reach .accepted) (x .channel) p hp reads-it .below in let f = few-ports t (reach .accepted) p hp in omega arith
 
-  events-room : Room row 7
-  unfolding processOf
-  events-room =
-      let e : processAt c p .events ≡ getD row 7 0 = ap (λ (y : Process). y .events) (at-process h p hp) in
-      let f = events-few reach p in
-      omega arith
-
-  takes-room : Room row (8 + portOf t p (x .channel))
-  takes-room =
-      let e : getD (processAt c p .taken) (portOf t p (x .channel)) 0 ≡ getD row (8 + portOf t p (x .channel)) 0 =
-      ap (λ (y : Process). getD (y .taken) (portOf t p (x .channel)) 0) (at-process h p hp) ∙ sym (taken-at row mail log head (portOf t p (x .channel)) port-there) in
-      let f = takes-few reach p (portOf t p (x .channel)) in
+  takes-room : TallyRoom row (8 + portOf t p (x .channel))
+  takes-room n =
+      let e : getD (processAt c p .since .taken) (portOf t p (x .channel)) 0 ≡ getD row (8 + portOf t p (x .channel)) 0 =
+      ap (λ (y : Process). getD (y .since .taken) (portOf t p (x .channel)) 0) (at-process h p hp) ∙ sym (taken-at row mail log head (portOf t p (x .channel)) port-there) in
+      let f = takes-few reach p hp (limited-here h p hp n) (portOf t p (x .channel)) in
       omega arith
 
   -- the lists afterwards hold the rules' cabinet afterwards
   module _ (row′ mail′ : List ℕ) (left : ℕ) (takes : Takes row mail code a at (portOf t p (x .channel)) row′ mail′) (is-left : (left + 1) % 2 ^ 32 ≡ getD (s .unread) (x .channel) 0) (left-fits : left < 2 ^ 32) where
     became : Became row mail log head row′ mail′ log head taking
-    became = takes .became (codeOf t p) n operand log head (h .kept p hp) i port-there events-room takes-room
+    became = takes .became (codeOf t p) n operand log head (h .kept p hp) i port-there (events-room h p hp reach) takes-room
 
     now-is : processOf row′ mail′ log head ≡ taking (processAt c p)
     now-is = became .process-is ∙ ap taking (sym (at-process h p hp))

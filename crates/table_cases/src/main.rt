@@ -1,7 +1,7 @@
 // Cases of the judging of a run, each with its number, compared with stdout: M1 to M6 of document 01, every way of each number from 1 to
 // 12 alone, what is still accepted beside it, and pairs that show the order. Each case is a sound table or schedule with a few bytes changed.
+use kunzeastylus::judge::ks_judge;
 use libc::STDOUT_FILENO;
-use table_call::judge;
 
 // Document 01's sample: one process with TAKE, ADD, SEND, JUMP.
 const SAMPLE: [u8; 37] = [
@@ -178,7 +178,7 @@ fn front(s: &[u8], length: usize) -> &[u8] {
 
 fn table_case(name: &[u8], table: &[u8]) {
     let schedule = SCHEDULE;
-    line(name, judge(table, &schedule, 12, 320));
+    line(name, ks_judge(table, &schedule, 12, 320));
 }
 
 // The sample with a byte changed.
@@ -403,7 +403,7 @@ fn masks() {
 
 fn run_case(name: &[u8], schedule: &[u8], answers: usize, report: usize) {
     let table = SAMPLE;
-    line(name, judge(&table, schedule, answers, report));
+    line(name, ks_judge(&table, schedule, answers, report));
 }
 
 // The schedule with two bytes changed.
@@ -468,9 +468,12 @@ fn order() {
     let s = [0u8];
     line(
         b"an instruction and a schedule of one byte",
-        judge(&table, &s, 12, 20),
+        ks_judge(&table, &s, 12, 20),
     );
-    line(b"an instruction and short buffers", judge(&table, &s, 0, 0));
+    line(
+        b"an instruction and short buffers",
+        ks_judge(&table, &s, 0, 0),
+    );
 }
 
 fn main() {

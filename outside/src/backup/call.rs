@@ -6,10 +6,10 @@ pub const STATE: usize = 103;
 pub const CALL: usize = 10;
 
 mod raw {
-    #[link(name = "backup_call", kind = "static")]
+    #[link(name = "kunzeastylus", kind = "static")]
     extern "C" {
         // Each slice is a pointer and a length.
-        pub fn backup_call(
+        pub fn ks_backup_call(
             state: *mut u32,
             state_len: usize,
             call: *const u32,
@@ -21,9 +21,9 @@ mod raw {
 }
 
 /// The call on slices of any lengths: it asks nothing of its caller.
-pub fn backup_call(state: &mut [u32], call: &[u32], reply: &mut [u32]) -> u32 {
+pub fn ks_backup_call(state: &mut [u32], call: &[u32], reply: &mut [u32]) -> u32 {
     // SAFETY: three slices that don't overlap, each with its own length.
-    unsafe { raw::backup_call(state.as_mut_ptr(), state.len(), call.as_ptr(), call.len(), reply.as_mut_ptr(), reply.len()) }
+    unsafe { raw::ks_backup_call(state.as_mut_ptr(), state.len(), call.as_ptr(), call.len(), reply.as_mut_ptr(), reply.len()) }
 }
 
 /// The record that 103 numbers stand for: length, count, place, four registers, then pairs of slot and word. A length that goes far

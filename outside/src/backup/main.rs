@@ -6,7 +6,7 @@ mod call;
 mod inputs;
 mod model;
 
-use call::{backup_call, view, CALL, STATE};
+use call::{ks_backup_call, view, CALL, STATE};
 use inputs::{Takes, TAKES};
 use model::Record;
 use outside::random::Random;
@@ -79,7 +79,7 @@ fn compared(random: &mut Random, state: &mut Vec<u32>, record: &mut Record, seen
     let reply_before: Vec<u32> = (0..STATE).map(|_| random.word()).collect();
     let mut reply = reply_before.clone();
 
-    let number = backup_call(state, &call, &mut reply);
+    let number = ks_backup_call(state, &call, &mut reply);
     let (wanted, promoted) = expected(record, &call);
 
     let told = || format!("call {call:?} of {before:?}");
@@ -114,7 +114,7 @@ fn missized(random: &mut Random, state: &[u32], seen: &mut Seen) {
         }
     }
     let before = (state.clone(), reply.clone());
-    let number = backup_call(&mut state, &call, &mut reply);
+    let number = ks_backup_call(&mut state, &call, &mut reply);
     assert_eq!(number, 25, "call {call:?} of {before:?}");
     assert_eq!((state, reply), before, "what was lent to {call:?}");
     seen.answers[MISSIZED][25] += 1;

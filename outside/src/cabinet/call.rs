@@ -1,10 +1,10 @@
 //! The proved library's exported call.
 
 mod raw {
-    #[link(name = "cabinet_call", kind = "static")]
+    #[link(name = "kunzeastylus", kind = "static")]
     extern "C" {
         // Each slice is a pointer and a length.
-        pub fn cabinet_run(
+        pub fn ks_run(
             table: *const u8,
             table_len: usize,
             schedule: *const u8,
@@ -18,11 +18,11 @@ mod raw {
 }
 
 /// The run of any schedule on any table with any lent buffers: it asks nothing of its caller.
-pub fn cabinet_run(table: &[u8], schedule: &[u8], answers: &mut [u8], report: &mut [u8]) -> u64 {
+pub fn ks_run(table: &[u8], schedule: &[u8], answers: &mut [u8], report: &mut [u8]) -> u64 {
     let (answers_len, report_len) = (answers.len(), report.len());
     // SAFETY: four slices that don't overlap, each with its own length; the first two are only read.
     unsafe {
-        raw::cabinet_run(
+        raw::ks_run(
             table.as_ptr(),
             table.len(),
             schedule.as_ptr(),

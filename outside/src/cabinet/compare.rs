@@ -1,6 +1,6 @@
 //! One run by the proved call and by the simulator, compared: the number returned, every byte of both lent buffers, and bytes on both
 //! sides of them which were not lent.
-use crate::call::cabinet_run;
+use crate::call::ks_run;
 use crate::seen::Seen;
 use outside::random::Random;
 use outside::rules::reader::record;
@@ -55,7 +55,7 @@ impl Comparison {
         let mut after = before.clone();
         let [given_table, given_schedule] = &mut given;
         let [lent_answers, lent_report] = &mut after;
-        let number = cabinet_run(lent(given_table), lent(given_schedule), lent(lent_answers), lent(lent_report));
+        let number = ks_run(lent(given_table), lent(given_schedule), lent(lent_answers), lent(lent_report));
 
         // What a refused run may write is nothing, and an accepted one writes its answers and its report.
         let mut expected = before;

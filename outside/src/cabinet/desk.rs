@@ -1,6 +1,6 @@
 //! The service desk's cases of a pulled board: the last lines of each page, written by hand from document 01, beside those that the
 //! proved call's bytes give. The simulator has no part in this.
-use crate::call::cabinet_run;
+use crate::call::ks_run;
 use outside::rules::generate::{encode_schedule, encode_table};
 use outside::rules::page::lines;
 use outside::rules::reader::Instruction::{Add, First, Jump, Send, Set, Take};
@@ -253,7 +253,7 @@ fn page(case: &Case) -> String {
         answers: vec![0xEE; 6 * case.records.len()],
         report: vec![0xEE; 20 * processes],
     };
-    let number = cabinet_run(&case.table, &encode_schedule(&case.records), &mut run.answers, &mut run.report);
+    let number = ks_run(&case.table, &encode_schedule(&case.records), &mut run.answers, &mut run.report);
     run.outcome = Outcome { number: number as u8, records: (number >> 32) as usize, quiet: number >> 8 & 1 == 1 };
     lines(&run, processes)
 }

@@ -55,6 +55,9 @@ pub fn check() {
     prints(&folder, &["--bytes", "text"], &[], &page(text.as_bytes()));
     prints(&folder, &["/dev/zero"], &[], "refused 1\n");
 
+    let help = front(&folder, &["--help"], &[]);
+    assert!(help.status.code() == Some(0) && help.page.starts_with(b"usage: ./run") && help.errors.is_empty(), "./run --help");
+
     put("odd", b"00 23 0");
     put("letters", b"00 23 # fine\nhello # not\n");
     complains(&folder, &["odd"], &[], "odd: line 1");
@@ -66,6 +69,7 @@ pub fn check() {
     complains(&folder, &[""], &[], "no such file");
     complains(&folder, &["bytes", "text"], &[], "usage");
     complains(&folder, &["--what"], &[], "usage");
+    complains(&folder, &["--help", "bytes"], &[], "usage");
     complains(&folder, &["--hex"], &[], "usage");
     std::fs::remove_dir_all(&folder).expect("a temporary folder");
     println!("program: ./run prints pages and answers what it can't read with 2");

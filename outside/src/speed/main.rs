@@ -16,7 +16,7 @@ const SEED: u64 = 0xE703_7ED1_A0B4_28DB;
 const REPETITIONS: u64 = 400;
 
 type Call = fn(&[u8], &[u8], &mut [u8], &mut [u8]) -> u64;
-const CALLS: [Call; 2] = [call::cabinet_run, baseline::run];
+const CALLS: [Call; 2] = [call::ks_run, baseline::run];
 
 /// What one call lends, and how long each of its runs took, in nanoseconds.
 struct Timed {

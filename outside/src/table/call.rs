@@ -1,10 +1,10 @@
 //! The proved library's exported call.
 
 mod raw {
-    #[link(name = "table_call", kind = "static")]
+    #[link(name = "kunzeastylus", kind = "static")]
     extern "C" {
         // Each slice is a pointer and a length.
-        pub fn judge(
+        pub fn ks_judge(
             table: *const u8,
             table_len: usize,
             schedule: *const u8,
@@ -16,7 +16,7 @@ mod raw {
 }
 
 /// The call on any bytes and on buffers of any lengths: it asks nothing of its caller.
-pub fn judge(table: &[u8], schedule: &[u8], answers: usize, report: usize) -> u32 {
+pub fn ks_judge(table: &[u8], schedule: &[u8], answers: usize, report: usize) -> u32 {
     // SAFETY: two slices, each with its own length; the call only reads them.
-    unsafe { raw::judge(table.as_ptr(), table.len(), schedule.as_ptr(), schedule.len(), answers, report) }
+    unsafe { raw::ks_judge(table.as_ptr(), table.len(), schedule.as_ptr(), schedule.len(), answers, report) }
 }

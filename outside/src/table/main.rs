@@ -4,7 +4,7 @@
 //! sound and damaged, with buffers of lengths around what is enough.
 mod call;
 
-use call::judge;
+use call::ks_judge;
 use outside::random::Random;
 use outside::rules::damage::{damage_schedule, damage_table, Damage, DAMAGES};
 use outside::rules::generate::{encode_schedule, encode_table, largest, schedule, table};
@@ -24,7 +24,7 @@ impl Seen {
     /// One judgement by both, counted under its kind.
     fn compare(&mut self, kind: &str, table: &[u8], schedule: &[u8], answers: usize, report: usize) {
         let wanted = judge_run(table, schedule, answers, report).err().unwrap_or(0);
-        let number = judge(table, schedule, answers, report);
+        let number = ks_judge(table, schedule, answers, report);
         if number != wanted as u32 {
             println!("{kind}: judged {number}, {wanted} by the reader, with buffers of {answers} and {report} bytes");
             println!("table {}\nschedule {}", hex(table), hex(schedule));

@@ -1,3 +1,4 @@
+use Rattle.rules.specs.Run.{buffersOf}
 use Rattle.cabinet.proofs.Running.{refuses, accepts}
 use native.Mathlib.Omega.{arith}
 use borrow.Author.Needs.{needs}
@@ -22,7 +23,7 @@ judge-run-requires c κs = search needs
 returns : tie.Need-returns
 returns c =
     let s = c .before .before .before .before .before .before .before .before .before .args in
-    refuses (s .table .now) (s .schedule .now) (s .answers .now) (s .report .now) (c .before .before .before .before .decode .result) (c .before .before .before .judge-schedule .result) (c .before .before .before .before .decode .ensures) (c .before .before .before .judge-schedule .ensures)
+    refuses (s .table .now) (s .schedule .now) (buffersOf (s .answers .now) (s .report .now)) (c .before .before .before .before .decode .result) (c .before .before .before .judge-schedule .result) (c .before .before .before .before .decode .ensures) (c .before .before .before .judge-schedule .ensures)
     (c .before .judge-run .result) (c .before .judge-run .ensures) (c .if1 .taken)
 
 conduct-requires : tie.Need-conduct-requires
@@ -37,8 +38,8 @@ same-length-2 c = search needs
 returns-2 : tie.Need-returns-2
 returns-2 c =
     let s = c .before .before .before .before .before .before .before .before .before .before .before .before .before .before .before .before .args in
-    accepts (s .table .now) (s .schedule .now) (s .answers .now) (s .report .now) (c .before .before .before .before .before .before .before .before .before .before .before .decode .result) (c .before .before .before .before .before .before .before .before .before .before .judge-schedule .result) (c .before .before .before .before .before .before .before .before .before .before .before .decode .ensures) (c .before .before .before .before .before .before .before .before .before .before .judge-schedule .ensures)
-    (c .before .before .before .before .before .before .before .before .judge-run .result) (c .before .before .before .before .before .before .before .before .judge-run .ensures) (c .before .before .before .before .before .before .before .if1 .left) (c .before .before .before .before .conduct .result) _ _ (c .before .before .before .before .conduct .ensures)
+    accepts (s .table .now) (s .schedule .now) (buffersOf (s .answers .now) (s .report .now)) (c .before .before .before .before .before .before .before .before .before .before .before .decode .result) (c .before .before .before .before .before .before .before .before .before .before .judge-schedule .result) (c .before .before .before .before .before .before .before .before .before .before .before .decode .ensures) (c .before .before .before .before .before .before .before .before .before .before .judge-schedule .ensures)
+    (c .before .before .before .before .before .before .before .before .judge-run .result) (c .before .before .before .before .before .before .before .before .judge-run .ensures) (c .before .before .before .before .before .before .before .if1 .left) (c .before .before .before .before .conduct .result) _ (c .before .before .before .before .conduct .ensures)
 
 pub run-spec : {M : Type 1} → statement M
 run-spec =

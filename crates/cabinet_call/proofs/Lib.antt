@@ -1,2 +1,0 @@
--- Why the exported call is the run.
-pub mod Packing

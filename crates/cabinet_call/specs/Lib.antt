@@ -1,2 +1,0 @@
--- What the exported call promises.
-pub mod Exported

@@ -1,0 +1,3 @@
+-- What the proofs of the exported calls stand on.
+pub mod Judging
+pub mod Packing

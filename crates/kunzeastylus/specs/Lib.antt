@@ -1,0 +1,3 @@
+-- What the exported calls promise. The backup record's promise is `Exported` of crate backup_call.
+pub mod Judges
+pub mod Packed

@@ -1,0 +1,22 @@
+// The judging of a run, exported: by which number it would be refused.
+ghost use Rattle.kunzeastylus.specs.Judges.{Judges};
+use records::schedule::Lengths;
+use records::schedule::judge_run;
+use records::schedule::judge_schedule;
+use table::decode;
+
+// 0, or the number from 1 to 12 by which document 01 refuses the run of a table and a schedule with buffers of these lengths.
+#[no_mangle]
+pub extern "C" fn ks_judge(table: &[u8], schedule: &[u8], answers: usize, report: usize) -> u32
+    ensures { λ n. ⌜ Judges (now (table .entry)) (now (schedule .entry)) answers report n ⌝ }
+{
+    let d = decode(table);
+    let number = d.number;
+    let processes = d.plan.processes;
+    let s = judge_schedule(schedule);
+    let lengths = Lengths {
+        answers: answers,
+        report: report,
+    };
+    judge_run(number, processes, s, lengths) as u32
+}

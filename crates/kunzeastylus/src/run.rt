@@ -1,0 +1,37 @@
+// The run, exported: its three numbers in one, since an exported call returns one.
+ghost use mathlib.Core.Path.{_≡_};
+ghost use Prim.Native.Nat.{_≤_, _<_};
+ghost use Rattle.rules.specs.Schedule.{commandsMost};
+ghost use Rattle.rules.specs.Run.{buffersOf};
+ghost use Rattle.kunzeastylus.specs.Packed.{flagOf, packedOf, RunsPacked};
+use cabinet::run::Verdict;
+use cabinet::run::run;
+
+fn flag(quiet: bool) -> u64
+    ensures { λ n. ⌜ (n ≡ flagOf quiet) × (n ≤ 1) ⌝ }
+{
+    if quiet { 1 } else { 0 }
+}
+
+// number + 256 quiet + 2^32 records
+fn packed(r: Verdict) -> u64
+    requires { ⌜ r .records ≤ commandsMost ⌝ }
+    ensures { λ n. ⌜ (n ≡ packedOf r) × (r .number < 256) ⌝ }
+{
+    let records = r.records as u64;
+    (r.number as u64) + 256 * flag(r.quiet) + 4294967296 * records
+}
+
+// The run of a table and a schedule, whatever bytes they are, with two lent buffers.
+#[no_mangle]
+pub extern "C" fn ks_run(
+    table: &[u8],
+    schedule: &[u8],
+    answers: &mut [u8],
+    report: &mut [u8],
+) -> u64
+    ensures { λ n. ⌜ RunsPacked (now (table .entry)) (now (schedule .entry)) (buffersOf (now (answers .entry)) (now (report .entry))) n
+        (buffersOf (now (answers .exit)) (now (report .exit))) ⌝ }
+{
+    packed(run(table, schedule, answers, report))
+}

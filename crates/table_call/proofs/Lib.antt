@@ -1,2 +1,0 @@
--- What the proof of the exported call stands on.
-pub mod Judging

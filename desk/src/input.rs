@@ -1,0 +1,58 @@
+//! What a front is given: a file, or standard input, as bytes or as hex text.
+use crate::front::Failure;
+use crate::hex;
+use std::fs::File;
+use std::io::Read;
+
+/// No more than this is read, so that an endless input ends; text of more is refused.
+pub const MOST: usize = 4 << 20;
+
+/// What messages call a file.
+pub fn name(file: &str) -> &str {
+    match file {
+        "-" => "standard input",
+        _ => file,
+    }
+}
+
+/// The first `MOST` bytes and one more, of a file or, for `-`, of standard input.
+pub fn read(file: &str) -> Result<Vec<u8>, Failure> {
+    let unasked = |what: &str| Failure::Unasked(format!("{}: {what}", name(file)));
+    let reason = |error: std::io::Error| match error.kind() {
+        std::io::ErrorKind::NotFound => unasked("no such file"),
+        std::io::ErrorKind::IsADirectory => unasked("is a folder"),
+        _ => unasked("can't be read"),
+    };
+    let mut bytes = Vec::new();
+    match file {
+        "-" => std::io::stdin().lock().take(MOST as u64 + 1).read_to_end(&mut bytes),
+        _ => File::open(file).map_err(reason)?.take(MOST as u64 + 1).read_to_end(&mut bytes),
+    }
+    .map_err(reason)?;
+    Ok(bytes)
+}
+
+/// The text of a file: UTF-8, and no more than `MOST` bytes.
+pub fn text(file: &str) -> Result<String, Failure> {
+    let bytes = read(file)?;
+    short(file, &bytes)?;
+    String::from_utf8(bytes).map_err(|_| Failure::Unasked(format!("{}: is no UTF-8 text", name(file))))
+}
+
+/// The bytes of a file, or those that it has as hex text: as `tools/hex` tells the two apart.
+pub fn bytes(file: &str) -> Result<Vec<u8>, Failure> {
+    let bytes = read(file)?;
+    if !hex::is_text(&bytes) {
+        return Ok(bytes);
+    }
+    short(file, &bytes)?;
+    hex::bytes(&bytes)
+        .map_err(|bad| Failure::Unasked(format!("{}: line {} is no hex text: {}", name(file), bad.line, bad.begins)))
+}
+
+fn short(file: &str, bytes: &[u8]) -> Result<(), Failure> {
+    match bytes.len() <= MOST {
+        true => Ok(()),
+        false => Err(Failure::Unasked(format!("{}: over {MOST} bytes of text", name(file)))),
+    }
+}
