@@ -1,5 +1,5 @@
 //! The proved calls for programs in Rust: the run of a schedule ([`run`]), the judging of its input ([`judge`]) and the backup record
-//! ([`Backup`]). They borrow slices, allocate nothing, keep nothing between calls and ask nothing of their caller. All numbers are
+//! ([`Backup`]), and the writer of tables ([`Table`], [`Lists`]). They borrow slices, allocate nothing, keep nothing between calls and ask nothing of their caller. All numbers are
 //! document 01's.
 #![deny(unsafe_code)]
 
@@ -10,8 +10,10 @@ mod calls;
 mod numbers;
 mod record;
 mod run;
+mod table;
 
 pub use answer::{Answer, Code};
 pub use backup::{Backup, BackupRefusal, Snapshot, STATE};
 pub use record::{Instruction, Move, Record, OUTSIDE};
 pub use run::{judge, run, ProcessEnd, Refusal, Run};
+pub use table::{take_apart, write_table, Counts, End, Lists, Operation, Process, Table, TableRefusal, TABLE_MOST};

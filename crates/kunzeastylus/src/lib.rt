@@ -3,3 +3,4 @@
 pub mod backup;
 pub mod judge;
 pub mod run;
+pub mod table;

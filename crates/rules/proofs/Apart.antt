@@ -13,7 +13,6 @@ use Rattle.backup.specs.Limits.{pcMost}
 use Rattle.rules.specs.Bytes.{byteAt, number16, number32, sixes, wordBytes, allBytes}
 use Rattle.rules.specs.Format.{lengthField, versionIn, boardsIn, processesIn, channelsIn, recordsStart, recordBytes, programLength, recordLength, rests, decodeTable, lengthOk, countsFit, countsOk, recordsOk, extentOk, validateTable}
 use Rattle.rules.specs.Encode.{Lists, threes, instructionBytes, programBytes, recordsFor, bodyOf, encode, programLengths, total, listsOk, validateLists, programIn, placementsIn, instructionsIn, apart, WritesAs}
-
 use Rattle.rules.proofs.Valid.{valid}
 use Rattle.rules.proofs.Encoding.{Long, decode-encode, validate-encode}
 
@@ -52,7 +51,7 @@ bytes-back b3 b2 b1 b0 h2 h1 h0 =
 
 -- ---- one program
 
-length-programIn : (n : ℕ) (l : List ℕ) → length (programIn n l) ≡ 3 * n
+pub length-programIn : (n : ℕ) (l : List ℕ) → length (programIn n l) ≡ 3 * n
 length-programIn zero l = refl
 length-programIn (suc n) l = let h = length-programIn n (drop 6 l) in omega arith
 
@@ -64,7 +63,7 @@ programBytes-programIn (suc n) l tail h b =
     let rest = programBytes n (programIn n (drop 6 l) ++ tail) in
     ap (λ (w : List ℕ). getD l 0 0 ∷ getD l 1 0 ∷ w ++ rest) (bytes-back (getD l 2 0) (getD l 3 0) (getD l 4 0) (getD l 5 0) (b .at 3) (b .at 4) (b .at 5))
     ∙ ap (λ (r : List ℕ). getD l 0 0 ∷ getD l 1 0 ∷ getD l 2 0 ∷ getD l 3 0 ∷ getD l 4 0 ∷ getD l 5 0 ∷ r)
-        (programBytes-programIn n (drop 6 l) tail (omega arith) (bytes-drop 6 b))
+    (programBytes-programIn n (drop 6 l) tail (omega arith) (bytes-drop 6 b))
     ∙ sym (rw e (ap (λ (m : List ℕ). take (suc (suc (suc (suc (suc (suc (6 * n))))))) m) (front6 l (omega arith))))
 
 -- ---- all records
@@ -89,13 +88,13 @@ records-back (suc n) rest h b =
     let later = drop (recordLength rest) rest in
     let d : length (drop 3 rest) ≡ length rest - 3 = length-drop 3 rest in
     let program : programBytes k (programIn k (drop 3 rest) ++ instructionsIn n later) ≡ take (6 * k) (drop 3 rest) =
-        programBytes-programIn k (drop 3 rest) (instructionsIn n later) (omega arith) (bytes-drop 3 b) in
+    programBytes-programIn k (drop 3 rest) (instructionsIn n later) (omega arith) (bytes-drop 3 b) in
     let tail : drop (3 * k) (programIn k (drop 3 rest) ++ instructionsIn n later) ≡ instructionsIn n later =
-        drop-at (programIn k (drop 3 rest)) (instructionsIn n later) (3 * k) (length-programIn k (drop 3 rest)) in
+    drop-at (programIn k (drop 3 rest)) (instructionsIn n later) (3 * k) (length-programIn k (drop 3 rest)) in
     let back : recordsFor n (placementsIn n later) (instructionsIn n later) ≡ later =
-        records-back n later (records-later n rest h) (bytes-drop (recordLength rest) b) in
+    records-back n later (records-later n rest h) (bytes-drop (recordLength rest) b) in
     let whole : take (6 * k) (drop 3 rest) ++ later ≡ drop 3 rest =
-        ap (λ (l : List ℕ). take (6 * k) (drop 3 rest) ++ l) (sym (drop-drop (6 * k) 3 rest)) ∙ take-append-drop (6 * k) (drop 3 rest) in
+    ap (λ (l : List ℕ). take (6 * k) (drop 3 rest) ++ l) (sym (drop-drop (6 * k) 3 rest)) ∙ take-append-drop (6 * k) (drop 3 rest) in
     rw (program, tail, back, whole) (sym (front3 rest (omega arith)))
 
 -- ---- the lists are as long as they say
@@ -136,17 +135,17 @@ length-records (suc n) rest h =
 -- ---- the whole table
 
 module _ (bytes : List ℕ) (h : validateTable bytes ≡ 0) where
-  records-ok : recordsOk (processesIn bytes) (recordBytes bytes) ≡ true
+  pub records-ok : recordsOk (processesIn bytes) (recordBytes bytes) ≡ true
   unfolding extentOk
   records-ok = and-right (leb (recordsStart bytes) (length bytes)) _ (valid bytes h .extent-ok)
 
-  pairs-within : recordsStart bytes ≤ length bytes
+  pub pairs-within : recordsStart bytes ≤ length bytes
   unfolding extentOk
   pairs-within =
       leb-true (recordsStart bytes) (length bytes)
       (and-left (leb (recordsStart bytes) (length bytes)) (recordsOk (processesIn bytes) (recordBytes bytes)) (valid bytes h .extent-ok))
 
-  field-true : (6 ≤ length bytes) × (2 + lengthField bytes ≡ length bytes)
+  pub field-true : (6 ≤ length bytes) × (2 + lengthField bytes ≡ length bytes)
   unfolding lengthOk
   field-true =
       let l = valid bytes h .length-ok in
@@ -185,7 +184,7 @@ module _ (bytes : List ℕ) (h : validateTable bytes ≡ 0) where
         let version : 1 ≡ versionIn bytes = sym (eqb-true (versionIn bytes) 1 (valid bytes h .version-ok)) in
         let records = records-back (processesIn bytes) (recordBytes bytes) records-ok (bytes-drop (recordsStart bytes) b) in
         let whole : take pairs (drop 6 bytes) ++ recordBytes bytes ≡ drop 6 bytes =
-            ap (λ (l : List ℕ). take pairs (drop 6 bytes) ++ l) (sym (drop-drop pairs 6 bytes)) ∙ take-append-drop pairs (drop 6 bytes) in
+        ap (λ (l : List ℕ). take pairs (drop 6 bytes) ++ l) (sym (drop-drop pairs 6 bytes)) ∙ take-append-drop pairs (drop 6 bytes) in
         ap (λ (l : List ℕ). 1 ∷ boardsIn bytes ∷ processesIn bytes ∷ channelsIn bytes ∷ take pairs (drop 6 bytes) ++ l) records
         ∙ (λ i. version i ∷ boardsIn bytes ∷ processesIn bytes ∷ channelsIn bytes ∷ whole i)
 

@@ -36,7 +36,7 @@ lists-number l = passed2 (countsFit (l .boards) (l .processes) (l .channels)) (l
 
 -- ---- one record
 
-length-programBytes : (n : ℕ) (l : List ℕ) → length (programBytes n l) ≡ 6 * n
+pub length-programBytes : (n : ℕ) (l : List ℕ) → length (programBytes n l) ≡ 6 * n
 length-programBytes zero l = refl
 length-programBytes (suc n) l = let h = length-programBytes n (drop 3 l) in omega arith
 
@@ -85,7 +85,7 @@ total-few : (l : List ℕ) → allOf (λ k. leb k pcMost) l ≡ true → total l
 total-few [] h = omega arith
 total-few (k ∷ l) h = let a = leb-true k pcMost (and-left (leb k pcMost) _ h) in let b = total-few l (and-right (leb k pcMost) _ h) in omega arith
 
-length-threes : {A : Type 0} (make : ℕ → ℕ → ℕ → A) (n : ℕ) (l : List ℕ) → length (threes make n l) ≡ n
+pub length-threes : {A : Type 0} (make : ℕ → ℕ → ℕ → A) (n : ℕ) (l : List ℕ) → length (threes make n l) ≡ n
 length-threes make zero l = refl
 length-threes make (suc n) l = ap suc (length-threes make n (drop 3 l))
 

@@ -8,7 +8,7 @@ use lib.Seq.{sets, length-sets, sets-eq, drop-cons, drop-drop, getD-drop}
 use Rattle.rules.specs.Bytes.{written}
 
 -- one store behind another is one store of both
-sets-append : (l : List ℕ) (i : ℕ) (a b : List ℕ) → sets (sets l i a) (i + length a) b ≡ sets l i (a ++ b)
+pub sets-append : (l : List ℕ) (i : ℕ) (a b : List ℕ) → sets (sets l i a) (i + length a) b ≡ sets l i (a ++ b)
 sets-append l i [] b = ap (λ (n : ℕ). sets l n b) (omega arith)
 sets-append l i (x ∷ a) b =
     ap (λ (n : ℕ). sets (sets (set l i x) (suc i) a) n b) (omega arith) ∙ sets-append (set l i x) (suc i) a b
@@ -16,6 +16,9 @@ sets-append l i (x ∷ a) b =
 -- At the front of a list it is what the rules call written.
 pub sets-front : (l new : List ℕ) → length new ≤ length l → sets l 0 new ≡ written new l
 sets-front l new h = let z : 0 + length new ≡ length new = omega arith in sets-eq new l 0 (omega arith) ∙ ap (λ (n : ℕ). new ++ drop n l) z
+
+pub laid-length : (before after : List ℕ) (at : ℕ) (new : List ℕ) → after ≡ sets before at new → length after ≡ length before
+laid-length before after at new e = ap length e ∙ length-sets before at new
 
 -- `whole` is being stored from `from` on; what is left of it, `rest`, comes to `at`
 pub record Laying (before : List ℕ) (from : ℕ) (whole after : List ℕ) (at : ℕ) (rest : List ℕ) : Type 0 where

@@ -3,3 +3,8 @@
 pub mod Laying
 pub mod Pieces
 pub mod Storing
+pub mod Walking
+pub mod Lengths
+pub mod Fitting
+pub mod Composing
+pub mod Parting

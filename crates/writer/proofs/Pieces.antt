@@ -19,7 +19,7 @@ use Rattle.writer.specs.Fitted.{fitByte, fitThrees}
 one-fewer : (n p : ℕ) → p < n → n - p ≡ suc (n - (p + 1))
 one-fewer n p h = omega arith
 
-fit-same : (x : ℕ) → x < 256 → fitByte x ≡ x
+pub fit-same : (x : ℕ) → x < 256 → fitByte x ≡ x
 fit-same x h = rw (lt-ltb x 256 h)
 
 -- ---- a list of numbers
@@ -37,25 +37,25 @@ take-next l at n k h r =
 
 -- ---- instructions
 
-fitThrees-0 : (l : List ℕ) → getD (fitThrees l) 0 0 ≡ fitByte (getD l 0 0)
+pub fitThrees-0 : (l : List ℕ) → getD (fitThrees l) 0 0 ≡ fitByte (getD l 0 0)
 fitThrees-0 [] = refl
 fitThrees-0 (c ∷ []) = refl
 fitThrees-0 (c ∷ a ∷ []) = refl
 fitThrees-0 (c ∷ a ∷ o ∷ l) = refl
 
-fitThrees-1 : (l : List ℕ) → getD (fitThrees l) 1 0 ≡ fitByte (getD l 1 0)
+pub fitThrees-1 : (l : List ℕ) → getD (fitThrees l) 1 0 ≡ fitByte (getD l 1 0)
 fitThrees-1 [] = refl
 fitThrees-1 (c ∷ []) = refl
 fitThrees-1 (c ∷ a ∷ []) = refl
 fitThrees-1 (c ∷ a ∷ o ∷ l) = refl
 
-fitThrees-2 : (l : List ℕ) → getD (fitThrees l) 2 0 ≡ getD l 2 0
+pub fitThrees-2 : (l : List ℕ) → getD (fitThrees l) 2 0 ≡ getD l 2 0
 fitThrees-2 [] = refl
 fitThrees-2 (c ∷ []) = refl
 fitThrees-2 (c ∷ a ∷ []) = refl
 fitThrees-2 (c ∷ a ∷ o ∷ l) = refl
 
-fitThrees-drop3 : (l : List ℕ) → drop 3 (fitThrees l) ≡ fitThrees (drop 3 l)
+pub fitThrees-drop3 : (l : List ℕ) → drop 3 (fitThrees l) ≡ fitThrees (drop 3 l)
 fitThrees-drop3 [] = refl
 fitThrees-drop3 (c ∷ []) = refl
 fitThrees-drop3 (c ∷ a ∷ []) = refl

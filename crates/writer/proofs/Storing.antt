@@ -12,7 +12,7 @@ use Rattle.records.specs.Fetch.{numbered, fetched}
 use Rattle.records.specs.declared.fetch.Instruction.{Instruction}
 use Rattle.records.proofs.Sixes.{six-from}
 use Rattle.writer.specs.Fitted.{fitByte, fitThrees, headBytes}
-use Rattle.writer.specs.declared.lists.Counts.{Counts}
+use Rattle.writer.specs.declared.write.Counts.{Counts}
 use Rattle.writer.proofs.Laying.{Laying, laying-start, laying-more, laying-end}
 use Rattle.writer.proofs.Pieces.{ends-next, take-next, program-next, threeAt, program-in-next}
 

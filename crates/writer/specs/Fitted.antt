@@ -5,7 +5,7 @@ use mathlib.Core.List.{List, [], _∷_, map}
 use Prim.Native.Nat.{ℕ, _/_, _%_}
 use lib.Dec.{ltb}
 use Rattle.rules.specs.Encode.{Lists}
-use Rattle.writer.specs.declared.lists.Counts.{Counts}
+use Rattle.writer.specs.declared.write.Counts.{Counts}
 
 abbrev pub fitByte : ℕ → ℕ
 fitByte x = cond (ltb x 256) x 254

@@ -9,7 +9,7 @@ use Rattle.facts.specs.Tests.{allOf}
 use Rattle.backup.specs.Limits.{pcMost}
 use Rattle.rules.specs.Format.{orNumber, countsFit}
 use Rattle.rules.specs.Encode.{Lists, programLengths, total, listsOk}
-use Rattle.writer.specs.declared.lists.Counts.{Counts}
+use Rattle.writer.specs.declared.write.Counts.{Counts}
 
 abbrev pub given : Counts → List ℕ → List ℕ → List ℕ → Lists
 given counts ends placements instructions = record {

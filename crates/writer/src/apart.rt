@@ -7,7 +7,7 @@ ghost use lib.Seq.{sets};
 ghost use Rattle.rules.specs.Bytes.{byteAt};
 ghost use Rattle.rules.specs.Format.{validateTable};
 ghost use Rattle.rules.specs.Encode.{programIn, placementsIn, instructionsIn, apart};
-ghost use Rattle.writer.specs.Taken.{Records, TakesApart, none};
+ghost use Rattle.writer.specs.Taken.{Records, Room, roomFor, ListsTaken, TakesApart, none};
 use records::bytes::byte;
 use records::bytes::wide;
 use records::bytes::word;
@@ -23,10 +23,10 @@ use table::format::PROGRAM;
 // 0, the counts, and how many instructions there are; or the number that refuses the table or the lists lent for it, and zeros.
 pub struct Taken {
     pub number: u8,
-    pub boards: u32,
-    pub processes: u32,
-    pub channels: u32,
-    pub instructions: usize,
+    pub boards: u8,
+    pub processes: u8,
+    pub channels: u8,
+    pub instructions: u32,
 }
 
 fn refused(number: u8) -> Taken
@@ -110,9 +110,36 @@ fn take_records(
 // How many instructions an accepted table has, from its length.
 fn instructions_in(table: &[u8]) -> usize
     requires { ⌜ validateTable (now table) ≡ 0 ⌝ }
-    ensures { λ r. ⌜ 3 * r ≡ length (apart (now (table .entry)) .instructions) ⌝ }
+    ensures { λ r. ⌜ (3 * r ≡ length (apart (now (table .entry)) .instructions)) × (r ≤ 6262) ⌝ }
 {
     (table.len() - HEAD - 2 * wide(byte(table, CHANNELS)) - 3 * wide(byte(table, PROCESSES))) / 6
+}
+
+// The lists of an accepted table, into lists that have room for them.
+fn take_lists(table: &[u8], ends: &mut [u32], placements: &mut [u32], instructions: &mut [u32])
+    requires { ⌜ validateTable (now table) ≡ 0 ⌝ }
+    requires { ⌜ Room (now table) (now ends) (now placements) (now instructions) ⌝ }
+    ensures { λ _. ⌜ ListsTaken (now (table .entry)) (now (ends .entry)) (now (placements .entry)) (now (instructions .entry))
+        (now (ends .exit)) (now (placements .exit)) (now (instructions .exit)) ⌝ }
+{
+    let pairs = 2 * wide(byte(table, CHANNELS));
+    take_bytes(table, HEAD, pairs, ends);
+    take_records(
+        table,
+        HEAD + pairs,
+        wide(byte(table, PROCESSES)),
+        placements,
+        instructions,
+    );
+}
+
+// Whether the three lists have room for a table's: two numbers for each channel, three for each process and three for each instruction.
+fn has_room(table: &[u8], total: usize, ends: usize, placements: usize, instructions: usize) -> bool
+    requires { ⌜ (validateTable (now table) ≡ 0) × ((3 * total ≡ length (apart (now table) .instructions)) × (total ≤ 6262)) ⌝ }
+    ensures { λ r. ⌜ r ≡ roomFor (now (table .entry)) ends placements instructions ⌝ }
+{
+    2 * wide(byte(table, CHANNELS)) <= ends
+        && (3 * wide(byte(table, PROCESSES)) <= placements && 3 * total <= instructions)
 }
 
 // A table's lists go to the fronts of three lent ones, and what is behind them stays. Refused, by the reader's number or by 45 where one of
@@ -131,31 +158,22 @@ pub fn take_apart(
     if number != 0 {
         return refused(number);
     }
-    let channels = wide(byte(table, CHANNELS));
-    let processes = wide(byte(table, PROCESSES));
     let total = instructions_in(table);
-    if ends.len() < 2 * channels {
-        return refused(45);
-    }
-    if placements.len() < 3 * processes {
-        return refused(45);
-    }
-    if instructions.len() < 3 * total {
-        return refused(45);
-    }
-    take_bytes(table, HEAD, 2 * channels, ends);
-    take_records(
+    if !has_room(
         table,
-        HEAD + 2 * channels,
-        processes,
-        placements,
-        instructions,
-    );
+        total,
+        ends.len(),
+        placements.len(),
+        instructions.len(),
+    ) {
+        return refused(45);
+    }
+    take_lists(table, ends, placements, instructions);
     Taken {
         number: 0,
-        boards: word(byte(table, BOARDS)),
-        processes: processes as u32,
-        channels: channels as u32,
-        instructions: total,
+        boards: byte(table, BOARDS),
+        processes: byte(table, PROCESSES),
+        channels: byte(table, CHANNELS),
+        instructions: total as u32,
     }
 }

@@ -7,8 +7,8 @@ ghost use lib.Seq.{sets};
 ghost use Rattle.rules.specs.Encode.{instructionBytes, programBytes, recordsFor, encode};
 ghost use Rattle.writer.specs.Given.{given, Fitting, Programs};
 ghost use Rattle.writer.specs.Fitted.{fitByte, fitThrees, fitted, headBytes};
-use crate::lists::Counts;
 use crate::lists::wider;
+use crate::write::Counts;
 use table::format::HEAD;
 use table::format::PROGRAM;
 

@@ -4,15 +4,9 @@ ghost use mathlib.Core.Bool.{true};
 ghost use Rattle.rules.specs.Format.{countsFit};
 ghost use Rattle.rules.specs.Encode.{listsOk};
 ghost use Rattle.writer.specs.Given.{given, framing};
+use crate::write::Counts;
 use table::counts::counts_fit;
 use table::format::PROGRAM_MOST;
-
-// Boards, processes and channels.
-pub struct Counts {
-    pub boards: u32,
-    pub processes: u32,
-    pub channels: u32,
-}
 
 // The same number, as an index.
 pub fn wider(x: u32) -> usize

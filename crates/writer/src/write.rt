@@ -9,17 +9,23 @@ ghost use Rattle.writer.specs.Fitted.{fitted};
 ghost use Rattle.writer.specs.Writes.{Writes, nothing};
 use crate::lay::lay;
 use crate::lay::table_length;
-use crate::lists::Counts;
 use crate::lists::judge_lists;
 use table::decode;
 
 // The longest table: its length field at most 6,260, and that field.
 pub const TABLE_BYTES: usize = 6262;
 
+// Boards, processes and channels.
+pub struct Counts {
+    pub boards: u32,
+    pub processes: u32,
+    pub channels: u32,
+}
+
 // 0 and the table's length, or the number that refuses the lists or the buffer, and 0.
 pub struct Written {
     pub number: u8,
-    pub length: usize,
+    pub length: u32,
 }
 
 fn refused(number: u8) -> Written
@@ -83,6 +89,6 @@ pub fn write(
     lay(out, total, counts, ends, placements, instructions);
     Written {
         number: 0,
-        length: total,
+        length: total as u32,
     }
 }

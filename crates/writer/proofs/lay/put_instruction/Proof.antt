@@ -66,7 +66,8 @@ same-length c = search needs
 returns : tie.Need-returns
 returns c =
     let s = c .before .before .before .before .before .before .before .args in
-    instruction-put (s .bytes .now) (s .at) (s .code) (s .a) (s .operand) _ _ _ _ _ _ ? (c .before .before .before .before .before .fit .ensures) (c .before .before .before .before .fit2 .ensures) (c .before .before .before .low .ensures) (c .before .before .low2 .ensures) (c .before .low3 .ensures) (c .low4 .ensures)
+    let f = c .before .before .before .before .before .before .before .fits in
+    instruction-put (s .bytes .now) (s .at) (s .code) (s .a) (s .operand) _ _ _ _ _ _ (f .operand .fits) (c .before .before .before .before .before .fit .ensures) (c .before .before .before .before .fit2 .ensures) (c .before .before .before .low .ensures) (c .before .before .low2 .ensures) (c .before .low3 .ensures) (c .low4 .ensures)
 
 pub put-instruction-spec : {M : Type 1} → statement M
 put-instruction-spec =
