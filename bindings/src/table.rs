@@ -120,13 +120,31 @@ impl End {
 /// An instruction with its register and what it names.
 #[derive(Clone, Copy, Debug, PartialEq, Eq, Hash)]
 pub enum Operation {
-    Set { register: u32, word: u32 },
-    Add { register: u32, other: u32 },
-    Take { register: u32, channel: u32 },
+    Set {
+        register: u32,
+        word: u32,
+    },
+    Add {
+        register: u32,
+        other: u32,
+    },
+    Take {
+        register: u32,
+        channel: u32,
+    },
     /// Bit k of the mask stands for channel k; the channel's number goes into the next register.
-    First { register: u32, mask: u32 },
-    Send { register: u32, channel: u32 },
-    Jump { register: u32, place: u32 },
+    First {
+        register: u32,
+        mask: u32,
+    },
+    Send {
+        register: u32,
+        channel: u32,
+    },
+    Jump {
+        register: u32,
+        place: u32,
+    },
 }
 
 impl Operation {

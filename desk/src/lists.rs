@@ -145,7 +145,9 @@ pub fn explain(text: &Text, number: u8) -> String {
             .ends
             .chunks(2)
             .position(|pair| !passes(pair[0]) || !passes(pair[1]) || pair[0] == 255 && pair[1] == 255)
-            .map(|k| format!("channel {k} ({}): an end is a process below {processes} or 255, and never both are 255", list(1, 2 * k)))
+            .map(|k| {
+                format!("channel {k} ({}): an end is a process below {processes} or 255, and never both are 255", list(1, 2 * k))
+            })
             .unwrap_or_default(),
         6 => (0..processes)
             .find(|&p| lists.ends.chunks(2).filter(|pair| pair[1] == p).count() > 4)
@@ -171,12 +173,23 @@ fn lengths(text: &Text) -> String {
     };
     let over = || {
         lists.placements.chunks(3).enumerate().find(|(_, p)| p[2] > 64).map(|(p, placement)| {
-            format!("placements, line {}: process {p} has {} instructions, and 64 are the most", text.lines[2][3 * p + 2], placement[2])
+            format!(
+                "placements, line {}: process {p} has {} instructions, and 64 are the most",
+                text.lines[2][3 * p + 2],
+                placement[2]
+            )
         })
     };
     let total: usize = lists.placements.chunks(3).map(|p| p.get(2).map_or(0, |&n| n as usize)).sum();
     wants("ends", lists.ends.len(), 2 * channels as usize, format!("two for each of {channels} channels"))
-        .or_else(|| wants("placements", lists.placements.len(), 3 * processes as usize, format!("three for each of {processes} processes")))
+        .or_else(|| {
+            wants(
+                "placements",
+                lists.placements.len(),
+                3 * processes as usize,
+                format!("three for each of {processes} processes"),
+            )
+        })
         .or_else(over)
         .or_else(|| wants("instructions", lists.instructions.len(), 3 * total, format!("three for each of {total} instructions")))
         .unwrap_or_default()

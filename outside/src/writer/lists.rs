@@ -71,7 +71,8 @@ impl Lists {
     /// An instruction of process p, whose program has n.
     fn sound(&self, p: u32, n: u32, instruction: &[u32]) -> bool {
         let (code, a, operand) = (instruction[0], instruction[1], instruction[2]);
-        let end_is = |k: u32, side: usize| self.lists[0].get(2 * k as usize + side).is_some_and(|&end| k < self.counts[2] && end == p);
+        let end_is =
+            |k: u32, side: usize| self.lists[0].get(2 * k as usize + side).is_some_and(|&end| k < self.counts[2] && end == p);
         match code {
             1 => a < 4,
             2 => a < 4 && operand < 4,
