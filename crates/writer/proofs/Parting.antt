@@ -15,7 +15,8 @@ use Rattle.rules.specs.Encode.{Lists, programLengths, total, placementsIn, inst
 use Rattle.rules.proofs.Apart.{Bytes, apart-long, length-apart, records-ok, pairs-within, apart-writes}
 use Rattle.rules.proofs.Valid.{valid, counted}
 use Rattle.writer.specs.declared.apart.Taken.{Taken}
-use Rattle.writer.specs.Taken.{Records, Room, roomFor, ListsTaken, none, listsIn, TakesApart}
+use Rattle.writer.specs.Taken.{none, listsIn, TakesApart}
+use Rattle.writer.specs.Taking.{Records, Room, roomFor, ListsTaken}
 use Rattle.writer.proofs.Laying.{sets-front}
 
 module _ (table : List ℕ) (h : validateTable table ≡ 0) where

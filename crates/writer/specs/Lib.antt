@@ -3,3 +3,4 @@ pub mod Given
 pub mod Fitted
 pub mod Writes
 pub mod Taken
+pub mod Taking

@@ -1,32 +1,13 @@
--- The promise of taking a table apart.
+-- The promise of `take_apart`.
 use mathlib.Core.Path.{_≡_}
-use mathlib.Core.Bool.{Bool, true, cond, _&&_}
+use mathlib.Core.Bool.{cond}
 use mathlib.Core.List.{List}
 use Prim.Native.Nat.{ℕ, _*_}
-use lib.Dec.{eqb, leb}
+use lib.Dec.{eqb}
 use lib.ListN.{length, take}
 use Rattle.rules.specs.Bytes.{written}
-use Rattle.rules.specs.Format.{boardsIn, processesIn, channelsIn, recordsOk}
 use Rattle.rules.specs.Encode.{Lists, apart, validateApart, WritesAs}
 use Rattle.writer.specs.declared.apart.Taken.{Taken}
-
--- so many whole records
-pub record Records (processes : ℕ) (rest : List ℕ) : Type 0 where
-  pub records-ok : recordsOk processes rest ≡ true
-
--- the lists lent have room for the table's
-abbrev pub roomFor : List ℕ → ℕ → ℕ → ℕ → Bool
-roomFor table ends placements instructions =
-    leb (length (apart table .ends)) ends && (leb (length (apart table .placements)) placements && leb (length (apart table .instructions)) instructions)
-
-pub record Room (table ends placements instructions : List ℕ) : Type 0 where
-  pub room : roomFor table (length ends) (length placements) (length instructions) ≡ true
-
--- the table's lists at the fronts of three others
-pub record ListsTaken (table ends placements instructions ends′ placements′ instructions′ : List ℕ) : Type 0 where
-  pub ends-taken : ends′ ≡ written (apart table .ends) ends
-  pub placements-taken : placements′ ≡ written (apart table .placements) placements
-  pub instructions-taken : instructions′ ≡ written (apart table .instructions) instructions
 
 -- what a refusal returns
 abbrev pub none : ℕ → Taken

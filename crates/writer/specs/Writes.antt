@@ -1,4 +1,4 @@
--- The promises of the two public calls.
+-- The promise of `write`.
 use mathlib.Core.Path.{_≡_}
 use mathlib.Core.Bool.{cond}
 use mathlib.Core.List.{List}
