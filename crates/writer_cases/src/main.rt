@@ -1,9 +1,10 @@
 // Cases of the writer, compared with stdout: document 01's sample as lists, then with one number changed for each refusal, in numbers that fit
-// no byte where there are such; a buffer of one byte too few; and the table taken apart again. Each line has the number, the length and
-// three bytes of the buffer, of which 238 was there before.
+// no byte where there are such; a buffer of one byte too few; and the table taken apart again. A line of the writer has the number, the
+// length and three bytes of the buffer, all of which were 238 before.
 use libc::STDOUT_FILENO;
 use writer::apart::take_apart;
 use writer::write::Counts;
+use writer::write::Written;
 use writer::write::write;
 
 // What is changed of the sample.
@@ -13,17 +14,7 @@ struct Change {
     standby: u32,
     n: u32,
     code: u32,
-    room: usize,
 }
-
-const SAMPLE: Change = Change {
-    boards: 2,
-    reader: 0,
-    standby: 1,
-    n: 4,
-    code: 3,
-    room: 38,
-};
 
 fn text(s: &[u8]) {
     io::write_all(STDOUT_FILENO, s);
@@ -34,32 +25,56 @@ fn number(n: u64) {
     io::print_decimal(STDOUT_FILENO, n);
 }
 
+fn show(name: &[u8], r: Written) {
+    text(name);
+    number(r.number as u64);
+    number(r.length as u64);
+}
+
+// In a buffer with a byte to spare.
 fn case(name: &[u8], c: Change) {
     let ends = [255u32, c.reader, 0, 255];
     let placements = [0u32, c.standby, c.n];
-    let instructions = [c.code, 0, 0, 2, 1, 0, 5, 1, 1, 6, 0, 0];
+    let instructions = [c.code, 0u32, 0, 2, 1, 0, 5, 1, 1, 6, 0, 0];
     let counts = Counts {
         boards: c.boards,
         processes: 1,
         channels: 2,
     };
     let mut out = [238u8; 38];
-    let room = c.room;
-    let r = if room == 38 {
-        write(counts, &ends, &placements, &instructions, &mut out)
-    } else {
-        write(counts, &ends, &placements, &instructions, &mut out[..36])
-    };
-    text(name);
-    number(r.number as u64);
-    number(r.length as u64);
+    show(
+        name,
+        write(counts, &ends, &placements, &instructions, &mut out),
+    );
     number(out[1] as u64);
     number(out[13] as u64);
     number(out[37] as u64);
     text(b"\n");
 }
 
-// The sample's bytes, taken apart into lists of which the last has no number to spare.
+// In a buffer with a byte too few.
+fn short(name: &[u8], code: u32) {
+    let ends = [255u32, 0, 0, 255];
+    let placements = [0u32, 1, 4];
+    let instructions = [code, 0u32, 0, 2, 1, 0, 5, 1, 1, 6, 0, 0];
+    let counts = Counts {
+        boards: 2,
+        processes: 1,
+        channels: 2,
+    };
+    let mut out = [238u8; 36];
+    show(
+        name,
+        write(counts, &ends, &placements, &instructions, &mut out),
+    );
+    number(out[1] as u64);
+    number(out[13] as u64);
+    number(out[35] as u64);
+    text(b"\n");
+}
+
+// The sample's bytes, taken apart into lists of which the last has no number to spare: the number, the counts, how many instructions, and
+// some of the lists' numbers, all of which were 9 before.
 fn apart() {
     let table = [
         0u8,
@@ -118,84 +133,24 @@ fn apart() {
     text(b"\n");
 }
 
+fn changed(boards: u32, reader: u32, standby: u32, n: u32, code: u32) -> Change {
+    Change {
+        boards: boards,
+        reader: reader,
+        standby: standby,
+        n: n,
+        code: code,
+    }
+}
+
 fn main() {
-    case(b"sample", SAMPLE);
-    case(
-        b"one board",
-        Change {
-            boards: 1,
-            reader: 0,
-            standby: 1,
-            n: 4,
-            code: 3,
-            room: 38,
-        },
-    );
-    case(
-        b"n 5",
-        Change {
-            boards: 2,
-            reader: 0,
-            standby: 1,
-            n: 5,
-            code: 3,
-            room: 38,
-        },
-    );
-    case(
-        b"reader 256",
-        Change {
-            boards: 2,
-            reader: 256,
-            standby: 1,
-            n: 4,
-            code: 3,
-            room: 38,
-        },
-    );
-    case(
-        b"board 257",
-        Change {
-            boards: 2,
-            reader: 0,
-            standby: 257,
-            n: 4,
-            code: 3,
-            room: 38,
-        },
-    );
-    case(
-        b"code 259",
-        Change {
-            boards: 2,
-            reader: 0,
-            standby: 1,
-            n: 4,
-            code: 259,
-            room: 38,
-        },
-    );
-    case(
-        b"36 bytes",
-        Change {
-            boards: 2,
-            reader: 0,
-            standby: 1,
-            n: 4,
-            code: 3,
-            room: 36,
-        },
-    );
-    case(
-        b"36 bytes, code 7",
-        Change {
-            boards: 2,
-            reader: 0,
-            standby: 1,
-            n: 4,
-            code: 7,
-            room: 36,
-        },
-    );
+    case(b"sample", changed(2, 0, 1, 4, 3));
+    case(b"one board", changed(1, 0, 1, 4, 3));
+    case(b"n 5", changed(2, 0, 1, 5, 3));
+    case(b"reader 256", changed(2, 256, 1, 4, 3));
+    case(b"board 257", changed(2, 0, 257, 4, 3));
+    case(b"code 259", changed(2, 0, 1, 4, 259));
+    short(b"36 bytes", 3);
+    short(b"36 bytes, code 7", 7);
     apart();
 }
