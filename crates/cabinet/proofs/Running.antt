@@ -36,7 +36,8 @@ use Rattle.cabinet.specs.Plays.{Played, Suited, Plays}
 use Rattle.outcome.specs.Starts.{Fresh, Placed, Seats}
 use Rattle.outcome.specs.Reports.{Reports}
 use Rattle.outcome.specs.Quiets.{Quiets}
-use Rattle.cabinet.specs.Runs.{ranBy, Runs, Conducts}
+use Rattle.cabinet.specs.Conducts.{Conducts}
+use Rattle.cabinet.specs.Runs.{ranBy, Runs}
 use Rattle.cabinet.specs.declared.run.Verdict.{Verdict}
 
 -- ---- the plan of an accepted table
