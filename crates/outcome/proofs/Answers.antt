@@ -99,7 +99,7 @@ module _ {t : Table} {c : Cabinet} (reach : Reachable t c) where
 
   done-fits : (r : Command) → Done t c r Fitting
   done-fits r = record {
-    computes = λ _ _ _. fits-stepped;
+    computes = λ _ _ _ _. fits-stepped;
     takes = λ hp m x e _. fits-received x (took-small (r .a) hp m x (record { is = e }));
     suppresses = λ hp m x e _ _. fits-suppressed x (sent-small (r .a) hp m x (record { is = e }));
     sends = λ hp m x e _ _ _ _. fits-queued x (sent-small (r .a) hp m x (record { is = e }));

@@ -49,7 +49,7 @@ module _ (t : Table) (n : ℕ) (c : Cabinet) (h : Many n c) where
   keep-many : (r : Command) → Leaves t c r (Many n)
   unfolding deliver
   keep-many r = record {
-    computes = λ _ _ _. one (r .a) _;
+    computes = λ _ _ _ _. one (r .a) _;
     takes = λ _ _ _ _ _. one (r .a) _;
     suppresses = λ _ _ _ _ _ _. one (r .a) _;
     sends = λ _ _ _ _ _ _ _ _. one (r .a) _;

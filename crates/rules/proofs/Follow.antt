@@ -9,19 +9,19 @@ use lib.Dec.{eqb}
 use lib.ListN.{length, getD, set, length-set}
 use lib.Seq.{set-getD}
 use borrow.Author.Tests.{leb-false}
-use Rattle.facts.specs.Tests.{no-way}
+use Rattle.facts.specs.Tests.{no-way, or-left, or-right}
 use Rattle.rules.specs.Table.{Table, channelAt, codeOf, portOf}
-use Rattle.rules.specs.Machine.{Mail, Machine, booted, internal, took, sent, moved, localStep}
+use Rattle.rules.specs.Machine.{Mail, Machine, booted, Act, internal, took, sent, moved, localStep}
 use Rattle.rules.specs.Reference.{Reference, Action, referenceRun, injections}
-use Rattle.rules.specs.Cabinet.{eventsMost, Since, Process, Item, message, checkpoint, Cabinet, processAt, outboxAt, protected, limited, exhausted, waiting}
-use Rattle.rules.specs.Moves.{Answer, numbers, withProcess, withOutbox, enqueue, advanced, counting, oneSent, oneTaken, issued, snapshot}
+use Rattle.rules.specs.Cabinet.{instructionsMost, eventsMost, Process, Item, message, checkpoint, Cabinet, processAt, outboxAt, protected, limited, exhausted, overrun, owing, waiting}
+use Rattle.rules.specs.Moves.{Answer, numbers, withProcess, withOutbox, enqueue, advanced, counting, oneDone, oneSent, oneTaken, issued, snapshot}
 use Rattle.rules.specs.Judge.{Accepted}
 use Rattle.rules.specs.Transparent.{traceOf}
-use Rattle.rules.proofs.Steps.{Steps}
+use Rattle.rules.proofs.Runs.{busy1, Allows}
 use Rattle.rules.proofs.Tables.{step-own}
 use Rattle.rules.proofs.Ahead.{checkpoints}
 use Rattle.rules.proofs.Good.{Good}
-use Rattle.rules.proofs.GoodMoves.{counting-limited, good-silent, good-suppressed, good-send, good-issued}
+use Rattle.rules.proofs.GoodMoves.{good-silent, good-suppressed, good-send, good-issued}
 use Rattle.rules.proofs.Invariant.{ownerOf, mine, machineAt, Invariant, in-table, its-outbox}
 use Rattle.rules.proofs.Frame.{SameSeat, same-boards, changed, OthersStay, change-same, join-others, join-own}
 use Rattle.rules.proofs.References.{run-append, injections-append}
@@ -62,6 +62,21 @@ stay {s = s} inv = record { actions = []; end = s; ran = refl; invariant = inv; 
 not-exhausted : (x : Process) → exhausted x ≡ false → limited x ≡ true → x .since .events < eventsMost
 unfolding exhausted
 not-exhausted x h safe = leb-false eventsMost (x .since .events) (rw safe at h)
+
+not-overrun : (x : Process) → overrun x ≡ false → limited x ≡ true → x .since .instructions < instructionsMost
+unfolding overrun
+not-overrun x h safe = leb-false instructionsMost (x .since .instructions) (rw safe at h)
+
+-- 37 lets an instruction pass that is no act, and one that is
+allows-done : (x : Process) → overrun x ≡ false → limited x ≡ true → Allows internal (x .since)
+allows-done x long safe = record { instruction = not-overrun x long safe; event = λ h. omega arith }
+
+allows-act : (x : Process) (k : Act) → busy1 k ≡ 1 → owing x ≡ false → limited x ≡ true → Allows k (x .since)
+unfolding owing
+allows-act x k one none safe = record {
+  instruction = not-overrun x (or-right (exhausted x) (overrun x) none) safe;
+  event = λ _. omega (arith, not-exhausted x (or-left (exhausted x) (overrun x) none) safe);
+}
 
 none-waits : (t : Table) (p : ℕ) (q : List Item) → waiting p q ≡ false → checkpoints (mine t p q) ≡ 0
 none-waits t p [] h = refl
@@ -107,22 +122,21 @@ module _ {t : Table} (ok : Accepted t) {c : Cabinet} {s : Reference} (inv : Inva
 
   -- ---- step
 
-  pub follow-computing : (m : Machine) → localStep (codeOf t p) (processAt c p .machine) ≡ moved m internal
-      → Follows t (withProcess p (advanced m (processAt c p .since) (processAt c p .suppress) (processAt c p)) c) s [] []
+  pub follow-computing : (m : Machine) → localStep (codeOf t p) (processAt c p .machine) ≡ moved m internal → overrun (processAt c p) ≡ false
+      → Follows t (withProcess p (advanced m (counting oneDone (processAt c p)) (processAt c p .suppress) (processAt c p)) c) s [] []
   unfolding advanced
-  follow-computing m e =
-      wait-only (advanced m (processAt c p .since) (processAt c p .suppress) (processAt c p)) (same-boards refl refl)
-      (good-silent ok (in-table inv hp) {k = internal} (processAt c p .since) (inv .good p hp) (record { is = e }) refl (λ _. refl) (λ _ h. h))
+  follow-computing m e long =
+      let x : Process = processAt c p in
+      wait-only (advanced m (counting oneDone x) (x .suppress) x) (same-boards refl refl)
+      (good-silent ok (in-table inv hp) {k = internal} (inv .good p hp) (record { is = e }) refl (allows-done x long))
 
-  pub follow-taking : (m : Machine) (mail : Mail) → localStep (codeOf t p) (processAt c p .machine) ≡ moved m (took mail) → exhausted (processAt c p) ≡ false
+  pub follow-taking : (m : Machine) (mail : Mail) → localStep (codeOf t p) (processAt c p .machine) ≡ moved m (took mail) → owing (processAt c p) ≡ false
       → Follows t (withProcess p (advanced m (counting (oneTaken (portOf t p (mail .channel))) (processAt c p)) (processAt c p .suppress) (processAt c p)) c) s [] []
   unfolding advanced
   follow-taking m mail e limit =
       let x : Process = processAt c p in
-      let more : Since → Since = oneTaken (portOf t p (mail .channel)) in
-      wait-only (advanced m (counting more x) (x .suppress) x) (same-boards refl refl)
-      (good-silent ok (in-table inv hp) {k = took mail} (counting more x) (inv .good p hp) (record { is = e }) refl (counting-limited more x)
-      (λ safe _. let a = not-exhausted x limit safe in let b = ap (λ (n : Since). n .events) (counting-limited more x safe) in omega arith))
+      wait-only (advanced m (counting (oneTaken (portOf t p (mail .channel))) x) (x .suppress) x) (same-boards refl refl)
+      (good-silent ok (in-table inv hp) {k = took mail} (inv .good p hp) (record { is = e }) refl (allows-act x (took mail) refl limit))
 
   pub follow-suppressing : (m : Machine) (mail : Mail) → localStep (codeOf t p) (processAt c p .machine) ≡ moved m (sent mail)
       → (h : ℕ) → processAt c p .suppress ≡ suc h → Follows t (withProcess p (advanced m (processAt c p .since) h (processAt c p)) c) s [] []
@@ -132,13 +146,13 @@ module _ {t : Table} (ok : Accepted t) {c : Cabinet} {s : Reference} (inv : Inva
       (good-suppressed ok (in-table inv hp) (inv .good p hp) z (record { is = e }))
 
   pub follow-sending : (m : Machine) (mail : Mail) → localStep (codeOf t p) (processAt c p .machine) ≡ moved m (sent mail)
-      → processAt c p .suppress ≡ 0 → exhausted (processAt c p) ≡ false
+      → processAt c p .suppress ≡ 0 → owing (processAt c p) ≡ false
       → Follows t (withProcess p (advanced m (counting oneSent (processAt c p)) 0 (processAt c p)) (enqueue (processAt c p .board) (message mail) c)) s [] []
   unfolding advanced
   follow-sending m mail e z limit =
       wait-joined (advanced m (counting oneSent (processAt c p)) 0 (processAt c p)) (message mail) (same-boards refl refl)
       (step-own t ok p (in-table inv hp) (record { is = e }))
-      (good-send ok (in-table inv hp) (inv .good p hp) z (record { is = e }) (not-exhausted (processAt c p) limit))
+      (good-send ok (in-table inv hp) (inv .good p hp) z (record { is = e }) (allows-act (processAt c p) (sent mail) refl limit))
 
   -- ---- sync
 

@@ -7,11 +7,12 @@ use Prim.Native.Nat.{ℕ, zero, suc, _<_}
 use lib.Dec.{eqb, leb}
 use lib.ListN.{length, set}
 use borrow.Author.Tests.{leb-false, not-false, eqb-true}
+use Rattle.facts.specs.Tests.{no-way}
 use Rattle.backup.specs.Replica.{Checkpoint}
 use Rattle.rules.specs.Table.{Table, environment, channelAt, codeOf, portOf}
 use Rattle.rules.specs.Machine.{Mail, Machine, internal, took, sent, Outcome, halted, noMail, moved, localStep}
-use Rattle.rules.specs.Cabinet.{outboxMost, Process, Item, message, checkpoint, Cabinet, processAt, outboxAt, deadAt, protected, exhausted, full, waiting}
-use Rattle.rules.specs.Moves.{Command, Refusal, Answer, stepDone, issueDone, crashDone, received, queued, suppressed, transmitted, injected, refused, Result, refuse, accept, guard, withProcess, withOutbox, enqueue, advanced, counting, oneSent, oneTaken, send, stepFrom, step, issued, snapshot, issue, deliver, counts, keeps, landed, transmitItem, transmitOldest, transmit, inject, allAfterCrash, otherDead, crash, Move, stepMove, issueMove, transmitMove, injectMove, crashMove, unknown, moveOf, perform, judged, settle, turn, runFrom}
+use Rattle.rules.specs.Cabinet.{outboxMost, Process, Item, message, checkpoint, Cabinet, processAt, outboxAt, deadAt, protected, overrun, owing, full, waiting}
+use Rattle.rules.specs.Moves.{Command, Refusal, Answer, stepDone, issueDone, crashDone, received, queued, suppressed, transmitted, injected, refused, Result, refuse, accept, guard, withProcess, withOutbox, enqueue, advanced, counting, oneDone, oneSent, oneTaken, send, stepFrom, step, issued, snapshot, issue, deliver, counts, keeps, landed, transmitItem, transmitOldest, transmit, inject, allAfterCrash, otherDead, crash, Move, stepMove, issueMove, transmitMove, injectMove, crashMove, unknown, moveOf, perform, judged, settle, turn, runFrom}
 
 -- ---- what each move can do
 
@@ -31,18 +32,18 @@ module _ (t : Table) (c : Cabinet) (r : Command) (P : Move → Cabinet → Answe
 
   pub record Done : Type 0 where
     -- a SET, an ADD or a JUMP
-    pub computes : r .a < length (t .processes) → (m : Machine) → localStep (codeOf t (r .a)) (x .machine) ≡ moved m internal
-        → P stepMove (withProcess (r .a) (advanced m (x .since) (x .suppress) x) c) stepDone
+    pub computes : r .a < length (t .processes) → (m : Machine) → localStep (codeOf t (r .a)) (x .machine) ≡ moved m internal → overrun x ≡ false
+        → P stepMove (withProcess (r .a) (advanced m (counting oneDone x) (x .suppress) x) c) stepDone
     -- a TAKE or a FIRST
     pub takes : r .a < length (t .processes) → (m : Machine) (mail : Mail) → localStep (codeOf t (r .a)) (x .machine) ≡ moved m (took mail)
-        → exhausted x ≡ false
+        → owing x ≡ false
         → P stepMove (withProcess (r .a) (advanced m (counting (oneTaken (portOf t (r .a) (mail .channel))) x) (x .suppress) x) c) (received mail)
     -- a SEND held back
     pub suppresses : r .a < length (t .processes) → (m : Machine) (mail : Mail) → localStep (codeOf t (r .a)) (x .machine) ≡ moved m (sent mail)
         → (h : ℕ) → x .suppress ≡ suc h → P stepMove (withProcess (r .a) (advanced m (x .since) h x) c) (suppressed mail)
     -- a SEND whose word joins the queue
     pub sends : r .a < length (t .processes) → (m : Machine) (mail : Mail) → localStep (codeOf t (r .a)) (x .machine) ≡ moved m (sent mail)
-        → x .suppress ≡ 0 → exhausted x ≡ false → leb outboxMost (length (outboxAt c (x .board))) ≡ false → full t c (mail .channel) ≡ false
+        → x .suppress ≡ 0 → owing x ≡ false → leb outboxMost (length (outboxAt c (x .board))) ≡ false → full t c (mail .channel) ≡ false
         → P stepMove (withProcess (r .a) (advanced m (counting oneSent x) 0 x) (enqueue (x .board) (message mail) c)) (queued mail)
     pub issues : r .a < length (t .processes) → protected x ≡ true → waiting (r .a) (outboxAt c (x .board)) ≡ false
         → leb outboxMost (length (outboxAt c (x .board))) ≡ false
@@ -82,7 +83,7 @@ module _ (t : Table) (c : Cabinet) (r : Command) (P : Move → Cabinet → Answe
     unfolding stepFrom
     by-outcome l halted e = unmoved
     by-outcome l noMail e = unmoved
-    by-outcome l (moved m internal) e = leaves (d .computes l m e)
+    by-outcome l (moved m internal) e = after-guard _ _ _ λ long. leaves (d .computes l m e long)
     by-outcome l (moved m (took mail)) e = after-guard _ _ _ λ limit. leaves (d .takes l m mail e limit)
     by-outcome l (moved m (sent mail)) e = by-send l m mail e (x .suppress) refl
 
@@ -116,6 +117,12 @@ module _ (t : Table) (c : Cabinet) (r : Command) (P : Move → Cabinet → Answe
     pub yields-turn : ((m : Move) (why : Refusal) → P m c (refused why (r .a))) → P (moveOf (r .move)) (turn t c r .cabinet) (turn t c r .answer)
     unfolding turn judged
     yields-turn nothing-done = after-settle (moveOf (r .move)) (nothing-done (moveOf (r .move))) (by-move (moveOf (r .move)))
+
+-- where a checked move is accepted, the check didn't apply
+pub guard-accepted : (test : Bool) (why : Refusal) (rest : Result) {d : Cabinet} {a : Answer} → guard test why rest ≡ accept d a → rest ≡ accept d a
+unfolding guard
+guard-accepted true why rest e = absurd (no-way (cc))
+guard-accepted false why rest e = e
 
 -- ---- properties of the cabinet alone
 

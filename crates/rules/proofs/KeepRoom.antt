@@ -36,7 +36,7 @@ module _ (t : Table) (ok : Accepted t) (c : Cabinet) (s : Reference) (inv : Inva
       λ k. ap (λ (m : Machine). unreadOn k (m .mailbox)) same in
       record {
         received = takes (v .acts);
-        few = (let a = takes-busy (v .acts) in let d = v .few in omega arith);
+        few = (let a = takes-busy (v .acts) in let d = v .events in omega arith);
         words = λ k. same-mail k ∙ run-unread k (v .ran);
         own = λ k n. same-mail k ∙ log-own t p (kept .on-inputs) k n;
       }
@@ -46,7 +46,7 @@ module _ (t : Table) (ok : Accepted t) (c : Cabinet) (s : Reference) (inv : Inva
       let small : length (c .processes) ≤ environment = (let a = inv .all-processes in let b = ok .processes-high in omega arith) in
       after-turn {P = Room t []} t c r rm
       (record {
-        computes = λ _ m e. stays t c small rm (r .a) m internal e _ _;
+        computes = λ _ m e _. stays t c small rm (r .a) m internal e _ _;
         takes = λ _ m mail e _. stays t c small rm (r .a) m (took mail) e _ _;
         suppresses = λ _ m mail e h _. stays t c small rm (r .a) m (sent mail) e _ h;
         sends = λ _ m mail e _ _ _ free. sent-room t c small rm (r .a) m mail e free _;

@@ -40,7 +40,7 @@ module _ (t : Table) (c : Cabinet) (h : OutboxBounds c) where
   keep-short : (r : Command) → Leaves t c r OutboxBounds
   unfolding deliver
   keep-short r = record {
-    computes = λ _ _ _. h;
+    computes = λ _ _ _ _. h;
     takes = λ _ _ _ _ _. h;
     suppresses = λ _ _ _ _ _ _. h;
     sends = λ _ m mail _ _ _ free _. joined (processAt c (r .a) .board) (message mail) free;

@@ -57,7 +57,7 @@ module _ {t : Table} (ok : Accepted t) {c : Cabinet} {s : Reference} (inv : Inva
   done-follows : Done t c r Followed
   unfolding numbers traceOf
   done-follows = record {
-    computes = λ h m e. follow-computing ok inv (r .a) (there h) m e;
+    computes = λ h m e long. follow-computing ok inv (r .a) (there h) m e long;
     takes = λ h m mail e limit. follow-taking ok inv (r .a) (there h) m mail e limit;
     suppresses = λ h m mail e n z. follow-suppressing ok inv (r .a) (there h) m mail e n z;
     sends = λ h m mail e z limit _ _. follow-sending ok inv (r .a) (there h) m mail e z limit;

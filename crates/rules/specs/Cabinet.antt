@@ -7,7 +7,7 @@ use lib.Dec.{eqb, ltb, leb}
 use lib.ListN.{length, getD, set, replicate}
 use Rattle.facts.specs.Tests.{allOf, allBelow}
 use Rattle.backup.specs.Replica.{Replica, Checkpoint, initial}
-pub use Rattle.rules.specs.Sizes.{outboxMost, eventsMost, occupancyMost}
+pub use Rattle.rules.specs.Sizes.{outboxMost, eventsMost, instructionsMost, occupancyMost}
 use Rattle.rules.specs.Table.{Table, Placement, environment, channelAt, codeOf}
 use Rattle.rules.specs.Machine.{Mail, Machine, booted, Outcome, halted, noMail, moved, localStep}
 
@@ -20,9 +20,11 @@ pub record Standby : Type 0 where
 
 -- what is counted since the last checkpoint was issued
 pub record Since : Type 0 where
-  -- receives and sends (acts)
+  -- instructions done
+  pub instructions : ℕ
+  -- the receives and sends among them (acts)
   pub events : ℕ
-  -- the receives among them, for each port (takes per slot)
+  -- the receives, for each port (takes per slot)
   pub taken : List ℕ
 
 pub record Process : Type 0 where
@@ -51,7 +53,7 @@ noTakes = 0 ∷ 0 ∷ 0 ∷ 0 ∷ []
 
 -- nothing counted yet
 abbrev pub noneSince : Since
-noneSince = record { events = 0; taken = noTakes }
+noneSince = record { instructions = 0; events = 0; taken = noTakes }
 
 -- "each process on its primary board, [..] each backup record as it starts, all else 0"
 unfoldable pub placed : Placement → Process
@@ -97,13 +99,22 @@ isSome (some a) = true
 abbrev pub protected : Process → Bool
 protected x = isSome (x .standby)
 
--- "A backed process has acts": its events are counted, and limited by 37; what arrives for it is saved
+-- "A backed process has acts": its events and instructions are counted, and limited by 37; what arrives for it is saved
 abbrev pub limited : Process → Bool
 limited x = isSome (x .standby)
 
 -- "if backed and acts are 8"
 unfoldable pub exhausted : Process → Bool
 exhausted x = limited x && leb eventsMost (x .since .events)
+
+-- W-204: "64 instructions done since its last sync was issued". "A process without a backup owes nothing."
+unfoldable pub overrun : Process → Bool
+overrun x = limited x && leb instructionsMost (x .since .instructions)
+
+-- "A backed process now also owes a sync": for its acts, or for its instructions
+unfoldable pub owing : Process → Bool
+unfolding exhausted overrun
+owing x = exhausted x || overrun x
 
 -- how many unread words of a mailbox are of channel k
 abbrev pub unreadOn : ℕ → List Mail → ℕ

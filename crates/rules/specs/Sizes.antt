@@ -49,6 +49,10 @@ entriesMost = boardsMost * outboxMost
 abbrev pub eventsMost : ℕ
 eventsMost = 8
 
+-- W-204: "A backed process now also owes a sync after 64 instructions done since its last sync was issued."
+abbrev pub instructionsMost : ℕ
+instructionsMost = 64
+
 -- "A channel is held when its unread words and those in the queues are 8 or more together."
 abbrev pub occupancyMost : ℕ
 occupancyMost = 8

@@ -88,7 +88,7 @@ module _ (t : Table) (c : Cabinet) (h : OneWaits c) where
   keep-one r =
       let b : ℕ = processAt c (r .a) .board in
       record {
-        computes = λ _ _ _. h;
+        computes = λ _ _ _ _. h;
         takes = λ _ _ _ _ _. h;
         suppresses = λ _ _ _ _ _ _. h;
         sends = λ _ _ mail _ _ _ _ _. replaced (c .outboxes) b _ h (word-joins (outboxAt c b) mail (h b));
