@@ -1,5 +1,5 @@
-/* The three proved calls from C, as board programmers, the driver bench and the service desk use them. bindings/examples/example.rs is the
- * same in Rust; both print examples/example.out.
+/* The proved calls from C, as board programmers, the driver bench, the service desk and the label line use them.
+ * bindings/examples/example.rs is the same in Rust; both print examples/example.out.
  *
  *     cc -I include examples/example.c target/staticlib/libkunzeastylus.a -o example
  *
@@ -148,9 +148,40 @@ static void service_desk(void) {
     free(report.at);
 }
 
+/* A carton is fed to the label line, numbered and printed: its code and its serial are at the outlet. A first serial can be too high. */
+static void label_line(void) {
+    static const uint8_t made[][2] = {{KS_FEED, KS_SCANNER}, {KS_STEP, 0}, {KS_STEP, 0}, {KS_STEP, 0}, {KS_STEP, 0}, {KS_STEP, 0},
+                                      {KS_CARRY, 0}, {KS_CARRY, 0}, {KS_STEP, 1}, {KS_STEP, 1}, {KS_STEP, 1}, {KS_CARRY, 1}, {KS_STEP, 1},
+                                      {KS_STEP, 1}, {KS_STEP, 1}, {KS_CARRY, 1}};
+    const size_t records = sizeof made / sizeof made[0], length = 1 + KS_RECORD * records;
+    struct piece schedule = piece(2 + length), answers = piece(KS_RECORD * records), report = piece(2 * KS_REPORT), line = piece(KS_LABEL_TABLE);
+    schedule.at[1] = (uint8_t)length;
+    schedule.at[2] = 1;
+    for (size_t i = 0; i < records; i++) {
+        memcpy(schedule.at + 3 + KS_RECORD * i, made[i], 2);
+    }
+    schedule.at[8] = 77; /* the carton's code */
+    printf("label line\ntables %u", ks_label_table(4294957295u, line.at));
+    printf(" %u\n", ks_label_table(4294957296u, line.at));
+    uint64_t result = ks_label_run(1000, schedule.at, schedule.len, answers.at, answers.len, report.at, report.len);
+    printf("outlet");
+    for (size_t i = 0; i < ks_records(result); i++) {
+        if (ks_code(answers.at, i) == KS_ON_THE_BUS && ks_a(answers.at, i) == KS_OUTLET) {
+            printf(" %u", ks_answer_word(answers.at, i));
+        }
+    }
+    result = ks_label_run(UINT32_MAX, schedule.at, schedule.len, answers.at, answers.len, report.at, report.len);
+    printf("\nrefused %u\n", (unsigned)ks_number(result));
+    free(schedule.at);
+    free(answers.at);
+    free(report.at);
+    free(line.at);
+}
+
 int main(void) {
     board_programmer();
     driver_bench();
     service_desk();
+    label_line();
     return 0;
 }

@@ -1,12 +1,13 @@
-/* The proved calls for programs in C and C++: the run of a schedule, the judging of its input, and the backup record. One library has them
- * all, target/staticlib/libkunzeastylus.a, and exports nothing else:
+/* The proved calls for programs in C and C++: the run of a schedule, the judging of its input, the backup record and the label line. One
+ * library has them all, target/staticlib/libkunzeastylus.a, and exports nothing else:
  *
  *     rt staticlib kunzeastylus
  *
  * All numbers are those of document 01 (docs/NUMBERS.md has each in a line). The calls keep nothing between them, allocate nothing and may
- * be used from several threads at once; ks_run uses some 40 KB of stack, the others less than 3. Of the C library they call memcpy and memset.
- * Each lent piece of memory is a pointer and a length. Its pointer is not null, not even where the length is 0, and what is lent to be
- * written overlaps nothing else that is lent. Otherwise the calls ask nothing of their caller: any bytes, any lengths.
+ * be used from several threads at once; ks_run and ks_label_run use some 40 KB of stack, the others less than 3. Of the C library they call
+ * memcpy and memset. Each lent piece of memory is a pointer and a length, or an array of a fixed length. Its pointer is not null, not even
+ * where the length is 0, and what is lent to be written overlaps nothing else that is lent. Otherwise the calls ask nothing of their caller:
+ * any bytes, any lengths.
  */
 #ifndef KUNZEASTYLUS_H
 #define KUNZEASTYLUS_H
@@ -26,6 +27,7 @@ extern "C" {
 #define KS_PROCESSES_MOST 16
 #define KS_RECORD 6             /* a schedule's record, and an answer: code, a, word */
 #define KS_REPORT 20            /* of each process */
+#define KS_LABEL_TABLE 84       /* a label line's table */
 #define KS_STATE 103            /* a backup record, in numbers of 32 bits */
 #define KS_CALL 10              /* a call of the backup record, in numbers of 32 bits */
 
@@ -33,6 +35,7 @@ extern "C" {
 
 enum ks_instruction { KS_SET = 1, KS_ADD = 2, KS_TAKE = 3, KS_FIRST = 4, KS_SEND = 5, KS_JUMP = 6 };
 enum ks_move { KS_STEP = 1, KS_SYNC = 2, KS_CARRY = 3, KS_FEED = 4, KS_CRASH = 5 };
+enum { KS_SCANNER = 0, KS_PRINTER = 1, KS_OUTLET = 2 }; /* the label line's channels */
 enum { KS_OUTSIDE = 255 }; /* as the sender or the reader of a channel */
 
 /* ---- why a run is refused, the lowest number first; 0 is accepted */
@@ -50,7 +53,8 @@ enum ks_refusal {
     KS_SCHEDULE_LENGTH = 9,   /* schedule under 3 bytes, wrong length field, broken record or over 10,000 */
     KS_SCHEDULE_VERSION = 10,
     KS_ANSWERS_SHORT = 11,    /* answer buffer under six bytes a record */
-    KS_REPORT_SHORT = 12      /* report buffer under 20 bytes a process */
+    KS_REPORT_SHORT = 12,     /* report buffer under 20 bytes a process */
+    KS_FIRST_SERIAL = 46      /* of the label line: a first serial above 4,294,957,295 */
 };
 
 /* ---- the answer to a record */
@@ -69,7 +73,7 @@ enum ks_answer {
     KS_BOARD_DEAD = 34,
     KS_HALTED = 35,
     KS_NO_WORD = 36,
-    KS_OWES_SYNC = 37,        /* backed, and acts are 8 */
+    KS_OWES_SYNC = 37,        /* backed, and acts are 8 or instructions 64 */
     KS_QUEUE_FULL = 38,
     KS_CHANNEL_HELD = 39,
     KS_NO_BACKUP = 40,
@@ -114,6 +118,15 @@ uint32_t ks_judge(const uint8_t *table, size_t table_len, const uint8_t *schedul
  *     KS_TAKE_OVER                                              state stays, reply (KS_STATE numbers) becomes what is handed over
  * A refused call leaves state as it was; but for KS_TAKE_OVER, reply is left as it was. */
 uint32_t ks_backup_call(uint32_t *state, size_t state_len, const uint32_t *call, size_t call_len, uint32_t *reply, size_t reply_len);
+
+/* The label line's table of a first serial, with processes 0 (numbering, on board 0) and 1 (printing, on board 1), and channels KS_SCANNER,
+ * KS_PRINTER and KS_OUTLET: 0, or KS_FIRST_SERIAL, and then the lent bytes are untouched. */
+uint32_t ks_label_table(uint32_t first, uint8_t table[KS_LABEL_TABLE]);
+
+/* The run of a schedule on that table: what ks_run would return, or KS_FIRST_SERIAL. The outlet gets each carton's code and then its serial:
+ * the words of the answers KS_ON_THE_BUS on KS_OUTLET. */
+uint64_t ks_label_run(uint32_t first, const uint8_t *schedule, size_t schedule_len, uint8_t *answers, size_t answers_len, uint8_t *report,
+                      size_t report_len);
 
 /* ---- helpers */
 

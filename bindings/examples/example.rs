@@ -1,6 +1,6 @@
-//! The three proved calls from Rust, as board programmers, the driver bench and the service desk use them. examples/example.c is the same
-//! in C; both print examples/example.out.
-use kunzeastylus::{judge, run, Backup, BackupRefusal, Code, Record, Refusal, Snapshot};
+//! The proved calls from Rust, as board programmers, the driver bench, the service desk and the label line use them. examples/example.c is
+//! the same in C; both print examples/example.out.
+use kunzeastylus::{judge, label_run, label_table, labels, run, Backup, BackupRefusal, Code, Record, Refusal, Snapshot, SCANNER};
 
 /// Document 01's sample table.
 const TABLE: [u8; 37] = [
@@ -99,8 +99,28 @@ fn service_desk() {
     }
 }
 
+/// A carton is fed to the label line, numbered and printed: its code and its serial are at the outlet. A first serial can be too high.
+fn label_line() {
+    let mut records = vec![Record::feed(SCANNER, 77)];
+    records.extend([Record::step(0); 5]);
+    records.extend([Record::carry(0); 2]);
+    records.extend([Record::step(1); 3]);
+    records.push(Record::carry(1));
+    records.extend([Record::step(1); 3]);
+    records.push(Record::carry(1));
+    let schedule = Record::schedule(&records);
+    let number = |refused: Option<Refusal>| refused.map_or(0, Refusal::number);
+    println!("label line\ntables {} {}", number(label_table(4_294_957_295).err()), number(label_table(4_294_957_296).err()));
+    let (mut answers, mut report) = ([0; 96], [0; 40]);
+    let run = label_run(1000, &schedule, &mut answers, &mut report).unwrap();
+    print!("outlet");
+    labels(run.answers()).iter().for_each(|label| print!(" {} {}", label.code, label.serial.unwrap()));
+    println!("\nrefused {}", number(label_run(u32::MAX, &schedule, &mut answers, &mut report).err()));
+}
+
 fn main() {
     board_programmer();
     driver_bench();
     service_desk();
+    label_line();
 }

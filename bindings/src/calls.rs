@@ -1,6 +1,9 @@
 //! The exported calls of the proved library, and nothing else; the only unsafe code of the crate.
+use crate::label::LABEL_TABLE;
 
 mod raw {
+    use crate::label::LABEL_TABLE;
+
     // Each slice is a pointer and a length.
     #[link(name = "kunzeastylus", kind = "static")]
     extern "C" {
@@ -32,6 +35,19 @@ mod raw {
             reply: *mut u32,
             reply_len: usize,
         ) -> u32;
+
+        // An array is a pointer alone.
+        pub fn ks_label_table(first: u32, table: *mut [u8; LABEL_TABLE]) -> u32;
+
+        pub fn ks_label_run(
+            first: u32,
+            schedule: *const u8,
+            schedule_len: usize,
+            answers: *mut u8,
+            answers_len: usize,
+            report: *mut u8,
+            report_len: usize,
+        ) -> u64;
     }
 }
 
@@ -63,4 +79,27 @@ pub fn ks_judge(table: &[u8], schedule: &[u8], answers: usize, report: usize) ->
 pub fn ks_backup_call(state: &mut [u32], call: &[u32], reply: &mut [u32]) -> u32 {
     // SAFETY: three slices that don't overlap, each with its own length; the second is only read. The call asks nothing else.
     unsafe { raw::ks_backup_call(state.as_mut_ptr(), state.len(), call.as_ptr(), call.len(), reply.as_mut_ptr(), reply.len()) }
+}
+
+/// 46, or 0 and the table of a first serial.
+pub fn ks_label_table(first: u32, table: &mut [u8; LABEL_TABLE]) -> u32 {
+    // SAFETY: an array of the length that the call wants. It asks nothing else.
+    unsafe { raw::ks_label_table(first, table) }
+}
+
+/// As `ks_run` of the table of a first serial, or 46.
+pub fn ks_label_run(first: u32, schedule: &[u8], answers: &mut [u8], report: &mut [u8]) -> u64 {
+    let (answers_len, report_len) = (answers.len(), report.len());
+    // SAFETY: three slices that don't overlap, each with its own length; the first is only read. The call asks nothing else.
+    unsafe {
+        raw::ks_label_run(
+            first,
+            schedule.as_ptr(),
+            schedule.len(),
+            answers.as_mut_ptr(),
+            answers_len,
+            report.as_mut_ptr(),
+            report_len,
+        )
+    }
 }

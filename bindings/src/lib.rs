@@ -1,5 +1,5 @@
-//! The proved calls for programs in Rust: the run of a schedule ([`run`]), the judging of its input ([`judge`]) and the backup record
-//! ([`Backup`]). They borrow slices, allocate nothing, keep nothing between calls and ask nothing of their caller. All numbers are
+//! The proved calls for programs in Rust: the run of a schedule ([`run`]), the judging of its input ([`judge`]), the backup record
+//! ([`Backup`]) and the label line ([`label_run`]). They borrow slices, allocate nothing, keep nothing between calls and ask nothing of their caller. All numbers are
 //! document 01's.
 #![deny(unsafe_code)]
 
@@ -7,11 +7,13 @@ mod answer;
 mod backup;
 #[allow(unsafe_code)]
 mod calls;
+mod label;
 mod numbers;
 mod record;
 mod run;
 
 pub use answer::{Answer, Code};
 pub use backup::{Backup, BackupRefusal, Snapshot, STATE};
+pub use label::{label_run, label_table, labels, Label, LABEL_TABLE, OUTLET, SCANNER};
 pub use record::{Instruction, Move, Record, OUTSIDE};
 pub use run::{judge, run, ProcessEnd, Refusal, Run};

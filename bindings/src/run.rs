@@ -26,6 +26,8 @@ numbers! {
         AnswersShort = 11,
         /// The report buffer is under 20 bytes a process.
         ReportShort = 12,
+        /// Of the label line: a first serial above 4,294,957,295.
+        FirstSerial = 46,
     }
 }
 
@@ -49,6 +51,15 @@ pub struct ProcessEnd {
 }
 
 impl<'b> Run<'b> {
+    /// What a call returned, number + 256 quiet + 2^32 records, and wrote, for a table of so many processes.
+    pub(crate) fn of(result: u64, processes: impl Fn() -> u8, answers: &'b [u8], report: &'b [u8]) -> Result<Run<'b>, Refusal> {
+        if let Some(refusal) = refusal(result as u32 & 255) {
+            return Err(refusal);
+        }
+        let records = (result >> 32) as usize;
+        Ok(Run { quiet: result >> 8 & 1 == 1, answers: &answers[..6 * records], report: &report[..20 * processes() as usize] })
+    }
+
     pub fn records(&self) -> usize {
         self.answers.len() / 6
     }
@@ -71,20 +82,15 @@ impl<'b> Run<'b> {
 }
 
 /// The refusal that a call's number names, if it names one.
-fn refusal(number: u32) -> Option<Refusal> {
-    (number != 0).then(|| u8::try_from(number).ok().and_then(Refusal::of).expect("a call returns 0 to 12"))
+pub(crate) fn refusal(number: u32) -> Option<Refusal> {
+    (number != 0).then(|| u8::try_from(number).ok().and_then(Refusal::of).expect("a call returns 0 or one of these"))
 }
 
 /// Runs a schedule on a table. `answers` needs six bytes a record and `report` 20 bytes a process; bytes beyond those are untouched, and a
 /// refused run touches none.
 pub fn run<'b>(table: &[u8], schedule: &[u8], answers: &'b mut [u8], report: &'b mut [u8]) -> Result<Run<'b>, Refusal> {
     let result = calls::ks_run(table, schedule, answers, report);
-    if let Some(refusal) = refusal(result as u32 & 255) {
-        return Err(refusal);
-    }
-    let records = (result >> 32) as usize;
-    let processes = table[4] as usize;
-    Ok(Run { quiet: result >> 8 & 1 == 1, answers: &answers[..6 * records], report: &report[..20 * processes] })
+    Run::of(result, || table[4], answers, report)
 }
 
 /// Whether a run of these with buffers of these lengths would be accepted. Nothing is run.

@@ -35,7 +35,7 @@ macro_rules! numbered {
 
 #[test]
 fn numbers() {
-    numbered!(Refusal, "ks_refusal", 1..=12);
+    numbered!(Refusal, "ks_refusal", (1..=12).chain([46]));
     numbered!(Code, "ks_answer", (0..=6).chain(32..=44));
     numbered!(BackupRefusal, "ks_backup_reply", 20..=26);
     numbered!(Move, "ks_move", 1..=5);

@@ -16,7 +16,8 @@ use Rattle.cabinet.specs.Runs.{ranBy, Runs}
 use Rattle.cabinet.specs.declared.run.Verdict.{Verdict}
 use Rattle.cabinet.proofs.Running.{run-few}
 use Rattle.page.specs.Written.{Written}
-use Rattle.bench_input.specs.Benched.{partsPage, pageRoom, Printed, RunPrinted, Benched}
+use Rattle.bench_input.specs.Benched.{pageRoom, Benched}
+use Rattle.bench_input.specs.Parts.{partsPage, Printed, RunPrinted}
 use Rattle.bench_input.proofs.Reading.{parts-page, enough}
 use Rattle.bench_input.proofs.Room.{page-long, few-processes}
 

@@ -14,7 +14,7 @@ use Rattle.rules.specs.Schedule.{commandsMost, commandsIn, scheduleOk, validate
 use Rattle.rules.specs.Run.{Buffers, validateRun, refusedWith, run}
 use Rattle.rules.specs.Page.{pageOf, tableIn, scheduleIn, benchBuffers, refusedLine, benchPage}
 use Rattle.bench_input.specs.Wanted.{scheduleRead, wantedOf, inputRoom, Wanted}
-use Rattle.bench_input.specs.Benched.{partsPage}
+use Rattle.bench_input.specs.Parts.{partsPage}
 
 -- ---- the length field
 

@@ -3,10 +3,9 @@ use mathlib.Core.Path.{_≡_}
 use mathlib.Core.List.{List, _++_}
 use Prim.Native.Nat.{ℕ, _+_, _*_, _≤_}
 use lib.ListN.{length, take}
-use Rattle.rules.specs.Format.{processesMost, processesIn}
+use Rattle.rules.specs.Format.{processesMost}
 use Rattle.rules.specs.Schedule.{commandsMost}
-use Rattle.rules.specs.Run.{Ran, run}
-use Rattle.rules.specs.Page.{pageOf, benchBuffers, benchPage}
+use Rattle.rules.specs.Page.{benchPage}
 use Rattle.page.specs.Written.{Written}
 use Rattle.bench_input.specs.Wanted.{wantedOf}
 
@@ -14,19 +13,6 @@ use Rattle.bench_input.specs.Wanted.{wantedOf}
 -- three and one of ten; 16 lines of up to 71, with `process`, a number of two digits, four of three and four of ten; and `quiet`.
 abbrev pub pageRoom : ℕ
 pageRoom = 14 + 25 * commandsMost + 71 * processesMost + 8
-
--- the page of a table and a schedule
-unfoldable pub partsPage : List ℕ → List ℕ → List ℕ
-partsPage table schedule = pageOf (processesIn table) (run table schedule benchBuffers)
-
--- A page written, and that a buffer of this size has room for it where the run is one that the cabinet can have made.
-pub record Printed (processes : ℕ) (ran : Ran) (out : List ℕ) (r : ℕ) (out′ : List ℕ) : Type 0 where
-  pub wrote : Written (pageOf processes ran) out r out′
-  pub room : (ran .number ≡ 0 → processes ≤ processesMost) → ran .records ≤ commandsMost → length (pageOf processes ran) ≤ pageRoom
-
-pub record RunPrinted (table schedule out : List ℕ) (r : ℕ) (out′ : List ℕ) : Type 0 where
-  pub wrote : Written (partsPage table schedule) out r out′
-  pub room : length (partsPage table schedule) ≤ pageRoom
 
 -- What was read, the buffer before, what was returned, the buffer after.
 pub record Benched (input out : List ℕ) (r : ℕ) (out′ : List ℕ) : Type 0 where

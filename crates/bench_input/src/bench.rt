@@ -3,7 +3,8 @@
 ghost use mathlib.Core.Path.{_≡_};
 ghost use Prim.Native.Nat.{_≤_, min};
 ghost use Rattle.rules.specs.Run.{buffersOf, ranOf};
-ghost use Rattle.bench_input.specs.Benched.{Printed, RunPrinted, Benched};
+ghost use Rattle.bench_input.specs.Benched.{Benched};
+ghost use Rattle.bench_input.specs.Parts.{Printed, RunPrinted};
 use crate::bytes::length_field;
 use cabinet::run::run;
 use page::write_page;

@@ -10,7 +10,7 @@ use borrow.Author.Tests.{eq-eqb, ne-eqb}
 use Rattle.facts.specs.Tests.{by-eq}
 use Rattle.rules.specs.Table.{Table, environment, channelAt}
 use Rattle.rules.specs.Cabinet.{Cabinet, full}
-use Rattle.rules.specs.Moves.{Result, refuse, accept, guard, notOutside, channelFull, refusalNumber, inject, deliver, transmitted, numbers}
+use Rattle.rules.specs.Moves.{Result, refuse, accept, guard, notOutside, injectHeld, refusalNumber, inject, deliver, injected, numbers}
 use Rattle.state.specs.declared.entry.Entry.{Entry}
 use Rattle.state.specs.declared.moved.Answer.{Answer}
 use Rattle.state.specs.Store.{Store, storeOf, Holds}
@@ -35,12 +35,12 @@ module _ {t : Table} {s : Store} {entries : List Entry} {c : Cabinet} {sender re
   unfolding inject guard
   refused-43 n = rw (ne-eqb (channelAt t k .sender) environment (λ e. n (wired .sender-at k hk ∙ e)))
 
-  refused-39 : getD sender k 0 ≡ environment → heldIn (getD reader k 0) (getD (s .unread) k 0) (getD (s .queued) k 0) ≡ true → inject t c (mailOf k word) ≡ refuse channelFull
+  refused-39 : getD sender k 0 ≡ environment → heldIn (getD reader k 0) (getD (s .unread) k 0) (getD (s .queued) k 0) ≡ true → inject t c (mailOf k word) ≡ refuse injectHeld
   unfolding inject guard
   refused-39 e b = rw (eq-eqb (channelAt t k .sender) environment (sym (wired .sender-at k hk) ∙ e), held-is ∙ b)
 
   accepted-so : getD sender k 0 ≡ environment → heldIn (getD reader k 0) (getD (s .unread) k 0) (getD (s .queued) k 0) ≡ false
-      → inject t c (mailOf k word) ≡ accept (deliver t (mailOf k word) c) (transmitted (mailOf k word))
+      → inject t c (mailOf k word) ≡ accept (deliver t (mailOf k word) c) (injected (mailOf k word))
   unfolding inject guard
   accepted-so e b = rw (eq-eqb (channelAt t k .sender) environment (sym (wired .sender-at k hk) ∙ e), held-is ∙ b)
 
@@ -65,7 +65,7 @@ module _ (sender reader port : List ℕ) (rows mails logs heads : List (List ℕ
   injects-39 n b e = record {
     answered = λ t boards waits entries c command reach wired h f l.
         let same : k ≡ a = at-its-channel reach l is-k in
-        turned-away command a channelFull h
+        turned-away command a injectHeld h
         (refused-39 reach wired h a word l (ap (λ (i : ℕ). getD sender i 0) (sym same) ∙ n) (ap (λ (i : ℕ). heldIn (getD reader i 0) (getD unread i 0) (getD queued i 0)) (sym same) ∙ b)) f e;
   }
 

@@ -17,7 +17,7 @@ use Rattle.backup.specs.Place.{checkpointOf}
 use Rattle.rules.specs.Table.{Table}
 use Rattle.rules.specs.Cabinet as rules
 use Rattle.rules.specs.Cabinet.{Cabinet, outboxAt, processAt, inFlight, waiting}
-use Rattle.rules.specs.Moves.{Command, Result, refuse, guard, boardDead, outboxEmpty, refusalNumber, transmit, transmitOldest, transmitItem, withOutbox, numbers}
+use Rattle.rules.specs.Moves.{Command, Result, refuse, guard, transmitDead, outboxEmpty, refusalNumber, transmit, transmitOldest, transmitItem, withOutbox, numbers}
 use Rattle.rules.proofs.Counting.{flight-leave}
 use Rattle.state.specs.declared.entry.Entry.{Entry}
 use Rattle.state.specs.declared.entry.Item.{Item}
@@ -74,7 +74,7 @@ record Begins (c : Cabinet) (b count : ℕ) (i : rules.Item) : Type 0 where
   is-queue : outboxAt c b ≡ i ∷ rest
 
 module _ {t : Table} {s : Store} {entries : List Entry} {c : Cabinet} (h : Holds t s entries c) (b : ℕ) (hb : b < t .boards) where
-  refused-34 : getD (getD (s .boards) b []) 2 0 ≢ 0 → transmit t c b ≡ refuse boardDead
+  refused-34 : getD (getD (s .boards) b []) 2 0 ≢ 0 → transmit t c b ≡ refuse transmitDead
   unfolding transmit guard
   refused-34 n = rw (at-dead h b hb, ne-eqb _ 0 n)
 
@@ -200,7 +200,7 @@ module _ (sender reader port : List ℕ) (rows mails logs heads boards : List (L
   pub transmits-34 : getD (getD boards b []) 2 0 ≢ 0 → r ≡ refusalOf 34 b
       → Transmits sender reader port rows mails logs heads boards unread queued waits b x rows mails logs heads boards unread queued waits r
   unfolding refusalNumber
-  transmits-34 n e = record { answered = λ t entries c command reach wired h f hb o. turned-away command b boardDead h (refused-34 h b hb n) f e }
+  transmits-34 n e = record { answered = λ t entries c command reach wired h f hb o. turned-away command b transmitDead h (refused-34 h b hb n) f e }
 
   pub transmits-42 : getD (getD boards b []) 2 0 ≡ 0 → frontOf (getD boards b []) x ≡ Empty → r ≡ refusalOf 42 b
       → Transmits sender reader port rows mails logs heads boards unread queued waits b x rows mails logs heads boards unread queued waits r

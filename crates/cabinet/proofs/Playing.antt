@@ -17,7 +17,7 @@ use Rattle.rules.specs.Bytes.{wordBytes, allBytes, written}
 use Rattle.rules.specs.Cabinet.{Cabinet, started}
 use Rattle.rules.specs.Moves as rules
 use Rattle.rules.specs.Moves.{Command, Numbers, numbered, numbers, settle, judged, turn, runFrom}
-use Rattle.rules.specs.Schedule.{commandsMost, command, decodeSchedule}
+use Rattle.rules.specs.Schedule.{command, decodeSchedule}
 use Rattle.rules.specs.Run.{answerBytes}
 use Rattle.rules.proofs.AcceptedRun.{one-answer-each}
 use Rattle.state.specs.declared.entry.Entry.{Entry}
@@ -64,13 +64,13 @@ same-bytes x n e hc ha =
     let a′ : x .a % 256 ≡ n .a = omega arith in
     λ i. c′ i ∷ a′ i ∷ wordBytes (sym w i)
 
-module _ (t : Table) (ok : Accepted t) (done : List Command) (x : Command) (small : x .a < 256) (few : length done < commandsMost)
+module _ (t : Table) (ok : Accepted t) (done : List Command) (x : Command) (small : x .a < 256)
     (s : Store) (entries : List Entry) (before answers : List ℕ) (room : 6 * length done + 6 ≤ length before) where
   abbrev now : Cabinet
   now = runFrom t (started t) done .cabinet
 
   pub reach : Reachable t now
-  reach = record { accepted = ok; commands = done; few = omega arith; is-reached = refl }
+  reach = record { accepted = ok; commands = done; is-reached = refl }
 
   abbrev bytes : List ℕ
   bytes = allBytes answerBytes (map numbers (runFrom t (started t) done .answers))
@@ -134,15 +134,14 @@ module _ (l : Lent) (schedule : List ℕ) (records : ℕ) (s₀ : Store) (entrie
           let all : List Command = decodeSchedule schedule in
           let many : i < length all = rw (← u .records-is) below in
           let so-many : length (take i all) ≡ i = length-take-le i all (omega arith) in
-          let few : length (take i all) < commandsMost = (let z = u .few in omega arith) in
           let room : 6 * length (take i all) + 6 ≤ length answers₀ = (let z = u .room in omega arith) in
           let is-x : x ≡ getD all i (command 0 0 0) = ap (λ (n : ℕ). command (c .mv) n (c .word)) is-a ∙ is-c in
           let sucs : i + 1 ≡ suc i = omega arith in
           let more : take (i + 1) all ≡ take i all ++ (x ∷ []) = ap (λ (n : ℕ). take n all) sucs ∙ take-suc all i (command 0 0 0) many ∙ ap (λ (y : Command). take i all ++ (y ∷ [])) (sym is-x) in
           let before = p .played t u in
           subst (λ (done : List Command). Played t done s′ entries′ answers₀ answers′) (sym more)
-          (one-more t (u .accepted) (take i all) x small few s entries answers₀ answers room entries′ s′ answers′ r before
-          (made t u (reach t (u .accepted) (take i all) x small few s entries answers₀ answers room) (before .holds))
+          (one-more t (u .accepted) (take i all) x small s entries answers₀ answers room entries′ s′ answers′ r before
+          (made t u (reach t (u .accepted) (take i all) x small s entries answers₀ answers room) (before .holds))
           (subst (λ (n : ℕ). Puts answers n r answers′) (sym so-many) w));
     }
 

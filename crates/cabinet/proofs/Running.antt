@@ -36,7 +36,8 @@ use Rattle.cabinet.specs.Plays.{Played, Suited, Plays}
 use Rattle.outcome.specs.Starts.{Fresh, Placed, Seats}
 use Rattle.outcome.specs.Reports.{Reports}
 use Rattle.outcome.specs.Quiets.{Quiets}
-use Rattle.cabinet.specs.Runs.{ranBy, Runs, Conducts}
+use Rattle.cabinet.specs.Conducts.{Conducts}
+use Rattle.cabinet.specs.Runs.{ranBy, Runs}
 use Rattle.cabinet.specs.declared.run.Verdict.{Verdict}
 
 -- ---- the plan of an accepted table
@@ -99,13 +100,12 @@ module _ (table schedule : List ℕ) (records : ℕ) (plan : Plan) (answers repo
         let acc = passed table schedule before ok in
         let tv = table-valid table schedule before acc in
         let at : Accepted t = decoded-accepted table tv in
-        let few : commandsIn schedule ≤ commandsMost = commands-few schedule (schedule-valid table schedule before acc) in
         let su = suits table plan tv plans in
         let placed : Placed t (plan .primary) (plan .standby) (plan .processes) = record { processes-is = plans .processes-is; primary-at = plans .primary-at; standby-at = plans .standby-at } in
         let begins = seats .holds t mails₀ logs₀ heads₀ boards₀ unread₀ queued₀ waits₀ (replicate 512 blankEntry) at placed fresh in
         let so-many : records ≡ length (decodeSchedule schedule) = many ∙ sym (commands-many schedule) in
-        let played = plays .played t (record { accepted = at; suits = su; records-is = so-many; few = rw many few; room = rw many (answers-fit table schedule before acc); starts = begins }) in
-        let reach : Reachable t end = record { accepted = at; commands = decodeSchedule schedule; few = rw (← so-many, many) few; is-reached = refl } in
+        let played = plays .played t (record { accepted = at; suits = su; records-is = so-many; room = rw many (answers-fit table schedule before acc); starts = begins }) in
+        let reach : Reachable t end = record { accepted = at; commands = decodeSchedule schedule; is-reached = refl } in
         let room : 20 * plan .processes ≤ length report = rw (plans .processes-is, processes-counted table) (report-fits table schedule before acc) in
         let r = reports .reported t (s .mails) (s .logs) (s .heads) (s .boards) (s .unread) (s .queued) (s .waits) (plays .entries) end reach (played .holds) (plans .processes-is) room in
         let q = quiets .answers t (s .logs) (s .heads) (s .unread) (s .queued) (s .waits) (plays .entries) end reach (su .programmed) (played .holds) (plans .boards-is) (plans .processes-is) in

@@ -1,3 +1,4 @@
 -- What the records one after the other promise, and the run.
 pub mod Plays
+pub mod Conducts
 pub mod Runs

@@ -8,7 +8,7 @@ use Rattle.rules.specs.Judge.{Accepted}
 use Rattle.rules.specs.Bytes.{allBytes, written}
 use Rattle.rules.specs.Cabinet.{started}
 use Rattle.rules.specs.Moves.{Command, numbers, runFrom}
-use Rattle.rules.specs.Schedule.{commandsMost, decodeSchedule}
+use Rattle.rules.specs.Schedule.{decodeSchedule}
 use Rattle.rules.specs.Run.{answerBytes}
 use Rattle.state.specs.declared.entry.Entry.{Entry}
 use Rattle.state.specs.Store.{Store, Holds, blankEntry}
@@ -24,7 +24,6 @@ pub record Suited (t : Table) (l : Lent) (schedule : List ℕ) (records : ℕ) (
   pub accepted : Accepted t
   pub suits : Suits t l
   pub records-is : records ≡ length (decodeSchedule schedule)
-  pub few : records ≤ commandsMost
   pub room : 6 * records ≤ length answers
   pub starts : Holds t s entries (started t)
 

@@ -1,13 +1,8 @@
 -- The public call's promise: what the rules' run gives, and demand 3.
 use mathlib.Core.Path.{_≡_}
-use mathlib.Core.Bool.{Bool}
 use mathlib.Core.List.{List}
 use Prim.Native.Nat.{ℕ}
-use Rattle.table.specs.Plan.{Plans}
-use Rattle.table.specs.declared.plan.Plan.{Plan}
-use Rattle.rules.specs.Format.{decodeTable}
-use Rattle.rules.specs.Schedule.{commandsIn, decodeSchedule}
-use Rattle.rules.specs.Run.{Buffers, lengthsOf, Ran, ranOf, validateRun, ranFrom, run}
+use Rattle.rules.specs.Run.{Buffers, Ran, ranOf, run}
 use Rattle.rules.specs.Transparency.{FailureTransparency}
 use Rattle.cabinet.specs.declared.run.Verdict.{Verdict}
 
@@ -22,8 +17,3 @@ pub record Runs (table schedule : List ℕ) (before : Buffers) (r : Verdict) (af
   pub ran : ranBy r after ≡ run table schedule before
   -- demand 3 of an accepted run, about the answers in the buffer as the call left it and the `quiet` that it returned
   pub failure-transparent : r .number ≡ 0 → FailureTransparency table schedule (ranBy r after)
-
--- the part of it that an accepted run makes
-pub record Conducts (table schedule : List ℕ) (records : ℕ) (plan : Plan) (before : Buffers) (quiet : Bool) (after : Buffers) : Type 0 where
-  pub conducted : validateRun table schedule (lengthsOf before) ≡ 0 → Plans table plan → records ≡ commandsIn schedule
-      → ranOf 0 records quiet after ≡ ranFrom (decodeTable table) (decodeSchedule schedule) before

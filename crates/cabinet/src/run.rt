@@ -1,7 +1,8 @@
 // The public call: a table and a schedule in, answers and a report into lent buffers, and a number, how many records were run, and
 // whether the cabinet ended quiet. Document 01, "What each move replies". All state is this call's own; nothing is kept between calls.
 ghost use Rattle.rules.specs.Run.{buffersOf};
-ghost use Rattle.cabinet.specs.Runs.{Runs, Conducts};
+ghost use Rattle.cabinet.specs.Conducts.{Conducts};
+ghost use Rattle.cabinet.specs.Runs.{Runs};
 use crate::play::play;
 use backup::place::HEAD;
 use outcome::quiet::quiescent;

@@ -1,27 +1,23 @@
 -- 32 and 33: where one of them applies the rules refuse with it, and otherwise they make the move.
-use mathlib.Core.Path.{_≡_, refl, ap, sym, _∙_, subst}
+use mathlib.Core.Path.{_≡_, refl, ap, _∙_, subst}
 use mathlib.Core.Bool.{Bool, true, false, not, cond, _&&_}
-use Prim.Native.Nat.{ℕ, zero, suc, _<_}
+use Prim.Native.Nat.{ℕ, _<_}
 use native.Mathlib.Omega.{arith}
 use lib.Dec.{eqb, leb}
 use lib.ListN.{length}
 use borrow.Author.Tests.{leb-false}
 use Rattle.rules.specs.Table.{Table}
 use Rattle.rules.specs.Cabinet.{Cabinet}
-use Rattle.rules.specs.Moves.{Refusal, badRecord, notInTable, refusalNumber, Result, refuse, guard, step, issue, transmit, inject, crash, perform, judged}
+use Rattle.rules.specs.Moves.{Refusal, unknownMove, strayWord, noProcess, noBoard, noChannel, refusalNumber, Result, refuse, guard, step, issue, transmit, inject, crash, Move, stepMove, issueMove, transmitMove, injectMove, crashMove, unknown, moveOf, perform, judged}
 use Rattle.rules.specs.Schedule.{command}
+use Rattle.rules.proofs.Decoded.{isFeed, moveOf-feed, moveOf-unknown}
 use Rattle.command.specs.Turns.{beyondOf, numberOf, wordedOf, judgeOf}
 
 -- an unknown move's number
-pub unknown-number : (boards processes channels a mv : ℕ) → (mv ≡ 1 → ⊥) → (mv ≡ 2 → ⊥) → (mv ≡ 3 → ⊥) → (mv ≡ 4 → ⊥) → (mv ≡ 5 → ⊥) → numberOf boards processes channels a mv ≡ 32
+pub unknown-number : (boards processes channels a mv : ℕ) → (mv ≡ 1 → ⊥) → (mv ≡ 2 → ⊥) → (mv ≡ 3 → ⊥) → (mv ≡ 4 → ⊥) → (mv ≡ 5 → ⊥)
+    → numberOf boards processes channels a (moveOf mv) ≡ 32
 unfolding numberOf
-unknown-number boards processes channels a zero h1 h2 h3 h4 h5 = refl
-unknown-number boards processes channels a (suc zero) h1 h2 h3 h4 h5 = absurd (h1 refl)
-unknown-number boards processes channels a (suc (suc zero)) h1 h2 h3 h4 h5 = absurd (h2 refl)
-unknown-number boards processes channels a (suc (suc (suc zero))) h1 h2 h3 h4 h5 = absurd (h3 refl)
-unknown-number boards processes channels a (suc (suc (suc (suc zero)))) h1 h2 h3 h4 h5 = absurd (h4 refl)
-unknown-number boards processes channels a (suc (suc (suc (suc (suc zero))))) h1 h2 h3 h4 h5 = absurd (h5 refl)
-unknown-number boards processes channels a (suc (suc (suc (suc (suc (suc n)))))) h1 h2 h3 h4 h5 = refl
+unknown-number boards processes channels a mv h1 h2 h3 h4 h5 = ap (numberOf boards processes channels a) (moveOf-unknown mv h1 h2 h3 h4 h5)
 
 -- a result is a refusal of this number
 pub record Refuses (result : Result) (n : ℕ) : Type 0 where
@@ -45,82 +41,91 @@ tested-guard true why rest m n e h = stops (record { why = why; result-is = refl
 tested-guard false why rest m n e h = h
 
 module _ (t : Table) (c : Cabinet) (a word : ℕ) where
-  abbrev number : ℕ → ℕ
-  number mv = numberOf (t .boards) (length (t .processes)) (length (t .channels)) a mv
+  abbrev number : Move → ℕ
+  number m = numberOf (t .boards) (length (t .processes)) (length (t .channels)) a m
 
   abbrev pub judgement : ℕ → ℕ
   judgement mv = judgeOf (t .boards) (length (t .processes)) (length (t .channels)) mv a word
 
-  unknown : Tested (refuse badRecord) 32
+  -- an unknown move is 32 whatever its word
+  unknown-tested : (b : Bool) → Tested (refuse unknownMove) (cond b 32 32)
   unfolding refusalNumber
-  unknown = stops (record { why = badRecord; result-is = refl; number-is = refl })
+  unknown-tested true = stops (record { why = unknownMove; result-is = refl; number-is = refl })
+  unknown-tested false = stops (record { why = unknownMove; result-is = refl; number-is = refl })
 
-  beyond : (most : ℕ) (rest : Result) → Tested (guard (leb most a) notInTable rest) (beyondOf a most)
+  -- 33, and before it 32 for a word
+  beyond : (why : Refusal) (most : ℕ) (rest : Result) → 33 ≡ refusalNumber why → Tested (guard (leb most a) why rest) (beyondOf a most)
+  beyond why most rest e = tested-guard (leb most a) why rest 33 0 e (goes refl)
+
+  worded : (why : Refusal) (most : ℕ) (rest : Result) → 33 ≡ refusalNumber why
+      → Tested (guard (not (eqb word 0)) strayWord (guard (leb most a) why rest)) (cond (not (eqb word 0)) 32 (beyondOf a most))
   unfolding refusalNumber
-  beyond most rest = tested-guard (leb most a) notInTable rest 33 0 refl (goes refl)
+  worded why most rest e = tested-guard (not (eqb word 0)) strayWord (guard (leb most a) why rest) 32 (beyondOf a most) refl (beyond why most rest e)
 
-  performed : (r n : ℕ) → Tested (perform t c (command r a word) n) (number n)
-  unfolding perform numberOf
-  performed r zero = unknown
-  performed r (suc zero) = beyond (length (t .processes)) (step t c a)
-  performed r (suc (suc zero)) = beyond (length (t .processes)) (issue t c a)
-  performed r (suc (suc (suc zero))) = beyond (t .boards) (transmit t c a)
-  performed r (suc (suc (suc (suc zero)))) = beyond (length (t .channels)) (inject t c (record { channel = a; word = word }))
-  performed r (suc (suc (suc (suc (suc zero))))) = beyond (t .boards) (crash t c a)
-  performed r (suc (suc (suc (suc (suc (suc n)))))) = unknown
+  performed : (mv : ℕ) (m : Move) → Tested (perform t c (command mv a word) m) (cond (not (isFeed m) && not (eqb word 0)) 32 (number m))
+  unfolding perform numberOf refusalNumber
+  performed mv stepMove = worded noProcess (length (t .processes)) (step t c a) refl
+  performed mv issueMove = worded noProcess (length (t .processes)) (issue t c a) refl
+  performed mv transmitMove = worded noBoard (t .boards) (transmit t c a) refl
+  performed mv injectMove = beyond noChannel (length (t .channels)) (inject t c (record { channel = a; word = word })) refl
+  performed mv crashMove = worded noBoard (t .boards) (crash t c a) refl
+  performed mv unknown = unknown-tested (not (eqb word 0))
 
   tested : (mv : ℕ) → Tested (judged t c (command mv a word)) (judgement mv)
-  unfolding judged judgeOf refusalNumber
-  tested mv = tested-guard (wordedOf mv word) badRecord (perform t c (command mv a word) mv) 32 (number mv) refl (performed mv mv)
+  unfolding judged judgeOf
+  tested mv =
+      subst (λ (b : Bool). Tested (perform t c (command mv a word) (moveOf mv)) (cond (not b && not (eqb word 0)) 32 (number (moveOf mv)))) (moveOf-feed mv)
+      (performed mv (moveOf mv))
 
   -- a number other than 0 is the rules' refusal
   pub refuses : (mv : ℕ) → (judgement mv ≡ 0 → ⊥) → Refuses (judged t c (command mv a word)) (judgement mv)
   refuses mv h = must-stop (tested mv) h
 
-  -- an unknown move, which is one of none of the five numbers, has one
+  -- none of the two applies: the move is made, and a is in the table
+  inside : (b : Bool) (why : Refusal) (rest : Result) → _≡_ {A = ℕ} (cond b 33 0) 0 → (guard b why rest ≡ rest) × (b ≡ false)
+  unfolding guard
+  inside true why rest e = absurd (omega arith)
+  inside false why rest e = (refl, refl)
+
+  within : (why : Refusal) (most : ℕ) (rest : Result) → beyondOf a most ≡ 0 → (guard (leb most a) why rest ≡ rest) × (a < most)
+  within why most rest e = let i = inside (leb most a) why rest e in (i .0, leb-false most a (i .1))
+
   first-passed : (b : Bool) (why : Refusal) (rest : Result) (m : ℕ) → cond b 32 m ≡ 0 → (guard b why rest ≡ rest) × (m ≡ 0)
   unfolding guard
   first-passed true why rest m e = absurd (omega arith)
   first-passed false why rest m e = (refl, e)
 
-  inside : (b : Bool) (rest : Result) → _≡_ {A = ℕ} (cond b 33 0) 0 → (guard b notInTable rest ≡ rest) × (b ≡ false)
-  unfolding guard
-  inside true rest e = absurd (omega arith)
-  inside false rest e = (refl, refl)
-
-  -- none of the two applies: the move is made, and a is in the table
-  passed : (mv most : ℕ) (rest : Result) → perform t c (command mv a word) mv ≡ guard (leb most a) notInTable rest → number mv ≡ beyondOf a most → judgement mv ≡ 0
-      → (judged t c (command mv a word) ≡ rest) × (a < most)
-  unfolding judged judgeOf
-  passed mv most rest e f h =
-      let one = first-passed (wordedOf mv word) badRecord (perform t c (command mv a word) mv) (number mv) h in
-      let two = inside (leb most a) rest (sym f ∙ one .1) in
-      (one .0 ∙ e ∙ two .0, leb-false most a (two .1))
+  passed : (why : Refusal) (most : ℕ) (rest : Result) → cond (not (eqb word 0)) 32 (beyondOf a most) ≡ 0
+      → (guard (not (eqb word 0)) strayWord (guard (leb most a) why rest) ≡ rest) × (a < most)
+  passed why most rest e =
+      let one = first-passed (not (eqb word 0)) strayWord (guard (leb most a) why rest) (beyondOf a most) e in
+      let two = within why most rest (one .1) in
+      (one .0 ∙ two .0, two .1)
 
   pub steps : judgement 1 ≡ 0 → (judged t c (command 1 a word) ≡ step t c a) × (a < length (t .processes))
-  unfolding perform numberOf
-  steps = passed 1 (length (t .processes)) (step t c a) refl refl
+  unfolding judged perform judgeOf numberOf
+  steps = passed noProcess (length (t .processes)) (step t c a)
 
   pub issues : judgement 2 ≡ 0 → (judged t c (command 2 a word) ≡ issue t c a) × (a < length (t .processes))
-  unfolding perform numberOf
-  issues = passed 2 (length (t .processes)) (issue t c a) refl refl
+  unfolding judged perform judgeOf numberOf
+  issues = passed noProcess (length (t .processes)) (issue t c a)
 
   pub transmits : judgement 3 ≡ 0 → (judged t c (command 3 a word) ≡ transmit t c a) × (a < t .boards)
-  unfolding perform numberOf
-  transmits = passed 3 (t .boards) (transmit t c a) refl refl
+  unfolding judged perform judgeOf numberOf
+  transmits = passed noBoard (t .boards) (transmit t c a)
 
   pub injects : judgement 4 ≡ 0 → (judged t c (command 4 a word) ≡ inject t c (record { channel = a; word = word })) × (a < length (t .channels))
-  unfolding perform numberOf
-  injects = passed 4 (length (t .channels)) (inject t c (record { channel = a; word = word })) refl refl
+  unfolding judged perform judgeOf numberOf
+  injects = within noChannel (length (t .channels)) (inject t c (record { channel = a; word = word }))
 
   pub crashes : judgement 5 ≡ 0 → (judged t c (command 5 a word) ≡ crash t c a) × (a < t .boards)
-  unfolding perform numberOf
-  crashes = passed 5 (t .boards) (crash t c a) refl refl
+  unfolding judged perform judgeOf numberOf
+  crashes = passed noBoard (t .boards) (crash t c a)
 
   -- and no other move has none
   pub known : (mv : ℕ) → judgement mv ≡ 0 → (mv ≡ 1 → ⊥) → (mv ≡ 2 → ⊥) → (mv ≡ 3 → ⊥) → (mv ≡ 4 → ⊥) → (mv ≡ 5 → ⊥) → ⊥
   unfolding judgeOf
   known mv h h1 h2 h3 h4 h5 =
-      let e = first-passed (wordedOf mv word) badRecord (refuse badRecord) (number mv) h .1 in
+      let e = first-passed (wordedOf mv word) unknownMove (refuse unknownMove) (number (moveOf mv)) h .1 in
       let f = unknown-number (t .boards) (length (t .processes)) (length (t .channels)) a mv h1 h2 h3 h4 h5 in
       omega arith

@@ -3,12 +3,12 @@ use mathlib.Core.Path.{_≡_}
 use mathlib.Core.Logic.{_≢_}
 use mathlib.Core.Bool.{Bool, not, cond, _&&_}
 use mathlib.Core.List.{List}
-use Prim.Native.Nat.{ℕ, zero, suc, _<_}
+use Prim.Native.Nat.{ℕ, _<_}
 use lib.Dec.{eqb, leb}
 use lib.ListN.{getD}
 use Rattle.rules.specs.Table.{Table}
 use Rattle.rules.specs.Cabinet.{Cabinet}
-use Rattle.rules.specs.Moves.{judged}
+use Rattle.rules.specs.Moves.{Move, stepMove, issueMove, transmitMove, injectMove, crashMove, unknown, moveOf, judged}
 use Rattle.rules.specs.Schedule.{command}
 use Rattle.state.specs.declared.entry.Entry.{Entry}
 use Rattle.state.specs.declared.moved.Answer.{Answer}
@@ -24,14 +24,13 @@ abbrev pub beyondOf : ℕ → ℕ → ℕ
 beyondOf a most = cond (leb most a) 33 0
 
 -- "33 if a is no process, board or channel of this table", by the move; 32 for an unknown one
-unfoldable pub numberOf : ℕ → ℕ → ℕ → ℕ → ℕ → ℕ
-numberOf boards processes channels a zero = 32
-numberOf boards processes channels a (suc zero) = beyondOf a processes
-numberOf boards processes channels a (suc (suc zero)) = beyondOf a processes
-numberOf boards processes channels a (suc (suc (suc zero))) = beyondOf a boards
-numberOf boards processes channels a (suc (suc (suc (suc zero)))) = beyondOf a channels
-numberOf boards processes channels a (suc (suc (suc (suc (suc zero))))) = beyondOf a boards
-numberOf boards processes channels a (suc (suc (suc (suc (suc (suc n)))))) = 32
+unfoldable pub numberOf : ℕ → ℕ → ℕ → ℕ → Move → ℕ
+numberOf boards processes channels a stepMove = beyondOf a processes
+numberOf boards processes channels a issueMove = beyondOf a processes
+numberOf boards processes channels a transmitMove = beyondOf a boards
+numberOf boards processes channels a injectMove = beyondOf a channels
+numberOf boards processes channels a crashMove = beyondOf a boards
+numberOf boards processes channels a unknown = 32
 
 -- "The word is 0 except in a feed."
 abbrev pub wordedOf : ℕ → ℕ → Bool
@@ -40,7 +39,7 @@ wordedOf mv word = not (eqb mv 4) && not (eqb word 0)
 -- "Any record: 32 for an unknown move or a word that should be 0"
 unfoldable pub judgeOf : ℕ → ℕ → ℕ → ℕ → ℕ → ℕ → ℕ
 unfolding numberOf
-judgeOf boards processes channels mv a word = cond (wordedOf mv word) 32 (numberOf boards processes channels a mv)
+judgeOf boards processes channels mv a word = cond (wordedOf mv word) 32 (numberOf boards processes channels a (moveOf mv))
 
 -- every move but a carry
 pub record Turns (l : Lent) (s : Store) (mv a word : ℕ) (s′ : Store) (r : Moved) : Type 0 where

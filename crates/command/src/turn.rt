@@ -1,6 +1,7 @@
 // One record of a schedule: 32 and 33, which any record may be answered, and then its move.
 ghost use mathlib.Core.Path.{_≡_};
 ghost use mathlib.Core.Bool.{cond};
+ghost use Rattle.rules.specs.Moves.{moveOf};
 ghost use Rattle.state.specs.Store.{storeOf};
 ghost use Rattle.command.specs.Plan.{lentOf};
 ghost use Rattle.command.specs.Turns.{beyondOf, numberOf, wordedOf, judgeOf, Turns, Carries};
@@ -30,7 +31,7 @@ fn beyond(a: u32, most: usize) -> u32
 
 // "33 if a is no process, board or channel of this table", by the move; 32 for an unknown one, and 0 for neither.
 fn number(boards: usize, processes: usize, channels: usize, mv: u8, a: u32) -> u32
-    ensures { λ r. ⌜ r ≡ numberOf boards processes channels a mv ⌝ }
+    ensures { λ r. ⌜ r ≡ numberOf boards processes channels a (moveOf mv) ⌝ }
 {
     match mv {
         1 => beyond(a, processes),

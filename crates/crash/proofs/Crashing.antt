@@ -11,7 +11,7 @@ use Rattle.facts.specs.Tests.{anyBelow, any-same}
 use Rattle.facts.specs.Rings.{listed-length}
 use Rattle.rules.specs.Table.{Table}
 use Rattle.rules.specs.Cabinet.{Cabinet, deadAt}
-use Rattle.rules.specs.Moves.{Result, refuse, accept, guard, boardDead, otherCrashed, refusalNumber, otherDead, crash, done, numbers}
+use Rattle.rules.specs.Moves.{Result, refuse, accept, guard, crashDead, otherCrashed, refusalNumber, otherDead, crash, crashDone, numbers}
 use Rattle.state.specs.declared.entry.Entry.{Entry}
 use Rattle.state.specs.declared.moved.Answer.{Answer}
 use Rattle.state.specs.Store.{Store, storeOf, Holds, deadIn}
@@ -38,7 +38,7 @@ module _ {t : Table} {s : Store} {entries : List Entry} {c : Cabinet} (h : Holds
   live-so : getD (getD (s .boards) b []) 2 0 ≡ 0 → deadAt c b ≡ false
   live-so z = at-dead h b hb ∙ rw (eq-eqb (getD (getD (s .boards) b []) 2 0) 0 z)
 
-  refused-34 : (getD (getD (s .boards) b []) 2 0 ≡ 0 → ⊥) → crash t c b ≡ refuse boardDead
+  refused-34 : (getD (getD (s .boards) b []) 2 0 ≡ 0 → ⊥) → crash t c b ≡ refuse crashDead
   unfolding crash guard
   refused-34 n = rw (dead-so n)
 
@@ -46,7 +46,7 @@ module _ {t : Table} {s : Store} {entries : List Entry} {c : Cabinet} (h : Holds
   unfolding crash guard
   refused-44 z e = rw (live-so z, other-is ∙ e)
 
-  accepted-so : getD (getD (s .boards) b []) 2 0 ≡ 0 → anyBelow (deadApart (s .boards) b) (t .boards) ≡ false → crash t c b ≡ accept (crashedCabinet t c b) done
+  accepted-so : getD (getD (s .boards) b []) 2 0 ≡ 0 → anyBelow (deadApart (s .boards) b) (t .boards) ≡ false → crash t c b ≡ accept (crashedCabinet t c b) crashDone
   unfolding crash guard
   accepted-so z e = rw (live-so z, other-is ∙ e)
 
@@ -60,7 +60,7 @@ module _ (boards-many processes channels : ℕ) (sender reader ins arity : List 
   crashes-34 n e = record {
     answered = λ t port entries c command reach wired addressed eb ep ec h f ha.
         let its : b ≡ a = is-b (let z = reach .accepted .boards-high in omega arith) in
-        turned-away command a boardDead h (refused-34 h a ha (subst (λ (i : ℕ). getD (getD boards i []) 2 0 ≡ 0 → ⊥) its n)) f e;
+        turned-away command a crashDead h (refused-34 h a ha (subst (λ (i : ℕ). getD (getD boards i []) 2 0 ≡ 0 → ⊥) its n)) f e;
   }
 
   module _ (n : ℕ) (is-n : boards-many ≤ 16 → n ≡ boards-many) (live : getD (getD boards b []) 2 0 ≡ 0) where

@@ -17,15 +17,14 @@ use Rattle.rules.specs.Cabinet.{Process}
 use Rattle.rules.specs.Moves.{advanced}
 use Rattle.process.specs.Row.{rowLength, machineOf, standbyOf, processOf, Kept}
 use Rattle.process.specs.Change.{Became}
-use Rattle.instruction.specs.Instruction.{InRange, afterInternal, Intends, bumped, Room, Computes}
+use Rattle.instruction.specs.Instruction.{InRange, afterInternal, Intends, bumped, Room, Evaluates}
 use Rattle.instruction.specs.declared.instruction.Intent.the-variants.{Internal}
 use Rattle.process.proofs.Rows.{spelled}
 use Rattle.instruction.proofs.Examining.{register-is, step-executes}
 use Rattle.instruction.proofs.Cells.{kept-cell, bumped-is, going}
 
--- ---- the machine after a code
+-- ---- an instruction that takes, sends or is none does no computing
 
--- a TAKE or a FIRST is none of these
 take1-acts : (a : ℕ) (m m′ : Machine) (q : Pull) → take1 a m q ≡ moved m′ internal → ⊥
 take1-acts a m m′ nothing e = no-way (cc)
 take1-acts a m m′ (found x rest) e = no-way (cc)
@@ -34,18 +33,16 @@ first1-acts : (a : ℕ) (m m′ : Machine) (q : Pull) → first1 a m q ≡ moved
 first1-acts a m m′ nothing e = no-way (cc)
 first1-acts a m m′ (found x rest) e = no-way (cc)
 
--- all but ADD and JUMP set a register
-is-set : (code a operand : ℕ) (m : Machine) → code ≢ 2 → code ≢ 6 → execute (instruction code a operand) m ≡ moved (afterInternal code a operand m) internal
-    → afterInternal code a operand m ≡ next m (set (m .registers) a operand) (m .mailbox)
+acts-none : (code a operand : ℕ) (m m′ : Machine) → code ≢ 1 → code ≢ 2 → code ≢ 6 → execute (instruction code a operand) m ≡ moved m′ internal → ⊥
 unfolding execute
-is-set zero a operand m x y e = refl
-is-set (suc zero) a operand m x y e = refl
-is-set (suc (suc zero)) a operand m x y e = absurd (x refl)
-is-set (suc (suc (suc zero))) a operand m x y e = absurd (take1-acts a m _ (pull (eqb operand) (m .mailbox)) e)
-is-set (suc (suc (suc (suc zero)))) a operand m x y e = absurd (first1-acts a m _ (pull (bit operand) (m .mailbox)) e)
-is-set (suc (suc (suc (suc (suc zero))))) a operand m x y e = absurd (no-way (cc))
-is-set (suc (suc (suc (suc (suc (suc zero)))))) a operand m x y e = absurd (y refl)
-is-set (suc (suc (suc (suc (suc (suc (suc code))))))) a operand m x y e = refl
+acts-none zero a operand m m′ x y z e = no-way (cc)
+acts-none (suc zero) a operand m m′ x y z e = x refl
+acts-none (suc (suc zero)) a operand m m′ x y z e = y refl
+acts-none (suc (suc (suc zero))) a operand m m′ x y z e = take1-acts a m m′ (pull (eqb operand) (m .mailbox)) e
+acts-none (suc (suc (suc (suc zero)))) a operand m m′ x y z e = first1-acts a m m′ (pull (bit operand) (m .mailbox)) e
+acts-none (suc (suc (suc (suc (suc zero))))) a operand m m′ x y z e = no-way (cc)
+acts-none (suc (suc (suc (suc (suc (suc zero)))))) a operand m m′ x y z e = z refl
+acts-none (suc (suc (suc (suc (suc (suc (suc code))))))) a operand m m′ x y z e = no-way (cc)
 
 -- ---- the stores
 
@@ -54,7 +51,7 @@ abbrev at : Machine → List ℕ → ℕ → Machine
 at m registers pc = record { registers = registers; pc = pc; mailbox = m .mailbox }
 
 abbrev onlyMachine : Machine → Process → Process
-onlyMachine m x = advanced m (x .taken) (x .events) (x .suppress) x
+onlyMachine m x = advanced m (x .since) (x .suppress) x
 
 module _ (row mail log head : List ℕ) (k : Kept row mail log head) where
   set-process : (a v p : ℕ) → a < 4
@@ -94,19 +91,29 @@ module _ (row mail log head : List ℕ) (k : Kept row mail log head) where
 -- ---- the three instructions
 
 module _ (row : List ℕ) (code a operand : ℕ) where
-  pub computes-set : code ≢ 2 → code ≢ 6 → operand < 2 ^ 32 → Computes row code a operand (bumped (set row (2 + a % 4) operand) 1)
-  computes-set x y w program n mail log head k i =
+  -- the instruction is executed, and it computes
+  executed : (program : List Instruction) (n : ℕ) (mail log head : List ℕ) → Intends program row mail n code a operand Internal
+      → execute (instruction code a operand) (machineOf row mail) ≡ moved (afterInternal code a operand (machineOf row mail)) internal
+  executed program n mail log head i =
+      sym (step-executes row mail n code a operand program (i .fetched) (going _ _ i refl)) ∙ i .outcome
+
+  -- no other does
+  pub evaluates-none : code ≢ 1 → code ≢ 2 → code ≢ 6 → Evaluates row code a operand row
+  evaluates-none x y z program n mail log head k i =
+      absurd (acts-none code a operand (machineOf row mail) _ x y z (executed program n mail log head i))
+
+  pub evaluates-set : code ≡ 1 → operand < 2 ^ 32 → Evaluates row code a operand (bumped (set row (2 + a % 4) operand) 1)
+  unfolding execute
+  evaluates-set c w program n mail log head k i =
       let g = going _ _ i refl in
       let f = i .fetched in
       let l = f .few in
-      let e : execute (instruction code a operand) (machineOf row mail) ≡ moved (afterInternal code a operand (machineOf row mail)) internal =
-      sym (step-executes row mail n code a operand program f g) ∙ i .outcome in
-      rw (is-set code a operand (machineOf row mail) x y e) (set-became row mail log head k a operand (f .in-range g .first) w (omega arith))
+      rw c (set-became row mail log head k a operand (f .in-range g .first) w (omega arith))
 
-  pub computes-add : code ≡ 2 → (v : ℕ) → v ≡ (getD row (2 + a % 4) 0 + getD row (2 + operand % 4) 0) % 2 ^ 32
-      → Computes row code a operand (bumped (set row (2 + a % 4) v) 1)
+  pub evaluates-add : code ≡ 2 → (v : ℕ) → v ≡ (getD row (2 + a % 4) 0 + getD row (2 + operand % 4) 0) % 2 ^ 32
+      → Evaluates row code a operand (bumped (set row (2 + a % 4) v) 1)
   unfolding execute machineOf
-  computes-add c v w program n mail log head k i =
+  evaluates-add c v w program n mail log head k i =
       let g = going _ _ i refl in
       let f = i .fetched in
       let l = f .few in
@@ -115,18 +122,18 @@ module _ (row : List ℕ) (code a operand : ℕ) where
       rw (register-is row a (q .first), register-is row operand (q .second c)) (sym w) in
       rw (c, e) (set-became row mail log head k a v (q .first) (omega arith) (omega arith))
 
-  pub computes-on : code ≡ 6 → getD row (2 + a % 4) 0 ≡ 0 → Computes row code a operand (bumped row 1)
+  pub evaluates-on : code ≡ 6 → getD row (2 + a % 4) 0 ≡ 0 → Evaluates row code a operand (bumped row 1)
   unfolding execute machineOf
-  computes-on c z program n mail log head k i =
+  evaluates-on c z program n mail log head k i =
       let g = going _ _ i refl in
       let f = i .fetched in
       let l = f .few in
       let e : eqb (getD (machineOf row mail .registers) a 0) 0 ≡ true = rw (register-is row a (f .in-range g .first)) (eq-eqb _ 0 z) in
       rw (c, e, bumped-is row 1 (omega arith)) (pc-became row mail log head k (suc (getD row 1 0)) (omega arith))
 
-  pub computes-jump : code ≡ 6 → getD row (2 + a % 4) 0 ≢ 0 → operand < 2 ^ 32 → Computes row code a operand (set row 1 operand)
+  pub evaluates-jump : code ≡ 6 → getD row (2 + a % 4) 0 ≢ 0 → operand < 2 ^ 32 → Evaluates row code a operand (set row 1 operand)
   unfolding execute machineOf
-  computes-jump c z w program n mail log head k i =
+  evaluates-jump c z w program n mail log head k i =
       let g = going _ _ i refl in
       let f = i .fetched in
       let e : eqb (getD (machineOf row mail .registers) a 0) 0 ≡ false = rw (register-is row a (f .in-range g .first)) (ne-eqb _ 0 z) in

@@ -13,6 +13,7 @@ use Rattle.backup.specs.Limits.{logMost}
 use Rattle.rules.specs.Table.{Instruction, SET}
 use Rattle.rules.specs.Machine.{Mail, Machine, Outcome, halted, noMail, moved, Act, internal, took, sent, Pull, nothing, found, pull, bit, take1, first1, execute, localStep}
 use Rattle.rules.specs.Format.{instruction}
+use Rattle.rules.proofs.Decoded.{instruction-none}
 use Rattle.process.specs.Row.{mailIn, mailsIn, machineOf}
 use Rattle.instruction.specs.Mailbox.{names, Looks}
 use Rattle.instruction.specs.Instruction.{InRange, Fetched, afterInternal, afterTake, afterSend, outcomeOf, Intends, Examined, Sought}
@@ -48,18 +49,11 @@ module _ (row mail : List ℕ) (n code a operand : ℕ) where
       → Examined row mail n code a operand i
   decided i h t e program f s = record { fetched = f; outcome = step-executes program f h ∙ e (f .in-range h) s; inside = t }
 
--- codes other than TAKE's, FIRST's and SEND's
-computes : (code a operand : ℕ) (m : Machine) → code ≢ 3 → code ≢ 4 → code ≢ 5
+-- SET, ADD and JUMP
+computes : (code a operand : ℕ) (m : Machine) → (code ≡ 1) ⊎ ((code ≡ 2) ⊎ (code ≡ 6))
     → execute (instruction code a operand) m ≡ moved (afterInternal code a operand m) internal
 unfolding execute
-computes zero a operand m x y z = refl
-computes (suc zero) a operand m x y z = refl
-computes (suc (suc zero)) a operand m x y z = refl
-computes (suc (suc (suc zero))) a operand m x y z = absurd (x refl)
-computes (suc (suc (suc (suc zero)))) a operand m x y z = absurd (y refl)
-computes (suc (suc (suc (suc (suc zero))))) a operand m x y z = absurd (z refl)
-computes (suc (suc (suc (suc (suc (suc zero)))))) a operand m x y z = refl
-computes (suc (suc (suc (suc (suc (suc (suc code))))))) a operand m x y z = refl
+computes code a operand m h = ⊎-elim (λ e. rw e) (⊎-elim (λ e. rw e) (λ e. rw e)) h
 
 -- a look's outcome
 module _ (row mail : List ℕ) (a operand : ℕ) (l : getD row 14 0 ≤ logMost) where
@@ -80,9 +74,15 @@ module _ (row mail : List ℕ) (a operand : ℕ) (l : getD row 14 0 ≤ logMost)
   first-outcome (Send channel word) s = absurd s
 
 module _ (row mail : List ℕ) (n code a operand : ℕ) (h : getD row 1 0 < n) where
-  pub examined-internal : code ≢ 3 → code ≢ 4 → code ≢ 5 → Examined row mail n code a operand Internal
-  examined-internal x y z =
-      decided row mail n code a operand Internal h (λ at e. absurd (no-way (cc))) (λ _ _. computes code a operand (machineOf row mail) x y z)
+  pub examined-internal : (code ≡ 1) ⊎ ((code ≡ 2) ⊎ (code ≡ 6)) → Examined row mail n code a operand Internal
+  examined-internal e =
+      decided row mail n code a operand Internal h (λ at f. absurd (no-way (cc))) (λ _ _. computes code a operand (machineOf row mail) e)
+
+  -- no instruction
+  pub examined-none : code ≢ 1 → code ≢ 2 → code ≢ 3 → code ≢ 4 → code ≢ 5 → code ≢ 6 → Examined row mail n code a operand Halted
+  unfolding execute
+  examined-none h1 h2 h3 h4 h5 h6 =
+      decided row mail n code a operand Halted h (λ at e. absurd (no-way (cc))) (λ _ _. rw (instruction-none code a operand h1 h2 h3 h4 h5 h6))
 
   pub examined-send : code ≡ 5 → (word : ℕ) → word ≡ getD row (2 + a % 4) 0 → Examined row mail n code a operand (Send operand word)
   unfolding execute machineOf
@@ -110,3 +110,6 @@ sought-at mail n code operand at l h = (h, λ s. l .finds s h)
 
 pub three-or-four : (code : ℕ) → 3 ≤ code → code < 5 → (code ≡ 3) ⊎ (code ≡ 4)
 three-or-four code g l = by-eq code 3 (λ e. inl e) (λ e. inr (omega arith))
+
+pub one-or-two : (code : ℕ) → 1 ≤ code → code < 3 → (code ≡ 1) ⊎ ((code ≡ 2) ⊎ (code ≡ 6))
+one-or-two code g l = by-eq code 1 (λ e. inl e) (λ e. inr (inl (omega arith)))

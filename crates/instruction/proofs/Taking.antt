@@ -14,15 +14,16 @@ use Rattle.facts.specs.Lists.{removeAt}
 use Rattle.backup.specs.Limits.{logMost, ports}
 use Rattle.rules.specs.Table.{Instruction}
 use Rattle.rules.specs.Machine.{Mail, Machine}
-use Rattle.rules.specs.Cabinet.{Process}
-use Rattle.rules.specs.Moves.{advanced}
-use Rattle.process.specs.Row.{mailIn, mailsIn, machineOf, standbyOf, processOf, Kept}
+use Rattle.rules.specs.Cabinet.{Since, Process}
+use Rattle.rules.specs.Moves.{advanced, counting, oneTaken}
+use Rattle.process.specs.Row.{rowLength, mailIn, mailsIn, machineOf, standbyOf, processOf, Kept}
 use Rattle.process.specs.Change.{Became}
 use Rattle.instruction.specs.Mailbox.{Removed}
-use Rattle.instruction.specs.Instruction.{loaded, loadedIn, Loads, afterTake, bumped, Room, Intends, Takes}
+use Rattle.instruction.specs.Instruction.{loaded, loadedIn, Loads, afterTake, bumped, oneIn, tallied, Room, TallyRoom, Intends, Takes}
 use Rattle.instruction.specs.declared.instruction.Intent.the-variants.{Take}
-use Rattle.process.proofs.Rows.{spelled}
-use Rattle.instruction.proofs.Cells.{kept-cell, kept-mail, bumped-is, one-less, going}
+use Rattle.process.proofs.Rows.{spelled, limited-is}
+use Rattle.instruction.proofs.Cells.{kept-cell, kept-mail, bumped-is, tally-fits, tallied-is, anotherTake, counting-taken, one-less, going}
+use Rattle.instruction.proofs.Done.{and-done, act-and-done, act-same}
 
 -- ---- the registers
 
@@ -55,9 +56,9 @@ loads-so row code a x row′ h e = record { is = e; fits = omega arith }
 -- a machine with other registers
 abbrev withRegisters : List ℕ → Process → Process
 withRegisters registers x =
-    advanced (record { registers = registers; pc = x .machine .pc; mailbox = x .machine .mailbox }) (x .taken) (x .events) (x .suppress) x
+    advanced (record { registers = registers; pc = x .machine .pc; mailbox = x .machine .mailbox }) (x .since) (x .suppress) x
 
-module _ (row mail log head : List ℕ) (l : length row ≡ 15) (x : Mail) where
+module _ (row mail log head : List ℕ) (l : length row ≡ rowLength) (x : Mail) where
   take-process : (a : ℕ) → a < 4
       → processOf (set row (2 + a % 4) (x .word)) mail log head ≡ withRegisters (set (machineOf row mail .registers) a (x .word)) (processOf row mail log head)
   unfolding processOf machineOf standbyOf advanced
@@ -88,9 +89,9 @@ module _ (row mail log head : List ℕ) (l : length row ≡ 15) (x : Mail) where
 -- a process with one word less in its mailbox, and its place and its counters moved on
 abbrev counted : List Mail → ℕ → ℕ → ℕ → ℕ → Process → Process
 counted mailbox pc port takes events x =
-    advanced (record { registers = x .machine .registers; pc = pc; mailbox = mailbox }) (set (x .taken) port takes) events (x .suppress) x
+    advanced (record { registers = x .machine .registers; pc = pc; mailbox = mailbox }) (record { instructions = x .since .instructions; events = events; taken = set (x .since .taken) port takes }) (x .suppress) x
 
-count-process : (row mail log head mail′ : List ℕ) → length row ≡ 15 → (u port t e p : ℕ) → port < 4
+count-process : (row mail log head mail′ : List ℕ) → length row ≡ rowLength → (u port t e p : ℕ) → port < 4
     → processOf (set (set (set (set row 14 u) (8 + port % 4) t) 7 e) 1 p) mail′ log head ≡ counted (mailsIn u mail′) p port t e (processOf row mail log head)
 unfolding processOf machineOf standbyOf advanced
 count-process row mail log head mail′ l u zero t e p h = spelled row (λ (r : List ℕ). processOf (set (set (set (set r 14 u) 8 t) 7 e) 1 p) mail′ log head) l
@@ -99,28 +100,36 @@ count-process row mail log head mail′ l u (suc (suc zero)) t e p h = spelled r
 count-process row mail log head mail′ l u (suc (suc (suc zero))) t e p h = spelled row (λ (r : List ℕ). processOf (set (set (set (set r 14 u) 11 t) 7 e) 1 p) mail′ log head) l
 count-process row mail log head mail′ l u (suc (suc (suc (suc port)))) t e p h = absurd (omega arith)
 
--- three counters of a row, each one more
-counters-bumped : (row : List ℕ) (u port : ℕ) → port < 4 → Room row 1 → Room row 7 → Room row (8 + port)
-    → bumped (bumped (bumped (set row 14 u) (8 + port % 4)) 7) 1
-    ≡ set (set (set (set row 14 u) (8 + port % 4) (suc (getD row (8 + port) 0))) 7 (suc (getD row 7 0))) 1 (suc (getD row 1 0))
-counters-bumped row u port h r1 r7 rp =
+-- what an act counts for is told by a cell that no counter stands in
+one-same : (row : List ℕ) (i v : ℕ) → 12 ≢ i → oneIn (set row i v) ≡ oneIn row
+one-same row i v n = ap (λ (x : ℕ). cond (eqb x 0) 0 1) (getD-set-other row i 12 v 0 n)
+
+-- the counters of a row: two of acts, and the place
+counters-moved : (row : List ℕ) (u port : ℕ) → port < 4 → Room row 1 → getD row 7 0 + oneIn row < 2 ^ 32 → getD row (8 + port) 0 + oneIn row < 2 ^ 32
+    → bumped (tallied (tallied (set row 14 u) (8 + port % 4)) 7) 1
+    ≡ set (set (set (set row 14 u) (8 + port % 4) (getD row (8 + port) 0 + oneIn row)) 7 (getD row 7 0 + oneIn row)) 1 (suc (getD row 1 0))
+counters-moved row u port h r1 r7 rp =
     let i = 8 + port % 4 in
     let n : i ≡ 8 + port = omega arith in
-    let t = suc (getD row (8 + port) 0) in
-    let e = suc (getD row 7 0) in
+    let t = getD row (8 + port) 0 + oneIn row in
+    let e = getD row 7 0 + oneIn row in
+    let one = one-same row 14 u (λ z. omega arith) in
+    let one′ : oneIn (set (set row 14 u) i t) ≡ oneIn row = one-same (set row 14 u) i t (λ z. omega arith) ∙ one in
     let a : getD (set row 14 u) i 0 ≡ getD row (8 + port) 0 = getD-set-other row 14 i u 0 (λ z. omega arith) ∙ ap (λ (j : ℕ). getD row j 0) n in
+    let a′ : getD (set row 14 u) i 0 + oneIn (set row 14 u) ≡ t = (λ j. a j + one j) in
     let b : getD (set (set row 14 u) i t) 7 0 ≡ getD row 7 0 = getD-set-other (set row 14 u) i 7 t 0 (λ z. omega arith) ∙ getD-set-other row 14 7 u 0 (λ z. omega arith) in
+    let b′ : getD (set (set row 14 u) i t) 7 0 + oneIn (set (set row 14 u) i t) ≡ e = (λ j. b j + one′ j) in
     let c : getD (set (set (set row 14 u) i t) 7 e) 1 0 ≡ getD row 1 0 =
     getD-set-other (set (set row 14 u) i t) 7 1 e 0 (λ z. omega arith) ∙ getD-set-other (set row 14 u) i 1 t 0 (λ z. omega arith) ∙ getD-set-other row 14 1 u 0 (λ z. omega arith) in
-    ap (λ (r : List ℕ). bumped (bumped r 7) 1) (bumped-is (set row 14 u) i (omega arith) ∙ ap (λ (v : ℕ). set (set row 14 u) i (suc v)) a)
-    ∙ ap (λ (r : List ℕ). bumped r 1) (bumped-is (set (set row 14 u) i t) 7 (omega arith) ∙ ap (λ (v : ℕ). set (set (set row 14 u) i t) 7 (suc v)) b)
+    ap (λ (r : List ℕ). bumped (tallied r 7) 1) (tallied-is (set row 14 u) i (rw a′ rp) ∙ ap (set (set row 14 u) i) a′)
+    ∙ ap (λ (r : List ℕ). bumped r 1) (tallied-is (set (set row 14 u) i t) 7 (rw b′ r7) ∙ ap (set (set (set row 14 u) i t) 7) b′)
     ∙ bumped-is (set (set (set row 14 u) i t) 7 e) 1 (omega arith)
     ∙ ap (λ (v : ℕ). set (set (set (set row 14 u) i t) 7 e) 1 (suc v)) c
 
 -- ---- the two together
 
 -- the port's count in the list of the four
-taken-at : (row mail log head : List ℕ) (port : ℕ) → port < 4 → getD (processOf row mail log head .taken) port 0 ≡ getD row (8 + port) 0
+taken-at : (row mail log head : List ℕ) (port : ℕ) → port < 4 → getD (processOf row mail log head .since .taken) port 0 ≡ getD row (8 + port) 0
 unfolding processOf
 taken-at row mail log head zero h = refl
 taken-at row mail log head (suc zero) h = refl
@@ -135,9 +144,9 @@ module _ (row mail : List ℕ) (code a at port : ℕ) (inside : at < getD row 14
     (row₁ : List ℕ) (load : Loads row code a (getD mail at 0) row₁)
     (u : ℕ) (less : (u + 1) % 2 ^ 32 ≡ getD row₁ 14 0) (fits : u < 2 ^ 32)
     (mail′ : List ℕ) (out : Removed mail (getD row 14 0) at mail′) where
-  pub takes : Takes row mail code a at port (bumped (bumped (bumped (set row₁ 14 u) (8 + port % 4)) 7) 1) mail′
+  pub takes : Takes row mail code a at port (tallied (bumped (tallied (tallied (set row₁ 14 u) (8 + port % 4)) 7) 1) 15) mail′
   unfolding processOf machineOf advanced
-  takes = record { untouched = λ l. absurd (omega arith); became = after }
+  takes = record { untouched = λ l. absurd (omega arith); became = whole }
     where
       x : Mail
       x = mailIn (getD mail at 0)
@@ -149,9 +158,9 @@ module _ (row mail : List ℕ) (code a at port : ℕ) (inside : at < getD row 14
       beyond k h = rw (load .is) (load-other row code a x k (λ e. omega arith) (λ e. omega arith))
 
       after : (program : List Instruction) (n operand : ℕ) (log head : List ℕ) → Kept row mail log head
-          → Intends program row mail n code a operand (Take at) → port < ports → Room row 7 → Room row (8 + port)
-          → Became row mail log head (bumped (bumped (bumped (set row₁ 14 u) (8 + port % 4)) 7) 1) mail′ log head
-          (λ x. advanced (afterTake code a at row mail) (set (x .taken) port (suc (getD (x .taken) port 0))) (suc (x .events)) (x .suppress) x)
+          → Intends program row mail n code a operand (Take at) → port < ports → TallyRoom row 7 → TallyRoom row (8 + port)
+          → Became row mail log head (bumped (tallied (tallied (set row₁ 14 u) (8 + port % 4)) 7) 1) mail′ log head
+          (λ x. advanced (afterTake code a at row mail) (counting (anotherTake port) x) (x .suppress) x)
       after program n operand log head k i h r7 rp =
           let g = going _ _ i refl in
           let few = i .fetched .few in
@@ -163,31 +172,53 @@ module _ (row mail : List ℕ) (code a at port : ℕ) (inside : at < getD row 14
           let s7 = beyond 7 (omega arith) in
           let s14 = beyond 14 (omega arith) in
           let sp = beyond (8 + port) (omega arith) in
-          let t = suc (getD row₁ (8 + port) 0) in
-          let e = suc (getD row₁ 7 0) in
+          let off : Bool = eqb (getD row 12 0) 0 in
+          let s12 : oneIn row₁ ≡ oneIn row = ap (λ (f : ℕ). cond (eqb f 0) 0 1) (beyond 12 (omega arith)) in
+          let t = getD row₁ (8 + port) 0 + oneIn row₁ in
+          let e = getD row₁ 7 0 + oneIn row₁ in
           let p = suc (getD row₁ 1 0) in
-          let y : Process = withRegisters (loaded code a x (machineOf row mail .registers)) (processOf row mail log head) in
+          let was : Process = processOf row mail log head in
+          let y : Process = withRegisters (loaded code a x (machineOf row mail .registers)) was in
           let one : u ≡ getD row 14 0 - 1 = omega arith in
           let rest : mailsIn u mail′ ≡ removeAt at (mailsIn (getD row 14 0) mail) =
           ap (λ (c : ℕ). mailsIn c mail′) one ∙ out .rest (k .mail-length) most inside in
           let loads : processOf row₁ mail log head ≡ y =
           rw (load .is) (load-process row mail log head (k .row-length) x code a (q .first) (q .pair)) in
           let port-is = taken-at row mail log head port h in
-          rw (counters-bumped row₁ u port h (omega arith) (omega arith) (omega arith))
+          let t-is : t ≡ getD (was .since .taken) port 0 + oneIn row = (λ j. (sp ∙ sym port-is) j + s12 j) in
+          let e-is : e ≡ was .since .events + oneIn row = (λ j. s7 j + s12 j) in
+          let t-fits : t < 2 ^ 32 = (let z = tally-fits row (8 + port) (k .words (8 + port)) rp in omega arith) in
+          let e-fits : e < 2 ^ 32 = (let z = tally-fits row 7 (k .words 7) r7 in omega arith) in
+          rw (counters-moved row₁ u port h (omega arith) e-fits t-fits)
           (record {
             process-is =
                 count-process row₁ mail log head mail′ (k₁ .row-length) u port t e p h
                 ∙ ap (counted (mailsIn u mail′) p port t e) loads
-                ∙ same-counts port y rest (ap suc s1) (ap suc (sp ∙ sym port-is)) (ap suc s7);
+                ∙ same-counts port y rest (ap suc s1) t-is e-is
+                ∙ ap (λ (s : Since). advanced (afterTake code a at row mail) s (was .suppress) was)
+                (counting-taken was off (limited-is row mail log head) port (getD (was .since .taken) port 0 + oneIn row) (was .since .events + oneIn row) refl refl);
             kept-again =
                 kept-cell 1 p (omega arith) (omega arith)
-                (kept-cell 7 e (omega arith) (omega arith)
-                (kept-cell (8 + port % 4) t (omega arith) (omega arith) (kept-mail mail′ u (out .same-length) (omega arith) k₁)));
+                (kept-cell 7 e (omega arith) e-fits
+                (kept-cell (8 + port % 4) t (omega arith) t-fits (kept-mail mail′ u (out .same-length) (omega arith) k₁)));
           })
+
+      whole : (program : List Instruction) (n operand : ℕ) (log head : List ℕ) → Kept row mail log head
+          → Intends program row mail n code a operand (Take at) → port < ports → TallyRoom row 7 → TallyRoom row (8 + port) → TallyRoom row 15
+          → Became row mail log head (tallied (bumped (tallied (tallied (set row₁ 14 u) (8 + port % 4)) 7) 1) 15) mail′ log head
+          (λ x. advanced (afterTake code a at row mail) (counting (oneTaken port) x) (x .suppress) x)
+      whole program n operand log head k i h r7 rp room =
+          let y : Process = processOf row mail log head in
+          let d = and-done row mail log head (bumped (tallied (tallied (set row₁ 14 u) (8 + port % 4)) 7) 1) mail′ (afterTake code a at row mail)
+          (counting (anotherTake port)) (λ z. z .suppress) (act-same (anotherTake port) (λ _. refl) y) (after program n operand log head k i h r7 rp) room in
+          record {
+            process-is = d .process-is ∙ ap (λ (s : Since). advanced (afterTake code a at row mail) s (y .suppress) y) (act-and-done (anotherTake port) y);
+            kept-again = d .kept-again;
+          }
 
 -- no unread word there, or a mailbox with more words than it can hold
 pub takes-none : (row mail : List ℕ) (code a at port : ℕ) → (getD row 14 0 ≤ logMost → at < getD row 14 0 → ⊥) → Takes row mail code a at port row mail
 takes-none row mail code a at port l = record {
   untouched = λ h. (refl, refl);
-  became = λ program n operand log head k i h r7 rp. absurd (l (k .unread) (i .inside at refl));
+  became = λ program n operand log head k i h r7 rp room. absurd (l (k .unread) (i .inside at refl));
 }

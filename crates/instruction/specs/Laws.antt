@@ -8,7 +8,7 @@ use native.Mathlib.Omega.{arith}
 use lib.Dec.{ltb}
 use lib.ListN.{length, getD}
 use borrow.Author.Tests.{ltb-true}
-use Rattle.facts.specs.Tests.{and-left, and-right, allOf, all-below, all-at}
+use Rattle.facts.specs.Tests.{no-way, and-left, and-right, allOf, all-below, all-at}
 use Rattle.rules.specs.Table.{Table, Instruction, SET, codeOf}
 use Rattle.rules.specs.Format.{instruction}
 use Rattle.rules.specs.Judge.{reads, sends, instructionOk, instructionsOk, Accepted}
@@ -20,7 +20,7 @@ one-register code a operand h x y = record { first = ltb-true a 4 h; second = λ
 -- number 8 passed
 pub in-range : (t : Table) (p n code a operand : ℕ) → instructionOk t p n (instruction code a operand) ≡ true → InRange code a operand
 unfolding instructionOk
-in-range t p n zero a operand h = one-register zero a operand h (λ e. omega arith) (λ e. omega arith)
+in-range t p n zero a operand h = absurd (no-way (cc))
 in-range t p n (suc zero) a operand h = one-register 1 a operand h (λ e. omega arith) (λ e. omega arith)
 in-range t p n (suc (suc zero)) a operand h =
     record { first = ltb-true a 4 (and-left (ltb a 4) (ltb operand 4) h); second = λ e. ltb-true operand 4 (and-right (ltb a 4) (ltb operand 4) h); pair = λ e. absurd (omega arith) }
@@ -29,8 +29,7 @@ in-range t p n (suc (suc (suc (suc zero)))) a operand h =
     let l = ltb-true a 3 (and-left _ _ h) in record { first = omega arith; second = λ e. absurd (omega arith); pair = λ e. l }
 in-range t p n (suc (suc (suc (suc (suc zero))))) a operand h = one-register 5 a operand (and-left (ltb a 4) (sends t p operand) h) (λ e. omega arith) (λ e. omega arith)
 in-range t p n (suc (suc (suc (suc (suc (suc zero)))))) a operand h = one-register 6 a operand (and-left _ _ h) (λ e. omega arith) (λ e. omega arith)
-in-range t p n (suc (suc (suc (suc (suc (suc (suc code))))))) a operand h =
-    one-register (suc (suc (suc (suc (suc (suc (suc code))))))) a operand h (λ e. omega arith) (λ e. omega arith)
+in-range t p n (suc (suc (suc (suc (suc (suc (suc code))))))) a operand h = absurd (no-way (cc))
 
 -- a program of an accepted table
 pub fetched : (t : Table) (p : ℕ) → Accepted t → p < length (t .processes) → (row : List ℕ) (code a operand : ℕ)

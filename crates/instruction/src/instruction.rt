@@ -1,17 +1,19 @@
 // One instruction of a process: what it would do, looked at before anything is changed, and then what it does to the process's row and
 // mailbox. Document 01: "Instructions, each moving the place on by one unless said". Codes 1 to 6 are SET, ADD, TAKE, FIRST, SEND and
-// JUMP; no other is in an accepted table, and one is a SET here as in the rules.
+// JUMP; any other, which no accepted table has, is not executed.
 ghost use mathlib.Core.Path.{_≡_};
 ghost use Prim.Native.Nat.{_+_, _%_, _^_, _<_};
 ghost use lib.ListN.{getD};
-ghost use Rattle.instruction.specs.Instruction.{bumped, Loads, Examined, Sought, Computes, Takes, Suppresses, Queues};
+ghost use Rattle.instruction.specs.Instruction.{bumped, oneIn, tallied, Loads, Examined, Sought, Evaluates, Computes, Takes, Suppresses, Queues};
 use crate::mailbox::look;
 use crate::mailbox::remove;
 use process::mail::MAIL;
 use process::mail::channel_of;
 use process::mail::word_of;
 use process::row::EVENTS;
+use process::row::INSTRUCTIONS;
 use process::row::PC;
+use process::row::PROTECTED;
 use process::row::R0;
 use process::row::R1;
 use process::row::ROW;
@@ -22,7 +24,7 @@ use process::row::wide;
 
 // What the instruction at a process's place would do.
 pub enum Intent {
-    // nothing: it is halted
+    // nothing: it is halted, or the code is none
     Halted,
     // nothing: a TAKE or a FIRST finds no such word
     NoMail,
@@ -56,10 +58,25 @@ fn register(row: &[u32; ROW], a: u32) -> u32
 
 // One more in a cell of the row.
 fn bump(row: &mut [u32; ROW], i: usize)
-    requires { ⌜ i < 15 ⌝ }
+    requires { ⌜ i < 16 ⌝ }
     ensures { λ _. ⌜ now (row .exit) ≡ bumped (now (row .entry)) i ⌝ }
 {
     row[i] = std::num::wrapping_add_u32(row[i], 1);
+}
+
+// What an act or an instruction of the process counts for. Document 01: "A backed process has acts".
+fn one(row: &[u32; ROW]) -> u32
+    ensures { λ r. ⌜ r ≡ oneIn (now (row .entry)) ⌝ }
+{
+    if row[PROTECTED] == 0 { 0 } else { 1 }
+}
+
+// One more in a counter, if the process's acts and instructions are counted.
+fn tally(row: &mut [u32; ROW], i: usize)
+    requires { ⌜ i < 16 ⌝ }
+    ensures { λ _. ⌜ now (row .exit) ≡ tallied (now (row .entry)) i ⌝ }
+{
+    row[i] = std::num::wrapping_add_u32(row[i], one(row));
 }
 
 // A TAKE or a FIRST would take the oldest word that it names.
@@ -95,7 +112,7 @@ pub fn examine(
             channel: operand,
             word: register(row, a),
         },
-        _ => Intent::Internal,
+        _ => Intent::Halted,
     }
 }
 
@@ -106,11 +123,15 @@ fn sum(row: &[u32; ROW], a: u32, b: u32) -> u32
     std::num::wrapping_add_u32(register(row, a), register(row, b))
 }
 
-// A SET, an ADD or a JUMP is done.
-pub fn compute(row: &mut [u32; ROW], code: u8, a: u32, operand: u32)
-    ensures { λ _. ⌜ Computes (now (row .entry)) code a operand (now (row .exit)) ⌝ }
+// What a SET, an ADD or a JUMP does to registers and place.
+fn evaluate(row: &mut [u32; ROW], code: u8, a: u32, operand: u32)
+    ensures { λ _. ⌜ Evaluates (now (row .entry)) code a operand (now (row .exit)) ⌝ }
 {
     match code {
+        1 => {
+            row[cell(a)] = operand;
+            bump(row, PC);
+        }
         2 => {
             row[cell(a)] = sum(row, a, operand);
             bump(row, PC);
@@ -122,19 +143,25 @@ pub fn compute(row: &mut [u32; ROW], code: u8, a: u32, operand: u32)
                 row[PC] = operand;
             }
         }
-        _ => {
-            row[cell(a)] = operand;
-            bump(row, PC);
-        }
+        _ => {}
     }
 }
 
-// One more event, and the place moves on.
-fn event(row: &mut [u32; ROW])
-    ensures { λ _. ⌜ now (row .exit) ≡ bumped (bumped (now (row .entry)) 7) 1 ⌝ }
+// A SET, an ADD or a JUMP is done, an instruction more.
+pub fn compute(row: &mut [u32; ROW], code: u8, a: u32, operand: u32)
+    ensures { λ _. ⌜ Computes (now (row .entry)) code a operand (now (row .exit)) ⌝ }
 {
-    bump(row, EVENTS);
+    evaluate(row, code, a, operand);
+    tally(row, INSTRUCTIONS);
+}
+
+// One more event, the place moves on, and an instruction more.
+fn event(row: &mut [u32; ROW])
+    ensures { λ _. ⌜ now (row .exit) ≡ tallied (bumped (tallied (now (row .entry)) 7) 1) 15 ⌝ }
+{
+    tally(row, EVENTS);
     bump(row, PC);
+    tally(row, INSTRUCTIONS);
 }
 
 // A word goes into register a; of a FIRST its channel goes into register a + 1.
@@ -147,8 +174,8 @@ fn load(row: &mut [u32; ROW], code: u8, a: u32, x: u64)
     }
 }
 
-// A TAKE or a FIRST is done: the word at an index of the mailbox leaves it, and counts as one more event and one more receive on its
-// port. Where no unread word stands there nothing changes.
+// A TAKE or a FIRST is done: the word at an index of the mailbox leaves it, and counts as an event and a receive on its port. Where no
+// unread word stands there nothing changes.
 pub fn take_word(
     row: &mut [u32; ROW],
     mail: &mut [u64; MAIL],
@@ -169,7 +196,7 @@ pub fn take_word(
     load(row, code, a, mail[at]);
     remove(mail, unread, at);
     row[UNREAD] = std::num::wrapping_sub_u32(row[UNREAD], 1);
-    bump(row, T0 + wide(port % 4));
+    tally(row, T0 + wide(port % 4));
     event(row);
 }
 
@@ -181,7 +208,7 @@ pub fn suppress_send(row: &mut [u32; ROW])
     bump(row, PC);
 }
 
-// A SEND is done whose word joins the outbox: one more event.
+// A SEND is done whose word joins the outbox: an event.
 pub fn queue_send(row: &mut [u32; ROW])
     ensures { λ _. ⌜ Queues (now (row .entry)) (now (row .exit)) ⌝ }
 {

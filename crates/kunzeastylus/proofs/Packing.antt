@@ -11,7 +11,7 @@ use Rattle.rules.specs.Schedule.{commandsMost}
 use Rattle.cabinet.specs.Runs.{Runs}
 use Rattle.cabinet.specs.declared.run.Verdict.{Verdict}
 use Rattle.cabinet.proofs.Running.{run-few}
-use Rattle.kunzeastylus.specs.Packed.{flagOf, packedOf, verdictIn, RunsPacked}
+use Rattle.kunzeastylus.specs.Packed.{flagOf, packedOf, verdictIn, Packed}
 
 quiet-back : (number records : ℕ) → number < 256 → (quiet : Bool) → eqb ((number + 256 * flagOf quiet + 4294967296 * records) / 256 % 2) 1 ≡ quiet
 quiet-back number records h true = eq-eqb ((number + 256 * 1 + 4294967296 * records) / 256 % 2) 1 (omega arith)
@@ -32,14 +32,10 @@ verdictIn-packedOf r h i = record {
   quiet = quiet-back (r .number) (r .records) h (r .quiet) i;
 }
 
-module _ (table schedule : List ℕ) (before : Buffers) (r : Verdict) (after : Buffers) (h : Runs table schedule before r after) where
-  pub few : r .records ≤ commandsMost
-  few = rw (ap (λ (x : Ran). x .records) (h .ran)) (run-few table schedule before)
+pub keeps-packed : (promised : Verdict → Type 0) (r : Verdict) → promised r → r .number < 256 → (n : ℕ) → n ≡ packedOf r → Packed promised n
+keeps-packed promised r h small n e =
+    let same : verdictIn n ≡ r = ap verdictIn e ∙ verdictIn-packedOf r small in
+    record { exact = e ∙ ap packedOf (sym same); keeps = subst promised (sym same) h }
 
-  pub runs-packed : (n : ℕ) → r .number < 256 → n ≡ packedOf r → RunsPacked table schedule before n after
-  runs-packed n small e =
-      let same : verdictIn n ≡ r = ap verdictIn e ∙ verdictIn-packedOf r small in
-      record {
-        exact = e ∙ ap packedOf (sym same);
-        runs = subst (λ v. Runs table schedule before v after) (sym same) h;
-      }
+pub few : (table schedule : List ℕ) (before : Buffers) (r : Verdict) (after : Buffers) → Runs table schedule before r after → r .records ≤ commandsMost
+few table schedule before r after h = rw (ap (λ (x : Ran). x .records) (h .ran)) (run-few table schedule before)

@@ -1,3 +1,4 @@
 -- What the exported calls promise. The backup record's promise is `Exported` of crate backup_call.
 pub mod Judges
 pub mod Packed
+pub mod Label

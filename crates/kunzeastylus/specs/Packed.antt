@@ -1,5 +1,5 @@
--- The promise of `ks_run`: the run's, with its three numbers in one. Document 01: "An accepted run returns 0, its number of records, and
--- whether it ended quiet."
+-- Three numbers in one, and the promise of `ks_run`: the run's, with its three in one. Document 01: "An accepted run returns 0, its number of
+-- records, and whether it ended quiet."
 use mathlib.Core.Path.{_≡_}
 use mathlib.Core.Bool.{Bool, cond}
 use mathlib.Core.List.{List}
@@ -20,9 +20,13 @@ packedOf r = r .number + 256 * flagOf (r .quiet) + 4294967296 * r .records
 abbrev pub verdictIn : ℕ → Verdict
 verdictIn n = record { number = n % 256; records = n / 4294967296; quiet = eqb (n / 256 % 2) 1 }
 
--- of any bytes of a table and a schedule, and buffers of any length: these before it, those after it
-pub record RunsPacked (table schedule : List ℕ) (before : Buffers) (n : ℕ) (after : Buffers) : Type 0 where
+-- what a call promises of the three numbers that it returns in one
+pub record Packed (promised : Verdict → Type 0) (n : ℕ) : Type 0 where
   -- the number is those three and nothing else: every other bit is 0
   pub exact : n ≡ packedOf (verdictIn n)
-  -- and they, with the buffers, are the run's: those of the rules, and demand 3
-  pub runs : Runs table schedule before (verdictIn n) after
+  pub keeps : promised (verdictIn n)
+
+-- of any bytes of a table and a schedule, and buffers of any length, these before it, those after it: the run's promise, the rules' outcome
+-- and demand 3
+abbrev pub RunsPacked : List ℕ → List ℕ → Buffers → ℕ → Buffers → Type 0
+RunsPacked table schedule before n after = Packed (λ r. Runs table schedule before r after) n

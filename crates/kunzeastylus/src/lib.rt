@@ -2,4 +2,5 @@
 // `ks_`, and no other crate exports any; include/kunzeastylus.h declares them for C, bindings/ for Rust.
 pub mod backup;
 pub mod judge;
+pub mod label;
 pub mod run;

@@ -14,7 +14,7 @@ fn flag(quiet: bool) -> u64
 }
 
 // number + 256 quiet + 2^32 records
-fn packed(r: Verdict) -> u64
+pub fn packed(r: Verdict) -> u64
     requires { ⌜ r .records ≤ commandsMost ⌝ }
     ensures { λ n. ⌜ (n ≡ packedOf r) × (r .number < 256) ⌝ }
 {

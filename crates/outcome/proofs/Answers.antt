@@ -11,7 +11,8 @@ use Rattle.facts.specs.Counts.{same-yes}
 use Rattle.rules.specs.Table.{Table, codeOf, channelAt}
 use Rattle.rules.specs.Machine.{Mail, Machine, internal, took, sent, Outcome, halted, noMail, moved, localStep}
 use Rattle.rules.specs.Cabinet.{Item, message, checkpoint, Cabinet, processAt, outboxAt, protected}
-use Rattle.rules.specs.Moves.{Command, Refusal, badRecord, notInTable, boardDead, isHalted, noSuchWord, eventsFull, outboxFull, channelFull, noBackup, syncWaits, outboxEmpty, notOutside, otherCrashed, refusalNumber, Answer, done, received, queued, suppressed, transmitted, syncKept, syncLost, refused, numbers, withOutbox, send, stepFrom, step, issue, transmitItem, transmitOldest, transmit, inject, crash, turn}
+use Rattle.rules.specs.Moves.{Command, Refusal, refusalNumber, Answer, stepDone, issueDone, crashDone, received, queued, suppressed, transmitted, injected, syncKept, syncLost, refused, numbers, withOutbox, send, stepFrom, step, issue, transmitItem, transmitOldest, transmit, inject, crash, turn}
+use Rattle.rules.proofs.Decoded.{refusalNumber-listed}
 use Rattle.rules.proofs.Steps.{Steps}
 use Rattle.rules.proofs.Tables.{step-own}
 use Rattle.rules.proofs.Counting.{step-unread}
@@ -28,30 +29,22 @@ pub record Fits (x : Answer) : Type 0 where
 abbrev Fitting : Cabinet → Answer → Type 0
 Fitting _ x = Fits x
 
--- every refusal has its number below 256
-refusal-small : (why : Refusal) → refusalNumber why < 256
-unfolding refusalNumber
-refusal-small badRecord = omega arith
-refusal-small notInTable = omega arith
-refusal-small boardDead = omega arith
-refusal-small isHalted = omega arith
-refusal-small noSuchWord = omega arith
-refusal-small eventsFull = omega arith
-refusal-small outboxFull = omega arith
-refusal-small channelFull = omega arith
-refusal-small noBackup = omega arith
-refusal-small syncWaits = omega arith
-refusal-small outboxEmpty = omega arith
-refusal-small notOutside = omega arith
-refusal-small otherCrashed = omega arith
-
 fits-refused : (why : Refusal) (a : ℕ) → a < 256 → Fits (refused why a)
 unfolding numbers
-fits-refused why a h = record { code-small = refusal-small why; a-small = h }
+fits-refused why a h = record { code-small = (let n = refusalNumber-listed why .high in omega arith); a-small = h }
 
-fits-done : Fits done
+-- answers of three zeros
+fits-stepped : Fits stepDone
 unfolding numbers
-fits-done = record { code-small = omega arith; a-small = omega arith }
+fits-stepped = record { code-small = omega arith; a-small = omega arith }
+
+fits-issued : Fits issueDone
+unfolding numbers
+fits-issued = record { code-small = omega arith; a-small = omega arith }
+
+fits-crashed : Fits crashDone
+unfolding numbers
+fits-crashed = record { code-small = omega arith; a-small = omega arith }
 
 -- answers that name a channel
 fits-received : (x : Mail) → x .channel < 256 → Fits (received x)
@@ -69,6 +62,10 @@ fits-suppressed x h = record { code-small = omega arith; a-small = h }
 fits-transmitted : (x : Mail) → x .channel < 256 → Fits (transmitted x)
 unfolding numbers
 fits-transmitted x h = record { code-small = omega arith; a-small = h }
+
+fits-injected : (x : Mail) → x .channel < 256 → Fits (injected x)
+unfolding numbers
+fits-injected x h = record { code-small = omega arith; a-small = h }
 
 -- and those that name a process
 fits-sync : (p : ℕ) (b : Bool) → p < 256 → Fits (cond b (syncKept p) (syncLost p))
@@ -108,7 +105,7 @@ module _ {t : Table} {c : Cabinet} (reach : Reachable t c) where
     unfolding stepFrom
     outcome-fits halted e = unmoved
     outcome-fits noMail e = unmoved
-    outcome-fits (moved m internal) e = leaves fits-done
+    outcome-fits (moved m internal) e = after-guard _ _ _ λ _. leaves fits-stepped
     outcome-fits (moved m (took x)) e = after-guard _ _ _ λ _. leaves (fits-received x (took-small m x (record { is = e })))
     outcome-fits (moved m (sent x)) e = send-fits m x (processAt c p .suppress) (sent-small m x (record { is = e }))
 
@@ -120,7 +117,7 @@ module _ {t : Table} {c : Cabinet} (reach : Reachable t c) where
 
   issue-fits : (p : ℕ) → Yields Fitting (issue t c p)
   unfolding issue
-  issue-fits p = after-guard _ _ _ λ _. after-guard _ _ _ λ _. after-guard _ _ _ λ _. leaves fits-done
+  issue-fits p = after-guard _ _ _ λ _. after-guard _ _ _ λ _. after-guard _ _ _ λ _. leaves fits-issued
 
   -- ---- 3 carry
 
@@ -142,13 +139,13 @@ module _ {t : Table} {c : Cabinet} (reach : Reachable t c) where
 
   inject-fits : (x : Mail) → x .channel < length (t .channels) → Yields Fitting (inject t c x)
   unfolding inject
-  inject-fits x h = after-guard _ _ _ λ _. after-guard _ _ _ λ _. leaves (fits-transmitted x (channel-small (x .channel) h))
+  inject-fits x h = after-guard _ _ _ λ _. after-guard _ _ _ λ _. leaves (fits-injected x (channel-small (x .channel) h))
 
   -- ---- 5 crash
 
   crash-fits : (b : ℕ) → Yields Fitting (crash t c b)
   unfolding crash
-  crash-fits b = after-guard _ _ _ λ _. after-guard _ _ _ λ _. leaves fits-done
+  crash-fits b = after-guard _ _ _ λ _. after-guard _ _ _ λ _. leaves fits-crashed
 
   -- ---- any command whose a is a byte
 

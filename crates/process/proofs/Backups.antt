@@ -15,7 +15,7 @@ use Rattle.backup.specs.Place.{viewIn, Sound, Called}
 use Rattle.rules.specs.Table.{Table, portOf}
 use Rattle.rules.specs.Machine.{Mail, delivered}
 use Rattle.rules.specs.Cabinet.{Process, Standby}
-use Rattle.rules.specs.Moves.{onReplica, receive, counts, keeps}
+use Rattle.rules.specs.Moves.{withStandby, onReplica, receive, counts, keeps}
 use Rattle.process.specs.Row.{machineOf, standbyOf, processOf, mailsIn, Kept}
 use Rattle.process.specs.Mailbox.{Appended}
 use Rattle.process.specs.Change.{Became, BackupBecame, Backed, Received}
@@ -38,16 +38,11 @@ module _ (row log head : List ℕ) (call : Replica → Reply) where
 
 -- ---- calls that change the backup alone
 
--- a process with another backup
-abbrev withBackup : Option Standby → Process → Process
-withBackup s x =
-    record { machine = x .machine; board = x .board; suppress = x .suppress; events = x .events; taken = x .taken; standby = s }
-
 backed-became : (row log head log′ head′ : List ℕ) (call : Replica → Reply) → Backed row log head log′ head′ call
-    → BackupBecame row log head log′ head′ (λ x. withBackup (onReplica call (x .standby)) x)
+    → BackupBecame row log head log′ head′ (λ x. withStandby (onReplica call (x .standby)) x)
 unfolding processOf
 backed-became row log head log′ head′ call b mail k = record {
-  process-is = ap (λ (s : Option Standby). withBackup s (processOf row mail log head)) (b .standby-is (k .sound));
+  process-is = ap (λ (s : Option Standby). withStandby s (processOf row mail log head)) (b .standby-is (k .sound));
   kept-again = record {
     row-length = k .row-length;
     mail-length = k .mail-length;
@@ -93,8 +88,7 @@ module _ (row mail log head : List ℕ) (port channel word : ℕ) where
                     machine = record { registers = x .machine .registers; pc = x .machine .pc; mailbox = m i };
                     board = x .board;
                     suppress = x .suppress;
-                    events = x .events;
-                    taken = x .taken;
+                    since = x .since;
                     standby = s i;
                   });
               kept-again = record {

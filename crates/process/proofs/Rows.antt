@@ -1,10 +1,14 @@
 -- Rows: a row of known length written out, after which stores at its cells compute; and what a store keeps.
 use mathlib.Core.Path.{_≡_, refl, ap, sym, _∙_}
+use mathlib.Core.Bool.{Bool, true, false, not, cond}
+use mathlib.Core.Option.{none, some}
 use mathlib.Core.List.{List, [], _∷_}
 use Prim.Native.Nat.{ℕ, zero, suc, _≤_, _<_, _^_}
 use native.Mathlib.Omega.{arith}
+use lib.Dec.{eqb}
 use lib.ListN.{length, getD, set, length-set}
 use Rattle.facts.specs.Lists.{listed, written-out}
+use Rattle.rules.specs.Cabinet.{Standby, isSome, limited}
 use Rattle.rules.specs.Moves.{issued, unprotected}
 use Rattle.process.specs.Row.{rowLength, machineOf, standbyOf, processOf, Kept}
 use Rattle.process.specs.Change.{Became, RowBecame}
@@ -32,10 +36,19 @@ cleared k h = stored k 0 (omega arith) h
 pub spelled : {A : Type 0} (row : List ℕ) (f : List ℕ → A) → length row ≡ rowLength → f row ≡ f (listed (λ i. getD row i 0) rowLength)
 spelled row f h = ap f (written-out row rowLength 0 h)
 
+-- a process is limited where its row says so
+pub limited-is : (row mail log head : List ℕ) → limited (processOf row mail log head) ≡ not (eqb (getD row 12 0) 0)
+unfolding processOf standbyOf
+limited-is row mail log head = go (eqb (getD row 12 0) 0) _
+  where
+    go : (b : Bool) (x : Standby) → isSome (cond b none (some x)) ≡ not b
+    go true x = refl
+    go false x = refl
+
 -- ---- issue
 
 abbrev issuedIn : List ℕ → List ℕ
-issuedIn row = set (set (set (set (set row 7 0) 8 0) 9 0) 10 0) 11 0
+issuedIn row = set (set (set (set (set (set row 7 0) 8 0) 9 0) 10 0) 11 0) 15 0
 
 pub issued-became : (row : List ℕ) → RowBecame row (issuedIn row) issued
 unfolding processOf machineOf standbyOf issued
@@ -47,7 +60,7 @@ issued-became row mail log head k =
         row-length = simp length-set l;
         mail-length = k .mail-length;
         unread = rw (spelled row (λ (r : List ℕ). getD (issuedIn r) 14 0) l) (k .unread);
-        words = cleared 11 (cleared 10 (cleared 9 (cleared 8 (cleared {l = row} 7 (record { word = k .words }))))) .word;
+        words = cleared 15 (cleared 11 (cleared 10 (cleared 9 (cleared 8 (cleared {l = row} 7 (record { word = k .words })))))) .word;
         flag = rw (spelled row (λ (r : List ℕ). getD (issuedIn r) 12 0) l) (k .flag);
         sound = k .sound;
       };

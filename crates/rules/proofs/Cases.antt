@@ -3,7 +3,7 @@ use mathlib.Core.Bool.{Bool, cond}
 use mathlib.Core.List.{List, [], _∷_, _++_, map}
 use Prim.Native.Nat.{ℕ, zero, suc, _*_, _/_, _%_, _^_}
 use lib.ListN.{length, drop, replicate}
-use Rattle.rules.specs.Table.{Channel, Instruction, SET, ADD, TAKE, FIRST, SEND, JUMP, Placement, Table}
+use Rattle.rules.specs.Table.{Channel, Instruction, SET, ADD, TAKE, FIRST, SEND, JUMP, NONE, Placement, Table}
 use Rattle.rules.specs.Moves.{Command, Numbers}
 use Rattle.rules.specs.Bytes.{byteAt, number32, wordBytes, allBytes}
 use Rattle.rules.specs.Format.{processesIn}
@@ -57,6 +57,7 @@ instructionBytes (TAKE a k) = 3 ∷ a ∷ wordBytes k
 instructionBytes (FIRST a mask) = 4 ∷ a ∷ wordBytes mask
 instructionBytes (SEND a k) = 5 ∷ a ∷ wordBytes k
 instructionBytes (JUMP a n) = 6 ∷ a ∷ wordBytes n
+instructionBytes NONE = 0 ∷ 0 ∷ wordBytes 0
 
 abbrev pub tableBytes : Table → List ℕ
 tableBytes t =

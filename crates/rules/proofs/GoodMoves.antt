@@ -3,7 +3,7 @@ use mathlib.Core.Path.{_≡_, refl, ap, sym, _∙_, subst}
 use mathlib.Core.Bool.{true, false}
 use mathlib.Core.Option.{some}
 use mathlib.Core.List.{List, [], _∷_, _++_}
-use Prim.Native.Nat.{ℕ, zero, suc, _+_, _≤_, _<_}
+use Prim.Native.Nat.{ℕ, zero, suc, _≤_, _<_}
 use native.Mathlib.Omega.{arith}
 use lib.ListN.{length}
 use Rattle.facts.specs.Tests.{no-way}
@@ -11,15 +11,15 @@ use Rattle.backup.specs.Limits.{logMost, sentMost}
 use Rattle.backup.specs.Replica.{Replica, Checkpoint, FailOver, arrive, arrived, count, counted, sync, synced, failOver}
 use Rattle.rules.specs.Table.{Table, channelAt, codeOf, portOf}
 use Rattle.rules.specs.Machine.{Mail, Machine, Act, sent, delivered}
-use Rattle.rules.specs.Cabinet.{eventsMost, Standby, Process, Item, message, checkpoint, protected, isSome}
-use Rattle.rules.specs.Moves.{advanced, issued, snapshot, receive, counts, keeps, recovered, promoted, unprotected}
+use Rattle.rules.specs.Cabinet.{eventsMost, Standby, Since, Process, Item, message, checkpoint, protected, limited, isSome}
+use Rattle.rules.specs.Moves.{advanced, counting, oneSent, issued, snapshot, receive, counts, keeps, recovered, promoted, unprotected}
 use Rattle.rules.specs.Judge.{Accepted}
 use Rattle.rules.proofs.Steps.{Steps}
-use Rattle.rules.proofs.Runs.{Run, here, more, _then_, isSend, Silent, tally, tally1, busy1, busy-snoc}
+use Rattle.rules.proofs.Runs.{Run, here, more, _then_, isSend, Silent, tally, count1, countOf, Allows, within-snoc}
 use Rattle.rules.proofs.Tables.{step-low}
 use Rattle.rules.proofs.Ahead.{Ahead, level, checkpoints, checkpoints-append, ahead-later, ahead-silent, ahead-send, ahead-issue, up-to-send, up-to-issue, UpToEnd, up-to-end, ahead-total}
 use Rattle.rules.proofs.Good.{stateOf, Replay, Backed, Alone, Late, Good, backed, alone, late, backed-sent, good-backed}
-use Rattle.rules.proofs.Tally.{tally-snoc}
+use Rattle.rules.proofs.Tally.{count-snoc}
 use Rattle.rules.proofs.Replays.{replay-later, replay-on, replay-none, replay-silent, replay-send, replay-zero}
 use Rattle.rules.proofs.Backups.{called, run-low, arrives, arrived-state, arrived-kept, counts-it, counted-kept, syncs, synced-state, synced-kept, takes-over, recovers}
 
@@ -46,6 +46,14 @@ pub record Synced (t : Table) (p : ℕ) (items : List Item) (x : Process) (m : M
 module _ {t : Table} {p : ℕ} {items : List Item} {x : Process} {m : Machine} where
   sent-fits : (h : Backed t p items x m) → h .standby .replica .sent < sentMost
   sent-fits h = let a = backed-sent h in omega arith
+
+-- what is counted of a limited process
+counting-limited : (f : Since → Since) (x : Process) → limited x ≡ true → counting f x ≡ f (x .since)
+counting-limited f x h = rw h
+
+then-counted : (t : Table) (p : ℕ) (ks : List Act) (k : Act) (x : Process) → limited x ≡ true → x .since ≡ countOf t p ks
+    → counting (count1 t p k) x ≡ countOf t p (ks ++ (k ∷ []))
+then-counted t p ks k x safe e = counting-limited (count1 t p k) x safe ∙ ap (count1 t p k) e ∙ sym (count-snoc t p ks k)
 
 -- rolled forward to the reference machine
 alone-of-late : {t : Table} {p : ℕ} {items : List Item} {x : Process} {m : Machine} → x .suppress ≡ 0 → Late t p items x m → Alone t p items x m
@@ -80,8 +88,7 @@ module _ {t : Table} (ok : Accepted t) {p : ℕ} (hp : p < length (t .processes)
             (sym (arrived-state t ok p hp r (h .kept) (sent-fits h) mail reads)) (replay-later mail (h .replay));
         since = h .since;
         ahead = ahead-later mail (h .ahead);
-        is-taken = h .is-taken;
-        is-events = h .is-events;
+        is-since = h .is-since;
         few = h .few;
         one = h .one;
       }
@@ -126,8 +133,7 @@ module _ {t : Table} (ok : Accepted t) {p : ℕ} (hp : p < length (t .processes)
           replay = (unfold stateOf in replay-on (h .replay) (v .to-mid) (v .silent-there) (v .sends-it));
           since = h .since;
           ahead = v .rest;
-          is-taken = h .is-taken;
-          is-events = h .is-events;
+          is-since = h .is-since;
           few = h .few;
           one = h .one;
         };
@@ -173,8 +179,7 @@ module _ {t : Table} (ok : Accepted t) {p : ℕ} (hp : p < length (t .processes)
           replay = replay-none (synced-state t ok p hp r (h .kept) (sent-fits h) ran s is-pc is-registers is-taken);
           since = h .since;
           ahead = v .rest;
-          is-taken = h .is-taken;
-          is-events = h .is-events;
+          is-since = h .is-since;
           few = h .few;
           one = (let o = h .one in omega arith);
         };
@@ -197,10 +202,10 @@ module _ {t : Table} (ok : Accepted t) {p : ℕ} (hp : p < length (t .processes)
 
   -- ---- step
 
-  alone-silent : {items : List Item} {x : Process} {m n : Machine} {k : Act} (taken : List ℕ) (events : ℕ) → Alone t p items x m
-      → Steps (codeOf t p) (x .machine) k n → isSend k ≡ false → Alone t p items (advanced n taken events (x .suppress) x) m
+  alone-silent : {items : List Item} {x : Process} {m n : Machine} {k : Act} (counted : Since) → Alone t p items x m
+      → Steps (codeOf t p) (x .machine) k n → isSend k ≡ false → Alone t p items (advanced n counted (x .suppress) x) m
   unfolding advanced
-  alone-silent {k = k} taken events h e s =
+  alone-silent {k = k} counted h e s =
       record {
         no-standby = h .no-standby;
         no-suppress = h .no-suppress;
@@ -210,11 +215,11 @@ module _ {t : Table} (ok : Accepted t) {p : ℕ} (hp : p < length (t .processes)
         low = step-low t ok p hp e;
       }
 
-  late-silent : {items : List Item} {x : Process} {m n : Machine} {k : Act} (taken : List ℕ) (events suppress : ℕ) → x .suppress ≡ suppress → Late t p items x m
-      → Steps (codeOf t p) (x .machine) k n → isSend k ≡ false → Good t p items (advanced n taken events (x .suppress) x) m
+  late-silent : {items : List Item} {x : Process} {m n : Machine} {k : Act} (counted : Since) (suppress : ℕ) → x .suppress ≡ suppress → Late t p items x m
+      → Steps (codeOf t p) (x .machine) k n → isSend k ≡ false → Good t p items (advanced n counted (x .suppress) x) m
   unfolding advanced
-  late-silent taken events zero z h e s = alone (alone-silent taken events (alone-of-late z h) e s)
-  late-silent {x = x} {m = m} {n = n} taken events (suc i) z h e s =
+  late-silent counted zero z h e s = alone (alone-silent counted (alone-of-late z h) e s)
+  late-silent {x = x} {m = m} {n = n} counted (suc i) z h e s =
       let v = replay-silent (subst (λ (j : ℕ). Replay (codeOf t p) (x .machine) j (h .acts) m) z (h .replay)) e s in
       late record {
         no-standby = h .no-standby;
@@ -225,15 +230,12 @@ module _ {t : Table} (ok : Accepted t) {p : ℕ} (hp : p < length (t .processes)
         low = step-low t ok p hp e;
       }
 
-  pub good-silent : {items : List Item} {x : Process} {m n : Machine} {k : Act} (events : ℕ) → Good t p items x m → Steps (codeOf t p) (x .machine) k n
-      → isSend k ≡ false → events ≡ x .events + busy1 k → (protected x ≡ true → x .events ≤ eventsMost → events ≤ eventsMost)
-      → Good t p items (advanced n (tally1 t p k (x .taken)) events (x .suppress) x) m
+  -- an instruction that sends nothing, where 37 lets it pass: of a limited process it is counted
+  pub good-silent : {items : List Item} {x : Process} {m n : Machine} {k : Act} → Good t p items x m → Steps (codeOf t p) (x .machine) k n
+      → isSend k ≡ false → (limited x ≡ true → Allows k (x .since)) → Good t p items (advanced n (counting (count1 t p k) x) (x .suppress) x) m
   unfolding advanced
-  good-silent {k = k} events (backed h) e s is-events limit =
-      let a = busy-snoc (h .since) k in
-      let b = h .is-events in
-      let c = h .few in
-      let d = limit (ap isSome (h .is-standby)) (omega arith) in
+  good-silent {x = x} {k = k} (backed h) e s limit =
+      let safe : limited x ≡ true = ap isSome (h .is-standby) in
       backed record {
         standby = h .standby;
         is-standby = h .is-standby;
@@ -243,17 +245,16 @@ module _ {t : Table} (ok : Accepted t) {p : ℕ} (hp : p < length (t .processes)
         replay = h .replay;
         since = h .since ++ (k ∷ []);
         ahead = ahead-silent (h .ahead) e s;
-        is-taken = ap (tally1 t p k) (h .is-taken) ∙ sym (tally-snoc t p (h .since) k);
-        is-events = omega arith;
-        few = omega arith;
+        is-since = then-counted t p (h .since) k x safe (h .is-since);
+        few = within-snoc t p (h .since) k (h .is-since) (h .few) (limit safe);
         one = h .one;
       }
-  good-silent {x = x} {k = k} events (alone h) e s is-events limit = alone (alone-silent (tally1 t p k (x .taken)) events h e s)
-  good-silent {x = x} {k = k} events (late h) e s is-events limit = late-silent (tally1 t p k (x .taken)) events (x .suppress) refl h e s
+  good-silent {x = x} {k = k} (alone h) e s limit = alone (alone-silent (counting (count1 t p k) x) h e s)
+  good-silent {x = x} {k = k} (late h) e s limit = late-silent (counting (count1 t p k) x) (x .suppress) refl h e s
 
   -- a send is suppressed
   pub good-suppressed : {items : List Item} {x : Process} {m n : Machine} {mail : Mail} {i : ℕ} → Good t p items x m → x .suppress ≡ suc i
-      → Steps (codeOf t p) (x .machine) (sent mail) n → Good t p items (advanced n (x .taken) (x .events) i x) m
+      → Steps (codeOf t p) (x .machine) (sent mail) n → Good t p items (advanced n (x .since) i x) m
   unfolding advanced
   good-suppressed (backed h) z e = absurd (let y = h .no-suppress in omega arith)
   good-suppressed (alone h) z e = absurd (let y = h .no-suppress in omega arith)
@@ -268,10 +269,10 @@ module _ {t : Table} (ok : Accepted t) {p : ℕ} (hp : p < length (t .processes)
         low = step-low t ok p hp e;
       }
 
-  alone-send : {items : List Item} {x : Process} {m n : Machine} {mail : Mail} (taken : List ℕ) (events : ℕ) → Alone t p items x m
-      → Steps (codeOf t p) (x .machine) (sent mail) n → Alone t p (items ++ (message mail ∷ [])) (advanced n taken events 0 x) m
+  alone-send : {items : List Item} {x : Process} {m n : Machine} {mail : Mail} (counted : Since) → Alone t p items x m
+      → Steps (codeOf t p) (x .machine) (sent mail) n → Alone t p (items ++ (message mail ∷ [])) (advanced n counted 0 x) m
   unfolding advanced
-  alone-send {mail = mail} taken events h e =
+  alone-send {mail = mail} counted h e =
       record {
         no-standby = h .no-standby;
         no-suppress = refl;
@@ -283,13 +284,11 @@ module _ {t : Table} (ok : Accepted t) {p : ℕ} (hp : p < length (t .processes)
 
   -- a word joins the outbox
   pub good-send : {items : List Item} {x : Process} {m n : Machine} {mail : Mail} → Good t p items x m → x .suppress ≡ 0
-      → Steps (codeOf t p) (x .machine) (sent mail) n → (protected x ≡ true → x .events < eventsMost)
-      → Good t p (items ++ (message mail ∷ [])) (advanced n (x .taken) (suc (x .events)) 0 x) m
+      → Steps (codeOf t p) (x .machine) (sent mail) n → (limited x ≡ true → Allows (sent mail) (x .since))
+      → Good t p (items ++ (message mail ∷ [])) (advanced n (counting oneSent x) 0 x) m
   unfolding advanced
-  good-send {items = items} {mail = mail} (backed h) z e limit =
-      let a = busy-snoc (h .since) (sent mail) in
-      let b = h .is-events in
-      let d = limit (ap isSome (h .is-standby)) in
+  good-send {items = items} {x = x} {mail = mail} (backed h) z e limit =
+      let safe : limited x ≡ true = ap isSome (h .is-standby) in
       backed record {
         standby = h .standby;
         is-standby = h .is-standby;
@@ -299,13 +298,12 @@ module _ {t : Table} (ok : Accepted t) {p : ℕ} (hp : p < length (t .processes)
         replay = h .replay;
         since = h .since ++ (sent mail ∷ []);
         ahead = ahead-send (h .ahead) e;
-        is-taken = h .is-taken ∙ sym (tally-snoc t p (h .since) (sent mail));
-        is-events = omega arith;
-        few = omega arith;
+        is-since = then-counted t p (h .since) (sent mail) x safe (h .is-since);
+        few = within-snoc t p (h .since) (sent mail) (h .is-since) (h .few) (limit safe);
         one = (let o = h .one in let c = checkpoints-append items (message mail ∷ []) in omega arith);
       }
-  good-send {x = x} (alone h) z e limit = alone (alone-send (x .taken) (suc (x .events)) h e)
-  good-send {x = x} (late h) z e limit = alone (alone-send (x .taken) (suc (x .events)) (alone-of-late z h) e)
+  good-send {x = x} (alone h) z e limit = alone (alone-send (counting oneSent x) h e)
+  good-send {x = x} (late h) z e limit = alone (alone-send (counting oneSent x) (alone-of-late z h) e)
 
   -- ---- sync
 
@@ -321,10 +319,9 @@ module _ {t : Table} (ok : Accepted t) {p : ℕ} (hp : p < length (t .processes)
         before = h .before;
         replay = h .replay;
         since = [];
-        ahead = rw (h .is-taken) (ahead-issue (h .ahead) (h .few));
-        is-taken = refl;
-        is-events = refl;
-        few = omega arith;
+        ahead = rw (h .is-since) (ahead-issue (h .ahead) (h .few));
+        is-since = refl;
+        few = record { instructions = omega arith; events = omega arith };
         one = (let o = checkpoints-append items (checkpoint p (snapshot x) ∷ []) in omega arith);
       }
   good-issued (alone h) y z = absurd (no-way (let e = ap isSome (h .no-standby) in cc))

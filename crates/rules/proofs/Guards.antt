@@ -7,7 +7,7 @@ use borrow.Author.Tests.{leb-false}
 use Rattle.rules.specs.Table.{Table}
 use Rattle.rules.specs.Machine.{Mail}
 use Rattle.rules.specs.Cabinet.{Cabinet}
-use Rattle.rules.specs.Moves.{Command, Refusal, Answer, refused, Result, refuse, accept, guard, step, issue, transmit, inject, crash, perform, judged, settle, turn}
+use Rattle.rules.specs.Moves.{Command, Refusal, Answer, refused, Result, refuse, accept, guard, step, issue, transmit, inject, crash, Move, stepMove, issueMove, transmitMove, injectMove, crashMove, unknown, moveOf, perform, judged, settle, turn}
 
 -- refused, or the cabinet afterwards and the answer have the property
 pub data Yields (P : Cabinet → Answer → Type 0) : Result → Type 0 where
@@ -28,26 +28,25 @@ after-settle : (P : Cabinet → Answer → Type 0) (c : Cabinet) (r : Command) {
 after-settle P c r h (unmoved {why = why}) = h why
 after-settle P c r h (leaves g) = g
 
--- what each of the five moves yields, by its number, the command yields
-module _ (t : Table) (c : Cabinet) (r : Command) (P : ℕ → Cabinet → Answer → Type 0) (nothing-done : (n : ℕ) (why : Refusal) → P n c (refused why (r .a)))
-    (by-step : r .a < length (t .processes) → Yields (P 1) (step t c (r .a)))
-    (by-issue : r .a < length (t .processes) → Yields (P 2) (issue t c (r .a)))
-    (by-transmit : r .a < t .boards → Yields (P 3) (transmit t c (r .a)))
-    (by-inject : r .a < length (t .channels) → Yields (P 4) (inject t c (record { channel = r .a; word = r .word })))
-    (by-crash : r .a < t .boards → Yields (P 5) (crash t c (r .a))) where
-  by-number : (n : ℕ) → Yields (P n) (perform t c r n)
+-- what each of the moves yields, the command yields
+module _ (t : Table) (c : Cabinet) (r : Command) (P : Move → Cabinet → Answer → Type 0) (nothing-done : (m : Move) (why : Refusal) → P m c (refused why (r .a)))
+    (by-step : r .a < length (t .processes) → Yields (P stepMove) (step t c (r .a)))
+    (by-issue : r .a < length (t .processes) → Yields (P issueMove) (issue t c (r .a)))
+    (by-transmit : r .a < t .boards → Yields (P transmitMove) (transmit t c (r .a)))
+    (by-inject : r .a < length (t .channels) → Yields (P injectMove) (inject t c (record { channel = r .a; word = r .word })))
+    (by-crash : r .a < t .boards → Yields (P crashMove) (crash t c (r .a))) where
+  by-move : (m : Move) → Yields (P m) (perform t c r m)
   unfolding perform
-  by-number zero = unmoved
-  by-number (suc zero) = after-guard _ _ _ λ h. by-step (leb-false _ _ h)
-  by-number (suc (suc zero)) = after-guard _ _ _ λ h. by-issue (leb-false _ _ h)
-  by-number (suc (suc (suc zero))) = after-guard _ _ _ λ h. by-transmit (leb-false _ _ h)
-  by-number (suc (suc (suc (suc zero)))) = after-guard _ _ _ λ h. by-inject (leb-false _ _ h)
-  by-number (suc (suc (suc (suc (suc zero))))) = after-guard _ _ _ λ h. by-crash (leb-false _ _ h)
-  by-number (suc (suc (suc (suc (suc (suc n)))))) = unmoved
+  by-move stepMove = after-guard _ _ _ λ _. after-guard _ _ _ λ h. by-step (leb-false _ _ h)
+  by-move issueMove = after-guard _ _ _ λ _. after-guard _ _ _ λ h. by-issue (leb-false _ _ h)
+  by-move transmitMove = after-guard _ _ _ λ _. after-guard _ _ _ λ h. by-transmit (leb-false _ _ h)
+  by-move injectMove = after-guard _ _ _ λ h. by-inject (leb-false _ _ h)
+  by-move crashMove = after-guard _ _ _ λ _. after-guard _ _ _ λ h. by-crash (leb-false _ _ h)
+  by-move unknown = unmoved
 
-  pub yields-turn : P (r .move) (turn t c r .cabinet) (turn t c r .answer)
+  pub yields-turn : P (moveOf (r .move)) (turn t c r .cabinet) (turn t c r .answer)
   unfolding turn judged
-  yields-turn = after-settle (P (r .move)) c r (nothing-done (r .move)) (after-guard _ _ _ λ _. by-number (r .move))
+  yields-turn = after-settle (P (moveOf (r .move))) c r (nothing-done (moveOf (r .move))) (by-move (moveOf (r .move)))
 
 -- what the five moves leave, a command leaves
 pub after-turn : {P : Cabinet → Type 0} (t : Table) (c : Cabinet) → P c

@@ -14,7 +14,7 @@ use Rattle.facts.specs.Counts.{occurs}
 use Rattle.backup.specs.Replica.{Replica, Reply, count, sync}
 use Rattle.rules.specs.Table.{Table, environment, channelAt, codeOf}
 use Rattle.rules.specs.Machine.{Mail, Machine, Act, internal, took, sent, Outcome, halted, noMail, moved, localStep, booted}
-use Rattle.rules.specs.Cabinet.{eventsMost, Standby, Process, Item, message, checkpoint, Cabinet, nobody, processAt, outboxAt, protected, isSome, unreadOn, inFlight, placed, started}
+use Rattle.rules.specs.Cabinet.{eventsMost, Standby, Since, Process, Item, message, checkpoint, Cabinet, nobody, processAt, outboxAt, protected, isSome, unreadOn, inFlight, placed, started}
 use Rattle.rules.specs.Moves.{withProcess, withOutbox, advanced, send, stepFrom, step, issued, issue, snapshot, counts, keeps, transmitItem, transmitOldest, transmit, inject, onReplica, promoted, unprotected, afterCrash, allAfterCrash, crash}
 use Rattle.rules.proofs.Counting.{weight, step-unread, flight-join, flight-leave, flight-lost, flight-none}
 use Rattle.rules.proofs.Steps.{Steps}
@@ -33,37 +33,37 @@ module _ (t : Table) (c : Cabinet) (small : length (c .processes) ≤ environmen
         omega arith
 
     -- it goes on, and what it sends, if anything, has been admitted
-    step-room : (pending : List ℕ) → Room t pending c → (taken : List ℕ) (events suppress : ℕ) (qs : List (List Item))
+    step-room : (pending : List ℕ) → Room t pending c → (counted : Since) (suppress : ℕ) (qs : List (List Item))
         → ((k : ℕ) → inFlight k qs ≤ inFlight k (c .outboxes) + occurs k pending)
-        → Room t [] (record { processes = set (c .processes) p (advanced m taken events suppress (processAt c p)); outboxes = qs; dead = c .dead })
+        → Room t [] (record { processes = set (c .processes) p (advanced m counted suppress (processAt c p)); outboxes = qs; dead = c .dead })
     unfolding advanced
-    step-room pending with-pending taken events suppress qs joins =
-        change-room t pending [] c with-pending p (advanced m taken events suppress (processAt c p)) qs
+    step-room pending with-pending counted suppress qs joins =
+        change-room t pending [] c with-pending p (advanced m counted suppress (processAt c p)) qs
         (λ h. h)
         (λ k. let x = fewer k in let y = joins k in omega arith)
         (λ k. let y = joins k in omega arith)
         (λ hp k n. let x = fewer k in let y = with-pending p hp .own k n in omega arith)
 
-    stays : (taken : List ℕ) (events suppress : ℕ) → Room t [] (withProcess p (advanced m taken events suppress (processAt c p)) c)
-    stays taken events suppress = step-room [] rm taken events suppress (c .outboxes) (λ k. omega arith)
+    stays : (counted : Since) (suppress : ℕ) → Room t [] (withProcess p (advanced m counted suppress (processAt c p)) c)
+    stays counted suppress = step-room [] rm counted suppress (c .outboxes) (λ k. omega arith)
 
   send-room : (p : ℕ) (m : Machine) (mail : Mail) → localStep (codeOf t p) (processAt c p .machine) ≡ moved m (sent mail)
       → (h : ℕ) → Leaves (Room t []) (send t c p (processAt c p) m mail h)
   unfolding send
-  send-room p m mail e (suc h) = leaves (stays p m (sent mail) e _ _ _)
+  send-room p m mail e (suc h) = leaves (stays p m (sent mail) e _ _)
   send-room p m mail e zero =
       after-guard _ _ _ λ _. after-guard _ _ _ λ _. after-guard _ _ _ λ free.
-      leaves (step-room p m (sent mail) e (mail .channel ∷ []) (admit t c (mail .channel) small free rm) _ _ _ _
+      leaves (step-room p m (sent mail) e (mail .channel ∷ []) (admit t c (mail .channel) small free rm) _ _ _
       (λ k. let j = flight-join k (c .outboxes) (processAt c p .board) (message mail) in omega arith))
 
   outcome-room : (p : ℕ) (o : Outcome) → localStep (codeOf t p) (processAt c p .machine) ≡ o → Leaves (Room t []) (stepFrom t c p (processAt c p) o)
   unfolding stepFrom
   outcome-room p halted e = unmoved
   outcome-room p noMail e = unmoved
-  outcome-room p (moved m internal) e = leaves (stays p m internal e _ _ _)
+  outcome-room p (moved m internal) e = after-guard _ _ _ λ _. leaves (stays p m internal e _ _)
   outcome-room p (moved m (took mail)) e =
       after-guard _ _ _ λ _.
-      leaves (stays p m (took mail) e _ _ _)
+      leaves (stays p m (took mail) e _ _)
   outcome-room p (moved m (sent mail)) e = send-room p m mail e (processAt c p .suppress)
 
   pub step-keeps : (p : ℕ) → Leaves (Room t []) (step t c p)

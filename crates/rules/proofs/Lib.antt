@@ -1,5 +1,6 @@
 -- What is proved of document 01's definitions.
 -- Demand 3 over any list of commands, in the order to read. One machine, and what an accepted table gives:
+pub mod Decoded
 pub mod Steps
 pub mod Runs
 pub mod Tables
@@ -35,8 +36,9 @@ pub mod Turn
 pub mod Start
 pub mod Quiet
 pub mod Transparency
--- The bounds of every state that is reached.
+-- The bounds of every state that is reached, and what a crash there leaves to do again.
 pub mod Reached
+pub mod RollForward
 -- Tables and runs in bytes.
 pub mod Valid
 pub mod ReadBack
@@ -46,6 +48,7 @@ pub mod Buffers
 pub mod Cases
 pub mod Marked
 pub mod MoveCases
+pub mod LongCases
 pub mod FormatCases
 pub mod PageCases
 pub mod ReferenceCases

@@ -81,9 +81,9 @@ module _ (t : Table) (p : ℕ) (few : length (inputs t p) ≤ ports) where
       ∙ then-on
 
   pub backed-saved : (q : List Item) {x : Process} {m : Machine} (h : Backed t p (mine t p q) x m)
-      → mails t p (remaining (x .taken) (remaining (issuedTakes p q) (h .standby .replica .log))) ≡ x .machine .mailbox
+      → mails t p (remaining (x .since .taken) (remaining (issuedTakes p q) (h .standby .replica .log))) ≡ x .machine .mailbox
   unfolding stateOf
   backed-saved q h =
-      rw (h .is-taken)
+      rw (h .is-since)
       (ap (λ (l : List ℕ). mails t p (remaining (tally t p (h .since)) (remaining l (h .standby .replica .log)))) (sym (issued-mine t p q))
       ∙ ahead-saved (stateOf t p (h .standby .replica)) (h .standby .replica .log) refl (h .kept .on-inputs) (h .replay .ran) (h .ahead) (h .one))

@@ -35,9 +35,8 @@ good-placed t p x =
       replay = record { ran = here; sent-so = refl; sealed = refl };
       since = [];
       ahead = level;
-      is-taken = refl;
-      is-events = refl;
-      few = omega arith;
+      is-since = refl;
+      few = record { instructions = omega arith; events = omega arith };
       one = omega arith;
     }
 

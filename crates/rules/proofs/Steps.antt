@@ -10,7 +10,7 @@ use lib.ListN.{length, getD}
 use borrow.Author.Tests.{ltb-true, eqb-true, eqb-false}
 use Rattle.facts.specs.Tests.{no-way}
 use Rattle.facts.specs.Counts.{total, total-ones}
-use Rattle.rules.specs.Table.{Instruction, SET, ADD, TAKE, FIRST, SEND, JUMP}
+use Rattle.rules.specs.Table.{Instruction, SET, ADD, TAKE, FIRST, SEND, JUMP, NONE}
 use Rattle.rules.specs.Machine.{Mail, Machine, Act, internal, took, sent, Outcome, halted, noMail, moved, Pull, nothing, found, behind, pull, bit, take1, first1, execute, localStep, delivered}
 
 -- one local step, as a record: an implicit argument is then read off its type
@@ -77,6 +77,7 @@ execute-later (TAKE a c) m m1 k x e = take1-later a m m1 k x (pull (eqb c) (m .m
 execute-later (FIRST a c) m m1 k x e = first1-later a m m1 k x (pull (bit c) (m .mailbox)) _ (pull-later (bit c) (m .mailbox) x) e
 execute-later (SEND a c) m m1 k x e = ap (onMachine (delivered x)) e
 execute-later (JUMP a n) m m1 k x e = ap (onMachine (delivered x)) e
+execute-later NONE m m1 k x e = absurd (no-way (cc))
 
 pub step-later : {code : List Instruction} {m m1 : Machine} {k : Act} (x : Mail) → Steps code m k m1 → Steps code (delivered x m) k (delivered x m1)
 unfolding localStep delivered
@@ -120,6 +121,7 @@ execute-left (TAKE a c) m = take1-left a m (eqb c) (pull (eqb c) (m .mailbox)) r
 execute-left (FIRST a c) m = first1-left a m (bit c) (pull (bit c) (m .mailbox)) refl
 execute-left (SEND a c) m = refl
 execute-left (JUMP a n) m = refl
+execute-left NONE m = tt
 
 pub step-left : {code : List Instruction} {m m1 : Machine} {k : Act} → Steps code m k m1 → Left m k m1
 step-left {code} {m} e = subst (LeftBy m) (executes e .is) (execute-left (getD code (m .pc) (SET 0 0)) m)

@@ -13,7 +13,7 @@ use borrow.Author.Tests.{eqb-true, eqb-false, eq-eqb, ne-eqb, leb-true, ltb-true
 use Rattle.facts.specs.Tests.{and-left, and-right, by-lt, all-below, allOf}
 use Rattle.facts.specs.Indexing.{all-of}
 use Rattle.backup.specs.Limits.{ports}
-use Rattle.rules.specs.Table.{environment, Channel, Instruction, SET, ADD, TAKE, FIRST, SEND, JUMP, Placement, Table, channelAt, placementAt, codeOf, readFrom, inputs, position, portOf, channelOn}
+use Rattle.rules.specs.Table.{environment, Channel, Instruction, SET, ADD, TAKE, FIRST, SEND, JUMP, NONE, Placement, Table, channelAt, placementAt, codeOf, readFrom, inputs, position, portOf, channelOn}
 use Rattle.rules.specs.Machine.{Mail, Machine, Act, internal, took, sent, Outcome, halted, noMail, moved, Pull, nothing, found, pull, bit, register, take1, first1, execute}
 use Rattle.rules.specs.Judge.{inputsOk, boardsOk, sends, instructionOk, instructionsOk, Accepted}
 use Rattle.rules.proofs.Steps.{Steps, executes}
@@ -163,6 +163,7 @@ execute-proper t p n (JUMP a target) m h ok = go (eqb (register m a) 0)
     go : (b : Bool) → cond b (suc (m .pc)) target ≤ n
     go true = h
     go false = leb-true target n (and-right (ltb a 4) (leb target n) ok)
+execute-proper t p n NONE m h ok = tt
 
 module _ (t : Table) (ok : Accepted t) (p : ℕ) (h : p < length (t .processes)) where
   step-proper : {m m1 : Machine} {k : Act} → Steps (codeOf t p) m k m1 → Proper t p (length (codeOf t p)) (moved m1 k)

@@ -8,10 +8,11 @@ use Rattle.rules.specs.Table.{Table}
 use Rattle.rules.specs.Machine.{Mail}
 use Rattle.rules.specs.Reference.{Reference}
 use Rattle.rules.specs.Cabinet.{Cabinet}
-use Rattle.rules.specs.Moves.{Command, Refusal, badRecord, notInTable, boardDead, isHalted, noSuchWord, eventsFull, outboxFull, channelFull, noBackup, syncWaits, outboxEmpty, notOutside, otherCrashed, refusalNumber, Answer, refused, Numbers, numbers, turn, runFrom}
+use Rattle.rules.specs.Moves.{Command, Move, moveOf, Refusal, Answer, refused, Numbers, numbers, turn, runFrom}
 use Rattle.rules.specs.Judge.{Accepted}
 use Rattle.rules.specs.Transparent.{traceOf, fedOf}
 use Rattle.rules.proofs.Invariant.{Invariant, Roomy}
+use Rattle.rules.proofs.Decoded.{isFeed, moveOf-feed, refusalNumber-not-4}
 use Rattle.rules.proofs.Guards.{yields-turn}
 use Rattle.rules.proofs.Follow.{Follows, traced1, stay, follows-then, follow-step, follow-issue}
 use Rattle.rules.proofs.Transmission.{follow-transmit, follow-inject}
@@ -22,44 +23,27 @@ use Rattle.rules.proofs.KeepRoom.{turn-room}
 
 -- ---- one command
 
--- the feed that a command of move n is, if it was accepted
-abbrev fedBy : ℕ → Command → Answer → List Mail
-fedBy n r a = cond (eqb n 4 && eqb (numbers a .code) 4) (record { channel = r .a; word = r .word } ∷ []) []
-
--- no refusal is a 4
-not-four : (why : Refusal) → eqb (refusalNumber why) 4 ≡ false
-unfolding refusalNumber
-not-four badRecord = refl
-not-four notInTable = refl
-not-four boardDead = refl
-not-four isHalted = refl
-not-four noSuchWord = refl
-not-four eventsFull = refl
-not-four outboxFull = refl
-not-four channelFull = refl
-not-four noBackup = refl
-not-four syncWaits = refl
-not-four outboxEmpty = refl
-not-four notOutside = refl
-not-four otherCrashed = refl
+-- the feed that a command of a move is, if it was accepted
+abbrev fedBy : Move → Command → Answer → List Mail
+fedBy m r a = cond (isFeed m && eqb (numbers a .code) 4) (record { channel = r .a; word = r .word } ∷ []) []
 
 refused-trace : (why : Refusal) (a : ℕ) → traced1 (refused why a) ≡ []
 unfolding traceOf numbers
-refused-trace why a = rw (not-four why)
+refused-trace why a = rw (refusalNumber-not-4 why)
 
-refused-feed : (n : ℕ) (r : Command) (why : Refusal) → fedBy n r (refused why (r .a)) ≡ []
+refused-feed : (m : Move) (r : Command) (why : Refusal) → fedBy m r (refused why (r .a)) ≡ []
 unfolding numbers
-refused-feed n r why = rw (not-four why) (go (eqb n 4))
+refused-feed m r why = rw (refusalNumber-not-4 why) (go (isFeed m))
   where
     go : (b : Bool) → cond {A = List Mail} (b && false) (record { channel = r .a; word = r .word } ∷ []) [] ≡ []
     go true = refl
     go false = refl
 
 turn-follows : {t : Table} → Accepted t → {c : Cabinet} {s : Reference} → Invariant t c s → Roomy t c → (r : Command)
-    → Follows t (turn t c r .cabinet) s (traced1 (turn t c r .answer)) (fedBy (r .move) r (turn t c r .answer))
+    → Follows t (turn t c r .cabinet) s (traced1 (turn t c r .answer)) (fedBy (moveOf (r .move)) r (turn t c r .answer))
 turn-follows {t} ok {c} {s} inv room r =
-    yields-turn t c r (λ n d a. Follows t d s (traced1 a) (fedBy n r a))
-    (λ n why. subst₂ (Follows t c s) (sym (refused-trace why (r .a))) (sym (refused-feed n r why)) (stay inv))
+    yields-turn t c r (λ m d a. Follows t d s (traced1 a) (fedBy m r a))
+    (λ m why. subst₂ (Follows t c s) (sym (refused-trace why (r .a))) (sym (refused-feed m r why)) (stay inv))
     (λ h. follow-step ok inv (r .a) (rw (inv .all-processes) h))
     (λ h. follow-issue ok inv (r .a) (rw (inv .all-processes) h))
     (λ _. follow-transmit ok inv room (r .a))
@@ -77,9 +61,11 @@ trace-cons : (n : Numbers) (l : List Numbers) → traceOf (n ∷ []) ++ traceOf 
 unfolding traceOf
 trace-cons n l = cons-by (eqb (n .code) 4) (record { channel = n .a; word = n .word }) (traceOf l)
 
-fed-cons : (r : Command) (a : Answer) (rs : List Command) (l : List Numbers) → fedBy (r .move) r a ++ fedOf rs l ≡ fedOf (r ∷ rs) (numbers a ∷ l)
+fed-cons : (r : Command) (a : Answer) (rs : List Command) (l : List Numbers) → fedBy (moveOf (r .move)) r a ++ fedOf rs l ≡ fedOf (r ∷ rs) (numbers a ∷ l)
 unfolding fedOf
-fed-cons r a rs l = cons-by (eqb (r .move) 4 && eqb (numbers a .code) 4) (record { channel = r .a; word = r .word }) (fedOf rs l)
+fed-cons r a rs l =
+    rw (moveOf-feed (r .move))
+    (cons-by (eqb (r .move) 4 && eqb (numbers a .code) 4) (record { channel = r .a; word = r .word }) (fedOf rs l))
 
 -- the run of a list from cabinet c, followed from s
 pub record FollowsRun (t : Table) (c : Cabinet) (s : Reference) (commands : List Command) : Type 0 where

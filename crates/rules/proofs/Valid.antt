@@ -13,7 +13,7 @@ use Rattle.backup.specs.Limits.{pcMost}
 use Rattle.rules.specs.Table.{Placement, codeOf}
 use Rattle.rules.specs.Judge.{endsOk, inputsOk, boardsOk, instructionsOk, Accepted}
 use Rattle.rules.specs.Bytes.{sixes}
-use Rattle.rules.specs.Format.{boardsIn, processesIn, channelsIn, versionIn, pairs, recordsStart, recordBytes, programLength, recordLength, rests, placementIn, instruction, decodeTable, orNumber, lengthOk, countsOk, recordsOk, extentOk, codesOk, validateTable}
+use Rattle.rules.specs.Format.{boardsIn, processesIn, channelsIn, versionIn, pairs, recordsStart, recordBytes, programLength, recordLength, rests, placementIn, instruction, decodeTable, orNumber, lengthOk, countsOk, recordsOk, extentOk, validateTable}
 
 -- ---- one test of a list of them
 
@@ -35,22 +35,20 @@ pub record Valid (bytes : List ℕ) : Type 0 where
   pub ends-ok : endsOk (decodeTable bytes) ≡ true
   pub inputs-ok : inputsOk (decodeTable bytes) ≡ true
   pub boards-ok : boardsOk (decodeTable bytes) ≡ true
-  pub codes-ok : codesOk bytes ≡ true
   pub instructions-ok : instructionsOk (decodeTable bytes) ≡ true
 
--- of any eight tests and a ninth
-eight : (a b c d e f g h i : Bool)
-    → orNumber a 1 (orNumber b 2 (orNumber c 3 (orNumber d 4 (orNumber e 5 (orNumber f 6 (orNumber g 7 (orNumber (h && i) 8 0))))))) ≡ 0
-    → (a ≡ true) × (b ≡ true) × (c ≡ true) × (d ≡ true) × (e ≡ true) × (f ≡ true) × (g ≡ true) × (h ≡ true) × (i ≡ true)
-eight a b c d e f g h i n1 =
+-- of any eight tests
+eight : (a b c d e f g h : Bool)
+    → orNumber a 1 (orNumber b 2 (orNumber c 3 (orNumber d 4 (orNumber e 5 (orNumber f 6 (orNumber g 7 (orNumber h 8 0))))))) ≡ 0
+    → (a ≡ true) × (b ≡ true) × (c ≡ true) × (d ≡ true) × (e ≡ true) × (f ≡ true) × (g ≡ true) × (h ≡ true)
+eight a b c d e f g h n1 =
     let n2 = further-passed a 0 _ n1 in
     let n3 = further-passed b 1 _ n2 in
     let n4 = further-passed c 2 _ n3 in
     let n5 = further-passed d 3 _ n4 in
     let n6 = further-passed e 4 _ n5 in
     let n7 = further-passed f 5 _ n6 in
-    let n8 = further-passed g 6 _ n7 in
-    let last = test-passed (h && i) 7 0 n8 in (
+    let n8 = further-passed g 6 _ n7 in (
       test-passed a 0 _ n1,
       test-passed b 1 _ n2,
       test-passed c 2 _ n3,
@@ -58,15 +56,14 @@ eight a b c d e f g h i n1 =
       test-passed e 4 _ n5,
       test-passed f 5 _ n6,
       test-passed g 6 _ n7,
-      and-left h i last,
-      and-right h i last,
+      test-passed h 7 0 n8,
     )
 
 pub valid : (bytes : List ℕ) → validateTable bytes ≡ 0 → Valid bytes
 unfolding validateTable
 valid bytes h =
     let t = decodeTable bytes in
-    let all = eight (lengthOk bytes) (eqb (versionIn bytes) 1) (countsOk bytes) (extentOk bytes) (endsOk t) (inputsOk t) (boardsOk t) (codesOk bytes) (instructionsOk t) h in
+    let all = eight (lengthOk bytes) (eqb (versionIn bytes) 1) (countsOk bytes) (extentOk bytes) (endsOk t) (inputsOk t) (boardsOk t) (instructionsOk t) h in
     record {
       length-ok = all .0;
       version-ok = all .1;
@@ -75,8 +72,7 @@ valid bytes h =
       ends-ok = all .4;
       inputs-ok = all .5;
       boards-ok = all .6;
-      codes-ok = all .7;
-      instructions-ok = all .8;
+      instructions-ok = all .7;
     }
 
 -- ---- the counts are the lists' lengths

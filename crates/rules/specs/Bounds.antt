@@ -14,7 +14,7 @@ use Rattle.backup.specs.Limits.{logMost}
 use Rattle.backup.specs.Replica.{Message, Checkpoint, counted, takenOn, remaining, arriveNumber, countNumber, syncNumber, failOver}
 use Rattle.rules.specs.Table.{Table, environment, channelAt, codeOf, inputs, portOf, channelOn}
 use Rattle.rules.specs.Machine.{Mail}
-use Rattle.rules.specs.Cabinet.{outboxMost, eventsMost, occupancyMost, Standby, Item, message, checkpoint, Cabinet, noTakes, processAt, outboxAt, deadAt, queuedOn, inFlight, occupancy, full}
+use Rattle.rules.specs.Cabinet.{outboxMost, eventsMost, instructionsMost, occupancyMost, Standby, Item, message, checkpoint, Cabinet, noTakes, processAt, outboxAt, deadAt, queuedOn, inFlight, occupancy, full}
 
 -- saved words as an inbox: "the saved words as inbox"
 abbrev pub mails : Table → ℕ → List Message → List Mail
@@ -37,13 +37,15 @@ pub record BackupBounds (t : Table) (c : Cabinet) (p : ℕ) (s : Standby) : Type
   -- "and a count at most 16": it never passes the limit on acts, 8
   pub sent : s .replica .sent ≤ eventsMost
   -- "37 if backed and acts are 8"
-  pub events : processAt c p .events ≤ eventsMost
+  pub events : processAt c p .since .events ≤ eventsMost
+  -- W-204: "after 64 instructions done since its last sync was issued"
+  pub instructions : processAt c p .since .instructions ≤ instructionsMost
   -- "takes per slot since the last issue"
-  pub taken : (port : ℕ) → takenOn (processAt c p .taken) port ≤ eventsMost
+  pub taken : (port : ℕ) → takenOn (processAt c p .since .taken) port ≤ eventsMost
   -- "A channel is held when its unread words and those in the queues are 8 or more together."
   pub occupied : (k : ℕ) → channelAt t k .reader ≡ p → occupancy t c k ≤ occupancyMost
   -- the saved words, less those taken since the backup's state, are the inbox
-  pub saved : mails t p (remaining (processAt c p .taken) (remaining (issuedTakes p (outboxAt c (processAt c p .board))) (s .replica .log))) ≡ processAt c p .machine .mailbox
+  pub saved : mails t p (remaining (processAt c p .since .taken) (remaining (issuedTakes p (outboxAt c (processAt c p .board))) (s .replica .log))) ≡ processAt c p .machine .mailbox
   -- no call of the backup is refused. "A word goes [..] to the sender's backup record, which counts it":
   pub counts : (b : ℕ) (x : Mail) (rest : List Item) → outboxAt c b ≡ message x ∷ rest → channelAt t (x .channel) .sender ≡ p → countNumber (s .replica) ≡ 0
   -- "to [..] the reader's backup record". "Where a process sends to itself, its one record saves the word and counts it."

@@ -20,6 +20,10 @@ outboxMost = 32
 abbrev pub eventsMost : ℕ
 eventsMost = 8
 
+-- W-204: "A backed process now also owes a sync after 64 instructions done since its last sync was issued."
+abbrev pub instructionsMost : ℕ
+instructionsMost = 64
+
 -- "A channel is held when its unread words and those in the queues are 8 or more together."
 abbrev pub occupancyMost : ℕ
 occupancyMost = 8
@@ -31,16 +35,22 @@ pub record Standby : Type 0 where
   pub board : ℕ
   pub replica : Replica
 
+-- what is counted since the last checkpoint was issued
+pub record Since : Type 0 where
+  -- instructions done
+  pub instructions : ℕ
+  -- the receives and sends among them (acts)
+  pub events : ℕ
+  -- the receives, for each port (takes per slot)
+  pub taken : List ℕ
+
 pub record Process : Type 0 where
   pub machine : Machine
   -- the board it runs on
   pub board : ℕ
   -- sends still to be suppressed while the process rolls forward (document 01: hold-back)
   pub suppress : ℕ
-  -- receives and sends since the last checkpoint was issued (acts)
-  pub events : ℕ
-  -- the receives among them, for each port (takes per slot)
-  pub taken : List ℕ
+  pub since : Since
   pub standby : Option Standby
 
 -- "An entry of an outgoing queue is a word or a sync". A word names its channel and so, by the table, its sender.
@@ -58,6 +68,10 @@ pub record Cabinet : Type 0 where
 abbrev pub noTakes : List ℕ
 noTakes = 0 ∷ 0 ∷ 0 ∷ 0 ∷ []
 
+-- nothing counted yet
+abbrev pub noneSince : Since
+noneSince = record { instructions = 0; events = 0; taken = noTakes }
+
 -- "each process on its primary board, [..] each backup record as it starts, all else 0"
 unfoldable pub placed : Placement → Process
 unfolding booted
@@ -65,8 +79,7 @@ placed x = record {
   machine = booted;
   board = x .primary;
   suppress = 0;
-  events = 0;
-  taken = noTakes;
+  since = noneSince;
   standby = some (record { board = x .standby; replica = initial });
 }
 
@@ -84,7 +97,7 @@ started t = record {
 -- stands for a process that the table doesn't have
 unfoldable pub nobody : Process
 unfolding booted
-nobody = record { machine = booted; board = 0; suppress = 0; events = 0; taken = noTakes; standby = none }
+nobody = record { machine = booted; board = 0; suppress = 0; since = noneSince; standby = none }
 
 abbrev pub processAt : Cabinet → ℕ → Process
 processAt c p = getD (c .processes) p nobody
@@ -99,13 +112,26 @@ abbrev pub isSome : {A : Type 0} → Option A → Bool
 isSome none = false
 isSome (some a) = true
 
--- has a live backup (backed)
+-- has a live backup (backed): what a sync and a sender's count ask
 abbrev pub protected : Process → Bool
 protected x = isSome (x .standby)
 
+-- "A backed process has acts": its events and instructions are counted, and limited by 37; what arrives for it is saved
+abbrev pub limited : Process → Bool
+limited x = isSome (x .standby)
+
 -- "if backed and acts are 8"
 unfoldable pub exhausted : Process → Bool
-exhausted x = protected x && leb eventsMost (x .events)
+exhausted x = limited x && leb eventsMost (x .since .events)
+
+-- W-204: "64 instructions done since its last sync was issued". "A process without a backup owes nothing."
+unfoldable pub overrun : Process → Bool
+overrun x = limited x && leb instructionsMost (x .since .instructions)
+
+-- "A backed process now also owes a sync": for its acts, or for its instructions
+unfoldable pub owing : Process → Bool
+unfolding exhausted overrun
+owing x = exhausted x || overrun x
 
 -- how many unread words of a mailbox are of channel k
 abbrev pub unreadOn : ℕ → List Mail → ℕ

@@ -5,9 +5,8 @@ use mathlib.Core.List.{List, [], _∷_, map}
 use Prim.Native.Nat.{ℕ, zero, suc, _+_, _*_}
 use lib.Dec.{eqb, leb}
 use lib.ListN.{length, drop}
-use Rattle.facts.specs.Tests.{allOf}
 use Rattle.backup.specs.Limits.{pcMost}
-use Rattle.rules.specs.Table.{Channel, Instruction, SET, ADD, TAKE, FIRST, SEND, JUMP, Placement, Table}
+use Rattle.rules.specs.Table.{Channel, Instruction, SET, ADD, TAKE, FIRST, SEND, JUMP, NONE, Placement, Table}
 use Rattle.rules.specs.Cabinet.{isEmpty}
 use Rattle.rules.specs.Judge.{endsOk, inputsOk, boardsOk, instructionsOk}
 use Rattle.rules.specs.Bytes.{byteAt, number16, sixes}
@@ -76,28 +75,21 @@ rests (suc n) rest = rest ∷ rests n (drop (recordLength rest) rest)
 
 -- ---- what it says
 
--- 1 to 6, SET to JUMP
-abbrev pub isCode : ℕ → Bool
-isCode code = leb 1 code && leb code 6
-
--- the instruction of a code, `a` and an operand; a code that is none never gets past number 8, and is a SET here
+-- the instruction of a code, `a` and an operand
 abbrev pub instruction : ℕ → ℕ → ℕ → Instruction
-instruction zero a operand = SET a operand
+instruction zero a operand = NONE
 instruction (suc zero) a operand = SET a operand
 instruction (suc (suc zero)) a operand = ADD a operand
 instruction (suc (suc (suc zero))) a operand = TAKE a operand
 instruction (suc (suc (suc (suc zero)))) a operand = FIRST a operand
 instruction (suc (suc (suc (suc (suc zero))))) a operand = SEND a operand
 instruction (suc (suc (suc (suc (suc (suc zero)))))) a operand = JUMP a operand
-instruction (suc (suc (suc (suc (suc (suc (suc n))))))) a operand = SET a operand
+instruction (suc (suc (suc (suc (suc (suc (suc n))))))) a operand = NONE
 
--- the record that begins a list: its placement, and its instructions' codes
+-- the placement of the record that begins a list
 abbrev pub placementIn : List ℕ → Placement
 placementIn rest =
     record { primary = byteAt rest 0; standby = byteAt rest 1; code = sixes instruction (programLength rest) (drop 3 rest) }
-
-abbrev pub codesIn : List ℕ → List ℕ
-codesIn rest = sixes (λ code a operand. code) (programLength rest) (drop 3 rest)
 
 unfoldable pub decodeTable : List ℕ → Table
 decodeTable bytes = record {
@@ -134,14 +126,10 @@ recordsOk (suc n) rest =
 unfoldable pub extentOk : List ℕ → Bool
 extentOk bytes = leb (recordsStart bytes) (length bytes) && recordsOk (processesIn bytes) (recordBytes bytes)
 
--- 8: "an instruction": its code, and then what the code asks
-unfoldable pub codesOk : List ℕ → Bool
-codesOk bytes = allOf (λ rest. allOf isCode (codesIn rest)) (rests (processesIn bytes) (recordBytes bytes))
-
 -- 0, or the number that refuses the table. 2 is "its version", 5 "channel ends", 6 "more than four channels read",
--- 7 "a board not below B, or primary equal to backup".
+-- 7 "a board not below B, or primary equal to backup", 8 "an instruction".
 unfoldable pub validateTable : List ℕ → ℕ
-unfolding lengthOk countsOk extentOk codesOk decodeTable endsOk inputsOk boardsOk instructionsOk
+unfolding lengthOk countsOk extentOk decodeTable endsOk inputsOk boardsOk instructionsOk
 validateTable bytes =
     let t = decodeTable bytes in
     orNumber (lengthOk bytes) 1
@@ -151,5 +139,5 @@ validateTable bytes =
     (orNumber (endsOk t) 5
     (orNumber (inputsOk t) 6
     (orNumber (boardsOk t) 7
-    (orNumber (codesOk bytes && instructionsOk t) 8
+    (orNumber (instructionsOk t) 8
     0)))))))

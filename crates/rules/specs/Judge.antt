@@ -1,5 +1,5 @@
 -- What numbers 5 to 8 ask of a whole table, each as one test (document 01, "The table" and "What each move replies").
--- Numbers 1 to 4, and a code that is no instruction, are judged on the bytes.
+-- Numbers 1 to 4 are judged on the bytes.
 use mathlib.Core.Path.{_≡_}
 use mathlib.Core.Bool.{Bool, true, false, not, cond, _&&_, _||_}
 use mathlib.Core.List.{List, [], _∷_}
@@ -8,7 +8,7 @@ use lib.Dec.{eqb, ltb, leb}
 use lib.ListN.{length}
 use Rattle.facts.specs.Tests.{allOf, allBelow}
 use Rattle.backup.specs.Limits.{ports, pcMost}
-use Rattle.rules.specs.Table.{environment, Channel, Instruction, SET, ADD, TAKE, FIRST, SEND, JUMP, Placement, Table, channelAt, codeOf, placementAt, inputs}
+use Rattle.rules.specs.Table.{environment, Channel, Instruction, SET, ADD, TAKE, FIRST, SEND, JUMP, NONE, Placement, Table, channelAt, codeOf, placementAt, inputs}
 use Rattle.rules.specs.Machine.{bit}
 
 -- "a process number, or 255 for the outside"
@@ -58,6 +58,8 @@ instructionOk t p n (FIRST a mask) =
 instructionOk t p n (SEND a k) = ltb a 4 && sends t p k
 -- "to place operand (0 to n)"
 instructionOk t p n (JUMP a target) = ltb a 4 && leb target n
+-- no code but 1 to 6 is one
+instructionOk t p n NONE = false
 
 unfoldable pub instructionsOk : Table → Bool
 unfolding instructionOk

@@ -6,7 +6,7 @@ use Prim.Native.Nat.{ℕ, zero, suc, _+_, _/_, _%_, _^_}
 use lib.Dec.{eqb, ltb}
 use lib.ListN.{length, getD, set}
 use Rattle.backup.specs.Replica.{noRegisters}
-use Rattle.rules.specs.Table.{Instruction, SET, ADD, TAKE, FIRST, SEND, JUMP}
+use Rattle.rules.specs.Table.{Instruction, SET, ADD, TAKE, FIRST, SEND, JUMP, NONE}
 
 -- a word on a channel
 pub record Mail : Type 0 where
@@ -82,11 +82,15 @@ execute (FIRST a mask) m = first1 a m (pull (bit mask) (m .mailbox))
 execute (SEND a k) m = moved (next m (m .registers) (m .mailbox)) (sent (record { channel = k; word = register m a }))
 execute (JUMP a n) m =
     moved (record { registers = m .registers; pc = cond (eqb (register m a) 0) (suc (m .pc)) n; mailbox = m .mailbox }) internal
+execute NONE m = halted
 
 -- the instruction at the machine's place
+abbrev pub instructionAt : List Instruction → Machine → Instruction
+instructionAt code m = getD code (m .pc) (SET 0 0)
+
 unfoldable pub localStep : List Instruction → Machine → Outcome
 unfolding execute
-localStep code m = cond (ltb (m .pc) (length code)) (execute (getD code (m .pc) (SET 0 0)) m) halted
+localStep code m = cond (ltb (m .pc) (length code)) (execute (instructionAt code m) m) halted
 
 -- a word arrives
 unfoldable pub delivered : Mail → Machine → Machine

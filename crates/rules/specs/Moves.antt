@@ -7,9 +7,9 @@ use lib.Dec.{eqb, ltb, leb}
 use lib.ListN.{length, getD, set}
 use Rattle.facts.specs.Tests.{anyBelow}
 use Rattle.backup.specs.Replica.{Message, Replica, Checkpoint, Reply, FailOver, arrive, count, sync, failOver}
-use Rattle.rules.specs.Table.{Table, environment, channelAt, codeOf, portOf, channelOn}
-use Rattle.rules.specs.Machine.{Mail, Machine, Act, internal, took, sent, Outcome, halted, noMail, moved, localStep, delivered}
-use Rattle.rules.specs.Cabinet.{outboxMost, Standby, Process, Item, message, checkpoint, Cabinet, noTakes, nobody, processAt, outboxAt, deadAt, protected, exhausted, full, waiting}
+use Rattle.rules.specs.Table.{Table, Instruction, SET, ADD, TAKE, FIRST, SEND, JUMP, NONE, environment, channelAt, codeOf, portOf, channelOn}
+use Rattle.rules.specs.Machine.{Mail, Machine, Act, internal, took, sent, Outcome, halted, noMail, moved, instructionAt, localStep, delivered}
+use Rattle.rules.specs.Cabinet.{outboxMost, Standby, Since, Process, Item, message, checkpoint, Cabinet, noneSince, nobody, processAt, outboxAt, deadAt, protected, limited, exhausted, overrun, owing, full, waiting}
 
 -- a schedule's record, one command (document 01: "records of six bytes: move, a, word")
 pub record Command : Type 0 where
@@ -19,18 +19,42 @@ pub record Command : Type 0 where
 
 -- ---- answers
 
+-- why a record is refused, with what told it apart: several have one number
 pub data Refusal : Type 0 where
-  badRecord notInTable boardDead isHalted noSuchWord eventsFull outboxFull channelFull noBackup syncWaits outboxEmpty notOutside otherCrashed : Refusal
+  -- "an unknown move or a word that should be 0"
+  unknownMove strayWord : Refusal
+  -- "a is no process, board or channel of this table"
+  noProcess noBoard noChannel : Refusal
+  -- of a carry, and of a crash
+  transmitDead crashDead : Refusal
+  isHalted : Refusal
+  -- of a TAKE, and of a FIRST
+  noWordToTake noWordForFirst : Refusal
+  -- a sync is owed: for the acts, and for the instructions alone (W-204)
+  eventsFull instructionsFull : Refusal
+  -- of a SEND, and of a sync
+  sendBlocked syncBlocked : Refusal
+  -- of a SEND, and of a feed
+  sendHeld injectHeld : Refusal
+  noBackup syncWaits outboxEmpty notOutside otherCrashed : Refusal
 
 unfoldable pub refusalNumber : Refusal → ℕ
-refusalNumber badRecord = 32
-refusalNumber notInTable = 33
-refusalNumber boardDead = 34
+refusalNumber unknownMove = 32
+refusalNumber strayWord = 32
+refusalNumber noProcess = 33
+refusalNumber noBoard = 33
+refusalNumber noChannel = 33
+refusalNumber transmitDead = 34
+refusalNumber crashDead = 34
 refusalNumber isHalted = 35
-refusalNumber noSuchWord = 36
+refusalNumber noWordToTake = 36
+refusalNumber noWordForFirst = 36
 refusalNumber eventsFull = 37
-refusalNumber outboxFull = 38
-refusalNumber channelFull = 39
+refusalNumber instructionsFull = 37
+refusalNumber sendBlocked = 38
+refusalNumber syncBlocked = 38
+refusalNumber sendHeld = 39
+refusalNumber injectHeld = 39
 refusalNumber noBackup = 40
 refusalNumber syncWaits = 41
 refusalNumber outboxEmpty = 42
@@ -38,8 +62,11 @@ refusalNumber notOutside = 43
 refusalNumber otherCrashed = 44
 
 pub data Answer : Type 0 where
-  done : Answer
-  received queued suppressed transmitted : Mail → Answer
+  -- a step, a sync and a crash that are done
+  stepDone issueDone crashDone : Answer
+  received queued suppressed : Mail → Answer
+  -- on the bus: a word that was carried, and one that was fed
+  transmitted injected : Mail → Answer
   syncKept syncLost : ℕ → Answer
   refused : Refusal → ℕ → Answer
 
@@ -52,15 +79,18 @@ pub record Numbers : Type 0 where
 abbrev pub numbered : ℕ → ℕ → ℕ → Numbers
 numbered code a word = record { code = code; a = a; word = word }
 
--- "0 done (0, 0). 1 took, 2 queued, 3 held back, 4 word on the bus (channel, word) [..]. 5 sync carried, 6 sync with no backup left
--- (process, 0). Refusals repeat a with word 0"
+-- "0 done (0, 0). 1 took, 2 queued, 3 held back, 4 word on the bus (channel, word); a feed answers 4. 5 sync carried, 6 sync with no
+-- backup left (process, 0). Refusals repeat a with word 0"
 unfoldable pub numbers : Answer → Numbers
 unfolding refusalNumber
-numbers done = numbered 0 0 0
+numbers stepDone = numbered 0 0 0
+numbers issueDone = numbered 0 0 0
+numbers crashDone = numbered 0 0 0
 numbers (received x) = numbered 1 (x .channel) (x .word)
 numbers (queued x) = numbered 2 (x .channel) (x .word)
 numbers (suppressed x) = numbered 3 (x .channel) (x .word)
 numbers (transmitted x) = numbered 4 (x .channel) (x .word)
+numbers (injected x) = numbered 4 (x .channel) (x .word)
 numbers (syncKept p) = numbered 5 p 0
 numbers (syncLost p) = numbered 6 p 0
 numbers (refused why a) = numbered (refusalNumber why) a 0
@@ -90,37 +120,75 @@ abbrev pub onReplica : (Replica → Reply) → Option Standby → Option Standby
 onReplica call none = none
 onReplica call (some s) = some (record { board = s .board; replica = call (s .replica) .replica })
 
--- a process after an instruction: its machine, its receives, its events and its suppression
-unfoldable pub advanced : Machine → List ℕ → ℕ → ℕ → Process → Process
-advanced m taken events suppress x =
-    record { machine = m; board = x .board; suppress = suppress; events = events; taken = taken; standby = x .standby }
+-- a process with another backup, or none
+abbrev pub withStandby : Option Standby → Process → Process
+withStandby standby x = record { machine = x .machine; board = x .board; suppress = x .suppress; since = x .since; standby = standby }
+
+-- a process after an instruction: its machine, what is counted, and its suppression
+unfoldable pub advanced : Machine → Since → ℕ → Process → Process
+advanced m since suppress x = record { machine = m; board = x .board; suppress = suppress; since = since; standby = x .standby }
+
+-- "A backed process has acts: takes and queued sends since its last sync was issued." W-204: "64 instructions done since its last sync was
+-- issued." Of a process without a backup nothing is counted.
+abbrev pub counting : (Since → Since) → Process → Since
+counting more x = cond (limited x) (more (x .since)) (x .since)
+
+-- one instruction more that is no act
+abbrev pub oneDone : Since → Since
+oneDone n = record { instructions = suc (n .instructions); events = n .events; taken = n .taken }
+
+-- one queued send more
+abbrev pub oneSent : Since → Since
+oneSent n = record { instructions = suc (n .instructions); events = suc (n .events); taken = n .taken }
+
+-- one receive more on a port
+abbrev pub oneTaken : ℕ → Since → Since
+oneTaken port n = record {
+  instructions = suc (n .instructions);
+  events = suc (n .events);
+  taken = set (n .taken) port (suc (getD (n .taken) port 0));
+}
 
 -- ---- 1 step
 
+-- a sync is owed before a TAKE, a FIRST or a SEND: for the instructions alone where the acts owe none
+abbrev pub owedFor : Process → Refusal
+owedFor x = cond (exhausted x) eventsFull instructionsFull
+
 -- "A SEND with hold-back above 0 lowers it by one and sends nothing. Otherwise the word joins its board's queue."
--- "For a SEND not held back: 37 likewise, 38 queue full, 39 held."
+-- "For a SEND not held back: 37 likewise, 38 queue full, 39 held." (A process with hold-back has no backup, so that nothing is counted.)
 unfoldable pub send : Table → Cabinet → ℕ → Process → Machine → Mail → ℕ → Result
-unfolding exhausted full advanced
-send t c p x m mail (suc h) = accept (withProcess p (advanced m (x .taken) (x .events) h x) c) (suppressed mail)
+unfolding exhausted overrun owing full advanced
+send t c p x m mail (suc h) = accept (withProcess p (advanced m (x .since) h x) c) (suppressed mail)
 send t c p x m mail zero =
-    guard (exhausted x) eventsFull
-    (guard (leb outboxMost (length (outboxAt c (x .board)))) outboxFull
-    (guard (full t c (mail .channel)) channelFull
-    (accept (withProcess p (advanced m (x .taken) (suc (x .events)) 0 x) (enqueue (x .board) (message mail) c)) (queued mail))))
+    guard (owing x) (owedFor x)
+    (guard (leb outboxMost (length (outboxAt c (x .board)))) sendBlocked
+    (guard (full t c (mail .channel)) sendHeld
+    (accept (withProcess p (advanced m (counting oneSent x) 0 x) (enqueue (x .board) (message mail) c)) (queued mail))))
 
--- one receive more on the port of a channel
-abbrev pub oneMore : Table → ℕ → Mail → List ℕ → List ℕ
-oneMore t p mail taken = set taken (portOf t p (mail .channel)) (suc (getD taken (portOf t p (mail .channel)) 0))
+-- "36 no such word": which of the two found none
+unfoldable pub missing : Instruction → Refusal
+missing (FIRST a mask) = noWordForFirst
+missing (TAKE a k) = noWordToTake
+missing (SET a v) = noWordToTake
+missing (ADD a b) = noWordToTake
+missing (SEND a k) = noWordToTake
+missing (JUMP a n) = noWordToTake
+missing NONE = noWordToTake
 
--- "Step: 35 halted. For TAKE and FIRST: 36 no such word, then 37 if backed and acts are 8. [..] SET, ADD and JUMP always succeed."
+-- "Step: 35 halted. For TAKE and FIRST: 36 no such word, then 37 if backed and acts are 8. [..] SET, ADD and JUMP always succeed." W-204:
+-- after 64 instructions "every kind of instruction then answers 37, TAKE and FIRST still answering 36 first when no word is there. This
+-- amends the sentence that SET, ADD and JUMP always succeed."
 unfoldable pub stepFrom : Table → Cabinet → ℕ → Process → Outcome → Result
-unfolding send advanced exhausted
+unfolding send advanced exhausted overrun owing missing
 stepFrom t c p x halted = refuse isHalted
-stepFrom t c p x noMail = refuse noSuchWord
-stepFrom t c p x (moved m internal) = accept (withProcess p (advanced m (x .taken) (x .events) (x .suppress) x) c) done
+stepFrom t c p x noMail = refuse (missing (instructionAt (codeOf t p) (x .machine)))
+stepFrom t c p x (moved m internal) =
+    guard (overrun x) instructionsFull
+    (accept (withProcess p (advanced m (counting oneDone x) (x .suppress) x) c) stepDone)
 stepFrom t c p x (moved m (took mail)) =
-    guard (exhausted x) eventsFull
-    (accept (withProcess p (advanced m (oneMore t p mail (x .taken)) (suc (x .events)) (x .suppress) x) c) (received mail))
+    guard (owing x) (owedFor x)
+    (accept (withProcess p (advanced m (counting (oneTaken (portOf t p (mail .channel))) x) (x .suppress) x) c) (received mail))
 stepFrom t c p x (moved m (sent mail)) = send t c p x m mail (x .suppress)
 
 unfoldable pub step : Table → Cabinet → ℕ → Result
@@ -130,11 +198,11 @@ step t c p = stepFrom t c p (processAt c p) (localStep (codeOf t p) (processAt c
 -- ---- 2 sync
 
 unfoldable pub issued : Process → Process
-issued x = record { machine = x .machine; board = x .board; suppress = x .suppress; events = 0; taken = noTakes; standby = x .standby }
+issued x = record { machine = x .machine; board = x .board; suppress = x .suppress; since = noneSince; standby = x .standby }
 
 -- "a snapshot (registers, place, takes per slot since the last issue)"
 abbrev pub snapshot : Process → Checkpoint
-snapshot x = record { pc = x .machine .pc; registers = x .machine .registers; taken = x .taken }
+snapshot x = record { pc = x .machine .pc; registers = x .machine .registers; taken = x .since .taken }
 
 -- "joins the queue; acts become 0. One sync a process may be waiting there." "Sync: 40 no backup, 41 one waiting, 38 queue full."
 unfoldable pub issue : Table → Cabinet → ℕ → Result
@@ -143,8 +211,8 @@ issue t c p =
     let x = processAt c p in
     guard (not (protected x)) noBackup
     (guard (waiting p (outboxAt c (x .board))) syncWaits
-    (guard (leb outboxMost (length (outboxAt c (x .board)))) outboxFull
-    (accept (withProcess p (issued x) (enqueue (x .board) (checkpoint p (snapshot x)) c)) done)))
+    (guard (leb outboxMost (length (outboxAt c (x .board)))) syncBlocked
+    (accept (withProcess p (issued x) (enqueue (x .board) (checkpoint p (snapshot x)) c)) issueDone)))
 
 -- ---- 3 carry, 4 feed
 
@@ -155,8 +223,7 @@ receive t p mail x = record {
   machine = delivered mail (x .machine);
   board = x .board;
   suppress = x .suppress;
-  events = x .events;
-  taken = x .taken;
+  since = x .since;
   standby = onReplica (λ r. arrive r (portOf t p (mail .channel)) (mail .word)) (x .standby);
 }
 
@@ -170,26 +237,16 @@ deliver t mail c =
 -- the sender's half: "the sender's backup record, which counts it and keeps no copy"
 unfoldable pub counts : Process → Process
 unfolding count
-counts x = record {
-  machine = x .machine;
-  board = x .board;
-  suppress = x .suppress;
-  events = x .events;
-  taken = x .taken;
-  standby = onReplica count (x .standby);
-}
+counts x = withStandby (onReplica count (x .standby)) x
 
 -- "A sync replaces the state in the process's backup record"
 unfoldable pub keeps : Checkpoint → Process → Process
 unfolding sync
-keeps s x = record {
-  machine = x .machine;
-  board = x .board;
-  suppress = x .suppress;
-  events = x .events;
-  taken = x .taken;
-  standby = onReplica (λ r. sync r s) (x .standby);
-}
+keeps s x = withStandby (onReplica (λ r. sync r s) (x .standby)) x
+
+-- "5 sync carried, 6 sync with no backup left", of the sync of process p, which is x
+abbrev pub landed : ℕ → Checkpoint → Process → Answer
+landed p s x = cond (protected x) (syncKept p) (syncLost p)
 
 -- "A word goes, in one move, to the reader's inbox, the reader's backup record, and the sender's backup record."
 unfoldable pub transmitItem : Table → Cabinet → Item → Result
@@ -198,7 +255,7 @@ transmitItem t c (message mail) =
     let sender = channelAt t (mail .channel) .sender in
     accept (deliver t mail (withProcess sender (counts (processAt c sender)) c)) (transmitted mail)
 transmitItem t c (checkpoint p s) =
-    accept (withProcess p (keeps s (processAt c p)) c) (cond (protected (processAt c p)) (syncKept p) (syncLost p))
+    accept (withProcess p (keeps s (processAt c p)) c) (landed p s (processAt c p))
 
 -- "Carry looks at the oldest entry; with none the answer is 42."
 unfoldable pub transmitOldest : Table → Cabinet → ℕ → List Item → Result
@@ -209,15 +266,15 @@ transmitOldest t c b (item ∷ rest) = transmitItem t (withOutbox b rest c) item
 -- "Carry: 34 board dead, 42 queue empty."
 unfoldable pub transmit : Table → Cabinet → ℕ → Result
 unfolding transmitOldest
-transmit t c b = guard (deadAt c b) boardDead (transmitOldest t c b (outboxAt c b))
+transmit t c b = guard (deadAt c b) transmitDead (transmitOldest t c b (outboxAt c b))
 
 -- "Feed: 43 sender not outside, 39 held."
 unfoldable pub inject : Table → Cabinet → Mail → Result
 unfolding full deliver
 inject t c mail =
     guard (not (eqb (channelAt t (mail .channel) .sender) environment)) notOutside
-    (guard (full t c (mail .channel)) channelFull
-    (accept (deliver t mail c) (transmitted mail)))
+    (guard (full t c (mail .channel)) injectHeld
+    (accept (deliver t mail c) (injected mail)))
 
 -- ---- 5 crash
 
@@ -234,11 +291,10 @@ unfoldable pub promoted : Table → ℕ → Standby → Process
 unfolding recovered failOver
 promoted t p s =
     let f = failOver (s .replica) in
-    record { machine = recovered t p f; board = s .board; suppress = f .sent; events = 0; taken = noTakes; standby = none }
+    record { machine = recovered t p f; board = s .board; suppress = f .sent; since = noneSince; standby = none }
 
 unfoldable pub unprotected : Process → Process
-unprotected x =
-    record { machine = x .machine; board = x .board; suppress = x .suppress; events = x .events; taken = x .taken; standby = none }
+unprotected x = withStandby none x
 
 -- what the crash of board b makes of process p: "All processes that had either half there have no backup from then on."
 unfoldable pub afterCrash : Table → ℕ → ℕ → Process → Option Standby → Process
@@ -260,32 +316,56 @@ otherDead c b = anyBelow (λ k. not (eqb k b) && deadAt c k) (length (c .dead))
 unfoldable pub crash : Table → Cabinet → ℕ → Result
 unfolding allAfterCrash
 crash t c b =
-    guard (deadAt c b) boardDead
+    guard (deadAt c b) crashDead
     (guard (otherDead c b) otherCrashed
     (accept (record {
       processes = allAfterCrash t b 0 (c .processes);
       outboxes = set (c .outboxes) b [];
       dead = set (c .dead) b true;
-    }) done))
+    }) crashDone))
 
 -- ---- one command
 
--- "33 if a is no process, board or channel of this table", by the move
-unfoldable pub perform : Table → Cabinet → Command → ℕ → Result
-unfolding step issue transmit inject crash
-perform t c r (suc zero) = guard (leb (length (t .processes)) (r .a)) notInTable (step t c (r .a))
-perform t c r (suc (suc zero)) = guard (leb (length (t .processes)) (r .a)) notInTable (issue t c (r .a))
-perform t c r (suc (suc (suc zero))) = guard (leb (t .boards) (r .a)) notInTable (transmit t c (r .a))
-perform t c r (suc (suc (suc (suc zero)))) =
-    guard (leb (length (t .channels)) (r .a)) notInTable (inject t c (record { channel = r .a; word = r .word }))
-perform t c r (suc (suc (suc (suc (suc zero))))) = guard (leb (t .boards) (r .a)) notInTable (crash t c (r .a))
-perform t c r zero = refuse badRecord
-perform t c r (suc (suc (suc (suc (suc (suc n)))))) = refuse badRecord
+pub data Move : Type 0 where
+  stepMove issueMove transmitMove injectMove crashMove unknown : Move
 
--- "Any record: 32 for an unknown move or a word that should be 0". "The word is 0 except in a feed."
+-- "1 step process a", "2 sync process a", "3 carry board a", "4 feed outside channel a", "5 crash board a"
+abbrev pub moveOf : ℕ → Move
+moveOf zero = unknown
+moveOf (suc zero) = stepMove
+moveOf (suc (suc zero)) = issueMove
+moveOf (suc (suc (suc zero))) = transmitMove
+moveOf (suc (suc (suc (suc zero)))) = injectMove
+moveOf (suc (suc (suc (suc (suc zero))))) = crashMove
+moveOf (suc (suc (suc (suc (suc (suc n)))))) = unknown
+
+-- "a word that should be 0": "The word is 0 except in a feed."
+abbrev pub wordless : Command → Result → Result
+wordless r rest = guard (not (eqb (r .word) 0)) strayWord rest
+
+-- "33 if a is no process, board or channel of this table", by the move
+abbrev pub ofProcess : Table → Command → Result → Result
+ofProcess t r rest = guard (leb (length (t .processes)) (r .a)) noProcess rest
+
+abbrev pub ofBoard : Table → Command → Result → Result
+ofBoard t r rest = guard (leb (t .boards) (r .a)) noBoard rest
+
+abbrev pub ofChannel : Table → Command → Result → Result
+ofChannel t r rest = guard (leb (length (t .channels)) (r .a)) noChannel rest
+
+-- "Any record: 32 for an unknown move or a word that should be 0; 33 [..]", then the move
+unfoldable pub perform : Table → Cabinet → Command → Move → Result
+unfolding step issue transmit inject crash
+perform t c r stepMove = wordless r (ofProcess t r (step t c (r .a)))
+perform t c r issueMove = wordless r (ofProcess t r (issue t c (r .a)))
+perform t c r transmitMove = wordless r (ofBoard t r (transmit t c (r .a)))
+perform t c r injectMove = ofChannel t r (inject t c (record { channel = r .a; word = r .word }))
+perform t c r crashMove = wordless r (ofBoard t r (crash t c (r .a)))
+perform t c r unknown = refuse unknownMove
+
 unfoldable pub judged : Table → Cabinet → Command → Result
 unfolding perform
-judged t c r = guard (not (eqb (r .move) 4) && not (eqb (r .word) 0)) badRecord (perform t c r (r .move))
+judged t c r = perform t c r (moveOf (r .move))
 
 pub record Turn : Type 0 where
   pub cabinet : Cabinet

@@ -13,9 +13,11 @@ pub record Channel : Type 0 where
   pub sender : ℕ
   pub reader : ℕ
 
--- code, then `a` and the operand
+-- codes 1 to 6 with `a` and the operand, and any other code
 pub data Instruction : Type 0 where
   SET ADD TAKE FIRST SEND JUMP : ℕ → ℕ → Instruction
+  -- number 8 refuses it, and nothing executes it
+  NONE : Instruction
 
 -- "one record for each process: primary board, backup board, n, and n instructions"
 pub record Placement : Type 0 where

@@ -27,8 +27,7 @@ module _ (t : Table) (ok : Accepted t) (pending : List â„•) (c : Cabinet) (p : â
     machine = delivered mail (processAt c p .machine);
     board = processAt c p .board;
     suppress = processAt c p .suppress;
-    events = processAt c p .events;
-    taken = processAt c p .taken;
+    since = processAt c p .since;
     standby = processAt c p .standby;
   }
 

@@ -11,7 +11,7 @@ pub mod Ends
 pub mod Known
 pub mod Arrivals
 pub mod Owners
-pub mod Tallies
+pub mod Counters
 pub mod Waits
 pub mod Unharmed
 pub mod Held

@@ -2,12 +2,11 @@
 use mathlib.Core.Path.{_≡_}
 use mathlib.Core.Bool.{cond}
 use mathlib.Core.List.{List, []}
-use Prim.Native.Nat.{ℕ, _≤_, _<_}
+use Prim.Native.Nat.{ℕ, _<_}
 use lib.Dec.{ltb}
-use lib.ListN.{length, set}
+use lib.ListN.{set}
 use Rattle.rules.specs.Table.{Table}
 use Rattle.rules.specs.Judge.{Accepted}
-use Rattle.rules.specs.Schedule.{commandsMost}
 use Rattle.rules.specs.Cabinet.{Cabinet, started}
 use Rattle.rules.specs.Moves.{Command, Result, settle, numbers, numbered, runFrom}
 use Rattle.state.specs.declared.entry.Entry.{Entry}
@@ -41,7 +40,6 @@ storedBy entries r = cond (ltb (r .at) 512) (set entries (r .at) (r .entry)) ent
 pub record Reachable (t : Table) (c : Cabinet) : Type 0 where
   pub accepted : Accepted t
   pub commands : List Command
-  pub few : length commands ≤ commandsMost
   pub is-reached : c ≡ runFrom t (started t) commands .cabinet
 
 -- one move of the rules, as the code made it: the answer's numbers, and the cabinet that the lists hold afterwards

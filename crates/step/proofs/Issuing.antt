@@ -16,7 +16,7 @@ use Rattle.process.specs.Change.{RowBecame}
 use Rattle.rules.specs.Table.{Table}
 use Rattle.rules.specs.Cabinet as rules
 use Rattle.rules.specs.Cabinet.{isCheckpointOf, Cabinet, Process, outboxMost, processAt, outboxAt, protected, waiting}
-use Rattle.rules.specs.Moves.{Command, Result, refuse, accept, guard, noBackup, syncWaits, outboxFull, refusalNumber, issue, issued, snapshot, withProcess, enqueue, done, numbers}
+use Rattle.rules.specs.Moves.{Command, Result, refuse, accept, guard, noBackup, syncWaits, syncBlocked, refusalNumber, issue, issued, snapshot, withProcess, enqueue, issueDone, numbers}
 use Rattle.state.specs.declared.entry.Entry.{Entry}
 use Rattle.state.specs.declared.entry.Item.the-variants.{Sync}
 use Rattle.state.specs.declared.moved.Moved.{Moved}
@@ -71,12 +71,12 @@ module _ {t : Table} {s : Store} {entries : List Entry} {c : Cabinet} (reach : R
   refused-41 n w = rw (is-protected true (rw (ne-eqb _ 0 n)), flag-on (waiting p (outboxAt c (processAt c p .board))) (getD (s .waits) p 0) (h .waits-is p hp) w)
 
   pub refused-38 : (getD (getD (s .rows) p []) 12 0 ≡ 0 → ⊥) → getD (s .waits) p 0 ≡ 0 → outboxMost ≤ countIn (s .boards) (getD (getD (s .rows) p []) 0 0)
-      → issue t c p ≡ refuse outboxFull
+      → issue t c p ≡ refuse syncBlocked
   unfolding issue guard
   refused-38 n w l = rw (is-protected true (rw (ne-eqb _ 0 n)), flag-off (waiting p (outboxAt c (processAt c p .board))) (getD (s .waits) p 0) (h .waits-is p hp) w, le-leb outboxMost (length (outboxAt c (processAt c p .board))) (rw queue-has l))
 
   pub accepted-so : (getD (getD (s .rows) p []) 12 0 ≡ 0 → ⊥) → getD (s .waits) p 0 ≡ 0 → countIn (s .boards) (getD (getD (s .rows) p []) 0 0) < outboxMost
-      → issue t c p ≡ accept (withProcess p (issued (processAt c p)) (enqueue (processAt c p .board) (rules.checkpoint p (snapshot (processAt c p))) c)) done
+      → issue t c p ≡ accept (withProcess p (issued (processAt c p)) (enqueue (processAt c p .board) (rules.checkpoint p (snapshot (processAt c p))) c)) issueDone
   unfolding issue guard
   accepted-so n w l = rw (is-protected true (rw (ne-eqb _ 0 n)), flag-off (waiting p (outboxAt c (processAt c p .board))) (getD (s .waits) p 0) (h .waits-is p hp) w, lt-leb outboxMost (length (outboxAt c (processAt c p .board))) (rw queue-has l))
 
@@ -173,7 +173,7 @@ module _ (rows boards : List (List ℕ)) (waits : List ℕ) (p : ℕ) (r : Moved
     unfolding refusalNumber
     issues-38 n w l e = record {
       turned = λ t mails logs heads unread queued entries c command reach h f hp.
-          turned-down command p outboxFull h (refused-38 reach h p hp n w (rw (← the-board reach h hp) l)) f e;
+          turned-down command p syncBlocked h (refused-38 reach h p hp n w (rw (← the-board reach h hp) l)) f e;
     }
 
     pub issues-done : (row′ : List ℕ) (k : code.Checkpoint) → (getD (getD rows p []) 12 0 ≡ 0 → ⊥) → getD waits p 0 ≡ 0 → getD (getD boards b []) 1 0 < outboxMost

@@ -11,16 +11,17 @@ use borrow.Author.Tests.{eq-eqb, ne-eqb, lt-ltb, le-leb, lt-leb}
 use Rattle.facts.specs.Tests.{by-eq}
 use Rattle.facts.specs.Counts.{same-yes, same-no}
 use Rattle.process.specs.Row.{machineOf, processOf}
-use Rattle.instruction.specs.Instruction.{Intends, Suppresses, Queues, Room, afterSend}
+use Rattle.instruction.specs.Instruction.{Intends, Suppresses, Queues, afterSend}
 use Rattle.instruction.specs.declared.instruction.Intent.the-variants.{Send}
 use Rattle.rules.specs.Table.{Table, environment, codeOf, channelAt}
 use Rattle.rules.specs.Machine.{Mail, Machine, sent}
 use Rattle.rules.specs.Cabinet as rules
 use Rattle.rules.specs.Cabinet.{Cabinet, Process, outboxMost, isCheckpointOf, processAt, outboxAt, full, waiting, inFlight}
 use Rattle.rules.specs.Moves as moves
-use Rattle.rules.specs.Moves.{guard, refuse, accept, eventsFull, outboxFull, channelFull, refusalNumber, suppressed, numbers, advanced, step, stepFrom, withProcess, enqueue}
+use Rattle.rules.specs.Moves.{guard, refuse, accept, owedFor, sendBlocked, sendHeld, refusalNumber, suppressed, numbers, advanced, counting, oneSent, step, stepFrom, withProcess, enqueue}
 use Rattle.rules.proofs.Steps.{Steps}
 use Rattle.rules.proofs.Counting.{weight, flight-joined}
+use Rattle.rules.proofs.Decoded.{owed-number}
 use Rattle.rules.proofs.Tables.{step-own}
 use Rattle.state.specs.declared.entry.Entry.{Entry}
 use Rattle.state.specs.declared.entry.Item.the-variants.{Word}
@@ -33,13 +34,12 @@ use Rattle.state.proofs.Queueing.{QueueThen, joined}
 use Rattle.state.proofs.Changing.{row-changed}
 use Rattle.state.proofs.Reaching.{channel-bounds}
 use Rattle.state.proofs.Ends.{sent-inside, reader-inside}
-use Rattle.state.proofs.Tallies.{events-few}
 use Rattle.state.proofs.Refusing.{turned-down}
-use Rattle.step.specs.Parts.{spentIn, SendTurns}
+use Rattle.step.specs.Parts.{owingIn, SendTurns}
 use Rattle.state.specs.Channel.{heldIn}
 use Rattle.state.proofs.Held.{full-is}
 use Rattle.step.proofs.Issuing.{board-is, board-there, queue-has}
-use Rattle.step.proofs.Stepping.{turned-to, machine-is, step-is, exhausted-is}
+use Rattle.step.proofs.Stepping.{turned-to, machine-is, step-is, owing-is, instructions-room, events-room}
 
 -- a word that joins a queue is no checkpoint
 waiting-joined : (q : ℕ) (l : List rules.Item) (x : Mail) → waiting q (l ++ (rules.message x ∷ [])) ≡ waiting q l
@@ -88,7 +88,7 @@ module _ {t : Table} {s : Store} {entries : List Entry} {c : Cabinet} (reach : R
   -- ---- suppressed
 
   abbrev suppressing : ℕ → Process → Process
-  suppressing left y = advanced m1 (y .taken) (y .events) left y
+  suppressing left y = advanced m1 (y .since) left y
 
   pub suppressed-so : (left : ℕ) → getD row 6 0 ≡ suc left → step t c p ≡ accept (withProcess p (suppressing left (processAt c p)) c) (suppressed x)
   unfolding moves.send
@@ -107,35 +107,35 @@ module _ {t : Table} {s : Store} {entries : List Entry} {c : Cabinet} (reach : R
   -- ---- the refusals
 
   abbrev queueing : Process → Process
-  queueing y = advanced m1 (y .taken) (suc (y .events)) 0 y
+  queueing y = advanced m1 (counting oneSent y) 0 y
 
   abbrev then : Cabinet
   then = withProcess p (queueing (processAt c p)) (enqueue (processAt c p .board) (rules.message x) c)
 
   module _ (none : getD row 6 0 ≡ 0) (reader : ℕ) (is-reader : reader ≡ channelAt t channel .reader) where
-    queues-so : (b1 b2 b3 : Bool) → spentIn row ≡ b1 → leb outboxMost (countIn (s .boards) b) ≡ b2 → heldIn reader (getD (s .unread) channel 0) (getD (s .queued) channel 0) ≡ b3
-        → step t c p ≡ guard b1 eventsFull (guard b2 outboxFull (guard b3 channelFull (accept then (moves.queued x))))
+    queues-so : (b1 b2 b3 : Bool) → owingIn row ≡ b1 → leb outboxMost (countIn (s .boards) b) ≡ b2 → heldIn reader (getD (s .unread) channel 0) (getD (s .queued) channel 0) ≡ b3
+        → step t c p ≡ guard b1 (owedFor (processAt c p)) (guard b2 sendBlocked (guard b3 sendHeld (accept then (moves.queued x))))
     unfolding moves.send
     queues-so b1 b2 b3 e1 e2 e3 =
         sends-so 0 none
-        ∙ ap (λ (z : Bool). guard z eventsFull (guard (leb outboxMost (length (outboxAt c (processAt c p .board)))) outboxFull (guard (full t c channel) channelFull (accept then (moves.queued x))))) (exhausted-is h p hp ∙ e1)
-        ∙ ap (λ (z : Bool). guard b1 eventsFull (guard z outboxFull (guard (full t c channel) channelFull (accept then (moves.queued x))))) (ap (leb outboxMost) (queue-has reach h p hp) ∙ e2)
-        ∙ ap (λ (z : Bool). guard b1 eventsFull (guard b2 outboxFull (guard z channelFull (accept then (moves.queued x))))) (full-is reach h channel channel-inside reader is-reader ∙ e3)
+        ∙ ap (λ (z : Bool). guard z (owedFor (processAt c p)) (guard (leb outboxMost (length (outboxAt c (processAt c p .board)))) sendBlocked (guard (full t c channel) sendHeld (accept then (moves.queued x))))) (owing-is h p hp ∙ e1)
+        ∙ ap (λ (z : Bool). guard b1 (owedFor (processAt c p)) (guard z sendBlocked (guard (full t c channel) sendHeld (accept then (moves.queued x))))) (ap (leb outboxMost) (queue-has reach h p hp) ∙ e2)
+        ∙ ap (λ (z : Bool). guard b1 (owedFor (processAt c p)) (guard b2 sendBlocked (guard z sendHeld (accept then (moves.queued x))))) (full-is reach h channel channel-inside reader is-reader ∙ e3)
 
-    pub refused-37 : spentIn row ≡ true → step t c p ≡ refuse eventsFull
+    pub refused-37 : owingIn row ≡ true → step t c p ≡ refuse (owedFor (processAt c p))
     unfolding guard
     refused-37 e = queues-so true _ _ e refl refl
 
-    pub refused-38 : spentIn row ≡ false → leb outboxMost (countIn (s .boards) b) ≡ true → step t c p ≡ refuse outboxFull
+    pub refused-38 : owingIn row ≡ false → leb outboxMost (countIn (s .boards) b) ≡ true → step t c p ≡ refuse sendBlocked
     unfolding guard
     refused-38 e f = queues-so false true _ e f refl
 
-    pub refused-39 : spentIn row ≡ false → leb outboxMost (countIn (s .boards) b) ≡ false → heldIn reader (getD (s .unread) channel 0) (getD (s .queued) channel 0) ≡ true
-        → step t c p ≡ refuse channelFull
+    pub refused-39 : owingIn row ≡ false → leb outboxMost (countIn (s .boards) b) ≡ false → heldIn reader (getD (s .unread) channel 0) (getD (s .queued) channel 0) ≡ true
+        → step t c p ≡ refuse sendHeld
     unfolding guard
     refused-39 e f g = queues-so false false true e f g
 
-    pub queued-so : spentIn row ≡ false → leb outboxMost (countIn (s .boards) b) ≡ false → heldIn reader (getD (s .unread) channel 0) (getD (s .queued) channel 0) ≡ false
+    pub queued-so : owingIn row ≡ false → leb outboxMost (countIn (s .boards) b) ≡ false → heldIn reader (getD (s .unread) channel 0) (getD (s .queued) channel 0) ≡ false
         → step t c p ≡ accept then (moves.queued x)
     unfolding guard
     queued-so e f g = queues-so false false false e f g
@@ -193,13 +193,6 @@ module _ {t : Table} {s : Store} {entries : List Entry} {c : Cabinet} (reach : R
           waits-long = h .waits-length;
         }
 
-    events-room : Room row 7
-    unfolding processOf
-    events-room =
-        let f : processAt c p .events ≡ getD row 7 0 = ap (λ (y : Process). y .events) (at-process h p hp) in
-        let g = events-few reach p in
-        omega arith
-
     -- the lists afterwards hold the rules' cabinet afterwards
     send-holds : (row′ : List ℕ) → getD row 6 0 ≡ 0 → Queues row row′
         → Holds t (storeOf (set (s .rows) p row′) (s .mails) (s .logs) (s .heads) (set (s .boards) b (pushedIn board)) (s .unread) queued′ (s .waits)) (set entries (placeOf board b) e)
@@ -208,7 +201,7 @@ module _ {t : Table} {s : Store} {entries : List Entry} {c : Cabinet} (reach : R
     send-holds row′ none became =
         let first = joined h (reach .accepted .boards-high) b hb (pushedIn board) queued′ (s .waits) e few queue-then in
         row-changed first (reach .accepted .processes-high) p hp row′ queueing
-        (became (codeOf t p) n code a operand channel word mail log head (h .kept p hp) i none events-room) refl same-mailbox
+        (became (codeOf t p) n code a operand channel word mail log head (h .kept p hp) i none (events-room h p hp reach) (instructions-room h p hp reach)) refl same-mailbox
 
     pub send-holds-so : (row′ : List ℕ) → getD row 6 0 ≡ 0 → Queues row row′
         → Holds t (storeOf (set (s .rows) p row′) (s .mails) (s .logs) (s .heads) (set (s .boards) b (pushedIn board)) (s .unread) queued′ (s .waits)) (set entries (placeOf board b) e) then
@@ -244,14 +237,14 @@ module _ (reader : List ℕ) (rows boards : List (List ℕ)) (unread queued : Li
   }
 
   module _ (none : getD (getD rows p []) 6 0 ≡ 0) where
-    pub send-37 : spentIn (getD rows p []) ≡ true → r ≡ refusedWith 37 p → SendTurns reader rows boards unread queued p channel word rows boards queued r
-    unfolding refusalNumber
+    pub send-37 : owingIn (getD rows p []) ≡ true → r ≡ refusedWith 37 p → SendTurns reader rows boards unread queued p channel word rows boards queued r
     send-37 e g = record {
       turned = λ t sender port mails logs heads waits entries c command n code register operand reach wired i h f hp.
-          turned-down command p eventsFull h (refused-37 reach h p hp n code register operand channel word i none _ refl e) f g;
+          turned-down command p (owedFor (processAt c p)) h (refused-37 reach h p hp n code register operand channel word i none _ refl e) f
+          (g ∙ ap (λ (k : ℕ). refusedWith k p) (sym (owed-number (processAt c p))));
     }
 
-    module _ (fresh : spentIn (getD rows p []) ≡ false) (b : ℕ) (is-b : getD (getD rows p []) 0 0 < 16 → b ≡ getD (getD rows p []) 0 0) where
+    module _ (fresh : owingIn (getD rows p []) ≡ false) (b : ℕ) (is-b : getD (getD rows p []) 0 0 < 16 → b ≡ getD (getD rows p []) 0 0) where
       -- of lists that hold a cabinet the clamped board is the board
       the-board : {t : Table} {mails logs heads : List (List ℕ)} {waits : List ℕ} {entries : List Entry} {c : Cabinet} → Reachable t c
           → Holds t (storeOf rows mails logs heads boards unread queued waits) entries c → p < length (t .processes) → b ≡ getD (getD rows p []) 0 0
@@ -261,7 +254,7 @@ module _ (reader : List ℕ) (rows boards : List (List ℕ)) (unread queued : Li
       unfolding refusalNumber
       send-38 l g = record {
         turned = λ t sender port mails logs heads waits entries c command n code register operand reach wired i h f hp.
-            turned-down command p outboxFull h
+            turned-down command p sendBlocked h
             (refused-38 reach h p hp n code register operand channel word i none _ refl fresh (le-leb outboxMost (countIn boards (getD (getD rows p []) 0 0)) (rw (← the-board reach h hp) l))) f g;
       }
 
@@ -274,7 +267,7 @@ module _ (reader : List ℕ) (rows boards : List (List ℕ)) (unread queued : Li
               let l = channel-inside reach h p hp n code register operand channel word i in
               let kk : k ≡ channel = is-k (let z = reach .accepted .channels-high in omega arith) in
               let full-so : heldIn (getD reader channel 0) (getD unread channel 0) (getD queued channel 0) ≡ true = rw (← kk) e in
-              turned-down command p channelFull h
+              turned-down command p sendHeld h
               (refused-39 reach h p hp n code register operand channel word i none (getD reader channel 0) (wired .reader-at channel l) fresh
               (lt-leb outboxMost (countIn boards (getD (getD rows p []) 0 0)) (rw (← the-board reach h hp) few)) full-so) f g;
         }

@@ -1,6 +1,6 @@
 -- The decoder: the numbers in order, and the plan of a table that all of them pass.
 use mathlib.Core.Path.{_≡_, refl, ap, ap₂, sym, _∙_, subst₂, subst}
-use mathlib.Core.Bool.{Bool, true, false, _&&_}
+use mathlib.Core.Bool.{Bool, true, false}
 use mathlib.Core.List.{List}
 use Prim.Native.Nat.{ℕ, _+_, _*_, _≤_, _<_}
 use native.Mathlib.Omega.{arith}
@@ -9,7 +9,7 @@ use lib.ListN.{length, getD, drop}
 use lib.Seq.{drop-drop}
 use Rattle.rules.specs.Judge.{endsOk, inputsOk, boardsOk, instructionsOk}
 use Rattle.rules.specs.Bytes.{sixes}
-use Rattle.rules.specs.Format.{versionIn, processesIn, programLength, instruction, decodeTable, orNumber, lengthOk, countsOk, extentOk, codesOk, validateTable}
+use Rattle.rules.specs.Format.{versionIn, processesIn, programLength, instruction, decodeTable, orNumber, lengthOk, countsOk, extentOk, validateTable}
 use Rattle.rules.proofs.Valid.{length-sixes, processes-counted, channels-counted}
 use Rattle.table.specs.Records.{recordStart, programStart}
 use Rattle.table.specs.Parts.{framing, Framed, EndsRead, PortsRead, PlacementsRead, planFrom}
@@ -44,10 +44,10 @@ four-go true true true true further h = (refl, refl, refl, refl)
 pub judging : List ℕ → ℕ
 judging bytes =
     let t = decodeTable bytes in
-    orNumber (endsOk t) 5 (orNumber (inputsOk t) 6 (orNumber (boardsOk t) 7 (orNumber (codesOk bytes && instructionsOk t) 8 0)))
+    orNumber (endsOk t) 5 (orNumber (inputsOk t) 6 (orNumber (boardsOk t) 7 (orNumber (instructionsOk t) 8 0)))
 
 pub judging-from : (bytes : List ℕ) {a b c d : Bool} → a ≡ endsOk (decodeTable bytes) → b ≡ inputsOk (decodeTable bytes) → c ≡ boardsOk (decodeTable bytes)
-    → d ≡ (codesOk bytes && instructionsOk (decodeTable bytes)) → orNumber a 5 (orNumber b 6 (orNumber c 7 (orNumber d 8 0))) ≡ judging bytes
+    → d ≡ instructionsOk (decodeTable bytes) → orNumber a 5 (orNumber b 6 (orNumber c 7 (orNumber d 8 0))) ≡ judging bytes
 unfolding judging
 judging-from bytes e f g h = rw (e, f, g, h)
 

@@ -2,12 +2,11 @@
 use mathlib.Core.Path.{_≡_, refl, ap, sym, _∙_}
 use mathlib.Core.Bool.{Bool, false, _&&_}
 use mathlib.Core.List.{List}
-use Prim.Native.Nat.{ℕ, zero, suc, _≤_, _<_}
-use native.Mathlib.Omega.{arith}
+use Prim.Native.Nat.{ℕ, _≤_, _<_}
 use lib.Dec.{ltb, leb}
-use borrow.Author.Tests.{lt-ltb, le-ltb, lt-leb}
-use Rattle.facts.specs.Ranges.{and-fails}
-use Rattle.rules.specs.Format.{isCode, instruction, decodeTable}
+use borrow.Author.Tests.{lt-ltb, le-ltb}
+use Rattle.rules.specs.Format.{instruction, decodeTable}
+use Rattle.rules.proofs.Decoded.{instruction-none}
 use Rattle.rules.specs.Table.{Table}
 use Rattle.rules.specs.Judge.{reads, sends, instructionOk}
 use Rattle.records.specs.declared.fetch.Instruction.{Instruction}
@@ -24,7 +23,7 @@ failed a most test h = rw (le-ltb a most h)
 module _ (t : Table) (p n : ℕ) (i : Instruction) where
   -- the judgement by the code
   abbrev byCode : ℕ → Bool
-  byCode code = isCode code && instructionOk t p n (instruction code (i .a) (i .operand))
+  byCode code = instructionOk t p n (instruction code (i .a) (i .operand))
 
   by-code : (code : ℕ) → i .code ≡ code → byCode code ≡ passes t p n i
   unfolding passes
@@ -55,12 +54,8 @@ module _ (t : Table) (p n : ℕ) (i : Instruction) where
   send-sends e = by-code 5 e
 
   pub none-is : (i .code ≡ 1 → ⊥) → (i .code ≡ 2 → ⊥) → (i .code ≡ 3 → ⊥) → (i .code ≡ 4 → ⊥) → (i .code ≡ 5 → ⊥) → (i .code ≡ 6 → ⊥) → false ≡ passes t p n i
-  unfolding passes
-  none-is h1 h2 h3 h4 h5 h6 = sym (ap (λ (b : Bool). b && instructionOk t p n (instruction (i .code) (i .a) (i .operand))) (go (i .code) h1 h2 h3 h4 h5 h6))
-    where
-      go : (code : ℕ) → (code ≡ 1 → ⊥) → (code ≡ 2 → ⊥) → (code ≡ 3 → ⊥) → (code ≡ 4 → ⊥) → (code ≡ 5 → ⊥) → (code ≡ 6 → ⊥) → isCode code ≡ false
-      go zero a b c d e f = refl
-      go (suc m) a b c d e f = and-fails (leb 1 (suc m)) (leb (suc m) 6) (lt-leb (suc m) 6 (omega arith))
+  unfolding passes instructionOk
+  none-is h1 h2 h3 h4 h5 h6 = rw (instruction-none (i .code) (i .a) (i .operand) h1 h2 h3 h4 h5 h6)
 
 module _ (bytes : List ℕ) (p n : ℕ) (i : Instruction) where
   pub take-is : i .code ≡ 3 → (ltb (i .a) 4 && endIs bytes 7 (i .operand) p) ≡ passes (decodeTable bytes) p n i

@@ -1,25 +1,24 @@
 -- Number 8 over programs and records: what the walk finds, place by place, is what the rules say of the whole table.
 use mathlib.Core.Path.{_≡_, ap, ap₂, sym, _∙_}
-use mathlib.Core.Bool.{Bool, true, false, not, _&&_}
-use mathlib.Core.List.{List, []}
-use Prim.Native.Nat.{ℕ, _+_, _-_, _*_, _/_, _≤_, _<_}
+use mathlib.Core.Bool.{Bool, true, false, not}
+use mathlib.Core.List.{List}
+use Prim.Native.Nat.{ℕ, _+_, _-_, _*_, _≤_, _<_}
 use native.Mathlib.Omega.{arith}
 use native.Mathlib.Numerals.{add-one}
 use lib.ListN.{length, getD, take, drop, length-drop}
 use Rattle.facts.specs.Tests.{allOf, allBelow}
 use Rattle.facts.specs.Lists.{part-rest}
 use Rattle.facts.specs.Walks.{Walked, walk-start, walk-on, walk-fails, walk-end}
-use Rattle.facts.specs.Ranges.{all-same, all-and, all-listed}
+use Rattle.facts.specs.Ranges.{all-same, all-listed}
 use Rattle.rules.specs.Table.{Table, Instruction, SET, codeOf}
 use Rattle.rules.specs.Bytes.{sixes}
-use Rattle.rules.specs.Format.{processesIn, channelsIn, recordBytes, programLength, recordLength, rests, isCode, instruction, codesIn, decodeTable, extentOk, codesOk}
+use Rattle.rules.specs.Format.{processesIn, channelsIn, programLength, recordLength, instruction, decodeTable, extentOk}
 use Rattle.rules.specs.Judge.{instructionOk, instructionsOk}
-use Rattle.rules.proofs.Valid.{length-sixes, length-rests, processes-counted}
-use Rattle.records.specs.Fetch.{numbered, fetched, instructionOf}
-use Rattle.records.proofs.Sixes.{six-from}
+use Rattle.rules.proofs.Valid.{length-sixes, processes-counted}
+use Rattle.records.specs.Fetch.{fetched}
 use Rattle.table.specs.Judging.{passes, programOk, recordOk}
 use Rattle.table.specs.Records.{recordStart}
-use Rattle.table.proofs.Programs.{fetched-is, rest-is, code-is, record-within}
+use Rattle.table.proofs.Programs.{fetched-is, code-is, record-within}
 
 -- ---- a program
 
@@ -33,25 +32,13 @@ by-place : {A : Type 0} (make : ℕ → ℕ → ℕ → A) (f : A → Bool) (n :
 by-place make f n l d =
     all-listed f (sixes make n l) d ∙ ap (allBelow (λ k. f (getD (sixes make n l) k d))) (length-sixes make n l)
 
--- the code that is fetched
-code-fetched : (program : List ℕ) (k n : ℕ) → k < n → 6 * n ≤ length program → fetched program 0 k .code ≡ getD (sixes (λ code a operand. code) n program) k 0
-unfolding fetched
-code-fetched program k n h room =
-    ap (λ (i : _). i .code) (six-from numbered ((length program - 0) / 6) program 0 k (numbered 0 0 0) (omega arith))
-    ∙ sym (six-from (λ code a operand. code) n program 0 k 0 h)
-
 pub program-is : (t : Table) (p n : ℕ) (program : List ℕ) → 6 * n ≤ length program
-    → programOk t p n program ≡ (allOf isCode (sixes (λ code a operand. code) n program) && allOf (instructionOk t p n) (sixes instruction n program))
+    → programOk t p n program ≡ allOf (instructionOk t p n) (sixes instruction n program)
 unfolding programOk passes
 program-is t p n program room =
-    let codes : ℕ → Bool = λ k. isCode (getD (sixes (λ code a operand. code) n program) k 0) in
-    let instructions : ℕ → Bool = λ k. instructionOk t p n (getD (sixes instruction n program) k (SET 0 0)) in
-    all-same (placePasses t p n program) (λ k. codes k && instructions k) n
-    (λ k l. ap (λ (x : ℕ). isCode x && instructionOk t p n (instructionOf (fetched program 0 k))) (code-fetched program k n l room)
-    ∙ ap (λ (x : Instruction). codes k && instructionOk t p n x) (fetched-is program 0 k n (SET 0 0) l (omega arith)))
-    ∙ all-and codes instructions n
-    ∙ ap (λ (b : Bool). b && allBelow instructions n) (sym (by-place (λ code a operand. code) isCode n program 0))
-    ∙ ap (λ (b : Bool). allOf isCode (sixes (λ code a operand. code) n program) && b) (sym (by-place instruction (instructionOk t p n) n program (SET 0 0)))
+    all-same (placePasses t p n program) (λ k. instructionOk t p n (getD (sixes instruction n program) k (SET 0 0))) n
+    (λ k l. ap (instructionOk t p n) (fetched-is program 0 k n (SET 0 0) l (omega arith)))
+    ∙ sym (by-place instruction (instructionOk t p n) n program (SET 0 0))
 
 -- ---- the table
 
@@ -59,15 +46,12 @@ program-is t p n program room =
 abbrev pub processPasses : List ℕ → ℕ → Bool
 processPasses bytes p = recordOk (decodeTable bytes) p (drop (recordStart bytes p) bytes)
 
--- what the rules ask of the record of process p: its codes, and then its instructions
-abbrev codesPass : List ℕ → ℕ → Bool
-codesPass bytes p = allOf isCode (codesIn (drop (recordStart bytes p) bytes))
-
+-- what the rules ask of the record of process p
 abbrev instructionsPass : Table → ℕ → Bool
 instructionsPass t p = allOf (instructionOk t p (length (codeOf t p))) (codeOf t p)
 
 pub record-is : (bytes : List ℕ) → extentOk bytes ≡ true → (p : ℕ) → p < processesIn bytes
-    → processPasses bytes p ≡ (codesPass bytes p && instructionsPass (decodeTable bytes) p)
+    → processPasses bytes p ≡ instructionsPass (decodeTable bytes) p
 unfolding recordOk
 record-is bytes ok p h =
     let t = decodeTable bytes in
@@ -78,32 +62,17 @@ record-is bytes ok p h =
     let b = length-drop 3 rest in
     let e = code-is bytes p h in
     program-is t p n (drop 3 rest) (omega arith)
-    ∙ ap (λ (m : ℕ). codesPass bytes p && allOf (instructionOk t p m) (sixes instruction n (drop 3 rest))) (sym (ap length e ∙ length-sixes instruction n (drop 3 rest)))
-    ∙ ap (λ (l : List Instruction). codesPass bytes p && allOf (instructionOk t p (length (codeOf t p))) l) (sym e)
-
-codes-are : (bytes : List ℕ) → allBelow (codesPass bytes) (processesIn bytes) ≡ codesOk bytes
-unfolding codesOk
-codes-are bytes =
-    let all = rests (processesIn bytes) (recordBytes bytes) in
-    let test : List ℕ → Bool = λ rest. allOf isCode (codesIn rest) in
-    sym
-    (all-listed test all []
-    ∙ ap (allBelow (λ p. test (getD all p []))) (length-rests (processesIn bytes) (recordBytes bytes))
-    ∙ all-same (λ p. test (getD all p [])) (codesPass bytes) (processesIn bytes) (λ p l. ap test (rest-is bytes p l)))
+    ∙ ap (λ (m : ℕ). allOf (instructionOk t p m) (sixes instruction n (drop 3 rest))) (sym (ap length e ∙ length-sixes instruction n (drop 3 rest)))
+    ∙ ap (allOf (instructionOk t p (length (codeOf t p)))) (sym e)
 
 instructions-are : (bytes : List ℕ) → allBelow (instructionsPass (decodeTable bytes)) (processesIn bytes) ≡ instructionsOk (decodeTable bytes)
 unfolding instructionsOk
 instructions-are bytes = ap (allBelow (instructionsPass (decodeTable bytes))) (sym (processes-counted bytes))
 
 -- number 8, record by record
-pub table-is : (bytes : List ℕ) → extentOk bytes ≡ true
-    → allBelow (processPasses bytes) (processesIn bytes) ≡ (codesOk bytes && instructionsOk (decodeTable bytes))
+pub table-is : (bytes : List ℕ) → extentOk bytes ≡ true → allBelow (processPasses bytes) (processesIn bytes) ≡ instructionsOk (decodeTable bytes)
 table-is bytes ok =
-    let t = decodeTable bytes in
-    all-same (processPasses bytes) (λ p. codesPass bytes p && instructionsPass t p) (processesIn bytes) (record-is bytes ok)
-    ∙ all-and (codesPass bytes) (instructionsPass t) (processesIn bytes)
-    ∙ ap (λ (b : Bool). b && allBelow (instructionsPass t) (processesIn bytes)) (codes-are bytes)
-    ∙ ap (λ (b : Bool). codesOk bytes && b) (instructions-are bytes)
+    all-same (processPasses bytes) (instructionsPass (decodeTable bytes)) (processesIn bytes) (record-is bytes ok) ∙ instructions-are bytes
 
 -- ---- the walk over the records
 
@@ -121,7 +90,7 @@ pub going-start : (bytes : List ℕ) (channels : ℕ) → channels ≡ channelsI
 going-start bytes channels e = record { place = ap (λ (c : ℕ). 6 + 2 * c) e; walked = walk-start (processPasses bytes) (processesIn bytes) }
 
 module _ (bytes : List ℕ) (ok : extentOk bytes ≡ true) where
-  pub going-end : (at p : ℕ) → Going bytes at p → processesIn bytes ≤ p → true ≡ (codesOk bytes && instructionsOk (decodeTable bytes))
+  pub going-end : (at p : ℕ) → Going bytes at p → processesIn bytes ≤ p → true ≡ instructionsOk (decodeTable bytes)
   going-end at p g h = walk-end (processPasses bytes) (processesIn bytes) p (g .walked) h ∙ table-is bytes ok
 
   module _ (at p : ℕ) (g : Going bytes at p) (h : p < processesIn bytes) where
@@ -142,7 +111,7 @@ module _ (bytes : List ℕ) (ok : extentOk bytes ≡ true) where
       here : r ≡ processPasses bytes p
       here = found ∙ ap (recordOk (decodeTable bytes) p) (part-rest bytes at ∙ ap (λ (i : ℕ). drop i bytes) (g .place))
 
-      pub going-fails : not r ≡ true → false ≡ (codesOk bytes && instructionsOk (decodeTable bytes))
+      pub going-fails : not r ≡ true → false ≡ instructionsOk (decodeTable bytes)
       going-fails n = walk-fails (processPasses bytes) (processesIn bytes) p r h here n ∙ table-is bytes ok
 
       pub going-on : not r ≡ false → (size : ℕ) → size ≡ recordLength lent → Going bytes (at + size) (p + 1)

@@ -8,7 +8,7 @@ use Rattle.facts.specs.Tests.{allBelow}
 use Rattle.rules.specs.Table.{Table}
 use Rattle.rules.specs.Machine.{bit}
 use Rattle.rules.specs.Bytes.{byteAt}
-use Rattle.rules.specs.Format.{channelsIn, programLength, isCode}
+use Rattle.rules.specs.Format.{channelsIn, programLength}
 use Rattle.rules.specs.Judge.{reads, bits, instructionOk}
 use Rattle.records.specs.Fetch.{fetched, instructionOf}
 use Rattle.records.specs.declared.fetch.Instruction.{Instruction}
@@ -26,10 +26,10 @@ unfoldable pub maskOk : Table → ℕ → ℕ → Bool
 unfolding channelsPass
 maskOk t p mask = leb 1 (bits mask 32) && (leb (bits mask 32) 4 && channelsPass t p mask)
 
--- one instruction of process p whose program has n: its code, and then what the code asks
+-- one instruction of process p whose program has n
 unfoldable pub passes : Table → ℕ → ℕ → Instruction → Bool
 unfolding instructionOk
-passes t p n i = isCode (i .code) && instructionOk t p n (instructionOf i)
+passes t p n i = instructionOk t p n (instructionOf i)
 
 -- the n instructions that begin a part of the table
 unfoldable pub programOk : Table → ℕ → ℕ → List ℕ → Bool

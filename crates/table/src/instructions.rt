@@ -2,9 +2,9 @@
 ghost use mathlib.Core.Path.{_≡_};
 ghost use Prim.Native.Nat.{_*_, _≤_};
 ghost use lib.ListN.{length};
-ghost use mathlib.Core.Bool.{true, _&&_};
+ghost use mathlib.Core.Bool.{true};
 ghost use Rattle.rules.specs.Judge.{instructionsOk};
-ghost use Rattle.rules.specs.Format.{recordsStart, recordLength, decodeTable, extentOk, codesOk};
+ghost use Rattle.rules.specs.Format.{recordsStart, recordLength, decodeTable, extentOk};
 ghost use Rattle.table.specs.Judging.{endIs, channelsPass, maskOk, passes, programOk, recordOk};
 use crate::format::CHANNELS;
 use crate::format::N;
@@ -116,7 +116,7 @@ fn record_length(rest: &[u8]) -> usize
 // Number 8 over the whole table, record by record: each gets the table's rest from its start on.
 pub fn instructions_ok(table: &[u8]) -> bool
     requires { ⌜ extentOk (now table) ≡ true ⌝ }
-    ensures { λ r. ⌜ r ≡ (codesOk (now (table .entry)) && instructionsOk (decodeTable (now (table .entry)))) ⌝ }
+    ensures { λ r. ⌜ r ≡ instructionsOk (decodeTable (now (table .entry))) ⌝ }
 {
     let processes = table[PROCESSES];
     let mut at = SENDER + 2 * wide(table[CHANNELS]);

@@ -1,4 +1,5 @@
-use Rattle.instruction.proofs.Examining.{examined-halted, examined-internal, examined-send, examined-sought, three-or-four}
+use Rattle.instruction.proofs.Examining.{examined-halted, examined-none, examined-internal, one-or-two, examined-send, examined-sought, three-or-four}
+use mathlib.Core.Logic.{inr}
 use native.Mathlib.Omega.{arith}
 use borrow.Author.Needs.{needs}
 use Rattle.instruction.proofs.instruction.examine.Statement.{statement}
@@ -39,23 +40,19 @@ returns-3 c =
 returns-4 : tie.Need-returns-4
 returns-4 c =
     let l = c .if2 .taken in
-    examined-internal _ _ _ _ _ _ (c .before .before .if1 .left) (λ e. omega arith) (λ e. omega arith) (λ e. omega arith)
+    examined-none _ _ _ _ _ _ (c .before .before .if1 .left) (λ e. omega arith) (λ e. omega arith) (λ e. omega arith) (λ e. omega arith) (λ e. omega arith) (λ e. omega arith)
 
 returns-5 : tie.Need-returns-5
 returns-5 c =
     let l = c .if4 .left in
-    let g = c .before .before .before .match .rest .1 in
-    examined-internal _ _ _ _ _ _ (c .before .before .before .before .if1 .left) (λ e. omega arith) (λ e. omega arith) (λ e. omega arith)
+    let r = c .before .before .before .match .rest in
+    examined-none _ _ _ _ _ _ (c .before .before .before .before .if1 .left) (λ e. omega arith) (λ e. omega arith) (λ e. omega arith) (λ e. omega arith) (r .1) (r .0 .1)
 
 returns-6 : tie.Need-returns-6
-returns-6 c =
-    let l = c .match .keys1 in
-    examined-internal _ _ _ _ _ _ (c .before .if1 .left) (λ e. omega arith) (λ e. omega arith) (λ e. omega arith)
+returns-6 c = examined-internal _ _ _ _ _ _ (c .before .if1 .left) (inr (inr (c .match .keys1)))
 
 returns-7 : tie.Need-returns-7
-returns-7 c =
-    let l = c .if3 .taken in
-    examined-internal _ _ _ _ _ _ (c .before .before .before .if1 .left) (λ e. omega arith) (λ e. omega arith) (λ e. omega arith)
+returns-7 c = examined-internal _ _ _ _ _ _ (c .before .before .before .if1 .left) (one-or-two _ (c .before .if2 .left) (c .if3 .taken))
 
 pub examine-spec : {M : Type 1} → statement M
 examine-spec =

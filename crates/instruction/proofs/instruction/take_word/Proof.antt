@@ -5,7 +5,7 @@ use Rattle.instruction.proofs.instruction.take_word.Statement.{statemen
 use Rattle.instruction.proofs.instruction.take_word.Tie as tie
 use Rattle.instruction.proofs.instruction.take_word.Reads as reads
 use Rattle.instruction.proofs.instruction.take_word.Lts as lts
-use Rattle.instruction.proofs.instruction.bump.Reads as bump-reads
+use Rattle.instruction.proofs.instruction.tally.Reads as tally-reads
 use Rattle.instruction.proofs.instruction.event.Reads as event-reads
 use Rattle.instruction.proofs.instruction.load.Reads as load-reads
 use Rattle.instruction.proofs.mailbox.remove.Reads as remove-reads
@@ -48,11 +48,11 @@ element-write-row c = search needs
 wide-requires-2 : tie.Need-wide-requires-2
 wide-requires-2 c κs = search needs
 
-add-bump : tie.Need-add-bump
-add-bump c = search needs
+add-tally : tie.Need-add-tally
+add-tally c = search needs
 
-bump-requires : tie.Need-bump-requires
-bump-requires c κs = search needs
+tally-requires : tie.Need-tally-requires
+tally-requires c κs = search needs
 
 event-requires : tie.Need-event-requires
 event-requires c κs = search needs
@@ -62,7 +62,7 @@ returns-3 c =
     let s = c .before .before .before .before .before .wrapping-sub-u32 in
     let d = c .before .before .before .before .before .before .before .before .before .load in
     let w = c .before .before .before .before .before .before .before .before .before .before .before .before .before .before .wide .ensures in
-    rw (c .event .ensures, c .before .before .bump .ensures, c .before .before .before .wide2 .ensures)
+    rw (c .event .ensures, c .before .before .tally .ensures, c .before .before .before .wide2 .ensures)
     (takes _ _ _ _ _ _ (rw w at (c .before .before .before .before .before .before .before .before .before .before .before .before .if2 .left)) (d .last .0) (d .ensures) (s .result) (s .ensures) (s .ok) _ (rw w at (c .before .before .before .before .before .before .before .remove .ensures)))
 
 pub take-word-spec : {M : Type 1} → statement M
@@ -81,7 +81,7 @@ take-word-spec =
     wrapping-sub-u32-requires
     element-write-row
     wide-requires-2
-    add-bump
-    bump-requires
+    add-tally
+    tally-requires
     event-requires
     returns-3)

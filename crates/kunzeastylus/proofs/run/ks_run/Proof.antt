@@ -1,6 +1,7 @@
 -- `ks_run`: the run's promise, with what it returned packed.
 use Rattle.rules.specs.Run.{buffersOf}
-use Rattle.kunzeastylus.proofs.Packing.{few, runs-packed}
+use Rattle.cabinet.specs.Runs.{Runs}
+use Rattle.kunzeastylus.proofs.Packing.{few, keeps-packed}
 use borrow.Author.Needs.{needs}
 use Rattle.kunzeastylus.proofs.run.ks_run.Statement.{statement}
 use Rattle.kunzeastylus.proofs.run.ks_run.Tie as tie
@@ -24,8 +25,8 @@ returns : tie.Need-returns
 returns c =
     let s = c .before .before .before .before .before .before .before .before .before .before .before .before .args in
     let r = c .before .before .before .before .before .run in
-    runs-packed (s .table .now) (s .schedule .now) (buffersOf (s .answers .now) (s .report .now)) (r .result) _ (r .ensures) (c .packed .result)
-    (c .packed .ensures .1) (c .packed .ensures .0)
+    keeps-packed (λ v. Runs (s .table .now) (s .schedule .now) (buffersOf (s .answers .now) (s .report .now)) v _) (r .result) (r .ensures)
+    (c .packed .ensures .1) (c .packed .result) (c .packed .ensures .0)
 
 pub ks-run-spec : {M : Type 1} → statement M
 ks-run-spec = tie.close (tie.spec run-requires packed-requires same-length same-length-2 returns)

@@ -1,0 +1,39 @@
+//! The label line: one scanner, one numbering program and one printer program on two boards.
+use crate::answer::{Answer, Code};
+use crate::calls;
+use crate::run::{refusal, Refusal, Run};
+
+/// Bytes of a label line's table.
+pub const LABEL_TABLE: usize = 84;
+
+/// The scanner's channel: feeds of it are cartons, each by its code.
+pub const SCANNER: u8 = 0;
+
+/// The outlet's channel: for each carton its code, and then its serial.
+pub const OUTLET: u8 = 2;
+
+/// What is at the outlet for one carton. Only the last may still lack its serial.
+#[derive(Clone, Copy, Debug, PartialEq, Eq, Hash)]
+pub struct Label {
+    pub code: u32,
+    pub serial: Option<u32>,
+}
+
+/// The table of a first serial, or `Refusal::FirstSerial`.
+pub fn label_table(first: u32) -> Result<[u8; LABEL_TABLE], Refusal> {
+    let mut table = [0; LABEL_TABLE];
+    refusal(calls::ks_label_table(first, &mut table)).map_or(Ok(table), Err)
+}
+
+/// Runs a schedule on the table of a first serial, as `run` does on any.
+pub fn label_run<'b>(first: u32, schedule: &[u8], answers: &'b mut [u8], report: &'b mut [u8]) -> Result<Run<'b>, Refusal> {
+    let result = calls::ks_label_run(first, schedule, answers, report);
+    Run::of(result, || 2, answers, report)
+}
+
+/// The labels at the outlet, in order.
+pub fn labels(answers: impl Iterator<Item = Answer>) -> Vec<Label> {
+    let at_outlet = answers.filter(|answer| (answer.code, answer.a) == (Code::OnTheBus, OUTLET));
+    let words: Vec<u32> = at_outlet.map(|answer| answer.word).collect();
+    words.chunks(2).map(|label| Label { code: label[0], serial: label.get(1).copied() }).collect()
+}

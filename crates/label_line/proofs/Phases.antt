@@ -1,0 +1,132 @@
+-- Where each of the two programs stands: seven places and four, each with the registers, the words taken so far and those sent so far;
+-- and the plain cabinet of the label line in these terms.
+use mathlib.Core.Path.{_≡_}
+use mathlib.Core.List.{List, [], _∷_, _++_}
+use Prim.Native.Nat.{ℕ, _+_}
+use lib.ListN.{length}
+use Rattle.rules.specs.Machine.{Mail, Machine}
+use Rattle.rules.specs.Reference.{Reference}
+use Rattle.label_line.specs.Line.{scanner, printer, outlet}
+use Rattle.label_line.specs.Outlet.{wordsOn}
+use Rattle.label_line.proofs.Sequences.{onChannel, word, wordLabels}
+
+-- ---- the numbering program
+
+-- By its place. The list has the codes of the cartons before the one in hand, which all have their labels; the number is the code in
+-- hand, at `waiting` the one before.
+pub data Numbering : Type 0 where
+  starting unserialled : Numbering
+  waiting coded code-sent serial-sent raised : List ℕ → ℕ → Numbering
+
+abbrev pub numberingPlace : Numbering → ℕ
+numberingPlace starting = 0
+numberingPlace unserialled = 1
+numberingPlace (waiting done c) = 2
+numberingPlace (coded done c) = 3
+numberingPlace (code-sent done c) = 4
+numberingPlace (serial-sent done c) = 5
+numberingPlace (raised done c) = 6
+
+abbrev pub numberingRegisters : ℕ → Numbering → List ℕ
+numberingRegisters first starting = 0 ∷ 0 ∷ 0 ∷ 0 ∷ []
+numberingRegisters first unserialled = 0 ∷ first ∷ 0 ∷ 0 ∷ []
+numberingRegisters first (waiting done c) = c ∷ word (first + length done) ∷ 1 ∷ 0 ∷ []
+numberingRegisters first (coded done c) = c ∷ word (first + length done) ∷ 1 ∷ 0 ∷ []
+numberingRegisters first (code-sent done c) = c ∷ word (first + length done) ∷ 1 ∷ 0 ∷ []
+numberingRegisters first (serial-sent done c) = c ∷ word (first + length done) ∷ 1 ∷ 0 ∷ []
+numberingRegisters first (raised done c) = c ∷ word (first + length (done ++ (c ∷ []))) ∷ 1 ∷ 0 ∷ []
+
+-- the cartons taken
+abbrev pub taken : Numbering → List ℕ
+taken starting = []
+taken unserialled = []
+taken (waiting done c) = done
+taken (coded done c) = done ++ (c ∷ [])
+taken (code-sent done c) = done ++ (c ∷ [])
+taken (serial-sent done c) = done ++ (c ∷ [])
+taken (raised done c) = done ++ (c ∷ [])
+
+-- the words sent to the printer program
+abbrev pub numbered : ℕ → Numbering → List ℕ
+numbered first starting = []
+numbered first unserialled = []
+numbered first (waiting done c) = wordLabels first done
+numbered first (coded done c) = wordLabels first done
+numbered first (code-sent done c) = wordLabels first done ++ (c ∷ [])
+numbered first (serial-sent done c) = wordLabels first (done ++ (c ∷ []))
+numbered first (raised done c) = wordLabels first (done ++ (c ∷ []))
+
+-- instructions before the next take
+abbrev pub numberingLeft : Numbering → ℕ
+numberingLeft starting = 2
+numberingLeft unserialled = 1
+numberingLeft (waiting done c) = 0
+numberingLeft (coded done c) = 4
+numberingLeft (code-sent done c) = 3
+numberingLeft (serial-sent done c) = 2
+numberingLeft (raised done c) = 1
+
+-- ---- the printer program
+
+-- By its place. The list has the words handed on before the one in hand.
+pub data Printing : Type 0 where
+  resting : Printing
+  listening holding handed : List ℕ → ℕ → Printing
+
+abbrev pub printingPlace : Printing → ℕ
+printingPlace resting = 0
+printingPlace (listening done w) = 1
+printingPlace (holding done w) = 2
+printingPlace (handed done w) = 3
+
+abbrev pub printingRegisters : Printing → List ℕ
+printingRegisters resting = 0 ∷ 0 ∷ 0 ∷ 0 ∷ []
+printingRegisters (listening done w) = w ∷ 1 ∷ 0 ∷ 0 ∷ []
+printingRegisters (holding done w) = w ∷ 1 ∷ 0 ∷ 0 ∷ []
+printingRegisters (handed done w) = w ∷ 1 ∷ 0 ∷ 0 ∷ []
+
+-- the words taken
+abbrev pub received : Printing → List ℕ
+received resting = []
+received (listening done w) = done
+received (holding done w) = done ++ (w ∷ [])
+received (handed done w) = done ++ (w ∷ [])
+
+-- the words sent to the outlet
+abbrev pub handedOn : Printing → List ℕ
+handedOn resting = []
+handedOn (listening done w) = done
+handedOn (holding done w) = done
+handedOn (handed done w) = done ++ (w ∷ [])
+
+abbrev pub printingLeft : Printing → ℕ
+printingLeft resting = 1
+printingLeft (listening done w) = 0
+printingLeft (holding done w) = 2
+printingLeft (handed done w) = 1
+
+-- ---- both, with what is unread and the bus order
+
+pub record Line : Type 0 where
+  pub numbering : Numbering
+  -- cartons not yet taken
+  pub unread : List ℕ
+  pub printing : Printing
+  -- words to the printer program not yet taken
+  pub pending : List ℕ
+  pub bus : List Mail
+
+abbrev pub stateOf : ℕ → Line → Reference
+stateOf first l = record {
+  machines =
+      record { registers = numberingRegisters first (l .numbering); pc = numberingPlace (l .numbering); mailbox = onChannel scanner (l .unread) }
+      ∷ record { registers = printingRegisters (l .printing); pc = printingPlace (l .printing); mailbox = onChannel printer (l .pending) }
+      ∷ [];
+  trace = l .bus;
+}
+
+-- what the words have to do with each other, once these cartons were fed
+pub record Lines (first : ℕ) (fed : List ℕ) (l : Line) : Type 0 where
+  pub fed-are : fed ≡ taken (l .numbering) ++ l .unread
+  pub sent-are : numbered first (l .numbering) ≡ received (l .printing) ++ l .pending
+  pub printed-are : wordsOn outlet (l .bus) ≡ handedOn (l .printing)

@@ -1,0 +1,69 @@
+-- The table of any first serial: its bytes as the code makes them, what they say, and that the reader accepts them.
+use mathlib.Core.Path.{_≡_, refl, ap, sym, _∙_}
+use mathlib.Core.List.{List, [], _∷_, _++_}
+use mathlib.Core.Bool.{true, false}
+use Prim.Native.Nat.{ℕ, _+_, _/_, _%_, _^_, _≤_, _<_}
+use native.Mathlib.Omega.{arith}
+use lib.Dec.{leb}
+use lib.ListN.{set, replicate}
+use borrow.Author.Tests.{le-leb, lt-leb}
+use Rattle.rules.specs.Format.{decodeTable, validateTable}
+use Rattle.rules.proofs.ReadBack.{word-back}
+use Rattle.label_line.specs.Line.{serialMost, lineNumber, lineTable, lineLength, lineBytes}
+use Rattle.label_line.specs.Puts.{frameBytes, instructionIn}
+use Rattle.label_line.specs.Labels.{Makes}
+use Rattle.label_line.proofs.Spacing.{takes-often}
+
+-- six bytes, the last four each cut out of the operand
+pub instruction-put : (l : List ℕ) (at code a operand : ℕ) → operand < 2 ^ 32 → (b3 b2 b1 b0 : ℕ) → b3 ≡ operand / 16777216 % 256
+    → b2 ≡ operand / 65536 % 256 → b1 ≡ operand / 256 % 256 → b0 ≡ operand % 256
+    → set (set (set (set (set (set l at code) (at + 1) a) (at + 2) b3) (at + 3) b2) (at + 4) b1) (at + 5) b0 ≡ instructionIn l at code a operand
+unfolding instructionIn
+instruction-put l at code a operand h b3 b2 b1 b0 e3 e2 e1 e0 =
+    let top : b3 ≡ operand / 2 ^ 24 = omega arith in rw (top, e2, e1, e0)
+
+-- the two programs, instruction by instruction
+abbrev pub numberingIn : ℕ → List ℕ → List ℕ
+numberingIn first l =
+    instructionIn (instructionIn (instructionIn (instructionIn (instructionIn (instructionIn (instructionIn l 15 1 1 first) 21 1 2 1) 27 3 0 0) 33 5 0 1)
+    39 5 1 1) 45 2 1 2) 51 6 2 2
+
+abbrev pub printingIn : List ℕ → List ℕ
+printingIn l = instructionIn (instructionIn (instructionIn (instructionIn l 60 1 1 1) 66 3 0 1) 72 5 0 2) 78 6 1 1
+
+pub line-made : (first : ℕ) → printingIn (numberingIn first frameBytes) ≡ lineBytes first
+unfolding instructionIn frameBytes lineBytes
+line-made first = refl
+
+pub line-decoded : (first : ℕ) → decodeTable (lineBytes first) ≡ lineTable first
+unfolding decodeTable lineBytes
+line-decoded first = rw (word-back first)
+
+pub line-valid : (first : ℕ) → validateTable (lineBytes first) ≡ 0
+unfolding validateTable lineBytes
+line-valid first = refl
+
+-- ---- the call
+
+pub makes : (first : ℕ) → first < 2 ^ 32 → first ≤ serialMost → (bytes : List ℕ) → bytes ≡ lineBytes first → Makes first (record { number = 0; bytes = bytes })
+makes first word small bytes e =
+    let within : leb first serialMost ≡ true = le-leb first serialMost small in
+    let decoded : decodeTable bytes ≡ lineTable first = ap decodeTable e ∙ line-decoded first in
+    record {
+      number-is = rw within;
+      bytes-are = rw within e;
+      accepted = λ _. ap validateTable e ∙ line-valid first;
+      says = λ _. decoded;
+      takes-often = λ _. rw decoded (takes-often first word);
+    }
+
+pub refuses : (first : ℕ) → serialMost < first → Makes first (record { number = 46; bytes = replicate lineLength 0 })
+refuses first high =
+    let beyond : leb first serialMost ≡ false = lt-leb first serialMost high in
+    record {
+      number-is = rw beyond;
+      bytes-are = rw beyond;
+      accepted = λ z. absurd (omega arith);
+      says = λ z. absurd (omega arith);
+      takes-often = λ z. absurd (omega arith);
+    }

@@ -1,0 +1,57 @@
+-- What the label line promises of a run, and its two calls' contracts.
+use mathlib.Core.Path.{_≡_}
+use mathlib.Core.Bool.{Bool, true, cond}
+use mathlib.Core.List.{List, IsPrefix}
+use Prim.Native.Nat.{ℕ, _+_, _^_, _<_}
+use lib.Dec.{leb}
+use lib.ListN.{length, getD, replicate}
+use Rattle.rules.specs.Moves.{Command, Numbers}
+use Rattle.rules.specs.Format.{decodeTable, validateTable}
+use Rattle.rules.specs.Schedule.{decodeSchedule}
+use Rattle.rules.specs.Run.{Buffers, Ran, run, refusedWith}
+use Rattle.rules.specs.Transparency.{answersIn}
+use Rattle.cabinet.specs.Runs.{ranBy}
+use Rattle.cabinet.specs.declared.run.Verdict.{Verdict}
+use Rattle.label_line.specs.Line.{serialMost, lineNumber, lineTable, lineLength, lineBytes}
+use Rattle.label_line.specs.Outlet.{labels, cartons, printed, serials, inARow}
+use Rattle.label_line.specs.Spaced.{TakesOften}
+use Rattle.label_line.specs.declared.MadeTable.{MadeTable}
+
+-- Of the commands of a schedule, their answers, and whether the run ended quiet; whatever crashes are among them.
+pub record Labelled (first : ℕ) (commands : List Command) (answers : List Numbers) (quiet : Bool) : Type 0 where
+  -- "With one crash at any place or none, the outlet's words so far are a beginning of that sequence."
+  pub beginning : IsPrefix (printed answers) (labels first (cartons commands answers))
+  -- "When the run ends quiet they are all of it"
+  pub all-printed : quiet ≡ true → printed answers ≡ labels first (cartons commands answers)
+  -- "no serial repeats, none is skipped": the serials are first, first + 1, ..
+  pub in-a-row : serials (printed answers) ≡ inARow first (length (serials (printed answers)))
+  pub no-repeat : (i j : ℕ) → i < length (serials (printed answers)) → j < length (serials (printed answers))
+      → getD (serials (printed answers)) i 0 ≡ getD (serials (printed answers)) j 0 → i ≡ j
+  -- and none wraps: with a label for every carton even the serial after the last fits 32 bits
+  pub no-wrap : first + length (cartons commands answers) < 2 ^ 32
+
+-- ---- the table
+
+-- The table of any first serial: "46, a first serial above 4,294,957,295, its only refusal; no table is then made" (zeros, no table at all).
+pub record Makes (first : ℕ) (r : MadeTable) : Type 0 where
+  pub number-is : r .number ≡ lineNumber first
+  pub bytes-are : r .bytes ≡ cond (leb first serialMost) (lineBytes first) (replicate lineLength 0)
+  -- what is made, the reader accepts, and it says what the label line's table says
+  pub accepted : r .number ≡ 0 → validateTable (r .bytes) ≡ 0
+  pub says : r .number ≡ 0 → decodeTable (r .bytes) ≡ lineTable first
+  -- "In the plain cabinet neither program does nine instructions in a row without a take."
+  pub takes-often : r .number ≡ 0 → TakesOften (decodeTable (r .bytes))
+
+-- ---- the run
+
+-- 46, or the run of the table
+unfoldable pub lineRun : ℕ → List ℕ → Buffers → Ran
+unfolding run refusedWith
+lineRun first schedule before = cond (leb first serialMost) (run (lineBytes first) schedule before) (refusedWith 46 before)
+
+-- A run of any first serial and any bytes of a schedule, with buffers of any length: these before it, those after it.
+pub record RunsLine (first : ℕ) (schedule : List ℕ) (before : Buffers) (r : Verdict) (after : Buffers) : Type 0 where
+  -- number, records, quiet and buffers: refused, nothing is written
+  pub ran : ranBy r after ≡ lineRun first schedule before
+  -- the labels of an accepted run, about the answers in the buffer as the call left it and the `quiet` that it returned
+  pub labelled : r .number ≡ 0 → Labelled first (decodeSchedule schedule) (answersIn (ranBy r after)) (r .quiet)

@@ -1,0 +1,108 @@
+-- Numbers and what they stand for: which numbers are no move and no instruction, and where the refusals' numbers lie.
+use mathlib.Core.Path.{_≡_, refl, sym}
+use mathlib.Core.Logic.{_≢_}
+use mathlib.Core.Bool.{Bool, true, false, cond}
+use Prim.Native.Nat.{ℕ, zero, suc, _≤_, _<_}
+use native.Mathlib.Omega.{arith}
+use lib.Dec.{eqb}
+use borrow.Author.Tests.{ne-eqb}
+use Rattle.rules.specs.Table.{Instruction, SET, ADD, TAKE, FIRST, SEND, JUMP, NONE}
+use Rattle.rules.specs.Format.{instruction}
+use Rattle.rules.specs.Cabinet.{Process, exhausted}
+use Rattle.rules.specs.Moves.{Move, stepMove, issueMove, transmitMove, injectMove, crashMove, unknown, moveOf, Refusal, unknownMove, strayWord, noProcess, noBoard, noChannel, transmitDead, crashDead, isHalted, noWordToTake, noWordForFirst, eventsFull, instructionsFull, sendBlocked, syncBlocked, sendHeld, injectHeld, noBackup, syncWaits, outboxEmpty, notOutside, otherCrashed, refusalNumber, missing, owedFor}
+
+-- ---- moves
+
+-- "The word is 0 except in a feed."
+abbrev pub isFeed : Move → Bool
+isFeed stepMove = false
+isFeed issueMove = false
+isFeed transmitMove = false
+isFeed injectMove = true
+isFeed crashMove = false
+isFeed unknown = false
+
+pub moveOf-feed : (n : ℕ) → isFeed (moveOf n) ≡ eqb n 4
+moveOf-feed zero = refl
+moveOf-feed (suc zero) = refl
+moveOf-feed (suc (suc zero)) = refl
+moveOf-feed (suc (suc (suc zero))) = refl
+moveOf-feed (suc (suc (suc (suc zero)))) = refl
+moveOf-feed (suc (suc (suc (suc (suc zero))))) = refl
+moveOf-feed (suc (suc (suc (suc (suc (suc n)))))) = sym (ne-eqb (suc (suc (suc (suc (suc (suc n)))))) 4 (λ e. omega arith))
+
+pub moveOf-unknown : (n : ℕ) → n ≢ 1 → n ≢ 2 → n ≢ 3 → n ≢ 4 → n ≢ 5 → moveOf n ≡ unknown
+moveOf-unknown zero a b c d e = refl
+moveOf-unknown (suc zero) a b c d e = absurd (a refl)
+moveOf-unknown (suc (suc zero)) a b c d e = absurd (b refl)
+moveOf-unknown (suc (suc (suc zero))) a b c d e = absurd (c refl)
+moveOf-unknown (suc (suc (suc (suc zero)))) a b c d e = absurd (d refl)
+moveOf-unknown (suc (suc (suc (suc (suc zero))))) a b c d e = absurd (e refl)
+moveOf-unknown (suc (suc (suc (suc (suc (suc n)))))) a b c d e = refl
+
+-- ---- instructions
+
+pub instruction-none : (code a operand : ℕ) → code ≢ 1 → code ≢ 2 → code ≢ 3 → code ≢ 4 → code ≢ 5 → code ≢ 6 → instruction code a operand ≡ NONE
+instruction-none zero a operand h1 h2 h3 h4 h5 h6 = refl
+instruction-none (suc zero) a operand h1 h2 h3 h4 h5 h6 = absurd (h1 refl)
+instruction-none (suc (suc zero)) a operand h1 h2 h3 h4 h5 h6 = absurd (h2 refl)
+instruction-none (suc (suc (suc zero))) a operand h1 h2 h3 h4 h5 h6 = absurd (h3 refl)
+instruction-none (suc (suc (suc (suc zero)))) a operand h1 h2 h3 h4 h5 h6 = absurd (h4 refl)
+instruction-none (suc (suc (suc (suc (suc zero))))) a operand h1 h2 h3 h4 h5 h6 = absurd (h5 refl)
+instruction-none (suc (suc (suc (suc (suc (suc zero)))))) a operand h1 h2 h3 h4 h5 h6 = absurd (h6 refl)
+instruction-none (suc (suc (suc (suc (suc (suc (suc n))))))) a operand h1 h2 h3 h4 h5 h6 = refl
+
+-- ---- refusals
+
+-- "Refusals [..] are checked in the order written below": 32 to 44
+pub record InList (n : ℕ) : Type 0 where
+  pub low : 32 ≤ n
+  pub high : n ≤ 44
+
+pub refusalNumber-listed : (why : Refusal) → InList (refusalNumber why)
+unfolding refusalNumber
+refusalNumber-listed unknownMove = record { low = omega arith; high = omega arith }
+refusalNumber-listed strayWord = record { low = omega arith; high = omega arith }
+refusalNumber-listed noProcess = record { low = omega arith; high = omega arith }
+refusalNumber-listed noBoard = record { low = omega arith; high = omega arith }
+refusalNumber-listed noChannel = record { low = omega arith; high = omega arith }
+refusalNumber-listed transmitDead = record { low = omega arith; high = omega arith }
+refusalNumber-listed crashDead = record { low = omega arith; high = omega arith }
+refusalNumber-listed isHalted = record { low = omega arith; high = omega arith }
+refusalNumber-listed noWordToTake = record { low = omega arith; high = omega arith }
+refusalNumber-listed noWordForFirst = record { low = omega arith; high = omega arith }
+refusalNumber-listed eventsFull = record { low = omega arith; high = omega arith }
+refusalNumber-listed instructionsFull = record { low = omega arith; high = omega arith }
+refusalNumber-listed sendBlocked = record { low = omega arith; high = omega arith }
+refusalNumber-listed syncBlocked = record { low = omega arith; high = omega arith }
+refusalNumber-listed sendHeld = record { low = omega arith; high = omega arith }
+refusalNumber-listed injectHeld = record { low = omega arith; high = omega arith }
+refusalNumber-listed noBackup = record { low = omega arith; high = omega arith }
+refusalNumber-listed syncWaits = record { low = omega arith; high = omega arith }
+refusalNumber-listed outboxEmpty = record { low = omega arith; high = omega arith }
+refusalNumber-listed notOutside = record { low = omega arith; high = omega arith }
+refusalNumber-listed otherCrashed = record { low = omega arith; high = omega arith }
+
+-- no refusal is a 4
+pub refusalNumber-not-4 : (why : Refusal) → eqb (refusalNumber why) 4 ≡ false
+refusalNumber-not-4 why = ne-eqb (refusalNumber why) 4 (λ e. let a = refusalNumber-listed why .low in omega arith)
+
+-- whichever of the two found no word
+-- "37": for the acts or for the instructions
+pub owed-number : (x : Process) → refusalNumber (owedFor x) ≡ 37
+unfolding refusalNumber
+owed-number x = go (exhausted x)
+  where
+    go : (b : Bool) → refusalNumber (cond b eventsFull instructionsFull) ≡ 37
+    go true = refl
+    go false = refl
+
+pub missing-number : (i : Instruction) → refusalNumber (missing i) ≡ 36
+unfolding missing refusalNumber
+missing-number (SET a v) = refl
+missing-number (ADD a b) = refl
+missing-number (TAKE a k) = refl
+missing-number (FIRST a mask) = refl
+missing-number (SEND a k) = refl
+missing-number (JUMP a n) = refl
+missing-number NONE = refl

@@ -1,0 +1,71 @@
+//! `./label` as it is called: what it prints, what it says where it can't, and with which code it ends.
+use std::io::Write;
+use std::process::{Command, Output, Stdio};
+
+const ROOT: &str = concat!(env!("CARGO_MANIFEST_DIR"), "/..");
+
+fn label(arguments: &[&str], input: &[u8]) -> Output {
+    let mut program = Command::new(env!("CARGO_BIN_EXE_label"))
+        .args(arguments)
+        .current_dir(ROOT)
+        .stdin(Stdio::piped())
+        .stdout(Stdio::piped())
+        .stderr(Stdio::piped())
+        .spawn()
+        .expect("the program");
+    // A program that reads nothing may be gone already.
+    let _ = program.stdin.take().expect("its input").write_all(input);
+    program.wait_with_output().expect("its end")
+}
+
+fn prints(arguments: &[&str], input: &[u8], wanted: &str) {
+    let ended = label(arguments, input);
+    assert_eq!((ended.status.code(), String::from_utf8_lossy(&ended.stdout).as_ref()), (Some(0), wanted), "{arguments:?}");
+}
+
+fn complains(arguments: &[&str], input: &[u8], code: i32, about: &str) {
+    let ended = label(arguments, input);
+    let said = String::from_utf8_lossy(&ended.stderr);
+    assert!(ended.status.code() == Some(code) && ended.stdout.is_empty() && said.contains(about), "{arguments:?} says {said}");
+}
+
+/// A schedule of these records: move, a, and a feed's word.
+fn schedule(records: &[[u8; 3]]) -> Vec<u8> {
+    let mut bytes = ((1 + 6 * records.len()) as u16).to_be_bytes().to_vec();
+    bytes.push(1);
+    records.iter().for_each(|&[kind, a, word]| bytes.extend([kind, a, 0, 0, 0, word]));
+    bytes
+}
+
+#[test]
+fn labels() {
+    let pulled = |first: u32| (0..3).map(|i| format!("{} {}\n", 501 + i, first + i)).collect::<String>() + "to come 0\n";
+    for first in [0, 1000, 4_294_957_295] {
+        prints(&[&first.to_string(), "samples/label/pulled.hex"], &[], &pulled(first));
+        let demonstration = String::from_utf8(label(&[&first.to_string()], &[]).stdout).expect("text");
+        let (about, labels) = demonstration.split_once('\n').expect("lines");
+        assert!(about.starts_with('#') && labels == pulled(first), "{demonstration}");
+    }
+    prints(&["7", "-"], &schedule(&[]), "to come 0\n");
+    prints(&["7", "-"], &schedule(&[[4, 0, 9], [4, 0, 8], [4, 1, 7]]), "to come 2\n");
+    // The code is at the outlet and its serial is not.
+    let half = [[4, 0, 9], [1, 0, 0], [1, 0, 0], [1, 0, 0], [1, 0, 0], [3, 0, 0], [1, 1, 0], [1, 1, 0], [1, 1, 0], [3, 1, 0]];
+    prints(&["7", "-"], &schedule(&half), "9 -\nto come 1\n");
+    prints(&["7", "-"], b"00 01 01 # no records", "to come 0\n");
+}
+
+#[test]
+fn complaints() {
+    complains(&["4294957296"], &[], 3, "refused 46");
+    complains(&["99999999999999999999"], &[], 3, "refused 46");
+    complains(&["4294957296", "-"], &[], 3, "refused 46");
+    complains(&["1", "-"], &[], 3, "refused 9");
+    complains(&["1", "-"], &[0, 1, 2], 3, "refused 10");
+    complains(&["1", "-"], b"00 0", 2, "standard input: line 1");
+    complains(&["1", "missing"], &[], 2, "missing: no such file");
+    for arguments in [&[][..], &["x"], &["-1"], &[""], &["1", "-", "-"], &["--help", "1"]] {
+        complains(arguments, &[], 2, "usage: ./label FIRST");
+    }
+    let help = label(&["--help"], &[]);
+    assert!(help.status.code() == Some(0) && help.stdout.starts_with(b"usage: ./label FIRST") && help.stderr.is_empty());
+}

@@ -1,0 +1,74 @@
+//! One run of the label line by the proved call and by the simulator, compared byte by byte; and its labels, held against the sequence.
+use crate::call::ks_label_run;
+use crate::line::{fault, seen, table, SERIAL_MOST};
+use outside::rules::generate::{encode_schedule, encode_table};
+use outside::rules::reader::{record, Record};
+use outside::rules::run::{run, Outcome};
+use outside::rules::simulator::Answer;
+
+/// What lies in buffers before a run.
+const FILLER: u8 = 0xEE;
+
+#[derive(Default)]
+pub struct Counts {
+    pub runs: u64,
+    pub quiet: u64,
+    pub crashed: u64,
+    /// The most cartons and labels of one run.
+    pub cartons: usize,
+    pub labels: usize,
+}
+
+fn answer(bytes: &[u8]) -> Answer {
+    let record = record(bytes);
+    Answer { code: record.kind, a: record.a, word: record.word }
+}
+
+/// What the call returns for an outcome: its number, 256 times quiet, and 2^32 times its records.
+fn returned(outcome: Outcome) -> u64 {
+    outcome.number as u64 + 256 * outcome.quiet as u64 + ((outcome.records as u64) << 32)
+}
+
+/// What is wrong with a run, if anything is.
+fn wrong(counts: &mut Counts, first: u32, records: &[Record], buffers: (usize, usize)) -> Option<&'static str> {
+    let schedule = encode_schedule(records);
+    let mut wanted = match first <= SERIAL_MOST {
+        true => run(&encode_table(&table(first)), &schedule, buffers.0, buffers.1),
+        false => run(&[], &[], buffers.0, buffers.1),
+    };
+    if first > SERIAL_MOST {
+        wanted.outcome = Outcome { number: 46, records: 0, quiet: false };
+    }
+    let (mut answers, mut report) = (vec![FILLER; buffers.0], vec![FILLER; buffers.1]);
+    let result = ks_label_run(first, &schedule, &mut answers, &mut report);
+    counts.runs += 1;
+    if result != returned(wanted.outcome) {
+        return Some("another number");
+    }
+    let written = match wanted.outcome.number {
+        0 => (6 * records.len(), 40),
+        _ => (0, 0),
+    };
+    if answers[..written.0] != wanted.answers[..written.0] || report[..written.1] != wanted.report[..written.1] {
+        return Some("other answers or another report");
+    }
+    if answers[written.0..].iter().chain(&report[written.1..]).any(|&byte| byte != FILLER) {
+        return Some("a byte beyond them is touched");
+    }
+    let answers: Vec<Answer> = answers[..written.0].chunks_exact(6).map(answer).collect();
+    let (cartons, outlet) = seen(records, &answers);
+    counts.quiet += wanted.outcome.quiet as u64;
+    counts.crashed += answers.iter().zip(records).any(|(answer, record)| (record.kind, answer.code) == (5, 0)) as u64;
+    counts.cartons = counts.cartons.max(cartons.len());
+    counts.labels = counts.labels.max(outlet.len() / 2);
+    fault(first, &cartons, &outlet, wanted.outcome.quiet)
+}
+
+/// One run by both; a difference ends the program.
+pub fn compare(counts: &mut Counts, first: u32, records: &[Record], buffers: (usize, usize)) {
+    if let Some(what) = wrong(counts, first, records, buffers) {
+        println!("first {first}, buffers {buffers:?}, schedule {:02X?}", encode_schedule(records));
+        println!("label: FAILED after {} runs: {what}", counts.runs);
+        std::process::exit(1);
+    }
+}

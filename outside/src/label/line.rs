@@ -1,0 +1,56 @@
+//! The label line: document 02, W-203, written from its text.
+use outside::rules::reader::Instruction::{Add, Jump, Send, Set, Take};
+use outside::rules::reader::{Channel, Process, Record, Table, OUTSIDE};
+use outside::rules::simulator::Answer;
+
+/// "The channels are 0 from the scanner, 1 to the printer program and 2, the outlet."
+pub const SCANNER: u8 = 0;
+const PRINTER: u8 = 1;
+const OUTLET: u8 = 2;
+
+/// "46, a first serial above 4,294,957,295"
+pub const SERIAL_MOST: u32 = 4_294_957_295;
+
+/// "The numbering program, process 0, runs on board 0 with its stand-by on board 1, the printer program, process 1, the other way round."
+pub fn table(first: u32) -> Table {
+    let numbering = vec![
+        Set { a: 1, word: first },
+        Set { a: 2, word: 1 },
+        Take { a: 0, channel: SCANNER },
+        Send { a: 0, channel: PRINTER },
+        Send { a: 1, channel: PRINTER },
+        Add { a: 1, b: 2 },
+        Jump { a: 2, place: 2 },
+    ];
+    let printing =
+        vec![Set { a: 1, word: 1 }, Take { a: 0, channel: PRINTER }, Send { a: 0, channel: OUTLET }, Jump { a: 1, place: 1 }];
+    Table {
+        boards: 2,
+        channels: [(OUTSIDE, 0), (0, 1), (1, OUTSIDE)].map(|(sender, reader)| Channel { sender, reader }).to_vec(),
+        processes: vec![
+            Process { primary: 0, backup: 1, program: numbering },
+            Process { primary: 1, backup: 0, program: printing },
+        ],
+    }
+}
+
+/// "For every carton fed, the outlet gets the carton's code and then the next serial." No sum here may wrap.
+pub fn sequence(first: u32, cartons: &[u32]) -> Vec<u32> {
+    cartons.iter().zip(0..).flat_map(|(&code, i)| [code, first.checked_add(i).expect("a serial over 32 bits")]).collect()
+}
+
+/// What a run shows: the codes of the cartons that it was fed, and the words at its outlet.
+pub fn seen(records: &[Record], answers: &[Answer]) -> (Vec<u32>, Vec<u32>) {
+    let on_the_bus = |channel: u8| answers.iter().enumerate().filter(move |(_, answer)| (answer.code, answer.a) == (4, channel));
+    let cartons = on_the_bus(SCANNER).filter(|&(i, _)| records[i].kind == 4).map(|(i, _)| records[i].word).collect();
+    (cartons, on_the_bus(OUTLET).map(|(_, answer)| answer.word).collect())
+}
+
+/// Why these words at the outlet are not what these cartons call for, if they aren't.
+pub fn fault(first: u32, cartons: &[u32], outlet: &[u32], quiet: bool) -> Option<&'static str> {
+    let wanted = sequence(first, cartons);
+    if !wanted.starts_with(outlet) {
+        return Some("the outlet's words are no beginning of the sequence");
+    }
+    (quiet && wanted.len() > outlet.len()).then_some("a quiet end, and not every label is out")
+}

@@ -1,0 +1,163 @@
+//! The proved label line against the simulator on a table written from document 02: `label [--seed N]`.
+//!
+//! The table of first serials at both ends; schedules of several kinds, each with a crash of either board at each of its places and then
+//! led on until it is quiet; buffers that are too short; and schedules of 10,000 records.
+mod call;
+mod compare;
+mod line;
+
+use call::ks_label_table;
+use compare::{compare, Counts};
+use line::{table, SCANNER, SERIAL_MOST};
+use outside::random::Random;
+use outside::rules::generate::{continued, encode_table};
+use outside::rules::reader::{judge_table, Record, Table};
+use outside::rules::sample::{carry, crash, feed, step};
+use outside::rules::simulator::Cabinet;
+
+const SEED: u64 = 0xD1B5_4A32_D192_ED03;
+const SERIALS: [u32; 5] = [0, 1, 1000, SERIAL_MOST - 1, SERIAL_MOST];
+const REFUSED: [u32; 3] = [SERIAL_MOST + 1, SERIAL_MOST + 2, u32::MAX];
+
+/// As long as any schedule here needs.
+const ENOUGH: (usize, usize) = (60_012, 44);
+
+fn sync(a: u8) -> Record {
+    Record { kind: 2, a, word: 0 }
+}
+
+/// The table of a first serial is the one written here, and its reader accepts it; or it is 46, and the lent bytes are untouched.
+fn tables(random: &mut Random) {
+    for first in SERIALS.into_iter().chain((0..1000).map(|_| random.word())).filter(|&first| first <= SERIAL_MOST) {
+        let mut bytes = [0xEE; 84];
+        assert_eq!(ks_label_table(first, &mut bytes), 0, "the table of {first} is refused");
+        assert_eq!(bytes[..], encode_table(&table(first)), "another table of {first}");
+        assert_eq!(judge_table(&bytes), Ok(table(first)), "the table of {first} isn't accepted");
+    }
+    for first in REFUSED {
+        let mut bytes = [0xEE; 84];
+        assert_eq!((ks_label_table(first, &mut bytes), bytes), (46, [0xEE; 84]), "the table of {first}");
+    }
+}
+
+/// A cabinet with the records that led there.
+struct Led<'t> {
+    cabinet: Cabinet<'t>,
+    records: Vec<Record>,
+}
+
+impl<'t> Led<'t> {
+    fn new(table: &'t Table, records: &[Record]) -> Led<'t> {
+        let mut led = Led { cabinet: Cabinet::new(table), records: Vec::new() };
+        records.iter().for_each(|&record| {
+            led.give(record);
+        });
+        led
+    }
+
+    fn give(&mut self, record: Record) -> u8 {
+        self.records.push(record);
+        self.cabinet.answer(record).code
+    }
+
+    /// A record that is left out where it is refused; true where it was done.
+    fn tries(&mut self, record: Record) -> bool {
+        let done = self.cabinet.answer(record).code < 32;
+        if done {
+            self.records.push(record);
+        }
+        done
+    }
+
+    /// One instruction of each process, with a sync where one is owed, and a carry from each board; true where anything was done.
+    fn round(&mut self) -> bool {
+        let mut any = false;
+        for p in 0..2 {
+            any |= self.tries(step(p)) || self.tries(carry(p)) || self.tries(sync(p)) && self.tries(step(p));
+        }
+        for board in 0..2 {
+            any |= self.tries(carry(board));
+        }
+        any
+    }
+
+    /// Goes on until it is quiet.
+    fn quiet(mut self) -> Vec<Record> {
+        while !self.cabinet.quiet() {
+            assert!(self.round(), "nothing can be done, and it isn't quiet");
+        }
+        self.records
+    }
+}
+
+/// Carton by carton; all cartons first; syncs between; and some that the generator makes.
+fn schedules(random: &mut Random, table: &Table) -> Vec<Vec<Record>> {
+    let cartons = |from: u32, n: u32| (from..from + n).map(|code| feed(SCANNER, code));
+    let one_by_one = cartons(501, 3).fold(Vec::new(), |mut records, carton| {
+        records.push(carton);
+        Led::new(table, &records).quiet()
+    });
+    let all_first = Led::new(table, &cartons(u32::MAX - 9, 10).collect::<Vec<_>>()).quiet();
+    let synced: Vec<Record> = one_by_one.iter().enumerate().flat_map(|(i, &record)| [record, sync((i % 2) as u8)]).collect();
+    let generated = [20, 40, 60, 60].map(|n| continued(random, table, Cabinet::new(table), n));
+    [one_by_one, all_first, synced].into_iter().chain(generated).collect()
+}
+
+/// A crash of either board at each place of a schedule: as it stands, and led on until it is quiet.
+fn pulled(counts: &mut Counts, first: u32, table: &Table, records: &[Record]) {
+    compare(counts, first, records, (6 * records.len(), 40));
+    compare(counts, first, &Led::new(table, records).quiet(), ENOUGH);
+    for place in 0..=records.len() {
+        for board in 0..2 {
+            let crashed = [&records[..place], &[crash(board)], &records[place..]].concat();
+            compare(counts, first, &crashed, (6 * crashed.len() + 1, 41));
+            compare(counts, first, &Led::new(table, &crashed).quiet(), ENOUGH);
+        }
+    }
+}
+
+/// As many cartons as 10,000 records can feed and print, with a crash somewhere among them.
+fn long(counts: &mut Counts, first: u32, table: &Table, place: usize, board: u8) {
+    let mut led = Led::new(table, &[]);
+    let mut code = 0;
+    while led.records.len() < 10_000 {
+        if led.records.len() >= place && led.tries(crash(board)) {
+            continue;
+        }
+        if led.tries(feed(SCANNER, code)) {
+            code += 1;
+        }
+        led.round();
+    }
+    compare(counts, first, &led.records[..10_000], (60_000, 40));
+}
+
+fn main() {
+    let mut arguments = std::env::args().skip_while(|argument| argument != "--seed").skip(1);
+    let seed = arguments.next().map_or(SEED, |value| value.parse().expect("--seed takes a number"));
+    println!("label: seed {seed}");
+    let mut random = Random::new(seed);
+    let mut counts = Counts::default();
+    tables(&mut random);
+    for first in SERIALS {
+        let table = table(first);
+        for records in schedules(&mut random, &table) {
+            pulled(&mut counts, first, &table, &records);
+        }
+        // Too short by one byte, and 10,000 feeds, of which eight are accepted; then as many as there is time for.
+        compare(&mut counts, first, &[step(0)], (5, 40));
+        compare(&mut counts, first, &[step(0)], (6, 39));
+        compare(&mut counts, first, &vec![feed(SCANNER, 7); 10_000], ENOUGH);
+        compare(&mut counts, first, &vec![feed(SCANNER, 7); 10_001], (70_000, 40));
+        for place in [0, 1, 4999, 5000, 5001, 9999, 10_000] {
+            long(&mut counts, first, &table, place, (place % 2) as u8);
+        }
+    }
+    for first in REFUSED {
+        compare(&mut counts, first, &[feed(SCANNER, 7), step(0)], ENOUGH);
+        compare(&mut counts, first, &[], (0, 0));
+    }
+    let Counts { runs, quiet, crashed, cartons, labels } = counts;
+    assert!(quiet > runs / 3 && crashed > runs / 2 && labels > 500, "too little was met");
+    println!("label: ok, {runs} runs, {crashed} with a crash, {quiet} quiet, up to {cartons} cartons and {labels} labels in one");
+}
