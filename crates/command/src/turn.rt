@@ -51,7 +51,7 @@ fn worded(mv: u8, word: u32) -> bool
 }
 
 // "Any record: 32 for an unknown move or a word that should be 0", then 33; 0 for neither.
-pub fn judge(boards: usize, processes: usize, channels: usize, mv: u8, a: u32, word: u32) -> u32
+fn judge(boards: usize, processes: usize, channels: usize, mv: u8, a: u32, word: u32) -> u32
     ensures { λ r. ⌜ r ≡ judgeOf boards processes channels mv a word ⌝ }
 {
     if worded(mv, word) {
