@@ -7,7 +7,7 @@ use std::process::ExitCode;
 const USAGE: &str = "./table [--bytes | --apart] FILE, where FILE - is standard input
   FILE          lists as text: decimal numbers under the headings counts, ends, placements and instructions. Prints the table as hex text
   --bytes FILE  the same, and prints the table's bytes
-  --apart FILE  a table, bytes or hex text. Prints its lists as such text
+  --apart FILE  a table, bytes or hex text; a schedule behind it, as ./run takes them, is left out. Prints its lists as such text
 What is refused prints `refused` and the number (docs/NUMBERS.md), says why on standard error, and ends with 3.";
 
 fn main() -> ExitCode {
@@ -28,9 +28,13 @@ fn written(file: &str) -> Result<(Vec<u8>, Lists), Failure> {
     }
 }
 
-/// The text of a file with a table.
+/// The text of a file with a table, which is as long as its length bytes say, as for `./run`.
 fn apart(file: &str) -> Result<Vec<u8>, Failure> {
-    match Lists::of(&input::bytes(file)?) {
+    let mut bytes = input::bytes(file)?;
+    if let [high, low, ..] = bytes[..] {
+        bytes.truncate(2 + usize::from(u16::from_be_bytes([high, low])));
+    }
+    match Lists::of(&bytes) {
         Ok(found) => Ok(lists::print(&found).into_bytes()),
         Err(refusal) => Err(refused(refusal, String::new())),
     }
