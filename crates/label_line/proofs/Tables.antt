@@ -15,11 +15,11 @@ use Rattle.label_line.specs.Labels.{Makes}
 use Rattle.label_line.proofs.Spacing.{takes-often}
 
 -- six bytes, the last four each cut out of the operand
-pub instruction-put : (l : List ℕ) (at code a operand : ℕ) → operand < 2 ^ 32 → (b3 b2 b1 b0 : ℕ) → b3 ≡ operand / 16777216 % 256
+pub instruction-set : (l : List ℕ) (at code a operand : ℕ) → operand < 2 ^ 32 → (b3 b2 b1 b0 : ℕ) → b3 ≡ operand / 16777216 % 256
     → b2 ≡ operand / 65536 % 256 → b1 ≡ operand / 256 % 256 → b0 ≡ operand % 256
     → set (set (set (set (set (set l at code) (at + 1) a) (at + 2) b3) (at + 3) b2) (at + 4) b1) (at + 5) b0 ≡ instructionIn l at code a operand
 unfolding instructionIn
-instruction-put l at code a operand h b3 b2 b1 b0 e3 e2 e1 e0 =
+instruction-set l at code a operand h b3 b2 b1 b0 e3 e2 e1 e0 =
     let top : b3 ≡ operand / 2 ^ 24 = omega arith in rw (top, e2, e1, e0)
 
 -- the two programs, instruction by instruction
