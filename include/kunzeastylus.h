@@ -73,7 +73,7 @@ enum ks_answer {
     KS_BOARD_DEAD = 34,
     KS_HALTED = 35,
     KS_NO_WORD = 36,
-    KS_OWES_SYNC = 37,        /* backed, and acts are 8 */
+    KS_OWES_SYNC = 37,        /* backed, and acts are 8 or instructions 64 */
     KS_QUEUE_FULL = 38,
     KS_CHANNEL_HELD = 39,
     KS_NO_BACKUP = 40,

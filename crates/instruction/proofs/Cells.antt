@@ -1,5 +1,6 @@
 -- Stores at the cells of a row: what is kept, a counter that goes up by one, and the counters of a SEND.
 use mathlib.Core.Path.{_≡_, refl, ap, sym, _∙_}
+use mathlib.Core.Logic.{_≢_}
 use mathlib.Core.Bool.{Bool, true, false, not, cond}
 use mathlib.Core.List.{List, [], _∷_}
 use Prim.Native.Nat.{ℕ, zero, suc, _+_, _%_, _^_, _≤_, _<_}
@@ -13,25 +14,28 @@ use Rattle.backup.specs.Limits.{logMost}
 use Rattle.rules.specs.Table.{Instruction}
 use Rattle.rules.specs.Machine.{Machine, Outcome, moved, Act}
 use Rattle.rules.specs.Cabinet.{Since, Process, limited}
-use Rattle.rules.specs.Moves.{advanced, counting, oneSent, oneTaken}
+use Rattle.rules.specs.Moves.{advanced, counting}
 use Rattle.process.specs.Row.{rowLength, machineOf, standbyOf, processOf, Kept}
 use Rattle.process.specs.Change.{Became}
-use Rattle.instruction.specs.Instruction.{Fetched, outcomeOf, Intends, afterSend, bumped, oneIn, tallied, Room, TallyRoom, Suppresses, Queues}
+use Rattle.instruction.specs.Instruction.{Fetched, outcomeOf, Intends, afterSend, bumped, oneIn, tallied, Room, TallyRoom, Suppresses}
 use Rattle.instruction.specs.declared.instruction.Intent.{Intent}
 use Rattle.instruction.specs.declared.instruction.Intent.the-variants.{Send}
 use Rattle.process.proofs.Rows.{Words, stored, spelled, limited-is}
 use Rattle.instruction.proofs.Examining.{step-halted}
 
--- a word stored at a cell other than the flag, the backup's board and the number of unread words
-pub kept-cell : {row mail log head : List ℕ} (i v : ℕ) → i < 12 → v < 2 ^ 32 → Kept row mail log head → Kept (set row i v) mail log head
-kept-cell {row} i v h w k = record {
+-- a word stored at a cell other than the flag and the number of unread words
+pub kept-other : {row mail log head : List ℕ} (i v : ℕ) → 12 ≢ i → 14 ≢ i → v < 2 ^ 32 → Kept row mail log head → Kept (set row i v) mail log head
+kept-other {row} i v f u w k = record {
   row-length = length-set row i v ∙ k .row-length;
   mail-length = k .mail-length;
-  unread = rw (getD-set-other row i 14 v 0 (λ e. omega arith)) (k .unread);
+  unread = rw (getD-set-other row i 14 v 0 u) (k .unread);
   words = stored {l = row} i v w (record { word = k .words }) .word;
-  flag = rw (getD-set-other row i 12 v 0 (λ e. omega arith)) (k .flag);
+  flag = rw (getD-set-other row i 12 v 0 f) (k .flag);
   sound = k .sound;
 }
+
+pub kept-cell : {row mail log head : List ℕ} (i v : ℕ) → i < 12 → v < 2 ^ 32 → Kept row mail log head → Kept (set row i v) mail log head
+kept-cell i v h w k = kept-other i v (λ e. omega arith) (λ e. omega arith) w k
 
 -- another mailbox, with its number of unread words
 pub kept-mail : {row mail log head : List ℕ} (mail′ : List ℕ) (u : ℕ) → length mail′ ≡ length mail → u ≤ logMost → Kept row mail log head
@@ -61,24 +65,31 @@ tally-fits row i w h =
 pub tallied-is : (row : List ℕ) (i : ℕ) → getD row i 0 + oneIn row < 2 ^ 32 → tallied row i ≡ set row i (getD row i 0 + oneIn row)
 tallied-is row i h = ap (set row i) (omega arith)
 
+-- an act alone, without the instruction that it is
+abbrev pub anotherSend : Since → Since
+anotherSend n = record { instructions = n .instructions; events = suc (n .events); taken = n .taken }
+
+abbrev pub anotherTake : ℕ → Since → Since
+anotherTake port n = record { instructions = n .instructions; events = suc (n .events); taken = set (n .taken) port (suc (getD (n .taken) port 0)) }
+
 -- what is counted of a process that is limited, or not
 pub counting-sent : (x : Process) (off : Bool) → limited x ≡ not off → (e : ℕ) → e ≡ x .since .events + cond off 0 1
-    → _≡_ {A = Since} (record { events = e; taken = x .since .taken }) (counting oneSent x)
-counting-sent x true h e f = rw h (let a : e ≡ x .since .events = omega arith in λ i. record { events = a i; taken = x .since .taken })
-counting-sent x false h e f = rw h (let a : e ≡ suc (x .since .events) = omega arith in λ i. record { events = a i; taken = x .since .taken })
+    → _≡_ {A = Since} (record { instructions = x .since .instructions; events = e; taken = x .since .taken }) (counting anotherSend x)
+counting-sent x true h e f = rw h (let a : e ≡ x .since .events = omega arith in λ i. record { instructions = x .since .instructions; events = a i; taken = x .since .taken })
+counting-sent x false h e f = rw h (let a : e ≡ suc (x .since .events) = omega arith in λ i. record { instructions = x .since .instructions; events = a i; taken = x .since .taken })
 
 pub counting-taken : (x : Process) (off : Bool) → limited x ≡ not off → (port t e : ℕ) → t ≡ getD (x .since .taken) port 0 + cond off 0 1
     → e ≡ x .since .events + cond off 0 1
-    → _≡_ {A = Since} (record { events = e; taken = set (x .since .taken) port t }) (counting (oneTaken port) x)
+    → _≡_ {A = Since} (record { instructions = x .since .instructions; events = e; taken = set (x .since .taken) port t }) (counting (anotherTake port) x)
 counting-taken x true h port t e f g =
     let a : e ≡ x .since .events = omega arith in
     let b : t ≡ getD (x .since .taken) port 0 = omega arith in
     let c : set (x .since .taken) port t ≡ x .since .taken = ap (set (x .since .taken) port) b ∙ set-getD (x .since .taken) port 0 in
-    rw h (λ i. record { events = a i; taken = c i })
+    rw h (λ i. record { instructions = x .since .instructions; events = a i; taken = c i })
 counting-taken x false h port t e f g =
     let a : e ≡ suc (x .since .events) = omega arith in
     let b : t ≡ suc (getD (x .since .taken) port 0) = omega arith in
-    rw h (λ i. record { events = a i; taken = set (x .since .taken) port (b i) })
+    rw h (λ i. record { instructions = x .since .instructions; events = a i; taken = set (x .since .taken) port (b i) })
 
 -- an instruction that was done was not past the end
 pub going : {program : List Instruction} {row mail : List ℕ} {n code a operand : ℕ} {i : Intent} (m : Machine) (act : Act)
@@ -102,8 +113,9 @@ module _ (row mail log head : List ℕ) (k : Kept row mail log head) where
         kept-again = kept-cell 1 (suc (getD row 1 0)) (omega arith) (omega arith) (kept-cell 6 left (omega arith) (omega arith) k);
       })
 
+  -- but for the instruction's count
   pub queued-became : getD row 6 0 ≡ 0 → Room row 1 → TallyRoom row 7
-      → Became row mail log head (bumped (tallied row 7) 1) mail log head (λ x. advanced (afterSend (machineOf row mail)) (counting oneSent x) 0 x)
+      → Became row mail log head (bumped (tallied row 7) 1) mail log head (λ x. advanced (afterSend (machineOf row mail)) (counting anotherSend x) 0 x)
   unfolding processOf machineOf standbyOf advanced
   queued-became e h g =
       let x : Process = processOf row mail log head in
@@ -114,7 +126,7 @@ module _ (row mail log head : List ℕ) (k : Kept row mail log head) where
       rw (tallied-is row 7 fits, bumped-is (set row 7 n) 1 r, o)
       (record {
         process-is = spelled row (λ (r : List ℕ). processOf (set (set r 7 n) 1 (suc (getD row 1 0))) mail log head) (k .row-length)
-            ∙ ap (λ (s : ℕ). advanced (afterSend (machineOf row mail)) (record { events = n; taken = x .since .taken }) s x) e
+            ∙ ap (λ (s : ℕ). advanced (afterSend (machineOf row mail)) (record { instructions = x .since .instructions; events = n; taken = x .since .taken }) s x) e
             ∙ ap (λ (s : Since). advanced (afterSend (machineOf row mail)) s 0 x) (counting-sent x (eqb (getD row 12 0) 0) (limited-is row mail log head) n refl);
         kept-again = kept-cell 1 (suc (getD row 1 0)) (omega arith) (omega arith) (kept-cell 7 n (omega arith) fits k);
       })
@@ -128,9 +140,3 @@ suppresses row r e l program n code a operand channel word left mail log head k 
     let g = going _ _ i refl in
     let f = i .fetched .few in
     rw (one-less r (getD row 6 0) left e l h) (suppressed-became row mail log head k left h (omega arith))
-
-pub queues : (row : List ℕ) → Queues row (bumped (tallied row 7) 1)
-queues row program n code a operand channel word mail log head k i e h =
-    let g = going _ _ i refl in
-    let f = i .fetched .few in
-    queued-became row mail log head k e (omega arith) h

@@ -17,7 +17,7 @@ use Rattle.rules.specs.Cabinet.{Process}
 use Rattle.rules.specs.Moves.{advanced}
 use Rattle.process.specs.Row.{rowLength, machineOf, standbyOf, processOf, Kept}
 use Rattle.process.specs.Change.{Became}
-use Rattle.instruction.specs.Instruction.{InRange, afterInternal, Intends, bumped, Room, Computes}
+use Rattle.instruction.specs.Instruction.{InRange, afterInternal, Intends, bumped, Room, Evaluates}
 use Rattle.instruction.specs.declared.instruction.Intent.the-variants.{Internal}
 use Rattle.process.proofs.Rows.{spelled}
 use Rattle.instruction.proofs.Examining.{register-is, step-executes}
@@ -98,22 +98,22 @@ module _ (row : List ℕ) (code a operand : ℕ) where
       sym (step-executes row mail n code a operand program (i .fetched) (going _ _ i refl)) ∙ i .outcome
 
   -- no other does
-  pub computes-none : code ≢ 1 → code ≢ 2 → code ≢ 6 → Computes row code a operand row
-  computes-none x y z program n mail log head k i =
+  pub evaluates-none : code ≢ 1 → code ≢ 2 → code ≢ 6 → Evaluates row code a operand row
+  evaluates-none x y z program n mail log head k i =
       absurd (acts-none code a operand (machineOf row mail) _ x y z (executed program n mail log head i))
 
-  pub computes-set : code ≡ 1 → operand < 2 ^ 32 → Computes row code a operand (bumped (set row (2 + a % 4) operand) 1)
+  pub evaluates-set : code ≡ 1 → operand < 2 ^ 32 → Evaluates row code a operand (bumped (set row (2 + a % 4) operand) 1)
   unfolding execute
-  computes-set c w program n mail log head k i =
+  evaluates-set c w program n mail log head k i =
       let g = going _ _ i refl in
       let f = i .fetched in
       let l = f .few in
       rw c (set-became row mail log head k a operand (f .in-range g .first) w (omega arith))
 
-  pub computes-add : code ≡ 2 → (v : ℕ) → v ≡ (getD row (2 + a % 4) 0 + getD row (2 + operand % 4) 0) % 2 ^ 32
-      → Computes row code a operand (bumped (set row (2 + a % 4) v) 1)
+  pub evaluates-add : code ≡ 2 → (v : ℕ) → v ≡ (getD row (2 + a % 4) 0 + getD row (2 + operand % 4) 0) % 2 ^ 32
+      → Evaluates row code a operand (bumped (set row (2 + a % 4) v) 1)
   unfolding execute machineOf
-  computes-add c v w program n mail log head k i =
+  evaluates-add c v w program n mail log head k i =
       let g = going _ _ i refl in
       let f = i .fetched in
       let l = f .few in
@@ -122,18 +122,18 @@ module _ (row : List ℕ) (code a operand : ℕ) where
       rw (register-is row a (q .first), register-is row operand (q .second c)) (sym w) in
       rw (c, e) (set-became row mail log head k a v (q .first) (omega arith) (omega arith))
 
-  pub computes-on : code ≡ 6 → getD row (2 + a % 4) 0 ≡ 0 → Computes row code a operand (bumped row 1)
+  pub evaluates-on : code ≡ 6 → getD row (2 + a % 4) 0 ≡ 0 → Evaluates row code a operand (bumped row 1)
   unfolding execute machineOf
-  computes-on c z program n mail log head k i =
+  evaluates-on c z program n mail log head k i =
       let g = going _ _ i refl in
       let f = i .fetched in
       let l = f .few in
       let e : eqb (getD (machineOf row mail .registers) a 0) 0 ≡ true = rw (register-is row a (f .in-range g .first)) (eq-eqb _ 0 z) in
       rw (c, e, bumped-is row 1 (omega arith)) (pc-became row mail log head k (suc (getD row 1 0)) (omega arith))
 
-  pub computes-jump : code ≡ 6 → getD row (2 + a % 4) 0 ≢ 0 → operand < 2 ^ 32 → Computes row code a operand (set row 1 operand)
+  pub evaluates-jump : code ≡ 6 → getD row (2 + a % 4) 0 ≢ 0 → operand < 2 ^ 32 → Evaluates row code a operand (set row 1 operand)
   unfolding execute machineOf
-  computes-jump c z w program n mail log head k i =
+  evaluates-jump c z w program n mail log head k i =
       let g = going _ _ i refl in
       let f = i .fetched in
       let e : eqb (getD (machineOf row mail .registers) a 0) 0 ≡ false = rw (register-is row a (f .in-range g .first)) (ne-eqb _ 0 z) in

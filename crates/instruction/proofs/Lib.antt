@@ -2,5 +2,6 @@
 pub mod Mailboxes
 pub mod Examining
 pub mod Cells
+pub mod Done
 pub mod Computing
 pub mod Taking

@@ -16,13 +16,14 @@ use Rattle.rules.specs.Table.{Instruction}
 use Rattle.rules.specs.Machine.{Mail, Machine}
 use Rattle.rules.specs.Cabinet.{Since, Process}
 use Rattle.rules.specs.Moves.{advanced, counting, oneTaken}
-use Rattle.process.specs.Row.{mailIn, mailsIn, machineOf, standbyOf, processOf, Kept}
+use Rattle.process.specs.Row.{rowLength, mailIn, mailsIn, machineOf, standbyOf, processOf, Kept}
 use Rattle.process.specs.Change.{Became}
 use Rattle.instruction.specs.Mailbox.{Removed}
 use Rattle.instruction.specs.Instruction.{loaded, loadedIn, Loads, afterTake, bumped, oneIn, tallied, Room, TallyRoom, Intends, Takes}
 use Rattle.instruction.specs.declared.instruction.Intent.the-variants.{Take}
 use Rattle.process.proofs.Rows.{spelled, limited-is}
-use Rattle.instruction.proofs.Cells.{kept-cell, kept-mail, bumped-is, tally-fits, tallied-is, counting-taken, one-less, going}
+use Rattle.instruction.proofs.Cells.{kept-cell, kept-mail, bumped-is, tally-fits, tallied-is, anotherTake, counting-taken, one-less, going}
+use Rattle.instruction.proofs.Done.{and-done, act-and-done, act-same}
 
 -- ---- the registers
 
@@ -57,7 +58,7 @@ abbrev withRegisters : List ℕ → Process → Process
 withRegisters registers x =
     advanced (record { registers = registers; pc = x .machine .pc; mailbox = x .machine .mailbox }) (x .since) (x .suppress) x
 
-module _ (row mail log head : List ℕ) (l : length row ≡ 15) (x : Mail) where
+module _ (row mail log head : List ℕ) (l : length row ≡ rowLength) (x : Mail) where
   take-process : (a : ℕ) → a < 4
       → processOf (set row (2 + a % 4) (x .word)) mail log head ≡ withRegisters (set (machineOf row mail .registers) a (x .word)) (processOf row mail log head)
   unfolding processOf machineOf standbyOf advanced
@@ -88,9 +89,9 @@ module _ (row mail log head : List ℕ) (l : length row ≡ 15) (x : Mail) where
 -- a process with one word less in its mailbox, and its place and its counters moved on
 abbrev counted : List Mail → ℕ → ℕ → ℕ → ℕ → Process → Process
 counted mailbox pc port takes events x =
-    advanced (record { registers = x .machine .registers; pc = pc; mailbox = mailbox }) (record { events = events; taken = set (x .since .taken) port takes }) (x .suppress) x
+    advanced (record { registers = x .machine .registers; pc = pc; mailbox = mailbox }) (record { instructions = x .since .instructions; events = events; taken = set (x .since .taken) port takes }) (x .suppress) x
 
-count-process : (row mail log head mail′ : List ℕ) → length row ≡ 15 → (u port t e p : ℕ) → port < 4
+count-process : (row mail log head mail′ : List ℕ) → length row ≡ rowLength → (u port t e p : ℕ) → port < 4
     → processOf (set (set (set (set row 14 u) (8 + port % 4) t) 7 e) 1 p) mail′ log head ≡ counted (mailsIn u mail′) p port t e (processOf row mail log head)
 unfolding processOf machineOf standbyOf advanced
 count-process row mail log head mail′ l u zero t e p h = spelled row (λ (r : List ℕ). processOf (set (set (set (set r 14 u) 8 t) 7 e) 1 p) mail′ log head) l
@@ -143,9 +144,9 @@ module _ (row mail : List ℕ) (code a at port : ℕ) (inside : at < getD row 14
     (row₁ : List ℕ) (load : Loads row code a (getD mail at 0) row₁)
     (u : ℕ) (less : (u + 1) % 2 ^ 32 ≡ getD row₁ 14 0) (fits : u < 2 ^ 32)
     (mail′ : List ℕ) (out : Removed mail (getD row 14 0) at mail′) where
-  pub takes : Takes row mail code a at port (bumped (tallied (tallied (set row₁ 14 u) (8 + port % 4)) 7) 1) mail′
+  pub takes : Takes row mail code a at port (tallied (bumped (tallied (tallied (set row₁ 14 u) (8 + port % 4)) 7) 1) 15) mail′
   unfolding processOf machineOf advanced
-  takes = record { untouched = λ l. absurd (omega arith); became = after }
+  takes = record { untouched = λ l. absurd (omega arith); became = whole }
     where
       x : Mail
       x = mailIn (getD mail at 0)
@@ -159,7 +160,7 @@ module _ (row mail : List ℕ) (code a at port : ℕ) (inside : at < getD row 14
       after : (program : List Instruction) (n operand : ℕ) (log head : List ℕ) → Kept row mail log head
           → Intends program row mail n code a operand (Take at) → port < ports → TallyRoom row 7 → TallyRoom row (8 + port)
           → Became row mail log head (bumped (tallied (tallied (set row₁ 14 u) (8 + port % 4)) 7) 1) mail′ log head
-          (λ x. advanced (afterTake code a at row mail) (counting (oneTaken port) x) (x .suppress) x)
+          (λ x. advanced (afterTake code a at row mail) (counting (anotherTake port) x) (x .suppress) x)
       after program n operand log head k i h r7 rp =
           let g = going _ _ i refl in
           let few = i .fetched .few in
@@ -202,9 +203,22 @@ module _ (row mail : List ℕ) (code a at port : ℕ) (inside : at < getD row 14
                 (kept-cell (8 + port % 4) t (omega arith) t-fits (kept-mail mail′ u (out .same-length) (omega arith) k₁)));
           })
 
+      whole : (program : List Instruction) (n operand : ℕ) (log head : List ℕ) → Kept row mail log head
+          → Intends program row mail n code a operand (Take at) → port < ports → TallyRoom row 7 → TallyRoom row (8 + port) → TallyRoom row 15
+          → Became row mail log head (tallied (bumped (tallied (tallied (set row₁ 14 u) (8 + port % 4)) 7) 1) 15) mail′ log head
+          (λ x. advanced (afterTake code a at row mail) (counting (oneTaken port) x) (x .suppress) x)
+      whole program n operand log head k i h r7 rp room =
+          let y : Process = processOf row mail log head in
+          let d = and-done row mail log head (bumped (tallied (tallied (set row₁ 14 u) (8 + port % 4)) 7) 1) mail′ (afterTake code a at row mail)
+          (counting (anotherTake port)) (λ z. z .suppress) (act-same (anotherTake port) (λ _. refl) y) (after program n operand log head k i h r7 rp) room in
+          record {
+            process-is = d .process-is ∙ ap (λ (s : Since). advanced (afterTake code a at row mail) s (y .suppress) y) (act-and-done (anotherTake port) y);
+            kept-again = d .kept-again;
+          }
+
 -- no unread word there, or a mailbox with more words than it can hold
 pub takes-none : (row mail : List ℕ) (code a at port : ℕ) → (getD row 14 0 ≤ logMost → at < getD row 14 0 → ⊥) → Takes row mail code a at port row mail
 takes-none row mail code a at port l = record {
   untouched = λ h. (refl, refl);
-  became = λ program n operand log head k i h r7 rp. absurd (l (k .unread) (i .inside at refl));
+  became = λ program n operand log head k i h r7 rp room. absurd (l (k .unread) (i .inside at refl));
 }

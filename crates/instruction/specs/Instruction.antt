@@ -12,7 +12,7 @@ use Rattle.rules.specs.Table.{Instruction, SET}
 use Rattle.rules.specs.Machine.{Mail, Machine, Outcome, halted, noMail, moved, internal, took, sent, booted, next, pull, nothing, found, execute, localStep}
 use Rattle.rules.specs.Format.{instruction}
 use Rattle.rules.specs.Cabinet.{Process}
-use Rattle.rules.specs.Moves.{advanced, counting, oneSent, oneTaken}
+use Rattle.rules.specs.Moves.{advanced, counting, oneDone, oneSent, oneTaken}
 use Rattle.process.specs.Row.{mailIn, mailsIn, machineOf, Kept}
 use Rattle.process.specs.Change.{Became}
 use Rattle.instruction.specs.Mailbox.{names}
@@ -91,11 +91,11 @@ Sought mail n code operand (Send channel word) = ⊥
 abbrev pub bumped : List ℕ → ℕ → List ℕ
 bumped row i = set row i ((getD row i 0 + 1) % 2 ^ 32)
 
--- what an act of the process counts for: 1 where it is limited, and 0 where it is not
+-- what an act or an instruction of the process counts for: 1 where it is limited, and 0 where it is not
 abbrev pub oneIn : List ℕ → ℕ
 oneIn row = cond (eqb (getD row 12 0) 0) 0 1
 
--- an act more in a counter
+-- one more in a counter that is counted on while the process is limited
 abbrev pub tallied : List ℕ → ℕ → List ℕ
 tallied row i = set row i ((getD row i 0 + oneIn row) % 2 ^ 32)
 
@@ -108,9 +108,9 @@ pub record Loads (row : List ℕ) (code a x : ℕ) (row′ : List ℕ) : Type 0 
   pub is : row′ ≡ loadedIn code a (mailIn x) row
   pub fits : mailIn x .channel < 2 ^ 32
 
--- A SET, an ADD or a JUMP was done: machine and nothing else.
-abbrev pub Computes : List ℕ → ℕ → ℕ → ℕ → List ℕ → Type 0
-Computes row code a operand row′ =
+-- What a SET, an ADD or a JUMP does to registers and place: machine and nothing else.
+abbrev pub Evaluates : List ℕ → ℕ → ℕ → ℕ → List ℕ → Type 0
+Evaluates row code a operand row′ =
     (program : List Instruction) (n : ℕ) (mail log head : List ℕ) → Kept row mail log head → Intends program row mail n code a operand Internal
     → Became row mail log head row′ mail log head (λ x. advanced (afterInternal code a operand (machineOf row mail)) (x .since) (x .suppress) x)
 
@@ -122,11 +122,18 @@ Room row i = getD row i 0 + 1 < 2 ^ 32
 abbrev pub TallyRoom : List ℕ → ℕ → Type 0
 TallyRoom row i = (getD row 12 0 ≡ 0 → ⊥) → Room row i
 
+-- A SET, an ADD or a JUMP was done: machine, and an instruction more that is counted.
+abbrev pub Computes : List ℕ → ℕ → ℕ → ℕ → List ℕ → Type 0
+Computes row code a operand row′ =
+    (program : List Instruction) (n : ℕ) (mail log head : List ℕ) → Kept row mail log head → Intends program row mail n code a operand Internal
+    → TallyRoom row 15
+    → Became row mail log head row′ mail log head (λ x. advanced (afterInternal code a operand (machineOf row mail)) (counting oneDone x) (x .suppress) x)
+
 -- A word was taken that had come in on a port: machine, and what is counted. Nothing changes where no unread word stands there.
 pub record Takes (row mail : List ℕ) (code a at port : ℕ) (row′ mail′ : List ℕ) : Type 0 where
   pub untouched : getD row 14 0 ≤ at → (row′ ≡ row) × (mail′ ≡ mail)
   pub became : (program : List Instruction) (n operand : ℕ) (log head : List ℕ) → Kept row mail log head
-      → Intends program row mail n code a operand (Take at) → port < ports → TallyRoom row 7 → TallyRoom row (8 + port)
+      → Intends program row mail n code a operand (Take at) → port < ports → TallyRoom row 7 → TallyRoom row (8 + port) → TallyRoom row 15
       → Became row mail log head row′ mail′ log head
       (λ x. advanced (afterTake code a at row mail) (counting (oneTaken port) x) (x .suppress) x)
 
@@ -141,5 +148,5 @@ Suppresses row row′ =
 abbrev pub Queues : List ℕ → List ℕ → Type 0
 Queues row row′ =
     (program : List Instruction) (n code a operand channel word : ℕ) (mail log head : List ℕ) → Kept row mail log head
-    → Intends program row mail n code a operand (Send channel word) → getD row 6 0 ≡ 0 → TallyRoom row 7
+    → Intends program row mail n code a operand (Send channel word) → getD row 6 0 ≡ 0 → TallyRoom row 7 → TallyRoom row 15
     → Became row mail log head row′ mail log head (λ x. advanced (afterSend (machineOf row mail)) (counting oneSent x) 0 x)

@@ -4,13 +4,14 @@
 ghost use mathlib.Core.Path.{_≡_};
 ghost use Prim.Native.Nat.{_+_, _%_, _^_, _<_};
 ghost use lib.ListN.{getD};
-ghost use Rattle.instruction.specs.Instruction.{bumped, oneIn, tallied, Loads, Examined, Sought, Computes, Takes, Suppresses, Queues};
+ghost use Rattle.instruction.specs.Instruction.{bumped, oneIn, tallied, Loads, Examined, Sought, Evaluates, Computes, Takes, Suppresses, Queues};
 use crate::mailbox::look;
 use crate::mailbox::remove;
 use process::mail::MAIL;
 use process::mail::channel_of;
 use process::mail::word_of;
 use process::row::EVENTS;
+use process::row::INSTRUCTIONS;
 use process::row::PC;
 use process::row::PROTECTED;
 use process::row::R0;
@@ -57,22 +58,22 @@ fn register(row: &[u32; ROW], a: u32) -> u32
 
 // One more in a cell of the row.
 fn bump(row: &mut [u32; ROW], i: usize)
-    requires { ⌜ i < 15 ⌝ }
+    requires { ⌜ i < 16 ⌝ }
     ensures { λ _. ⌜ now (row .exit) ≡ bumped (now (row .entry)) i ⌝ }
 {
     row[i] = std::num::wrapping_add_u32(row[i], 1);
 }
 
-// What an act of the process counts for. Document 01: "A backed process has acts".
+// What an act or an instruction of the process counts for. Document 01: "A backed process has acts".
 fn one(row: &[u32; ROW]) -> u32
     ensures { λ r. ⌜ r ≡ oneIn (now (row .entry)) ⌝ }
 {
     if row[PROTECTED] == 0 { 0 } else { 1 }
 }
 
-// An act more in a counter, if the process's acts are counted.
+// One more in a counter, if the process's acts and instructions are counted.
 fn tally(row: &mut [u32; ROW], i: usize)
-    requires { ⌜ i < 15 ⌝ }
+    requires { ⌜ i < 16 ⌝ }
     ensures { λ _. ⌜ now (row .exit) ≡ tallied (now (row .entry)) i ⌝ }
 {
     row[i] = std::num::wrapping_add_u32(row[i], one(row));
@@ -122,9 +123,9 @@ fn sum(row: &[u32; ROW], a: u32, b: u32) -> u32
     std::num::wrapping_add_u32(register(row, a), register(row, b))
 }
 
-// A SET, an ADD or a JUMP is done.
-pub fn compute(row: &mut [u32; ROW], code: u8, a: u32, operand: u32)
-    ensures { λ _. ⌜ Computes (now (row .entry)) code a operand (now (row .exit)) ⌝ }
+// What a SET, an ADD or a JUMP does to registers and place.
+fn evaluate(row: &mut [u32; ROW], code: u8, a: u32, operand: u32)
+    ensures { λ _. ⌜ Evaluates (now (row .entry)) code a operand (now (row .exit)) ⌝ }
 {
     match code {
         1 => {
@@ -146,12 +147,21 @@ pub fn compute(row: &mut [u32; ROW], code: u8, a: u32, operand: u32)
     }
 }
 
-// One more event, and the place moves on.
+// A SET, an ADD or a JUMP is done, an instruction more.
+pub fn compute(row: &mut [u32; ROW], code: u8, a: u32, operand: u32)
+    ensures { λ _. ⌜ Computes (now (row .entry)) code a operand (now (row .exit)) ⌝ }
+{
+    evaluate(row, code, a, operand);
+    tally(row, INSTRUCTIONS);
+}
+
+// One more event, the place moves on, and an instruction more.
 fn event(row: &mut [u32; ROW])
-    ensures { λ _. ⌜ now (row .exit) ≡ bumped (tallied (now (row .entry)) 7) 1 ⌝ }
+    ensures { λ _. ⌜ now (row .exit) ≡ tallied (bumped (tallied (now (row .entry)) 7) 1) 15 ⌝ }
 {
     tally(row, EVENTS);
     bump(row, PC);
+    tally(row, INSTRUCTIONS);
 }
 
 // A word goes into register a; of a FIRST its channel goes into register a + 1.

@@ -105,7 +105,7 @@ module _ {t : Table} {c : Cabinet} (reach : Reachable t c) where
     unfolding stepFrom
     outcome-fits halted e = unmoved
     outcome-fits noMail e = unmoved
-    outcome-fits (moved m internal) e = leaves fits-stepped
+    outcome-fits (moved m internal) e = after-guard _ _ _ λ _. leaves fits-stepped
     outcome-fits (moved m (took x)) e = after-guard _ _ _ λ _. leaves (fits-received x (took-small m x (record { is = e })))
     outcome-fits (moved m (sent x)) e = send-fits m x (processAt c p .suppress) (sent-small m x (record { is = e }))
 

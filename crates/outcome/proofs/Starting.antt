@@ -14,7 +14,7 @@ use Rattle.facts.specs.Rings.{ring}
 use Rattle.backup.specs.Limits.{ports}
 use Rattle.backup.specs.Replica.{fit, savedOn}
 use Rattle.backup.specs.Place.{viewIn, tallyIn, Sound}
-use Rattle.process.specs.Row.{machineOf, standbyOf, processOf, Kept}
+use Rattle.process.specs.Row.{rowLength, machineOf, standbyOf, processOf, Kept}
 use Rattle.process.proofs.Rows.{Words, stored}
 use Rattle.rules.specs.Table.{Table, Placement, placementAt, channelAt}
 use Rattle.rules.specs.Judge.{Accepted}
@@ -46,11 +46,11 @@ fresh-sound = record { log-length = refl; head-length = refl; is-fit = refl; tal
     none-saved p l = getD-replicate 11 (7 + p) 0 0 (omega arith)
 
 abbrev seatedRow : ℕ → ℕ → List ℕ
-seatedRow primary standby = seatedIn (zeros 15) primary standby
+seatedRow primary standby = seatedIn (zeros rowLength) primary standby
 
 seated-words : (primary standby : ℕ) → primary < 2 ^ 32 → standby < 2 ^ 32 → Words (seatedRow primary standby)
 seated-words primary standby a b =
-    stored 13 standby b (stored 12 1 (omega arith) (stored {l = zeros 15} 0 primary a (record { word = λ i. rw (getD-replicate-any {A = ℕ} 15 i 0) (omega arith) })))
+    stored 13 standby b (stored 12 1 (omega arith) (stored {l = zeros rowLength} 0 primary a (record { word = λ i. rw (getD-replicate-any {A = ℕ} rowLength i 0) (omega arith) })))
 
 seated-kept : (primary standby : ℕ) → primary < 2 ^ 32 → standby < 2 ^ 32 → Kept (seatedRow primary standby) (zeros 48) (zeros 48) (zeros 11)
 seated-kept primary standby a b = record {
@@ -202,13 +202,13 @@ module _ (rows : List (List ℕ)) (primary standby : List ℕ) (most : ℕ) (row
             let v : p < 16 = (let a = ok .processes-high in omega arith) in
             at z p v (rw (places .processes-is) u)
             ∙ (λ j. seatedIn (getD (fresh .rows-is j) p []) (places .primary-at p u j) (places .standby-at p u j))
-            ∙ ap (λ (r : List ℕ). seatedIn r (placementAt t p .primary) (placementAt t p .standby)) (getD-replicate 16 p (zeros 15) [] v));
+            ∙ ap (λ (r : List ℕ). seatedIn r (placementAt t p .primary) (placementAt t p .standby)) (getD-replicate 16 p (zeros rowLength) [] v));
       }
 
 -- ---- lists as an array of zeros and an array of blank entries come out
 
 pub fresh-made : (entries : List Entry) → entries ≡ replicate 512 blankEntry
-    → Fresh (storeOf (replicate 16 (zeros 15)) (replicate 16 (zeros 48)) (replicate 16 (zeros 48)) (replicate 16 (zeros 11)) (replicate 16 (zeros 3)) (zeros 32) (zeros 32) (zeros 16)) entries
+    → Fresh (storeOf (replicate 16 (zeros rowLength)) (replicate 16 (zeros 48)) (replicate 16 (zeros 48)) (replicate 16 (zeros 11)) (replicate 16 (zeros 3)) (zeros 32) (zeros 32) (zeros 16)) entries
 fresh-made entries e = record {
   rows-is = refl;
   mails-is = refl;

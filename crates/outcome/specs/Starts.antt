@@ -7,6 +7,7 @@ use lib.ListN.{length, getD, set, replicate}
 use Rattle.rules.specs.Table.{Table, placementAt}
 use Rattle.rules.specs.Judge.{Accepted}
 use Rattle.rules.specs.Cabinet.{started}
+use Rattle.process.specs.Row.{rowLength}
 use Rattle.state.specs.declared.entry.Entry.{Entry}
 use Rattle.state.specs.Store.{Store, storeOf, Holds, blankEntry}
 
@@ -16,7 +17,7 @@ seatedIn row primary standby = set (set (set row 0 primary) 12 1) 13 standby
 
 -- Lists as they are made: all zeros, and every entry blank.
 pub record Fresh (s : Store) (entries : List Entry) : Type 0 where
-  pub rows-is : s .rows ≡ replicate 16 (replicate 15 0)
+  pub rows-is : s .rows ≡ replicate 16 (replicate rowLength 0)
   pub mails-is : s .mails ≡ replicate 16 (replicate 48 0)
   pub logs-is : s .logs ≡ replicate 16 (replicate 48 0)
   pub heads-is : s .heads ≡ replicate 16 (replicate 11 0)

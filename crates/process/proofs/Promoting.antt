@@ -30,8 +30,8 @@ pub restored-words : (row : List ℕ) (p : Promotion) → p .pc < 2 ^ 32 → p .
     → p .sent < 2 ^ 32 → p .len < 2 ^ 32 → Words row → Words (restoredIn row p)
 unfolding restoredIn
 restored-words row p a b c d e f g h =
-    stored 14 (p .len) g (cleared 12 (cleared 11 (cleared 10 (cleared 9 (cleared 8 (cleared 7 (stored 6 (p .sent) f (stored 5 (p .r3) e
-    (stored 4 (p .r2) d (stored 3 (p .r1) c (stored 2 (p .r0) b (stored 1 (p .pc) a (stored 0 (getD row 13 0) (h .word 13) h)))))))))))))
+    stored 14 (p .len) g (cleared 12 (cleared 15 (cleared 11 (cleared 10 (cleared 9 (cleared 8 (cleared 7 (stored 6 (p .sent) f (stored 5 (p .r3) e
+    (stored 4 (p .r2) d (stored 3 (p .r1) c (stored 2 (p .r0) b (stored 1 (p .pc) a (stored 0 (getD row 13 0) (h .word 13) h))))))))))))))
 
 -- ---- the mailbox
 

@@ -48,7 +48,7 @@ limited-is row mail log head = go (eqb (getD row 12 0) 0) _
 -- ---- issue
 
 abbrev issuedIn : List ℕ → List ℕ
-issuedIn row = set (set (set (set (set row 7 0) 8 0) 9 0) 10 0) 11 0
+issuedIn row = set (set (set (set (set (set row 7 0) 8 0) 9 0) 10 0) 11 0) 15 0
 
 pub issued-became : (row : List ℕ) → RowBecame row (issuedIn row) issued
 unfolding processOf machineOf standbyOf issued
@@ -60,7 +60,7 @@ issued-became row mail log head k =
         row-length = simp length-set l;
         mail-length = k .mail-length;
         unread = rw (spelled row (λ (r : List ℕ). getD (issuedIn r) 14 0) l) (k .unread);
-        words = cleared 11 (cleared 10 (cleared 9 (cleared 8 (cleared {l = row} 7 (record { word = k .words }))))) .word;
+        words = cleared 15 (cleared 11 (cleared 10 (cleared 9 (cleared 8 (cleared {l = row} 7 (record { word = k .words })))))) .word;
         flag = rw (spelled row (λ (r : List ℕ). getD (issuedIn r) 12 0) l) (k .flag);
         sound = k .sound;
       };

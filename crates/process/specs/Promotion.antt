@@ -28,7 +28,7 @@ unfoldable pub restoredIn : List ℕ → Promotion → List ℕ
 restoredIn row p =
     let a = set (set (set (set (set (set row 0 (getD row 13 0)) 1 (p .pc)) 2 (p .r0)) 3 (p .r1)) 4 (p .r2)) 5 (p .r3) in
     let b = set (set (set (set (set (set a 6 (p .sent)) 7 0) 8 0) 9 0) 10 0) 11 0 in
-    set (set b 12 0) 14 (p .len)
+    set (set (set b 15 0) 12 0) 14 (p .len)
 
 -- .. and words stay words
 pub record Restored (row : List ℕ) (p : Promotion) (row′ : List ℕ) : Type 0 where

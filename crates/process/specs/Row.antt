@@ -14,7 +14,7 @@ use Rattle.rules.specs.Cabinet.{Process, Standby}
 
 -- how many numbers a row has
 abbrev pub rowLength : ℕ
-rowLength = 15
+rowLength = 16
 
 -- a word on a channel as one number: channel times 2^32, plus word
 abbrev pub packMail : ℕ → ℕ → ℕ
@@ -44,7 +44,11 @@ processOf row mail log head = record {
   machine = machineOf row mail;
   board = getD row 0 0;
   suppress = getD row 6 0;
-  since = record { events = getD row 7 0; taken = getD row 8 0 ∷ getD row 9 0 ∷ getD row 10 0 ∷ getD row 11 0 ∷ [] };
+  since = record {
+    instructions = getD row 15 0;
+    events = getD row 7 0;
+    taken = getD row 8 0 ∷ getD row 9 0 ∷ getD row 10 0 ∷ getD row 11 0 ∷ [];
+  };
   standby = standbyOf row log head;
 }
 

@@ -10,6 +10,7 @@ ghost use Rattle.process.specs.Row.{processOf};
 ghost use Rattle.process.specs.Change.{RowBecame, BackupBecame};
 use crate::mail::MAIL;
 use crate::row::EVENTS;
+use crate::row::INSTRUCTIONS;
 use crate::row::PC;
 use crate::row::PROTECTED;
 use crate::row::R0;
@@ -42,7 +43,7 @@ pub fn snapshot(row: &[u32; ROW]) -> Checkpoint
     }
 }
 
-// A checkpoint was issued: no events since, and no receives.
+// A checkpoint was issued: no events since, no receives and no instructions.
 pub fn issue(row: &mut [u32; ROW])
     ensures { λ _. ⌜ RowBecame (now (row .entry)) (now (row .exit)) issued ⌝ }
 {
@@ -51,6 +52,7 @@ pub fn issue(row: &mut [u32; ROW])
     row[T1] = 0;
     row[T2] = 0;
     row[T3] = 0;
+    row[INSTRUCTIONS] = 0;
 }
 
 // A checkpoint lands: the backup keeps it, if the process is protected.

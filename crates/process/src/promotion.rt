@@ -8,6 +8,7 @@ use crate::mail::MAIL;
 use crate::mailbox::append;
 use crate::row::BOARD;
 use crate::row::EVENTS;
+use crate::row::INSTRUCTIONS;
 use crate::row::PC;
 use crate::row::PROTECTED;
 use crate::row::R0;
@@ -59,6 +60,7 @@ fn restore(row: &mut [u32; ROW], p: Promotion)
     row[T1] = 0;
     row[T2] = 0;
     row[T3] = 0;
+    row[INSTRUCTIONS] = 0;
     row[PROTECTED] = 0;
     row[UNREAD] = p.len;
 }

@@ -1,7 +1,8 @@
 ghost use mathlib.Core.Path.{_≡_};
 
 // Where a row has its numbers: board, program counter, four registers, sends to suppress, events, receives on each port, whether it is
-// protected (1) or not (0), its backup's board, and how many unread messages its mailbox has.
+// protected (1) or not (0), its backup's board, how many unread messages its mailbox has, and instructions. Events, receives and
+// instructions are those since the last checkpoint was issued.
 pub const BOARD: usize = 0;
 
 pub const PC: usize = 1;
@@ -32,7 +33,9 @@ pub const STANDBY: usize = 13;
 
 pub const UNREAD: usize = 14;
 
-pub const ROW: usize = 15;
+pub const INSTRUCTIONS: usize = 15;
+
+pub const ROW: usize = 16;
 
 // A row's number as an index.
 pub fn wide(x: u32) -> usize

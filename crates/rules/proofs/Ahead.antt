@@ -6,12 +6,13 @@ use mathlib.Core.Bool.{false}
 use mathlib.Core.List.{List, [], _∷_, _++_, append-assoc, append-nil}
 use Prim.Native.Nat.{ℕ, suc, _+_, _*_, _≤_}
 use native.Mathlib.Omega.{arith}
+use lib.ListN.{length}
 use Rattle.backup.specs.Replica.{Checkpoint}
 use Rattle.rules.specs.Table.{Table, Instruction, codeOf}
 use Rattle.rules.specs.Machine.{Mail, Machine, Act, sent, delivered}
-use Rattle.rules.specs.Cabinet.{eventsMost, Item, message, checkpoint}
+use Rattle.rules.specs.Cabinet.{instructionsMost, eventsMost, Item, message, checkpoint}
 use Rattle.rules.proofs.Steps.{Steps, step-later}
-use Rattle.rules.proofs.Runs.{Run, here, more, isSend, Silent, tally, busy, busy-snoc}
+use Rattle.rules.proofs.Runs.{Run, here, more, isSend, Silent, tally, busy, busy-snoc, length-snoc, Within}
 
 -- the snapshot that process p issues as machine m, after these acts since its last one
 abbrev pub taken-at : Table → ℕ → List Act → Machine → Item
@@ -35,7 +36,7 @@ pub data Ahead (t : Table) (p : ℕ) : List Act → Machine → List Item → Li
       → Ahead t p (u ++ (k ∷ [])) m1 q v m2 → Ahead t p u m q v m2
   sending : {u v : List Act} {m m1 m2 : Machine} {q : List Item} {x : Mail} → Steps (codeOf t p) m (sent x) m1
       → Ahead t p (u ++ (sent x ∷ [])) m1 q v m2 → Ahead t p u m (message x ∷ q) v m2
-  issuing : {u v : List Act} {m m2 : Machine} {q : List Item} → busy u ≤ eventsMost → Ahead t p [] m q v m2
+  issuing : {u v : List Act} {m m2 : Machine} {q : List Item} → Within u → Ahead t p [] m q v m2
       → Ahead t p u m (taken-at t p u m ∷ q) v m2
 
 pub ahead-later : {t : Table} {p : ℕ} {u v : List Act} {a b : Machine} {q : List Item} (x : Mail) → Ahead t p u a q v b
@@ -62,7 +63,7 @@ ahead-send (silent f g r) e = silent f g (ahead-send r e)
 ahead-send (sending f r) e = sending f (ahead-send r e)
 ahead-send (issuing f r) e = issuing f (ahead-send r e)
 
-pub ahead-issue : {t : Table} {p : ℕ} {u v : List Act} {a b : Machine} {q : List Item} → Ahead t p u a q v b → busy v ≤ eventsMost
+pub ahead-issue : {t : Table} {p : ℕ} {u v : List Act} {a b : Machine} {q : List Item} → Ahead t p u a q v b → Within v
     → Ahead t p u a (q ++ (taken-at t p v b ∷ [])) [] b
 ahead-issue level h = issuing h level
 ahead-issue (silent f g r) h = silent f g (ahead-issue r h)
@@ -143,27 +144,33 @@ up-to-end (silent {k = k} e h r) =
 pub record Total (t : Table) (p : ℕ) (u : List Act) (a : Machine) (q : List Item) (v : List Act) (b : Machine) : Type 0 where
   pub acts : List Act
   pub ran : Run (codeOf t p) a acts b
-  pub total : busy u + busy acts ≤ eventsMost * checkpoints q + busy v
+  pub instructions : length u + length acts ≤ instructionsMost * checkpoints q + length v
+  pub events : busy u + busy acts ≤ eventsMost * checkpoints q + busy v
 
 pub ahead-total : {t : Table} {p : ℕ} {u v : List Act} {a b : Machine} {q : List Item} → Ahead t p u a q v b → Total t p u a q v b
-ahead-total level = record { acts = []; ran = here; total = omega arith }
+ahead-total level = record { acts = []; ran = here; instructions = omega arith; events = omega arith }
 ahead-total {u = u} (silent {k = k} e h r) =
     let w = ahead-total r in
     let n = busy-snoc u k in
-    let m = w .total in
-    record { acts = k ∷ w .acts; ran = more e (w .ran); total = omega arith }
+    let l = length-snoc u k in
+    record { acts = k ∷ w .acts; ran = more e (w .ran); instructions = omega (arith, w .instructions); events = omega (arith, w .events) }
 ahead-total {u = u} (sending {x = x} e r) =
     let w = ahead-total r in
     let n = busy-snoc u (sent x) in
-    let m = w .total in
-    record { acts = sent x ∷ w .acts; ran = more e (w .ran); total = omega arith }
+    let l = length-snoc u (sent x) in
+    record { acts = sent x ∷ w .acts; ran = more e (w .ran); instructions = omega (arith, w .instructions); events = omega (arith, w .events) }
 ahead-total (issuing f r) =
     let w = ahead-total r in
-    let m = w .total in
-    record { acts = w .acts; ran = w .ran; total = omega arith }
+    record { acts = w .acts; ran = w .ran; instructions = omega (arith, w .instructions, f .instructions); events = omega (arith, w .events, f .events) }
 
-pub ahead-left : {t : Table} {p : ℕ} {u v : List Act} {a b : Machine} {q : List Item} → Ahead t p u a q v b → busy v ≤ eventsMost → busy u ≤ eventsMost
+within-less : (u : List Act) (k : Act) → Within (u ++ (k ∷ [])) → Within u
+within-less u k h = record {
+  instructions = omega (arith, length-snoc u k, h .instructions);
+  events = omega (arith, busy-snoc u k, h .events);
+}
+
+pub ahead-left : {t : Table} {p : ℕ} {u v : List Act} {a b : Machine} {q : List Item} → Ahead t p u a q v b → Within v → Within u
 ahead-left level h = h
-ahead-left {u = u} (silent {k = k} e g r) h = let n = busy-snoc u k in let m = ahead-left r h in omega arith
-ahead-left {u = u} (sending {x = x} e r) h = let n = busy-snoc u (sent x) in let m = ahead-left r h in omega arith
+ahead-left {u = u} (silent {k = k} e g r) h = within-less u k (ahead-left r h)
+ahead-left {u = u} (sending {x = x} e r) h = within-less u (sent x) (ahead-left r h)
 ahead-left (issuing f r) h = f

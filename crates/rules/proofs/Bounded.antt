@@ -13,7 +13,7 @@ use Rattle.backup.specs.Replica.{Checkpoint, FailOver, counted, takenOn, remain
 use Rattle.rules.specs.Table.{Table, channelAt, codeOf, portOf}
 use Rattle.rules.specs.Machine.{Machine}
 use Rattle.rules.specs.Reference.{Reference}
-use Rattle.rules.specs.Cabinet.{eventsMost, Standby, Since, Process, Item, checkpoint, Cabinet, processAt, outboxAt, isSome, occupancy}
+use Rattle.rules.specs.Cabinet.{instructionsMost, eventsMost, Standby, Since, Process, Item, checkpoint, Cabinet, processAt, outboxAt, isSome, occupancy}
 use Rattle.rules.specs.Judge.{Accepted}
 use Rattle.rules.specs.Bounds.{mails, issuedTakes, BackupBounds, Bounds}
 use Rattle.rules.proofs.Runs.{_then_, tally}
@@ -84,9 +84,11 @@ module _ (t : Table) (ok : Accepted t) (c : Cabinet) (s : Reference) (inv : Inva
           apart = inv .seated p hp .apart b e;
           log = kept .short;
           sent = few-sent;
-          events = by-backed (λ _. processAt c p .since .events ≤ eventsMost) (λ h. let a = ap (λ (n : Since). n .events) (h .is-since) in let d = h .few in omega arith);
+          events = by-backed (λ _. processAt c p .since .events ≤ eventsMost) (λ h. let a = ap (λ (n : Since). n .events) (h .is-since) in let d = h .few .events in omega arith);
+          instructions = by-backed (λ _. processAt c p .since .instructions ≤ instructionsMost)
+              (λ h. let a = ap (λ (n : Since). n .instructions) (h .is-since) in let d = h .few .instructions in omega arith);
           taken = λ port. by-backed (λ _. takenOn (processAt c p .since .taken) port ≤ eventsMost)
-              (λ h. let a = tally-busy t p (h .since) port in let d = h .few in rw (h .is-since) (omega arith));
+              (λ h. let a = tally-busy t p (h .since) port in let d = h .few .events in rw (h .is-since) (omega arith));
           occupied = λ k reads. rw reads (let a = rm p hp .room k reads in let z : occurs k (rm p hp .again) ≡ 0 = ap (occurs k) (rm p hp .none-yet (ap isSome e)) in omega arith);
           saved = by-backed
               (λ y. mails t p (remaining (processAt c p .since .taken) (remaining (issuedTakes p (outboxAt c (processAt c p .board))) (y .replica .log))) ≡ processAt c p .machine .mailbox)

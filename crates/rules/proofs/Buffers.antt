@@ -56,7 +56,7 @@ module _ (t : Table) (n : ℕ) (c : Cabinet) (h : Many n c) where
   unfolding stepFrom
   outcome-many p x halted = unmoved
   outcome-many p x noMail = unmoved
-  outcome-many p x (moved m internal) = leaves (one p _)
+  outcome-many p x (moved m internal) = after-guard _ _ _ λ _. leaves (one p _)
   outcome-many p x (moved m (took mail)) = after-guard _ _ _ λ _. leaves (one p _)
   outcome-many p x (moved m (sent mail)) = send-many p x m mail (x .suppress)
 

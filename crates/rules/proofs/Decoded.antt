@@ -1,14 +1,15 @@
 -- Numbers and what they stand for: which numbers are no move and no instruction, and where the refusals' numbers lie.
 use mathlib.Core.Path.{_≡_, refl, sym}
 use mathlib.Core.Logic.{_≢_}
-use mathlib.Core.Bool.{Bool, true, false}
+use mathlib.Core.Bool.{Bool, true, false, cond}
 use Prim.Native.Nat.{ℕ, zero, suc, _≤_, _<_}
 use native.Mathlib.Omega.{arith}
 use lib.Dec.{eqb}
 use borrow.Author.Tests.{ne-eqb}
 use Rattle.rules.specs.Table.{Instruction, SET, ADD, TAKE, FIRST, SEND, JUMP, NONE}
 use Rattle.rules.specs.Format.{instruction}
-use Rattle.rules.specs.Moves.{Move, stepMove, issueMove, transmitMove, injectMove, crashMove, unknown, moveOf, Refusal, unknownMove, strayWord, noProcess, noBoard, noChannel, transmitDead, crashDead, isHalted, noWordToTake, noWordForFirst, eventsFull, sendBlocked, syncBlocked, sendHeld, injectHeld, noBackup, syncWaits, outboxEmpty, notOutside, otherCrashed, refusalNumber, missing}
+use Rattle.rules.specs.Cabinet.{Process, exhausted}
+use Rattle.rules.specs.Moves.{Move, stepMove, issueMove, transmitMove, injectMove, crashMove, unknown, moveOf, Refusal, unknownMove, strayWord, noProcess, noBoard, noChannel, transmitDead, crashDead, isHalted, noWordToTake, noWordForFirst, eventsFull, instructionsFull, sendBlocked, syncBlocked, sendHeld, injectHeld, noBackup, syncWaits, outboxEmpty, notOutside, otherCrashed, refusalNumber, missing, owedFor}
 
 -- ---- moves
 
@@ -71,6 +72,7 @@ refusalNumber-listed isHalted = record { low = omega arith; high = omega arith }
 refusalNumber-listed noWordToTake = record { low = omega arith; high = omega arith }
 refusalNumber-listed noWordForFirst = record { low = omega arith; high = omega arith }
 refusalNumber-listed eventsFull = record { low = omega arith; high = omega arith }
+refusalNumber-listed instructionsFull = record { low = omega arith; high = omega arith }
 refusalNumber-listed sendBlocked = record { low = omega arith; high = omega arith }
 refusalNumber-listed syncBlocked = record { low = omega arith; high = omega arith }
 refusalNumber-listed sendHeld = record { low = omega arith; high = omega arith }
@@ -86,6 +88,15 @@ pub refusalNumber-not-4 : (why : Refusal) → eqb (refusalNumber why) 4 ≡ fals
 refusalNumber-not-4 why = ne-eqb (refusalNumber why) 4 (λ e. let a = refusalNumber-listed why .low in omega arith)
 
 -- whichever of the two found no word
+-- "37": for the acts or for the instructions
+pub owed-number : (x : Process) → refusalNumber (owedFor x) ≡ 37
+unfolding refusalNumber
+owed-number x = go (exhausted x)
+  where
+    go : (b : Bool) → refusalNumber (cond b eventsFull instructionsFull) ≡ 37
+    go true = refl
+    go false = refl
+
 pub missing-number : (i : Instruction) → refusalNumber (missing i) ≡ 36
 unfolding missing refusalNumber
 missing-number (SET a v) = refl

@@ -9,19 +9,20 @@ use lib.Dec.{eqb}
 use lib.ListN.{length, getD, set, length-set}
 use lib.Seq.{set-getD}
 use borrow.Author.Tests.{leb-false, not-false}
-use Rattle.facts.specs.Tests.{no-way}
+use Rattle.facts.specs.Tests.{no-way, or-left, or-right}
 use Rattle.rules.specs.Table.{Table, channelAt, codeOf, portOf}
-use Rattle.rules.specs.Machine.{Mail, Machine, booted, internal, took, sent, Outcome, halted, noMail, moved, localStep}
+use Rattle.rules.specs.Machine.{Mail, Machine, booted, Act, internal, took, sent, Outcome, halted, noMail, moved, localStep}
 use Rattle.rules.specs.Reference.{Reference, Action, referenceRun, injections}
-use Rattle.rules.specs.Cabinet.{eventsMost, Since, Process, Item, message, checkpoint, Cabinet, processAt, outboxAt, limited, exhausted, waiting}
-use Rattle.rules.specs.Moves.{Answer, numbers, withProcess, withOutbox, advanced, send, stepFrom, step, counting, oneSent, oneTaken, issued, snapshot, issue}
+use Rattle.rules.specs.Cabinet.{instructionsMost, eventsMost, Since, Process, Item, message, checkpoint, Cabinet, processAt, outboxAt, limited, exhausted, overrun, owing, waiting}
+use Rattle.rules.specs.Moves.{Answer, numbers, withProcess, withOutbox, advanced, send, stepFrom, step, counting, oneDone, oneSent, oneTaken, issued, snapshot, issue}
 use Rattle.rules.specs.Judge.{Accepted}
 use Rattle.rules.specs.Transparent.{traceOf}
 use Rattle.rules.proofs.Steps.{Steps}
+use Rattle.rules.proofs.Runs.{busy1, Allows}
 use Rattle.rules.proofs.Tables.{step-own}
 use Rattle.rules.proofs.Ahead.{checkpoints}
 use Rattle.rules.proofs.Good.{Good}
-use Rattle.rules.proofs.GoodMoves.{counting-limited, good-silent, good-suppressed, good-send, good-issued}
+use Rattle.rules.proofs.GoodMoves.{good-silent, good-suppressed, good-send, good-issued}
 use Rattle.rules.proofs.Invariant.{ownerOf, mine, machineAt, Invariant, in-table, its-outbox}
 use Rattle.rules.proofs.Frame.{SameSeat, same-boards, changed, OthersStay, change, join-others, join-own}
 use Rattle.rules.proofs.References.{run-append, injections-append}
@@ -67,6 +68,21 @@ stay {s = s} inv = record { actions = []; end = s; ran = refl; invariant = inv; 
 not-exhausted : (x : Process) → exhausted x ≡ false → limited x ≡ true → x .since .events < eventsMost
 unfolding exhausted
 not-exhausted x h safe = leb-false eventsMost (x .since .events) (rw safe at h)
+
+not-overrun : (x : Process) → overrun x ≡ false → limited x ≡ true → x .since .instructions < instructionsMost
+unfolding overrun
+not-overrun x h safe = leb-false instructionsMost (x .since .instructions) (rw safe at h)
+
+-- 37 lets an instruction pass that is no act, and one that is
+allows-done : (x : Process) → overrun x ≡ false → limited x ≡ true → Allows internal (x .since)
+allows-done x long safe = record { instruction = not-overrun x long safe; event = λ h. omega arith }
+
+allows-act : (x : Process) (k : Act) → busy1 k ≡ 1 → owing x ≡ false → limited x ≡ true → Allows k (x .since)
+unfolding owing
+allows-act x k one none safe = record {
+  instruction = not-overrun x (or-right (exhausted x) (overrun x) none) safe;
+  event = λ _. omega (arith, not-exhausted x (or-left (exhausted x) (overrun x) none) safe);
+}
 
 none-waits : (t : Table) (p : ℕ) (q : List Item) → waiting p q ≡ false → checkpoints (mine t p q) ≡ 0
 none-waits t p [] h = refl
@@ -122,7 +138,7 @@ module _ {t : Table} (ok : Accepted t) {c : Cabinet} {s : Reference} (inv : Inva
       after-guard _ _ _ λ limit. after-guard _ _ _ λ _. after-guard _ _ _ λ _.
       leaves (wait-joined (advanced m (counting oneSent (processAt c p)) 0 (processAt c p)) (message mail) (same-boards refl refl)
       (step-own t ok p (in-table inv hp) e)
-      (good-send ok (in-table inv hp) (inv .good p hp) z e (not-exhausted (processAt c p) limit)))
+      (good-send ok (in-table inv hp) (inv .good p hp) z e (allows-act (processAt c p) (sent mail) refl limit)))
 
   follow-outcome : (o : Outcome) → localStep (codeOf t p) (processAt c p .machine) ≡ o
       → Yields (λ d a. Follows t d s (traced1 a) []) (stepFrom t c p (processAt c p) o)
@@ -130,15 +146,15 @@ module _ {t : Table} (ok : Accepted t) {c : Cabinet} {s : Reference} (inv : Inva
   follow-outcome halted e = unmoved
   follow-outcome noMail e = unmoved
   follow-outcome (moved m internal) e =
-      leaves (wait-only (advanced m (processAt c p .since) (processAt c p .suppress) (processAt c p)) (same-boards refl refl)
-      (good-silent ok (in-table inv hp) {k = internal} (processAt c p .since) (inv .good p hp) (record { is = e }) refl (λ _. refl) (λ _ h. h)))
+      let x : Process = processAt c p in
+      after-guard _ _ _ λ long.
+      leaves (wait-only (advanced m (counting oneDone x) (x .suppress) x) (same-boards refl refl)
+      (good-silent ok (in-table inv hp) {k = internal} (inv .good p hp) (record { is = e }) refl (allows-done x long)))
   follow-outcome (moved m (took mail)) e =
       let x : Process = processAt c p in
-      let more : Since → Since = oneTaken (portOf t p (mail .channel)) in
       after-guard _ _ _ λ limit.
-      leaves (wait-only (advanced m (counting more x) (x .suppress) x) (same-boards refl refl)
-      (good-silent ok (in-table inv hp) {k = took mail} (counting more x) (inv .good p hp) (record { is = e }) refl (counting-limited more x)
-      (λ safe _. let a = not-exhausted x limit safe in let b = ap (λ (n : Since). n .events) (counting-limited more x safe) in omega arith)))
+      leaves (wait-only (advanced m (counting (oneTaken (portOf t p (mail .channel))) x) (x .suppress) x) (same-boards refl refl)
+      (good-silent ok (in-table inv hp) {k = took mail} (inv .good p hp) (record { is = e }) refl (allows-act x (took mail) refl limit)))
   follow-outcome (moved m (sent mail)) e = follow-send m mail (processAt c p .suppress) refl (record { is = e })
 
   pub follow-step : Yields (λ d a. Follows t d s (traced1 a) []) (step t c p)

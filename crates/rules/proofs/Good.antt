@@ -6,14 +6,14 @@ use mathlib.Core.Option.{none, some}
 use mathlib.Core.List.{List, [], _∷_, _++_, map}
 use Prim.Native.Nat.{ℕ, _+_, _*_, _≤_, _<_}
 use native.Mathlib.Omega.{arith}
-use lib.ListN.{length, length-map}
+use lib.ListN.{length, length-map, length-append}
 use Rattle.facts.specs.Tests.{no-way}
 use Rattle.backup.specs.Limits.{logMost}
 use Rattle.backup.specs.Replica.{Message, Replica}
 use Rattle.rules.specs.Table.{Table, Instruction, codeOf, inputs, channelOn}
 use Rattle.rules.specs.Machine.{Mail, Machine, Act}
-use Rattle.rules.specs.Cabinet.{eventsMost, Standby, Process, Item}
-use Rattle.rules.proofs.Runs.{Run, _then_, sends, lastSend, countOf, busy, busy-append, sends-busy, run-shorter}
+use Rattle.rules.specs.Cabinet.{instructionsMost, eventsMost, Standby, Process, Item}
+use Rattle.rules.proofs.Runs.{Run, _then_, sends, lastSend, countOf, busy, busy-append, sends-busy, Within, run-shorter}
 use Rattle.rules.proofs.Ahead.{Ahead, checkpoints, ahead-total, ahead-left}
 
 -- ---- a replica
@@ -57,7 +57,7 @@ pub record Backed (t : Table) (p : ℕ) (items : List Item) (x : Process) (m : M
   pub since : List Act
   pub ahead : Ahead t p before m items since (x .machine)
   pub is-since : x .since ≡ countOf t p since
-  pub few : busy since ≤ eventsMost
+  pub few : Within since
   pub one : checkpoints items ≤ 1
 
 -- with no backup, ahead of the reference machine
@@ -96,16 +96,20 @@ good-backed P (late h) e f = absurd (no-way (let a = h .no-standby in cc))
 pub record Span (t : Table) (p : ℕ) (x : Process) (s : Standby) : Type 0 where
   pub acts : List Act
   pub ran : Run (codeOf t p) (stateOf t p (s .replica)) acts (x .machine)
-  pub few : busy acts ≤ 2 * eventsMost
+  -- since the last issue, and between it and the one before, which may wait still
+  pub instructions : length acts ≤ 2 * instructionsMost
+  pub events : busy acts ≤ 2 * eventsMost
 
 backed-span : {t : Table} {p : ℕ} {items : List Item} {x : Process} {m : Machine} (h : Backed t p items x m) → Span t p x (h .standby)
 backed-span h =
     let v = ahead-total (h .ahead) in
-    let a = v .total in
-    let b = h .few in
     let c = h .one in
-    let d = busy-append (h .before) (v .acts) in
-    record { acts = h .before ++ v .acts; ran = h .replay .ran then v .ran; few = omega arith }
+    record {
+      acts = h .before ++ v .acts;
+      ran = h .replay .ran then v .ran;
+      instructions = omega (arith, v .instructions, h .few .instructions, length-append (h .before) (v .acts));
+      events = omega (arith, v .events, h .few .events, busy-append (h .before) (v .acts));
+    }
 
 pub good-span : {t : Table} {p : ℕ} {items : List Item} {x : Process} {m : Machine} {s : Standby} → Good t p items x m → x .standby ≡ some s → Span t p x s
 good-span {t} {p} {x = x} g e = good-backed (Span t p x) g e backed-span
@@ -117,7 +121,7 @@ pub record Small (x : Process) (s : Standby) : Type 0 where
 
 pub backed-sent : {t : Table} {p : ℕ} {items : List Item} {x : Process} {m : Machine} (h : Backed t p items x m) → h .standby .replica .sent ≤ eventsMost
 backed-sent h =
-    let a = ahead-left (h .ahead) (h .few) in
+    let a = ahead-left (h .ahead) (h .few) .events in
     let b = sends-busy (h .before) in
     let c = h .replay .sent-so in
     omega arith
@@ -128,7 +132,7 @@ backed-small {t} {p} h =
     let v = backed-span h in
     let a = run-shorter (v .ran) in
     let b = length-map (h .standby .replica .log) (mailOf t p) in
-    let c = v .few in
+    let c = v .events in
     record { few-sent = backed-sent h; log-fits = omega arith }
 
 pub good-small : {t : Table} {p : ℕ} {items : List Item} {x : Process} {m : Machine} {s : Standby} → Good t p items x m → x .standby ≡ some s → Small x s

@@ -15,7 +15,7 @@ use Rattle.rules.specs.Cabinet.{eventsMost, Standby, Since, Process, Ite
 use Rattle.rules.specs.Moves.{advanced, counting, oneSent, issued, snapshot, receive, counts, keeps, recovered, promoted, unprotected}
 use Rattle.rules.specs.Judge.{Accepted}
 use Rattle.rules.proofs.Steps.{Steps}
-use Rattle.rules.proofs.Runs.{Run, here, more, _then_, isSend, Silent, tally, busy, count1, countOf}
+use Rattle.rules.proofs.Runs.{Run, here, more, _then_, isSend, Silent, tally, count1, countOf, Allows, within-snoc}
 use Rattle.rules.proofs.Tables.{step-low}
 use Rattle.rules.proofs.Ahead.{Ahead, level, checkpoints, checkpoints-append, ahead-later, ahead-silent, ahead-send, ahead-issue, up-to-send, up-to-issue, UpToEnd, up-to-end, ahead-total}
 use Rattle.rules.proofs.Good.{stateOf, Replay, Backed, Alone, Late, Good, backed, alone, late, backed-sent, good-backed}
@@ -48,8 +48,12 @@ module _ {t : Table} {p : ℕ} {items : List Item} {x : Process} {m : Machine} w
   sent-fits h = let a = backed-sent h in omega arith
 
 -- what is counted of a limited process
-pub counting-limited : (f : Since → Since) (x : Process) → limited x ≡ true → counting f x ≡ f (x .since)
+counting-limited : (f : Since → Since) (x : Process) → limited x ≡ true → counting f x ≡ f (x .since)
 counting-limited f x h = rw h
+
+then-counted : (t : Table) (p : ℕ) (ks : List Act) (k : Act) (x : Process) → limited x ≡ true → x .since ≡ countOf t p ks
+    → counting (count1 t p k) x ≡ countOf t p (ks ++ (k ∷ []))
+then-counted t p ks k x safe e = counting-limited (count1 t p k) x safe ∙ ap (count1 t p k) e ∙ sym (count-snoc t p ks k)
 
 -- rolled forward to the reference machine
 alone-of-late : {t : Table} {p : ℕ} {items : List Item} {x : Process} {m : Machine} → x .suppress ≡ 0 → Late t p items x m → Alone t p items x m
@@ -226,19 +230,12 @@ module _ {t : Table} (ok : Accepted t) {p : ℕ} (hp : p < length (t .processes)
         low = step-low t ok p hp e;
       }
 
-  -- an instruction that sends nothing, with what is then counted: of a limited process one act more, within its limit
-  pub good-silent : {items : List Item} {x : Process} {m n : Machine} {k : Act} (counted : Since) → Good t p items x m → Steps (codeOf t p) (x .machine) k n
-      → isSend k ≡ false → (limited x ≡ true → counted ≡ count1 t p k (x .since))
-      → (limited x ≡ true → x .since .events ≤ eventsMost → counted .events ≤ eventsMost)
-      → Good t p items (advanced n counted (x .suppress) x) m
+  -- an instruction that sends nothing, where 37 lets it pass: of a limited process it is counted
+  pub good-silent : {items : List Item} {x : Process} {m n : Machine} {k : Act} → Good t p items x m → Steps (codeOf t p) (x .machine) k n
+      → isSend k ≡ false → (limited x ≡ true → Allows k (x .since)) → Good t p items (advanced n (counting (count1 t p k) x) (x .suppress) x) m
   unfolding advanced
-  good-silent {x = x} {k = k} counted (backed h) e s one-more limit =
+  good-silent {x = x} {k = k} (backed h) e s limit =
       let safe : limited x ≡ true = ap isSome (h .is-standby) in
-      let then-counted : counted ≡ countOf t p (h .since ++ (k ∷ [])) = one-more safe ∙ ap (count1 t p k) (h .is-since) ∙ sym (count-snoc t p (h .since) k) in
-      let a : x .since .events ≡ busy (h .since) = ap (λ (y : Since). y .events) (h .is-since) in
-      let b : counted .events ≡ busy (h .since ++ (k ∷ [])) = ap (λ (y : Since). y .events) then-counted in
-      let c = h .few in
-      let d = limit safe (omega arith) in
       backed record {
         standby = h .standby;
         is-standby = h .is-standby;
@@ -248,12 +245,12 @@ module _ {t : Table} (ok : Accepted t) {p : ℕ} (hp : p < length (t .processes)
         replay = h .replay;
         since = h .since ++ (k ∷ []);
         ahead = ahead-silent (h .ahead) e s;
-        is-since = then-counted;
-        few = omega arith;
+        is-since = then-counted t p (h .since) k x safe (h .is-since);
+        few = within-snoc t p (h .since) k (h .is-since) (h .few) (limit safe);
         one = h .one;
       }
-  good-silent counted (alone h) e s one-more limit = alone (alone-silent counted h e s)
-  good-silent {x = x} counted (late h) e s one-more limit = late-silent counted (x .suppress) refl h e s
+  good-silent {x = x} {k = k} (alone h) e s limit = alone (alone-silent (counting (count1 t p k) x) h e s)
+  good-silent {x = x} {k = k} (late h) e s limit = late-silent (counting (count1 t p k) x) (x .suppress) refl h e s
 
   -- a send is suppressed
   pub good-suppressed : {items : List Item} {x : Process} {m n : Machine} {mail : Mail} {i : ℕ} → Good t p items x m → x .suppress ≡ suc i
@@ -287,17 +284,11 @@ module _ {t : Table} (ok : Accepted t) {p : ℕ} (hp : p < length (t .processes)
 
   -- a word joins the outbox
   pub good-send : {items : List Item} {x : Process} {m n : Machine} {mail : Mail} → Good t p items x m → x .suppress ≡ 0
-      → Steps (codeOf t p) (x .machine) (sent mail) n → (limited x ≡ true → x .since .events < eventsMost)
+      → Steps (codeOf t p) (x .machine) (sent mail) n → (limited x ≡ true → Allows (sent mail) (x .since))
       → Good t p (items ++ (message mail ∷ [])) (advanced n (counting oneSent x) 0 x) m
   unfolding advanced
   good-send {items = items} {x = x} {mail = mail} (backed h) z e limit =
       let safe : limited x ≡ true = ap isSome (h .is-standby) in
-      let then-counted : counting oneSent x ≡ countOf t p (h .since ++ (sent mail ∷ [])) =
-      counting-limited oneSent x safe ∙ ap oneSent (h .is-since) ∙ sym (count-snoc t p (h .since) (sent mail)) in
-      let a : x .since .events ≡ busy (h .since) = ap (λ (y : Since). y .events) (h .is-since) in
-      let b : suc (x .since .events) ≡ busy (h .since ++ (sent mail ∷ [])) =
-      ap (λ (y : Since). y .events) (sym (counting-limited oneSent x safe) ∙ then-counted) in
-      let d = limit safe in
       backed record {
         standby = h .standby;
         is-standby = h .is-standby;
@@ -307,8 +298,8 @@ module _ {t : Table} (ok : Accepted t) {p : ℕ} (hp : p < length (t .processes)
         replay = h .replay;
         since = h .since ++ (sent mail ∷ []);
         ahead = ahead-send (h .ahead) e;
-        is-since = then-counted;
-        few = omega arith;
+        is-since = then-counted t p (h .since) (sent mail) x safe (h .is-since);
+        few = within-snoc t p (h .since) (sent mail) (h .is-since) (h .few) (limit safe);
         one = (let o = h .one in let c = checkpoints-append items (message mail ∷ []) in omega arith);
       }
   good-send {x = x} (alone h) z e limit = alone (alone-send (counting oneSent x) h e)
@@ -330,7 +321,7 @@ module _ {t : Table} (ok : Accepted t) {p : ℕ} (hp : p < length (t .processes)
         since = [];
         ahead = rw (h .is-since) (ahead-issue (h .ahead) (h .few));
         is-since = refl;
-        few = omega arith;
+        few = record { instructions = omega arith; events = omega arith };
         one = (let o = checkpoints-append items (checkpoint p (snapshot x) ∷ []) in omega arith);
       }
   good-issued (alone h) y z = absurd (no-way (let e = ap isSome (h .no-standby) in cc))

@@ -60,7 +60,7 @@ module _ (t : Table) (c : Cabinet) (small : length (c .processes) ≤ environmen
   unfolding stepFrom
   outcome-room p halted e = unmoved
   outcome-room p noMail e = unmoved
-  outcome-room p (moved m internal) e = leaves (stays p m internal e _ _)
+  outcome-room p (moved m internal) e = after-guard _ _ _ λ _. leaves (stays p m internal e _ _)
   outcome-room p (moved m (took mail)) e =
       after-guard _ _ _ λ _.
       leaves (stays p m (took mail) e _ _)

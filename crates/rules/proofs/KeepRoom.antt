@@ -36,7 +36,7 @@ module _ (t : Table) (ok : Accepted t) (c : Cabinet) (s : Reference) (inv : Inva
       λ k. ap (λ (m : Machine). unreadOn k (m .mailbox)) same in
       record {
         received = takes (v .acts);
-        few = (let a = takes-busy (v .acts) in let d = v .few in omega arith);
+        few = (let a = takes-busy (v .acts) in let d = v .events in omega arith);
         words = λ k. same-mail k ∙ run-unread k (v .ran);
         own = λ k n. same-mail k ∙ log-own t p (kept .on-inputs) k n;
       }

@@ -36,8 +36,9 @@ pub mod Turn
 pub mod Start
 pub mod Quiet
 pub mod Transparency
--- The bounds of every state that is reached.
+-- The bounds of every state that is reached, and what a crash there leaves to do again.
 pub mod Reached
+pub mod RollForward
 -- Tables and runs in bytes.
 pub mod Valid
 pub mod ReadBack
@@ -47,6 +48,7 @@ pub mod Buffers
 pub mod Cases
 pub mod Marked
 pub mod MoveCases
+pub mod LongCases
 pub mod FormatCases
 pub mod PageCases
 pub mod ReferenceCases

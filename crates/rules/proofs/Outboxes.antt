@@ -43,7 +43,7 @@ module _ (t : Table) (c : Cabinet) (h : OutboxBounds c) where
   unfolding stepFrom
   outcome-short p halted = unmoved
   outcome-short p noMail = unmoved
-  outcome-short p (moved m internal) = leaves h
+  outcome-short p (moved m internal) = after-guard _ _ _ λ _. leaves h
   outcome-short p (moved m (took mail)) = after-guard _ _ _ λ _. leaves h
   outcome-short p (moved m (sent mail)) = send-short p m mail (processAt c p .suppress)
 

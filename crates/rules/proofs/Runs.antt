@@ -2,14 +2,14 @@
 use mathlib.Core.Path.{_≡_, refl, ap}
 use mathlib.Core.Bool.{Bool, true, false}
 use mathlib.Core.List.{List, [], _∷_, _++_}
-use Prim.Native.Nat.{ℕ, suc, _+_, _≤_}
+use Prim.Native.Nat.{ℕ, suc, _+_, _≤_, _<_}
 use native.Mathlib.Omega.{arith}
-use lib.ListN.{length, getD, set}
+use lib.ListN.{length, getD, set, length-append}
 use Rattle.facts.specs.Tests.{no-way}
 use Rattle.rules.specs.Table.{Table, Instruction, portOf}
 use Rattle.rules.specs.Machine.{Mail, Machine, Act, internal, took, sent, delivered}
-use Rattle.rules.specs.Cabinet.{Since, noTakes}
-use Rattle.rules.specs.Moves.{oneSent, oneTaken}
+use Rattle.rules.specs.Cabinet.{instructionsMost, eventsMost, Since, noTakes}
+use Rattle.rules.specs.Moves.{oneDone, oneSent, oneTaken}
 use Rattle.rules.proofs.Steps.{Steps, step-later, step-left, pulled-length}
 
 pub data Run (code : List Instruction) : Machine → List Act → Machine → Type 0 where
@@ -106,12 +106,22 @@ busy (k ∷ ks) = busy1 k + busy ks
 
 -- one act more
 abbrev pub count1 : Table → ℕ → Act → Since → Since
-count1 t p internal n = n
+count1 t p internal n = oneDone n
 count1 t p (took x) n = oneTaken (portOf t p (x .channel)) n
 count1 t p (sent x) n = oneSent n
 
 abbrev pub countOf : Table → ℕ → List Act → Since
-countOf t p ks = record { events = busy ks; taken = tally t p ks }
+countOf t p ks = record { instructions = length ks; events = busy ks; taken = tally t p ks }
+
+-- no more than 37 lets pass between two issues
+pub record Within (ks : List Act) : Type 0 where
+  pub instructions : length ks ≤ instructionsMost
+  pub events : busy ks ≤ eventsMost
+
+-- what 37 asks before one act more
+pub record Allows (k : Act) (n : Since) : Type 0 where
+  pub instruction : n .instructions < instructionsMost
+  pub event : n .events ≤ eventsMost → n .events + busy1 k ≤ eventsMost
 
 pub busy-append : (ks js : List Act) → busy (ks ++ js) ≡ busy ks + busy js
 busy-append [] js = omega arith
@@ -119,6 +129,20 @@ busy-append (k ∷ ks) js = let h = busy-append ks js in omega arith
 
 pub busy-snoc : (ks : List Act) (k : Act) → busy (ks ++ (k ∷ [])) ≡ busy ks + busy1 k
 busy-snoc ks k = let h = busy-append ks (k ∷ []) in omega arith
+
+pub length-snoc : (ks : List Act) (k : Act) → length (ks ++ (k ∷ [])) ≡ suc (length ks)
+length-snoc ks k = let h = length-append ks (k ∷ []) in omega arith
+
+-- within the limits, one act more that is allowed
+pub within-snoc : (t : Table) (p : ℕ) (ks : List Act) (k : Act) {n : Since} → n ≡ countOf t p ks → Within ks → Allows k n → Within (ks ++ (k ∷ []))
+within-snoc t p ks k e h a =
+    let i = ap (λ (m : Since). m .instructions) e in
+    let b = ap (λ (m : Since). m .events) e in
+    let l = h .events in
+    record {
+      instructions = omega (arith, length-snoc ks k, a .instruction);
+      events = omega (arith, busy-snoc ks k, a .event (omega arith));
+    }
 
 pub sends-busy : (ks : List Act) → sends ks ≤ busy ks
 sends-busy [] = omega arith

@@ -36,7 +36,7 @@ good-placed t p x =
       since = [];
       ahead = level;
       is-since = refl;
-      few = omega arith;
+      few = record { instructions = omega arith; events = omega arith };
       one = omega arith;
     }
 

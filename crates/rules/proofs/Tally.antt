@@ -18,7 +18,7 @@ use Rattle.rules.specs.Table.{Table, Instruction, inputs, portOf, channe
 use Rattle.rules.specs.Machine.{Mail, Machine, Act, internal, took, sent, Pull, nothing, found, behind, pull}
 use Rattle.rules.specs.Cabinet.{noTakes}
 use Rattle.rules.proofs.Steps.{Steps, step-left}
-use Rattle.rules.proofs.Runs.{Run, here, more, tally, tally1, busy, busy-snoc, count1, countOf}
+use Rattle.rules.proofs.Runs.{Run, here, more, tally, tally1, busy, busy-snoc, length-snoc, count1, countOf}
 use Rattle.rules.proofs.Tables.{port-of-channel}
 use Rattle.rules.proofs.Good.{mailOf, PortsBelow, no-ports, one-port}
 
@@ -65,15 +65,18 @@ pub count-snoc : (t : Table) (p : ℕ) (ks : List Act) (k : Act) → countOf t p
 count-snoc t p ks internal =
     let a : busy (ks ++ (internal ∷ [])) ≡ busy ks = (let s = busy-snoc ks internal in omega arith) in
     let b = tally-snoc t p ks internal in
-    λ i. record { events = a i; taken = b i }
+    let l = length-snoc ks internal in
+    λ i. record { instructions = l i; events = a i; taken = b i }
 count-snoc t p ks (took x) =
     let a : busy (ks ++ (took x ∷ [])) ≡ suc (busy ks) = (let s = busy-snoc ks (took x) in omega arith) in
     let b = tally-snoc t p ks (took x) in
-    λ i. record { events = a i; taken = b i }
+    let l = length-snoc ks (took x) in
+    λ i. record { instructions = l i; events = a i; taken = b i }
 count-snoc t p ks (sent x) =
     let a : busy (ks ++ (sent x ∷ [])) ≡ suc (busy ks) = (let s = busy-snoc ks (sent x) in omega arith) in
     let b = tally-snoc t p ks (sent x) in
-    λ i. record { events = a i; taken = b i }
+    let l = length-snoc ks (sent x) in
+    λ i. record { instructions = l i; events = a i; taken = b i }
 
 -- ---- dropping from a log
 

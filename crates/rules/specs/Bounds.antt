@@ -14,7 +14,7 @@ use Rattle.backup.specs.Limits.{logMost}
 use Rattle.backup.specs.Replica.{Message, Checkpoint, counted, takenOn, remaining, arriveNumber, countNumber, syncNumber, failOver}
 use Rattle.rules.specs.Table.{Table, environment, channelAt, codeOf, inputs, portOf, channelOn}
 use Rattle.rules.specs.Machine.{Mail}
-use Rattle.rules.specs.Cabinet.{outboxMost, eventsMost, occupancyMost, Standby, Item, message, checkpoint, Cabinet, noTakes, processAt, outboxAt, deadAt, queuedOn, inFlight, occupancy, full}
+use Rattle.rules.specs.Cabinet.{outboxMost, eventsMost, instructionsMost, occupancyMost, Standby, Item, message, checkpoint, Cabinet, noTakes, processAt, outboxAt, deadAt, queuedOn, inFlight, occupancy, full}
 
 -- saved words as an inbox: "the saved words as inbox"
 abbrev pub mails : Table → ℕ → List Message → List Mail
@@ -38,6 +38,8 @@ pub record BackupBounds (t : Table) (c : Cabinet) (p : ℕ) (s : Standby) : Type
   pub sent : s .replica .sent ≤ eventsMost
   -- "37 if backed and acts are 8"
   pub events : processAt c p .since .events ≤ eventsMost
+  -- W-204: "after 64 instructions done since its last sync was issued"
+  pub instructions : processAt c p .since .instructions ≤ instructionsMost
   -- "takes per slot since the last issue"
   pub taken : (port : ℕ) → takenOn (processAt c p .since .taken) port ≤ eventsMost
   -- "A channel is held when its unread words and those in the queues are 8 or more together."

@@ -20,6 +20,10 @@ outboxMost = 32
 abbrev pub eventsMost : ℕ
 eventsMost = 8
 
+-- W-204: "A backed process now also owes a sync after 64 instructions done since its last sync was issued."
+abbrev pub instructionsMost : ℕ
+instructionsMost = 64
+
 -- "A channel is held when its unread words and those in the queues are 8 or more together."
 abbrev pub occupancyMost : ℕ
 occupancyMost = 8
@@ -33,9 +37,11 @@ pub record Standby : Type 0 where
 
 -- what is counted since the last checkpoint was issued
 pub record Since : Type 0 where
-  -- receives and sends (acts)
+  -- instructions done
+  pub instructions : ℕ
+  -- the receives and sends among them (acts)
   pub events : ℕ
-  -- the receives among them, for each port (takes per slot)
+  -- the receives, for each port (takes per slot)
   pub taken : List ℕ
 
 pub record Process : Type 0 where
@@ -64,7 +70,7 @@ noTakes = 0 ∷ 0 ∷ 0 ∷ 0 ∷ []
 
 -- nothing counted yet
 abbrev pub noneSince : Since
-noneSince = record { events = 0; taken = noTakes }
+noneSince = record { instructions = 0; events = 0; taken = noTakes }
 
 -- "each process on its primary board, [..] each backup record as it starts, all else 0"
 unfoldable pub placed : Placement → Process
@@ -110,13 +116,22 @@ isSome (some a) = true
 abbrev pub protected : Process → Bool
 protected x = isSome (x .standby)
 
--- "A backed process has acts": its events are counted, and limited by 37; what arrives for it is saved
+-- "A backed process has acts": its events and instructions are counted, and limited by 37; what arrives for it is saved
 abbrev pub limited : Process → Bool
 limited x = isSome (x .standby)
 
 -- "if backed and acts are 8"
 unfoldable pub exhausted : Process → Bool
 exhausted x = limited x && leb eventsMost (x .since .events)
+
+-- W-204: "64 instructions done since its last sync was issued". "A process without a backup owes nothing."
+unfoldable pub overrun : Process → Bool
+overrun x = limited x && leb instructionsMost (x .since .instructions)
+
+-- "A backed process now also owes a sync": for its acts, or for its instructions
+unfoldable pub owing : Process → Bool
+unfolding exhausted overrun
+owing x = exhausted x || overrun x
 
 -- how many unread words of a mailbox are of channel k
 abbrev pub unreadOn : ℕ → List Mail → ℕ

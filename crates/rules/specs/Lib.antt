@@ -7,6 +7,7 @@ pub mod Cabinet
 pub mod Moves
 pub mod Judge
 pub mod Bounds
+pub mod RollForward
 pub mod Transparent
 pub mod Bytes
 pub mod Format

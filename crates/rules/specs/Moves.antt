@@ -9,7 +9,7 @@ use Rattle.facts.specs.Tests.{anyBelow}
 use Rattle.backup.specs.Replica.{Message, Replica, Checkpoint, Reply, FailOver, arrive, count, sync, failOver}
 use Rattle.rules.specs.Table.{Table, Instruction, SET, ADD, TAKE, FIRST, SEND, JUMP, NONE, environment, channelAt, codeOf, portOf, channelOn}
 use Rattle.rules.specs.Machine.{Mail, Machine, Act, internal, took, sent, Outcome, halted, noMail, moved, instructionAt, localStep, delivered}
-use Rattle.rules.specs.Cabinet.{outboxMost, Standby, Since, Process, Item, message, checkpoint, Cabinet, noneSince, nobody, processAt, outboxAt, deadAt, protected, limited, exhausted, full, waiting}
+use Rattle.rules.specs.Cabinet.{outboxMost, Standby, Since, Process, Item, message, checkpoint, Cabinet, noneSince, nobody, processAt, outboxAt, deadAt, protected, limited, exhausted, overrun, owing, full, waiting}
 
 -- a schedule's record, one command (document 01: "records of six bytes: move, a, word")
 pub record Command : Type 0 where
@@ -30,7 +30,8 @@ pub data Refusal : Type 0 where
   isHalted : Refusal
   -- of a TAKE, and of a FIRST
   noWordToTake noWordForFirst : Refusal
-  eventsFull : Refusal
+  -- a sync is owed: for the acts, and for the instructions alone (W-204)
+  eventsFull instructionsFull : Refusal
   -- of a SEND, and of a sync
   sendBlocked syncBlocked : Refusal
   -- of a SEND, and of a feed
@@ -49,6 +50,7 @@ refusalNumber isHalted = 35
 refusalNumber noWordToTake = 36
 refusalNumber noWordForFirst = 36
 refusalNumber eventsFull = 37
+refusalNumber instructionsFull = 37
 refusalNumber sendBlocked = 38
 refusalNumber syncBlocked = 38
 refusalNumber sendHeld = 39
@@ -126,27 +128,40 @@ withStandby standby x = record { machine = x .machine; board = x .board; suppres
 unfoldable pub advanced : Machine → Since → ℕ → Process → Process
 advanced m since suppress x = record { machine = m; board = x .board; suppress = suppress; since = since; standby = x .standby }
 
--- "A backed process has acts: takes and queued sends since its last sync was issued." Of another nothing is counted.
+-- "A backed process has acts: takes and queued sends since its last sync was issued." W-204: "64 instructions done since its last sync was
+-- issued." Of a process without a backup nothing is counted.
 abbrev pub counting : (Since → Since) → Process → Since
 counting more x = cond (limited x) (more (x .since)) (x .since)
 
+-- one instruction more that is no act
+abbrev pub oneDone : Since → Since
+oneDone n = record { instructions = suc (n .instructions); events = n .events; taken = n .taken }
+
 -- one queued send more
 abbrev pub oneSent : Since → Since
-oneSent n = record { events = suc (n .events); taken = n .taken }
+oneSent n = record { instructions = suc (n .instructions); events = suc (n .events); taken = n .taken }
 
 -- one receive more on a port
 abbrev pub oneTaken : ℕ → Since → Since
-oneTaken port n = record { events = suc (n .events); taken = set (n .taken) port (suc (getD (n .taken) port 0)) }
+oneTaken port n = record {
+  instructions = suc (n .instructions);
+  events = suc (n .events);
+  taken = set (n .taken) port (suc (getD (n .taken) port 0));
+}
 
 -- ---- 1 step
 
+-- a sync is owed before a TAKE, a FIRST or a SEND: for the instructions alone where the acts owe none
+abbrev pub owedFor : Process → Refusal
+owedFor x = cond (exhausted x) eventsFull instructionsFull
+
 -- "A SEND with hold-back above 0 lowers it by one and sends nothing. Otherwise the word joins its board's queue."
--- "For a SEND not held back: 37 likewise, 38 queue full, 39 held."
+-- "For a SEND not held back: 37 likewise, 38 queue full, 39 held." (A process with hold-back has no backup, so that nothing is counted.)
 unfoldable pub send : Table → Cabinet → ℕ → Process → Machine → Mail → ℕ → Result
-unfolding exhausted full advanced
+unfolding exhausted overrun owing full advanced
 send t c p x m mail (suc h) = accept (withProcess p (advanced m (x .since) h x) c) (suppressed mail)
 send t c p x m mail zero =
-    guard (exhausted x) eventsFull
+    guard (owing x) (owedFor x)
     (guard (leb outboxMost (length (outboxAt c (x .board)))) sendBlocked
     (guard (full t c (mail .channel)) sendHeld
     (accept (withProcess p (advanced m (counting oneSent x) 0 x) (enqueue (x .board) (message mail) c)) (queued mail))))
@@ -161,14 +176,18 @@ missing (SEND a k) = noWordToTake
 missing (JUMP a n) = noWordToTake
 missing NONE = noWordToTake
 
--- "Step: 35 halted. For TAKE and FIRST: 36 no such word, then 37 if backed and acts are 8. [..] SET, ADD and JUMP always succeed."
+-- "Step: 35 halted. For TAKE and FIRST: 36 no such word, then 37 if backed and acts are 8. [..] SET, ADD and JUMP always succeed." W-204:
+-- after 64 instructions "every kind of instruction then answers 37, TAKE and FIRST still answering 36 first when no word is there. This
+-- amends the sentence that SET, ADD and JUMP always succeed."
 unfoldable pub stepFrom : Table → Cabinet → ℕ → Process → Outcome → Result
-unfolding send advanced exhausted missing
+unfolding send advanced exhausted overrun owing missing
 stepFrom t c p x halted = refuse isHalted
 stepFrom t c p x noMail = refuse (missing (instructionAt (codeOf t p) (x .machine)))
-stepFrom t c p x (moved m internal) = accept (withProcess p (advanced m (x .since) (x .suppress) x) c) stepDone
+stepFrom t c p x (moved m internal) =
+    guard (overrun x) instructionsFull
+    (accept (withProcess p (advanced m (counting oneDone x) (x .suppress) x) c) stepDone)
 stepFrom t c p x (moved m (took mail)) =
-    guard (exhausted x) eventsFull
+    guard (owing x) (owedFor x)
     (accept (withProcess p (advanced m (counting (oneTaken (portOf t p (mail .channel))) x) (x .suppress) x) c) (received mail))
 stepFrom t c p x (moved m (sent mail)) = send t c p x m mail (x .suppress)
 

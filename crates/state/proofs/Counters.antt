@@ -1,4 +1,4 @@
--- What is counted of a limited process is little: its events, and its takes on each port. Of another nothing is counted.
+-- What is counted of a limited process is little: its instructions, its events, and its takes on each port. Of another nothing is counted.
 use mathlib.Core.Path.{_≡_, refl}
 use mathlib.Core.Bool.{true}
 use mathlib.Core.Option.{Option, none, some}
@@ -6,7 +6,7 @@ use Prim.Native.Nat.{ℕ, _≤_, _<_}
 use lib.ListN.{length, getD}
 use Rattle.facts.specs.Tests.{no-way}
 use Rattle.rules.specs.Table.{Table}
-use Rattle.rules.specs.Cabinet.{eventsMost, Standby, Cabinet, processAt, isSome, limited}
+use Rattle.rules.specs.Cabinet.{instructionsMost, eventsMost, Standby, Cabinet, processAt, isSome, limited}
 use Rattle.rules.specs.Bounds.{BackupBounds}
 use Rattle.state.specs.Moved.{Reachable}
 use Rattle.state.proofs.Reaching.{bounds}
@@ -22,6 +22,9 @@ module _ {t : Table} {c : Cabinet} (r : Reachable t c) (p : ℕ) (hp : p < lengt
 
   pub events-few : processAt c p .since .events ≤ eventsMost
   events-few = by-standby _ (λ s b. b .events)
+
+  pub instructions-few : processAt c p .since .instructions ≤ instructionsMost
+  instructions-few = by-standby _ (λ s b. b .instructions)
 
   pub takes-few : (port : ℕ) → getD (processAt c p .since .taken) port 0 ≤ eventsMost
   takes-few port = by-standby _ (λ s b. b .taken port)

@@ -91,7 +91,7 @@ module _ (t : Table) (c : Cabinet) (h : OneWaits c) where
   unfolding stepFrom
   outcome-one p halted = unmoved
   outcome-one p noMail = unmoved
-  outcome-one p (moved m internal) = leaves h
+  outcome-one p (moved m internal) = after-guard _ _ _ λ _. leaves h
   outcome-one p (moved m (took mail)) = after-guard _ _ _ λ _. leaves h
   outcome-one p (moved m (sent mail)) = send-one p m mail (processAt c p .suppress)
 

@@ -18,9 +18,10 @@ use Rattle.rules.specs.Machine.{Mail, Machine, sent}
 use Rattle.rules.specs.Cabinet as rules
 use Rattle.rules.specs.Cabinet.{Cabinet, Process, outboxMost, isCheckpointOf, processAt, outboxAt, full, waiting, inFlight}
 use Rattle.rules.specs.Moves as moves
-use Rattle.rules.specs.Moves.{guard, refuse, accept, eventsFull, sendBlocked, sendHeld, refusalNumber, suppressed, numbers, advanced, counting, oneSent, step, stepFrom, withProcess, enqueue}
+use Rattle.rules.specs.Moves.{guard, refuse, accept, owedFor, sendBlocked, sendHeld, refusalNumber, suppressed, numbers, advanced, counting, oneSent, step, stepFrom, withProcess, enqueue}
 use Rattle.rules.proofs.Steps.{Steps}
 use Rattle.rules.proofs.Counting.{weight, flight-joined}
+use Rattle.rules.proofs.Decoded.{owed-number}
 use Rattle.rules.proofs.Tables.{step-own}
 use Rattle.state.specs.declared.entry.Entry.{Entry}
 use Rattle.state.specs.declared.entry.Item.the-variants.{Word}
@@ -34,11 +35,11 @@ use Rattle.state.proofs.Changing.{row-changed}
 use Rattle.state.proofs.Reaching.{channel-bounds}
 use Rattle.state.proofs.Ends.{sent-inside, reader-inside}
 use Rattle.state.proofs.Refusing.{turned-down}
-use Rattle.step.specs.Parts.{spentIn, SendTurns}
+use Rattle.step.specs.Parts.{owingIn, SendTurns}
 use Rattle.state.specs.Channel.{heldIn}
 use Rattle.state.proofs.Held.{full-is}
 use Rattle.step.proofs.Issuing.{board-is, board-there, queue-has}
-use Rattle.step.proofs.Stepping.{turned-to, machine-is, step-is, exhausted-is, events-room}
+use Rattle.step.proofs.Stepping.{turned-to, machine-is, step-is, owing-is, instructions-room, events-room}
 
 -- a word that joins a queue is no checkpoint
 waiting-joined : (q : ℕ) (l : List rules.Item) (x : Mail) → waiting q (l ++ (rules.message x ∷ [])) ≡ waiting q l
@@ -112,29 +113,29 @@ module _ {t : Table} {s : Store} {entries : List Entry} {c : Cabinet} (reach : R
   then = withProcess p (queueing (processAt c p)) (enqueue (processAt c p .board) (rules.message x) c)
 
   module _ (none : getD row 6 0 ≡ 0) (reader : ℕ) (is-reader : reader ≡ channelAt t channel .reader) where
-    queues-so : (b1 b2 b3 : Bool) → spentIn row ≡ b1 → leb outboxMost (countIn (s .boards) b) ≡ b2 → heldIn reader (getD (s .unread) channel 0) (getD (s .queued) channel 0) ≡ b3
-        → step t c p ≡ guard b1 eventsFull (guard b2 sendBlocked (guard b3 sendHeld (accept then (moves.queued x))))
+    queues-so : (b1 b2 b3 : Bool) → owingIn row ≡ b1 → leb outboxMost (countIn (s .boards) b) ≡ b2 → heldIn reader (getD (s .unread) channel 0) (getD (s .queued) channel 0) ≡ b3
+        → step t c p ≡ guard b1 (owedFor (processAt c p)) (guard b2 sendBlocked (guard b3 sendHeld (accept then (moves.queued x))))
     unfolding moves.send
     queues-so b1 b2 b3 e1 e2 e3 =
         sends-so 0 none
-        ∙ ap (λ (z : Bool). guard z eventsFull (guard (leb outboxMost (length (outboxAt c (processAt c p .board)))) sendBlocked (guard (full t c channel) sendHeld (accept then (moves.queued x))))) (exhausted-is h p hp ∙ e1)
-        ∙ ap (λ (z : Bool). guard b1 eventsFull (guard z sendBlocked (guard (full t c channel) sendHeld (accept then (moves.queued x))))) (ap (leb outboxMost) (queue-has reach h p hp) ∙ e2)
-        ∙ ap (λ (z : Bool). guard b1 eventsFull (guard b2 sendBlocked (guard z sendHeld (accept then (moves.queued x))))) (full-is reach h channel channel-inside reader is-reader ∙ e3)
+        ∙ ap (λ (z : Bool). guard z (owedFor (processAt c p)) (guard (leb outboxMost (length (outboxAt c (processAt c p .board)))) sendBlocked (guard (full t c channel) sendHeld (accept then (moves.queued x))))) (owing-is h p hp ∙ e1)
+        ∙ ap (λ (z : Bool). guard b1 (owedFor (processAt c p)) (guard z sendBlocked (guard (full t c channel) sendHeld (accept then (moves.queued x))))) (ap (leb outboxMost) (queue-has reach h p hp) ∙ e2)
+        ∙ ap (λ (z : Bool). guard b1 (owedFor (processAt c p)) (guard b2 sendBlocked (guard z sendHeld (accept then (moves.queued x))))) (full-is reach h channel channel-inside reader is-reader ∙ e3)
 
-    pub refused-37 : spentIn row ≡ true → step t c p ≡ refuse eventsFull
+    pub refused-37 : owingIn row ≡ true → step t c p ≡ refuse (owedFor (processAt c p))
     unfolding guard
     refused-37 e = queues-so true _ _ e refl refl
 
-    pub refused-38 : spentIn row ≡ false → leb outboxMost (countIn (s .boards) b) ≡ true → step t c p ≡ refuse sendBlocked
+    pub refused-38 : owingIn row ≡ false → leb outboxMost (countIn (s .boards) b) ≡ true → step t c p ≡ refuse sendBlocked
     unfolding guard
     refused-38 e f = queues-so false true _ e f refl
 
-    pub refused-39 : spentIn row ≡ false → leb outboxMost (countIn (s .boards) b) ≡ false → heldIn reader (getD (s .unread) channel 0) (getD (s .queued) channel 0) ≡ true
+    pub refused-39 : owingIn row ≡ false → leb outboxMost (countIn (s .boards) b) ≡ false → heldIn reader (getD (s .unread) channel 0) (getD (s .queued) channel 0) ≡ true
         → step t c p ≡ refuse sendHeld
     unfolding guard
     refused-39 e f g = queues-so false false true e f g
 
-    pub queued-so : spentIn row ≡ false → leb outboxMost (countIn (s .boards) b) ≡ false → heldIn reader (getD (s .unread) channel 0) (getD (s .queued) channel 0) ≡ false
+    pub queued-so : owingIn row ≡ false → leb outboxMost (countIn (s .boards) b) ≡ false → heldIn reader (getD (s .unread) channel 0) (getD (s .queued) channel 0) ≡ false
         → step t c p ≡ accept then (moves.queued x)
     unfolding guard
     queued-so e f g = queues-so false false false e f g
@@ -200,7 +201,7 @@ module _ {t : Table} {s : Store} {entries : List Entry} {c : Cabinet} (reach : R
     send-holds row′ none became =
         let first = joined h (reach .accepted .boards-high) b hb (pushedIn board) queued′ (s .waits) e few queue-then in
         row-changed first (reach .accepted .processes-high) p hp row′ queueing
-        (became (codeOf t p) n code a operand channel word mail log head (h .kept p hp) i none (events-room h p hp reach)) refl same-mailbox
+        (became (codeOf t p) n code a operand channel word mail log head (h .kept p hp) i none (events-room h p hp reach) (instructions-room h p hp reach)) refl same-mailbox
 
     pub send-holds-so : (row′ : List ℕ) → getD row 6 0 ≡ 0 → Queues row row′
         → Holds t (storeOf (set (s .rows) p row′) (s .mails) (s .logs) (s .heads) (set (s .boards) b (pushedIn board)) (s .unread) queued′ (s .waits)) (set entries (placeOf board b) e) then
@@ -236,14 +237,14 @@ module _ (reader : List ℕ) (rows boards : List (List ℕ)) (unread queued : Li
   }
 
   module _ (none : getD (getD rows p []) 6 0 ≡ 0) where
-    pub send-37 : spentIn (getD rows p []) ≡ true → r ≡ refusedWith 37 p → SendTurns reader rows boards unread queued p channel word rows boards queued r
-    unfolding refusalNumber
+    pub send-37 : owingIn (getD rows p []) ≡ true → r ≡ refusedWith 37 p → SendTurns reader rows boards unread queued p channel word rows boards queued r
     send-37 e g = record {
       turned = λ t sender port mails logs heads waits entries c command n code register operand reach wired i h f hp.
-          turned-down command p eventsFull h (refused-37 reach h p hp n code register operand channel word i none _ refl e) f g;
+          turned-down command p (owedFor (processAt c p)) h (refused-37 reach h p hp n code register operand channel word i none _ refl e) f
+          (g ∙ ap (λ (k : ℕ). refusedWith k p) (sym (owed-number (processAt c p))));
     }
 
-    module _ (fresh : spentIn (getD rows p []) ≡ false) (b : ℕ) (is-b : getD (getD rows p []) 0 0 < 16 → b ≡ getD (getD rows p []) 0 0) where
+    module _ (fresh : owingIn (getD rows p []) ≡ false) (b : ℕ) (is-b : getD (getD rows p []) 0 0 < 16 → b ≡ getD (getD rows p []) 0 0) where
       -- of lists that hold a cabinet the clamped board is the board
       the-board : {t : Table} {mails logs heads : List (List ℕ)} {waits : List ℕ} {entries : List Entry} {c : Cabinet} → Reachable t c
           → Holds t (storeOf rows mails logs heads boards unread queued waits) entries c → p < length (t .processes) → b ≡ getD (getD rows p []) 0 0

@@ -1,35 +1,33 @@
--- Move 1 in the lists: which case of the rules' step it is, the refusals 35 and 36, and a SET, an ADD or a JUMP.
+-- Move 1 in the lists: which case of the rules' step it is, the refusals 35 and 36, and the parts.
 use mathlib.Core.Path.{_≡_, refl, ap, sym, _∙_, subst}
-use mathlib.Core.Bool.{Bool, true, _&&_}
+use mathlib.Core.Bool.{Bool, true, _&&_, _||_}
 use mathlib.Core.List.{List, []}
-use Prim.Native.Nat.{ℕ, _≤_, _<_}
+use Prim.Native.Nat.{ℕ, _<_}
 use native.Mathlib.Omega.{arith}
 use lib.Dec.{leb}
-use lib.ListN.{length, getD, set}
+use lib.ListN.{length, getD}
 use borrow.Author.Tests.{ne-eqb}
 use Rattle.process.specs.Row.{machineOf, processOf}
-use Rattle.instruction.specs.Instruction.{Intends, Fetched, Examined, Computes, TallyRoom, afterInternal}
+use Rattle.instruction.specs.Instruction.{Intends, Fetched, Examined, TallyRoom}
 use Rattle.instruction.specs.Laws as laws
 use Rattle.instruction.specs.declared.instruction.Intent.{Intent}
 use Rattle.instruction.specs.declared.instruction.Intent.the-variants.{Halted, NoMail, Internal, Take, Send}
 use Rattle.records.specs.Fetch.{fetched, instructionOf}
 use Rattle.records.specs.declared.fetch.Instruction.{Instruction}
 use Rattle.rules.specs.Table.{Table, codeOf}
-use Rattle.rules.specs.Machine.{Machine, Outcome, instructionAt, localStep, internal}
-use Rattle.rules.specs.Cabinet.{Cabinet, Process, eventsMost, processAt, limited, exhausted}
-use Rattle.rules.specs.Moves.{Command, Result, Answer, refuse, accept, isHalted, missing, stepDone, refusalNumber, numbers, numbered, advanced, step, stepFrom, withProcess}
+use Rattle.rules.specs.Machine.{Machine, Outcome, instructionAt, localStep}
+use Rattle.rules.specs.Cabinet.{Cabinet, Process, instructionsMost, eventsMost, processAt, limited, exhausted, overrun, owing}
+use Rattle.rules.specs.Moves.{Command, Result, Answer, refuse, accept, isHalted, missing, refusalNumber, numbers, numbered, step, stepFrom}
 use Rattle.rules.proofs.Decoded.{missing-number}
-use Rattle.rules.proofs.Steps.{Steps, step-left}
 use Rattle.state.specs.declared.entry.Entry.{Entry}
 use Rattle.state.specs.declared.moved.Moved.{Moved}
 use Rattle.state.specs.Store.{Store, storeOf, Holds}
-use Rattle.state.specs.Moved.{Reachable, Turned, storedBy, answerOf, aloneOf, refusedWith}
+use Rattle.state.specs.Moved.{Reachable, Turned, storedBy, refusedWith}
 use Rattle.state.proofs.Reading.{at-process}
-use Rattle.state.proofs.Changing.{row-changed}
 use Rattle.process.proofs.Rows.{limited-is}
-use Rattle.state.proofs.Counters.{events-few}
+use Rattle.state.proofs.Counters.{instructions-few, events-few}
 use Rattle.state.proofs.Refusing.{turned-down}
-use Rattle.step.specs.Parts.{spentIn, TakeTurns, SendTurns}
+use Rattle.step.specs.Parts.{spentIn, overrunIn, owingIn, CalculateTurns, TakeTurns, SendTurns}
 use Rattle.step.specs.Steps as specs
 
 -- ---- an accepted move
@@ -58,11 +56,19 @@ module _ {t : Table} {s : Store} {entries : List Entry} {c : Cabinet} (h : Holds
   unfolding step
   step-is o e = ap (λ (m : Machine). stepFrom t c p (processAt c p) (localStep (codeOf t p) m)) machine-is ∙ ap (stepFrom t c p (processAt c p)) e
 
-  pub exhausted-is : exhausted (processAt c p) ≡ spentIn row
+  exhausted-is : exhausted (processAt c p) ≡ spentIn row
   unfolding exhausted processOf
   exhausted-is = ap exhausted (at-process h p hp) ∙ ap (λ (b : Bool). b && leb eventsMost (getD row 7 0)) (limited-is row mail (getD (s .logs) p []) (getD (s .heads) p []))
 
-  -- a process is limited where its row says so, and then its events are few
+  pub overrun-is : overrun (processAt c p) ≡ overrunIn row
+  unfolding overrun processOf
+  overrun-is = ap overrun (at-process h p hp) ∙ ap (λ (b : Bool). b && leb instructionsMost (getD row 15 0)) (limited-is row mail (getD (s .logs) p []) (getD (s .heads) p []))
+
+  pub owing-is : owing (processAt c p) ≡ owingIn row
+  unfolding owing
+  owing-is = λ i. exhausted-is i || overrun-is i
+
+  -- a process is limited where its row says so, and then its instructions and its events are few
   pub limited-here : (getD row 12 0 ≡ 0 → ⊥) → limited (processAt c p) ≡ true
   limited-here n = ap limited (at-process h p hp) ∙ limited-is row mail (getD (s .logs) p []) (getD (s .heads) p []) ∙ rw (ne-eqb (getD row 12 0) 0 n)
 
@@ -73,6 +79,13 @@ module _ {t : Table} {s : Store} {entries : List Entry} {c : Cabinet} (h : Holds
       let f = events-few reach p hp (limited-here n) in
       omega arith
 
+  pub instructions-room : Reachable t c → TallyRoom row 15
+  unfolding processOf
+  instructions-room reach n =
+      let e : processAt c p .since .instructions ≡ getD row 15 0 = ap (λ (x : Process). x .since .instructions) (at-process h p hp) in
+      let f = instructions-few reach p hp (limited-here n) in
+      omega arith
+
   module _ (n code a operand : ℕ) where
     pub refused-35 : Intends (codeOf t p) row mail n code a operand Halted → step t c p ≡ refuse isHalted
     unfolding stepFrom
@@ -81,22 +94,6 @@ module _ {t : Table} {s : Store} {entries : List Entry} {c : Cabinet} (h : Holds
     pub refused-36 : Intends (codeOf t p) row mail n code a operand NoMail → step t c p ≡ refuse (missing (instructionAt (codeOf t p) (processAt c p .machine)))
     unfolding stepFrom
     refused-36 i = step-is _ (i .outcome)
-
-    module _ (i : Intends (codeOf t p) row mail n code a operand Internal) where
-      abbrev computed : Process → Process
-      computed x = advanced (afterInternal code a operand (machineOf row mail)) (x .since) (x .suppress) x
-
-      pub computes-so : step t c p ≡ accept (withProcess p (computed (processAt c p)) c) stepDone
-      unfolding stepFrom
-      computes-so = step-is _ (i .outcome)
-
-      pub compute-holds : length (t .processes) ≤ 16 → (row′ : List ℕ) → Computes row code a operand row′
-          → Holds t (storeOf (set (s .rows) p row′) (s .mails) (s .logs) (s .heads) (s .boards) (s .unread) (s .queued) (s .waits)) entries (withProcess p (computed (processAt c p)) c)
-      unfolding advanced
-      compute-holds small row′ became =
-          let went : Steps (codeOf t p) (machineOf row mail) internal (afterInternal code a operand (machineOf row mail)) = record { is = i .outcome } in
-          row-changed h small p hp row′ computed (became (codeOf t p) n mail (getD (s .logs) p []) (getD (s .heads) p []) (h .kept p hp) i) refl
-          (step-left went ∙ ap (λ (m : Machine). m .mailbox) (sym machine-is))
 
 -- ---- what the move promises
 
@@ -151,13 +148,11 @@ module _ (table start lengths reader port : List ℕ) (rows mails boards : List 
         (g ∙ ap (λ (n : ℕ). refusedWith n p) (sym (missing-number (instructionAt (codeOf t p) (processAt c p .machine)))));
   }
 
-  pub steps-computed : (row′ : List ℕ) → Means Internal → Computes (getD rows p []) (j .code) (j .a) (j .operand) row′ → r ≡ aloneOf (answerOf 0 0 0)
-      → Promises (set rows p row′) mails boards unread queued
-  unfolding numbers
-  steps-computed row′ m became g = record {
+  pub steps-calculated : {rows′ : List (List ℕ)} → Means Internal → CalculateTurns rows p (j .code) (j .a) (j .operand) rows′ r
+      → Promises rows′ mails boards unread queued
+  steps-calculated m part = record {
     turned = λ t sender logs heads waits entries c command reach wired programmed h f hp.
-        let i = intends Internal (meant Internal m) reach programmed h hp in
-        turned-to entries command (aloneOf (answerOf 0 0 0)) _ stepDone (computes-so h p hp _ _ _ _ i) g refl (compute-holds h p hp _ _ _ _ i (reach .accepted .processes-high) row′ became);
+        part .turned t mails logs heads boards unread queued waits entries c command _ reach (intends Internal (meant Internal m) reach programmed h hp) h f hp;
   }
 
   pub steps-taken : (at : ℕ) {rows′ mails′ : List (List ℕ)} {unread′ : List ℕ} → Means (Take at)

@@ -16,9 +16,10 @@ use Rattle.instruction.specs.declared.instruction.Intent.the-variants.{Take}
 use Rattle.rules.specs.Table.{Table, codeOf, channelAt, portOf}
 use Rattle.rules.specs.Machine.{Mail, Machine, took}
 use Rattle.rules.specs.Cabinet.{Cabinet, Process, processAt, unreadOn}
-use Rattle.rules.specs.Moves.{guard, refuse, accept, eventsFull, refusalNumber, received, numbers, advanced, counting, oneTaken, step, stepFrom, withProcess}
+use Rattle.rules.specs.Moves.{guard, refuse, accept, owedFor, received, numbers, advanced, counting, oneTaken, step, stepFrom, withProcess}
 use Rattle.rules.proofs.Steps.{Steps}
 use Rattle.rules.proofs.Counting.{step-unread}
+use Rattle.rules.proofs.Decoded.{owed-number}
 use Rattle.rules.proofs.Tables.{input, few-ports}
 use Rattle.state.specs.declared.entry.Entry.{Entry}
 use Rattle.state.specs.declared.moved.Moved.{Moved}
@@ -31,8 +32,8 @@ use Rattle.state.proofs.Ends.{read-inside}
 use Rattle.state.proofs.Owners.{unread-own}
 use Rattle.state.proofs.Counters.{takes-few}
 use Rattle.state.proofs.Refusing.{turned-down}
-use Rattle.step.specs.Parts.{spentIn, TakeTurns}
-use Rattle.step.proofs.Stepping.{turned-to, machine-is, step-is, exhausted-is, limited-here, events-room}
+use Rattle.step.specs.Parts.{owingIn, TakeTurns}
+use Rattle.step.proofs.Stepping.{turned-to, machine-is, step-is, owing-is, limited-here, instructions-room, events-room}
 
 -- a row's receives on a port
 taken-at : (row mail log head : List ℕ) (port : ℕ) → port < ports → getD row (8 + port) 0 ≡ getD (processOf row mail log head .since .taken) port 0
@@ -73,17 +74,17 @@ module _ {t : Table} {s : Store} {entries : List Entry} {c : Cabinet} (reach : R
   went : Steps (codeOf t p) (machineOf row mail) (took x) m1
   went = record { is = i .outcome }
 
-  takes-so : (b : Bool) → spentIn row ≡ b → step t c p ≡ guard b eventsFull (accept (withProcess p (taking (processAt c p)) c) (received x))
+  takes-so : (b : Bool) → owingIn row ≡ b → step t c p ≡ guard b (owedFor (processAt c p)) (accept (withProcess p (taking (processAt c p)) c) (received x))
   unfolding stepFrom
   takes-so b e =
       step-is h p hp _ (i .outcome)
-      ∙ ap (λ (z : Bool). guard z eventsFull (accept (withProcess p (taking (processAt c p)) c) (received x))) (exhausted-is h p hp ∙ e)
+      ∙ ap (λ (z : Bool). guard z (owedFor (processAt c p)) (accept (withProcess p (taking (processAt c p)) c) (received x))) (owing-is h p hp ∙ e)
 
-  pub take-refused : spentIn row ≡ true → step t c p ≡ refuse eventsFull
+  pub take-refused : owingIn row ≡ true → step t c p ≡ refuse (owedFor (processAt c p))
   unfolding guard
   take-refused e = takes-so true e
 
-  pub take-accepted : spentIn row ≡ false → step t c p ≡ accept (withProcess p (taking (processAt c p)) c) (received x)
+  pub take-accepted : owingIn row ≡ false → step t c p ≡ accept (withProcess p (taking (processAt c p)) c) (received x)
   unfolding guard
   take-accepted e = takes-so false e
 
@@ -116,7 +117,7 @@ module _ {t : Table} {s : Store} {entries : List Entry} {c : Cabinet} (reach : R
   -- the lists afterwards hold the rules' cabinet afterwards
   module _ (row′ mail′ : List ℕ) (left : ℕ) (takes : Takes row mail code a at (portOf t p (x .channel)) row′ mail′) (is-left : (left + 1) % 2 ^ 32 ≡ getD (s .unread) (x .channel) 0) (left-fits : left < 2 ^ 32) where
     became : Became row mail log head row′ mail′ log head taking
-    became = takes .became (codeOf t p) n operand log head (h .kept p hp) i port-there (events-room h p hp reach) takes-room
+    became = takes .became (codeOf t p) n operand log head (h .kept p hp) i port-there (events-room h p hp reach) takes-room (instructions-room h p hp reach)
 
     now-is : processOf row′ mail′ log head ≡ taking (processAt c p)
     now-is = became .process-is ∙ ap taking (sym (at-process h p hp))
@@ -161,11 +162,11 @@ take-at-its-index {port} {rows} {mails} {rows′} {mails′} {unread} {unread′
 }
 
 module _ (port : List ℕ) (rows mails : List (List ℕ)) (unread : List ℕ) (p code register at : ℕ) (r : Moved) where
-  pub take-37 : spentIn (getD rows p []) ≡ true → r ≡ refusedWith 37 p → TakeTurns port rows mails unread p code register at rows mails unread r
-  unfolding refusalNumber
+  pub take-37 : owingIn (getD rows p []) ≡ true → r ≡ refusedWith 37 p → TakeTurns port rows mails unread p code register at rows mails unread r
   take-37 e g = record {
     turned = λ t sender reader logs heads boards queued waits entries c command n operand reach wired i h f hp.
-        turned-down command p eventsFull h (take-refused reach h p hp n code register operand at i e) f g;
+        turned-down command p (owedFor (processAt c p)) h (take-refused reach h p hp n code register operand at i e) f
+        (g ∙ ap (λ (k : ℕ). refusedWith k p) (sym (owed-number (processAt c p))));
   }
 
   -- no word stands past the mailbox's end
@@ -175,7 +176,7 @@ module _ (port : List ℕ) (rows mails : List (List ℕ)) (unread : List ℕ) (p
         absurd (let a = i .inside at refl in let b = h .kept p hp .unread in omega arith);
   }
 
-  pub take-done : (k : ℕ) (row′ mail′ : List ℕ) (left : ℕ) → spentIn (getD rows p []) ≡ false → (mailIn (getD (getD mails p []) at 0) .channel < 32 → k ≡ mailIn (getD (getD mails p []) at 0) .channel)
+  pub take-done : (k : ℕ) (row′ mail′ : List ℕ) (left : ℕ) → owingIn (getD rows p []) ≡ false → (mailIn (getD (getD mails p []) at 0) .channel < 32 → k ≡ mailIn (getD (getD mails p []) at 0) .channel)
       → Takes (getD rows p []) (getD mails p []) code register at (getD port k 0) row′ mail′ → (left + 1) % 2 ^ 32 ≡ getD unread k 0 → left < 2 ^ 32
       → r ≡ aloneOf (answerOf 1 (mailIn (getD (getD mails p []) at 0) .channel) (mailIn (getD (getD mails p []) at 0) .word))
       → TakeTurns port rows mails unread p code register at (set rows p row′) (set mails p mail′) (set unread k left) r

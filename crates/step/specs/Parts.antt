@@ -1,16 +1,16 @@
--- The parts of move 1: what a step looks at first, and a step that takes or sends a word.
+-- The parts of move 1: what a step looks at first, and a step that computes, takes a word or sends one.
 -- Document 01: "For TAKE and FIRST: 36 no such word, then 37 if backed and acts are 8. For a SEND not held back: 37 likewise, 38 queue
--- full, 39 held."
+-- full, 39 held." W-204: "a sync after 64 instructions [..]. Every kind of instruction then answers 37".
 use mathlib.Core.Path.{_≡_}
-use mathlib.Core.Bool.{Bool, not, _&&_}
+use mathlib.Core.Bool.{Bool, not, _&&_, _||_}
 use mathlib.Core.List.{List, []}
 use Prim.Native.Nat.{ℕ, _+_, _<_}
 use lib.Dec.{eqb, leb}
 use lib.ListN.{length, getD}
 use Rattle.instruction.specs.Instruction.{Intends}
-use Rattle.instruction.specs.declared.instruction.Intent.the-variants.{Take, Send}
+use Rattle.instruction.specs.declared.instruction.Intent.the-variants.{Internal, Take, Send}
 use Rattle.rules.specs.Table.{Table, codeOf}
-use Rattle.rules.specs.Cabinet.{Cabinet, eventsMost}
+use Rattle.rules.specs.Cabinet.{Cabinet, instructionsMost, eventsMost}
 use Rattle.rules.specs.Moves.{Command, step}
 use Rattle.state.specs.declared.entry.Entry.{Entry}
 use Rattle.state.specs.declared.moved.Moved.{Moved}
@@ -22,7 +22,22 @@ use Rattle.state.specs.Wired.{Wired}
 abbrev pub spentIn : List ℕ → Bool
 spentIn row = not (eqb (getD row 12 0) 0) && leb eventsMost (getD row 7 0)
 
--- Process a's instruction takes the word at an index of its mailbox. Whatever the lists are that it isn't lent.
+-- W-204: "64 instructions done since its last sync was issued", of a process's row
+abbrev pub overrunIn : List ℕ → Bool
+overrunIn row = not (eqb (getD row 12 0) 0) && leb instructionsMost (getD row 15 0)
+
+-- a sync is owed
+abbrev pub owingIn : List ℕ → Bool
+owingIn row = spentIn row || overrunIn row
+
+-- Process a's instruction computes. Whatever the lists are that it isn't lent.
+pub record CalculateTurns (rows : List (List ℕ)) (a code register operand : ℕ) (rows′ : List (List ℕ)) (r : Moved) : Type 0 where
+  pub turned : (t : Table) (mails logs heads boards : List (List ℕ)) (unread queued waits : List ℕ) (entries : List Entry) (c : Cabinet) (command : Command)
+      (n : ℕ) → Reachable t c → Intends (codeOf t a) (getD rows a []) (getD mails a []) n code register operand Internal
+      → Holds t (storeOf rows mails logs heads boards unread queued waits) entries c → command .a ≡ a → a < length (t .processes)
+      → Turned t (storeOf rows′ mails logs heads boards unread queued waits) entries c command (step t c a) r
+
+-- Process a's instruction takes the word at an index of its mailbox.
 pub record TakeTurns (port : List ℕ) (rows mails : List (List ℕ)) (unread : List ℕ) (a code register at : ℕ)
     (rows′ mails′ : List (List ℕ)) (unread′ : List ℕ) (r : Moved) : Type 0 where
   pub turned : (t : Table) (sender reader : List ℕ) (logs heads boards : List (List ℕ)) (queued waits : List ℕ) (entries : List Entry) (c : Cabinet) (command : Command)

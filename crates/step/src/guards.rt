@@ -1,16 +1,34 @@
-// Whether a process's acts are used up. "37 if backed and acts are 8".
+// Whether a process owes a sync. "37 if backed and acts are 8"; W-204: "A backed process now also owes a sync after 64 instructions done
+// since its last sync was issued."
 ghost use mathlib.Core.Path.{_≡_};
-ghost use Rattle.step.specs.Parts.{spentIn};
+ghost use Rattle.step.specs.Parts.{spentIn, overrunIn, owingIn};
 use process::row::EVENTS;
+use process::row::INSTRUCTIONS;
 use process::row::PROTECTED;
 use process::row::ROW;
 
-// Events that a protected process has at most.
+// Events, and instructions, that a protected process has at most.
 const EVENTS_MOST: u32 = 8;
 
+const INSTRUCTIONS_MOST: u32 = 64;
+
 // Whether a process is protected and its events are used up.
-pub fn spent(row: &[u32; ROW]) -> bool
+fn spent(row: &[u32; ROW]) -> bool
     ensures { λ r. ⌜ r ≡ spentIn (now (row .entry)) ⌝ }
 {
     row[PROTECTED] != 0 && row[EVENTS] >= EVENTS_MOST
+}
+
+// Whether a process is protected and its instructions are used up.
+pub fn overrun(row: &[u32; ROW]) -> bool
+    ensures { λ r. ⌜ r ≡ overrunIn (now (row .entry)) ⌝ }
+{
+    row[PROTECTED] != 0 && row[INSTRUCTIONS] >= INSTRUCTIONS_MOST
+}
+
+// Whether either is so.
+pub fn owing(row: &[u32; ROW]) -> bool
+    ensures { λ r. ⌜ r ≡ owingIn (now (row .entry)) ⌝ }
+{
+    spent(row) || overrun(row)
 }

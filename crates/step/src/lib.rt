@@ -1,4 +1,5 @@
 // What a process does by itself: one instruction (move 1), and the issue of a checkpoint (move 2).
+mod calculate;
 mod guards;
 pub mod issue;
 mod send;

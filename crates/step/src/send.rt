@@ -1,7 +1,7 @@
 // A step that sends a word: "A SEND with hold-back above 0 lowers it by one and sends nothing. Otherwise the word joins its board's
 // queue." "For a SEND not held back: 37 likewise, 38 queue full, 39 held."
 ghost use Rattle.step.specs.Parts.{SendTurns};
-use crate::guards::spent;
+use crate::guards::owing;
 use instruction::instruction::queue_send;
 use instruction::instruction::suppress_send;
 use process::row::BOARD;
@@ -44,7 +44,7 @@ pub fn send(
             word: word,
         });
     }
-    if spent(&rows[p]) {
+    if owing(&rows[p]) {
         return refused(37, a);
     }
     let b = index16(rows[p][BOARD]);

@@ -1,10 +1,9 @@
-// Move 1: one instruction of a process. "Step: 35 halted. For TAKE and FIRST: 36 no such word, then 37 [..]. SET, ADD and JUMP always
-// succeed."
+// Move 1: one instruction of a process. "Step: 35 halted. For TAKE and FIRST: 36 no such word, then 37 [..]."
 ghost use Rattle.step.specs.Steps.{Steps};
+use crate::calculate::calculate;
 use crate::send::send;
 use crate::take::take;
 use instruction::instruction::Intent;
-use instruction::instruction::compute;
 use instruction::instruction::examine;
 use process::mail::MAIL;
 use process::row::PC;
@@ -13,9 +12,7 @@ use records::fetch::fetch;
 use state::board::BOARD_ROW;
 use state::board::index16;
 use state::board::wide;
-use state::moved::Answer;
 use state::moved::Moved;
-use state::moved::alone;
 use state::moved::refused;
 
 pub fn step(
@@ -38,14 +35,7 @@ pub fn step(
     match examine(&rows[p], &mails[p], lengths[p], i.code, i.a, i.operand) {
         Intent::Halted => refused(35, a),
         Intent::NoMail => refused(36, a),
-        Intent::Internal => {
-            compute(&mut rows[p], i.code, i.a, i.operand);
-            alone(Answer {
-                code: 0,
-                a: 0,
-                word: 0,
-            })
-        }
+        Intent::Internal => calculate(rows, a, i.code, i.a, i.operand),
         Intent::Take { at } => take(port, rows, mails, unread, a, i.code, i.a, at),
         Intent::Send { channel, word } => send(
             reader,

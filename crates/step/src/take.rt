@@ -1,7 +1,7 @@
-// A step that takes a word: "For TAKE and FIRST: [..] 37 if backed and acts are 8." The word leaves the mailbox, and its channel's unread
+// A step that takes a word: "For TAKE and FIRST: [..] 37 if backed and acts are 8", or 64 instructions (W-204). The word leaves the mailbox, and its channel's unread
 // words are one less.
 ghost use Rattle.step.specs.Parts.{TakeTurns};
-use crate::guards::spent;
+use crate::guards::owing;
 use instruction::instruction::take_word;
 use process::mail::MAIL;
 use process::mail::channel_of;
@@ -28,7 +28,7 @@ pub fn take(
     ensures { λ r. ⌜ TakeTurns (now (port .entry)) (now (rows .entry)) (now (mails .entry)) (now (unread .entry)) a code register at (now (rows .exit)) (now (mails .exit)) (now (unread .exit)) r ⌝ }
 {
     let p = index16(a);
-    if spent(&rows[p]) {
+    if owing(&rows[p]) {
         return refused(37, a);
     }
     if at >= MAIL {

@@ -6,7 +6,7 @@ use outside::rules::page::lines;
 use outside::rules::reader::Instruction::{Add, First, Jump, Send, Set, Take};
 use outside::rules::reader::{Channel, Instruction, Process, Record, Table, OUTSIDE};
 use outside::rules::run::{Outcome, Run};
-use outside::rules::sample::{carry, crash, feed, sample_schedule, step, SAMPLE};
+use outside::rules::sample::{carry, crash, feed, sample_schedule, step, sync, SAMPLE};
 
 pub struct Case {
     name: &'static str,
@@ -14,10 +14,6 @@ pub struct Case {
     pub records: Vec<Record>,
     /// The page's last lines.
     lines: &'static [&'static str],
-}
-
-fn sync(a: u8) -> Record {
-    Record { kind: 2, a, word: 0 }
 }
 
 fn table(boards: u8, channels: &[(u8, u8)], processes: &[(u8, u8, &[Instruction])]) -> Vec<u8> {
@@ -35,6 +31,15 @@ fn table(boards: u8, channels: &[(u8, u8)], processes: &[(u8, u8, &[Instruction]
 fn sender() -> Vec<u8> {
     let send = Send { a: 0, channel: 0 };
     table(2, &[(0, OUTSIDE)], &[(0, 1, &[Set { a: 0, word: 9 }, send, send, send, Jump { a: 0, place: 1 }])])
+}
+
+/// One process that adds for ever: SET once, then ADD and JUMP.
+fn adding() -> Vec<u8> {
+    table(2, &[(0, OUTSIDE)], &[(0, 1, &[Set { a: 0, word: 1 }, Add { a: 1, b: 0 }, Jump { a: 0, place: 1 }])])
+}
+
+fn steps(n: usize) -> Vec<Record> {
+    vec![step(0); n]
 }
 
 /// One process that reads three channels from the outside: a word of channel 1, any word, a word of channel 2.
@@ -241,6 +246,34 @@ pub fn cases() -> Vec<Case> {
         adder(),
         &nine,
         &["35 37 0 0", "36 0 0 0", "37 1 0 4", "process 0 0 2 0 0 4 32 1 0", "quiet 0"],
+    );
+    // W-204: 64 instructions ask for a sync. It counts from the sync's issue, whether or not that is carried.
+    case(
+        "a loop that neither reads nor sends stops at its 65th instruction",
+        adding(),
+        &steps(66),
+        &["64 0 0 0", "65 37 0 0", "66 37 0 0", "process 0 0 2 0 0 1 32 0 0", "quiet 0"],
+    );
+    let two = [&steps(65)[..], &[sync(0)], &steps(65)].concat();
+    case(
+        "it goes on after a sync, for 64 instructions",
+        adding(),
+        &two,
+        &["130 0 0 0", "131 37 0 0", "process 0 0 2 0 0 1 64 0 0", "quiet 0"],
+    );
+    let waits = [&two[..], &[crash(0)], &steps(128)].concat();
+    case(
+        "no sync was carried: 128 instructions again, and 37 no more",
+        adding(),
+        &waits,
+        &["259 0 0 0", "260 0 0 0", "process 0 1 2 0 0 1 64 0 0", "quiet 0"],
+    );
+    let carried = [&two[..], &[carry(0), crash(0)], &steps(64)].concat();
+    case(
+        "the sync was carried: 64 instructions again",
+        adding(),
+        &carried,
+        &["196 0 0 0", "197 0 0 0", "process 0 1 2 0 0 1 64 0 0", "quiet 0"],
     );
     cases
 }

@@ -1,10 +1,11 @@
 //! The kinds of input, each compared: sound runs of any length, a crash at every place, garbage, damage, and buffers of other lengths.
 use crate::compare::Comparison;
-use crate::seen::SOUND;
+use crate::seen::{LOOPS, SOUND};
 use outside::random::Random;
 use outside::rules::busy::busy;
 use outside::rules::damage::{damage_schedule, damage_table, Damage, DAMAGES};
 use outside::rules::generate::{any_word, continued, encode_schedule, encode_table, largest, schedule, table};
+use outside::rules::loops::loops;
 use outside::rules::reader::{Record, Table};
 use outside::rules::sample::crash;
 use outside::rules::simulator::Cabinet;
@@ -56,16 +57,28 @@ fn after<'t>(table: &'t Table, records: &[Record]) -> Cabinet<'t> {
     cabinet
 }
 
-/// A schedule with a crash put at each of its places, for each board; then the records that come after go on as they were, and others
-/// follow that suit the cabinet as it is then.
+/// A crash at every place of some table's schedule.
 pub fn crash_at_every_place(comparison: &mut Comparison, random: &mut Random) {
     let table = some_table(random);
-    let bytes = encode_table(&table);
-    let length = random.pick(&[5, 10, 20, 30]);
     // The crash comes after records that fill queues, inboxes and backup records.
     let lead = random.pick(&[0, 40, 120]);
-    let lead = continued(random, &table, Cabinet::new(&table), lead);
-    let rest = continued(random, &table, after(&table, &lead), length);
+    everywhere(comparison, random, SOUND[1], &table, lead);
+}
+
+/// The same for programs that calculate for long, after records in which instructions add up.
+pub fn long_calculations(comparison: &mut Comparison, random: &mut Random) {
+    let table = loops(random);
+    let lead = random.pick(&[60, 130, 200, 400]);
+    everywhere(comparison, random, LOOPS, &table, lead);
+}
+
+/// A schedule of `lead` records and some more, with a crash put at each of the latter's places, for each board; then the records that come
+/// after go on as they were, and others follow that suit the cabinet as it is then.
+fn everywhere(comparison: &mut Comparison, random: &mut Random, kind: &'static str, table: &Table, lead: usize) {
+    let bytes = encode_table(table);
+    let length = random.pick(&[5, 10, 20, 30]);
+    let lead = continued(random, table, Cabinet::new(table), lead);
+    let rest = continued(random, table, after(table, &lead), length);
     for place in 0..=length {
         for board in 0..table.boards {
             let mut records = lead.clone();
@@ -75,8 +88,8 @@ pub fn crash_at_every_place(comparison: &mut Comparison, random: &mut Random) {
                 records.extend(&rest[place..]);
             }
             let more = random.pick(&[0, 10, 40]);
-            records.extend(continued(random, &table, after(&table, &records), more));
-            compare(comparison, random, SOUND[1], &bytes, &records);
+            records.extend(continued(random, table, after(table, &records), more));
+            compare(comparison, random, kind, &bytes, &records);
         }
     }
 }

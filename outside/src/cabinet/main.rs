@@ -33,6 +33,7 @@ fn pulled(comparison: &mut Comparison, kind: &'static str, table: &[u8], records
 fn round(comparison: &mut Comparison, random: &mut Random) {
     (0..60).for_each(|_| inputs::sound(comparison, random));
     inputs::crash_at_every_place(comparison, random);
+    inputs::long_calculations(comparison, random);
     (0..10).for_each(|_| inputs::garbage(comparison, random));
     inputs::damaged(comparison, random);
     (0..4).for_each(|_| inputs::buffers(comparison, random));

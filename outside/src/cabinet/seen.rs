@@ -9,6 +9,9 @@ const ANSWERS: [u8; 20] = [0, 1, 2, 3, 4, 5, 6, 32, 33, 34, 35, 36, 37, 38, 39, 
 /// The kinds whose schedules are written so that most records are accepted.
 pub const SOUND: [&str; 3] = ["sound", "crash at every place", "10,000 records"];
 
+/// The kind whose programs calculate for long.
+pub const LOOPS: &str = "long calculations";
+
 /// A kind of input: how many runs, their records and how many of those were accepted, and how many runs were refused or ended quiet,
 /// had a crash that was done, or ended with hold-back left.
 #[derive(Default)]
@@ -45,6 +48,10 @@ fn any(table: &Table, mut test: impl FnMut(usize, Instruction) -> bool) -> bool 
     table.processes.iter().any(|process| process.program.iter().enumerate().any(|(at, &i)| test(at, i)))
 }
 
+fn calculates(instruction: &Instruction) -> bool {
+    matches!(instruction, Instruction::Set { .. } | Instruction::Add { .. } | Instruction::Jump { .. })
+}
+
 #[derive(Default)]
 pub struct Seen {
     pub runs: u64,
@@ -54,6 +61,9 @@ pub struct Seen {
     traits: [u64; TRAITS.len()],
     /// The table that was looked at last, so that a sweep looks once.
     last: Vec<u8>,
+    /// The processes of that table that neither read nor send, and how often one of such was refused with 37.
+    silent: Vec<bool>,
+    ran_long: u64,
     most_records: usize,
     most_unread: u8,
     most_hold_back: u8,
@@ -75,11 +85,18 @@ impl Seen {
         }
         kind.quiet += run.outcome.quiet as u64;
         kind.records += run.outcome.records as u64;
+        if self.last != table {
+            self.last = table.to_vec();
+            let table = judge_table(table).expect("the table of an accepted run");
+            TRAITS.iter().zip(&mut self.traits).for_each(|((_, test), n)| *n += test(&table) as u64);
+            self.silent = table.processes.iter().map(|process| process.program.iter().all(calculates)).collect();
+        }
         let mut crashed = false;
         for (answer, record) in run.answers.chunks_exact(6).zip(schedule[3..].chunks_exact(6)) {
             *self.answers.entry(answer[0]).or_default() += 1;
             kind.accepted += (answer[0] < 32) as u64;
             crashed |= record[0] == 5 && answer[0] == 0;
+            self.ran_long += (answer[0] == 37 && self.silent[record[1] as usize]) as u64;
         }
         kind.crashed += crashed as u64;
         let lines = run.report.chunks_exact(20).take(table[4] as usize);
@@ -87,11 +104,6 @@ impl Seen {
         self.most_records = self.most_records.max(run.outcome.records);
         self.most_unread = self.most_unread.max(lines.clone().map(|line| line[2]).max().unwrap_or(0));
         self.most_hold_back = self.most_hold_back.max(lines.map(|line| line[3]).max().unwrap_or(0));
-        if self.last != table {
-            self.last = table.to_vec();
-            let table = judge_table(table).expect("the table of an accepted run");
-            TRAITS.iter().zip(&mut self.traits).for_each(|((_, test), n)| *n += test(&table) as u64);
-        }
     }
 
     /// Prints all counts; false if something was never met.
@@ -131,6 +143,10 @@ impl Seen {
         missing.extend(
             TRAITS.iter().zip(&self.traits).filter(|(_, &n)| n == 0).map(|((name, _), _)| format!("a table with {name}")),
         );
+        println!("37 for instructions alone: {}", self.ran_long);
+        if self.ran_long == 0 {
+            missing.push("37 of a program that neither reads nor sends".to_string());
+        }
         missing.iter().for_each(|what| println!("never met: {what}"));
         missing.is_empty()
     }

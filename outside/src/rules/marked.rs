@@ -1,10 +1,10 @@
-//! The marked cases M1 to M13 of document 01, the ninth take, buffers, schedules and refused pages.
+//! The marked cases M1 to M13 of document 01, the ninth take, the 65th instruction, buffers, schedules and refused pages.
 use super::backup::{Backup, Message, Snapshot};
-use super::generate::encode_schedule;
+use super::generate::{encode_schedule, encode_table};
 use super::page::page;
-use super::reader::{judge_run, judge_schedule, judge_table, Record};
+use super::reader::{judge_run, judge_schedule, judge_table, Channel, Instruction, Process, Record, Table, OUTSIDE};
 use super::run::{run, Outcome};
-use super::sample::{carry, crash, feed, sample_schedule, step, SAMPLE};
+use super::sample::{carry, crash, feed, sample_schedule, step, sync, SAMPLE};
 use super::simulator::{Answer, Cabinet};
 
 /// M13.
@@ -109,6 +109,41 @@ fn eight_acts_pass() {
     let answers = answers(&table, &records);
     assert_eq!(answers.iter().filter(|answer| **answer == (1, 0, 9)).count(), 8);
     assert_eq!(answers[25..], [(36, 0, 0), (4, 0, 9), (37, 0, 0)]);
+}
+
+#[test]
+fn sixty_four_instructions_pass() {
+    // W-204: a loop that neither reads nor sends stops at the 65th, goes on after a sync, and without a backup owes nothing.
+    let mut table = SAMPLE.to_vec();
+    table[13..19].copy_from_slice(&[1, 0, 0, 0, 0, 1]);
+    table[19..25].copy_from_slice(&[2, 1, 0, 0, 0, 0]);
+    table[25..31].copy_from_slice(&[6, 0, 0, 0, 0, 1]);
+    let mut records = vec![step(0); 66];
+    records.push(sync(0));
+    records.extend(vec![step(0); 65]);
+    records.push(crash(1));
+    records.extend(vec![step(0); 70]);
+    let codes: Vec<u8> = answers(&table, &records).iter().map(|answer| answer.0).collect();
+    let refused: Vec<usize> = (0..codes.len()).filter(|&i| codes[i] != 0).collect();
+    assert_eq!(refused, [64, 65, 131]);
+    assert!(refused.iter().all(|&i| codes[i] == 37));
+}
+
+#[test]
+fn no_word_comes_first() {
+    // A round of 64 instructions that begins with a TAKE: after it 36 with no word there, 37 with one, and after a sync it is taken.
+    let mut program = vec![Instruction::Take { a: 0, channel: 0 }];
+    program.extend([Instruction::Set { a: 1, word: 1 }; 62]);
+    program.push(Instruction::Jump { a: 1, place: 0 });
+    let table = Table {
+        boards: 2,
+        channels: vec![Channel { sender: OUTSIDE, reader: 0 }],
+        processes: vec![Process { primary: 0, backup: 1, program }],
+    };
+    let mut records = vec![feed(0, 9)];
+    records.extend([step(0); 65]);
+    records.extend([feed(0, 9), step(0), sync(0), step(0)]);
+    assert_eq!(answers(&encode_table(&table), &records)[64..], [(0, 0, 0), (36, 0, 0), (4, 0, 9), (37, 0, 0), (0, 0, 0), (1, 0, 9)]);
 }
 
 #[test]

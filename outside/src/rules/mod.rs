@@ -5,6 +5,7 @@ pub mod backup;
 pub mod busy;
 pub mod damage;
 pub mod generate;
+pub mod loops;
 pub mod page;
 pub mod plain;
 pub mod reader;

@@ -1,6 +1,7 @@
 //! Generated tables are sound, damaged ones meet every number, and generated runs meet every answer, keep demand 3 and end quiet.
 use super::damage::{damage_schedule, damage_table, DAMAGES};
 use super::generate::{encode_schedule, encode_table, largest, schedule, table};
+use super::loops::loops;
 use super::plain::transparent;
 use super::reader::{judge_schedule, judge_table};
 use super::simulator::Cabinet;
@@ -43,7 +44,7 @@ fn runs_are_transparent() {
     let mut seen = [0; 45];
     let mut quiet = 0;
     for _ in 0..3_000 {
-        let table = table(&mut random);
+        let table = if random.once_in(4) { loops(&mut random) } else { table(&mut random) };
         let mut cabinet = Cabinet::new(&table);
         let records = random.pick(&[5, 20, 60, 300]);
         let schedule = schedule(&mut random, &table, records);

@@ -11,6 +11,10 @@ pub fn step(a: u8) -> Record {
     Record { kind: 1, a, word: 0 }
 }
 
+pub fn sync(a: u8) -> Record {
+    Record { kind: 2, a, word: 0 }
+}
+
 pub fn carry(a: u8) -> Record {
     Record { kind: 3, a, word: 0 }
 }

@@ -46,6 +46,8 @@ pub struct Process<'t> {
     pub hold_back: u8,
     /// "takes and queued sends since its last sync was issued"
     acts: u32,
+    /// W-204: "instructions done since its last sync was issued"
+    instructions: u32,
     taken: [u32; 4],
     /// Whether a sync of it waits in its board's queue.
     waiting: bool,
@@ -62,6 +64,7 @@ impl<'t> Process<'t> {
             inbox: VecDeque::new(),
             hold_back: 0,
             acts: 0,
+            instructions: 0,
             taken: [0; 4],
             waiting: false,
             backup: Some(Backup::new(given.backup)),
@@ -87,9 +90,14 @@ impl<'t> Process<'t> {
         self.inbox.iter().position(|message| mask >> message.channel & 1 == 1)
     }
 
-    /// "37 if backed and acts are 8"
+    /// W-204: "A backed process now also owes a sync after 64 instructions"
+    fn ran_long(&self) -> bool {
+        self.backup.is_some() && self.instructions >= 64
+    }
+
+    /// "37 if backed and acts are 8", or for its instructions
     fn must_sync(&self) -> bool {
-        self.backup.is_some() && self.acts >= 8
+        self.ran_long() || self.backup.is_some() && self.acts >= 8
     }
 
     /// Removes an unread word.
@@ -170,6 +178,10 @@ impl<'t> Cabinet<'t> {
         let process = &mut self.processes[p];
         let Some(instruction) = process.instruction() else { return refused(35) };
         let answer = match instruction {
+            // W-204: "Every kind of instruction then answers 37"
+            Instruction::Set { .. } | Instruction::Add { .. } | Instruction::Jump { .. } if process.ran_long() => {
+                return refused(37);
+            }
             Instruction::Set { a, word } => {
                 process.registers[a as usize] = word;
                 DONE
@@ -224,12 +236,14 @@ impl<'t> Cabinet<'t> {
             Instruction::Jump { a, place } => {
                 if process.registers[a as usize] != 0 {
                     process.place = place;
+                    process.instructions += 1;
                     return DONE;
                 }
                 DONE
             }
         };
         self.processes[p].place += 1;
+        self.processes[p].instructions += 1;
         answer
     }
 
@@ -250,6 +264,7 @@ impl<'t> Cabinet<'t> {
         queue.push_back(Entry::Sync { process: p as u8, snapshot });
         process.waiting = true;
         process.acts = 0;
+        process.instructions = 0;
         process.taken = [0; 4];
         DONE
     }
@@ -335,6 +350,7 @@ impl<'t> Cabinet<'t> {
                 inbox: backup.saved.into(),
                 hold_back: backup.count,
                 acts: 0,
+                instructions: 0,
                 taken: [0; 4],
                 waiting: false,
                 backup: None,

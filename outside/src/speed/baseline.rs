@@ -3,10 +3,11 @@
 use outside::rules::reader::{judge_run, Instruction, Table, OUTSIDE};
 use std::collections::VecDeque;
 
-/// "at most 32 entries", "8 or more together", "acts are 8"
+/// "at most 32 entries", "8 or more together", "acts are 8", "64 instructions done"
 const QUEUE: usize = 32;
 const HELD: u8 = 8;
 const ACTS: u8 = 8;
+const INSTRUCTIONS: u32 = 64;
 
 #[derive(Clone, Copy)]
 struct Message {
@@ -69,6 +70,8 @@ struct Process<'t> {
     place: u8,
     hold_back: u8,
     acts: u8,
+    /// Those done since the last sync was issued, as the acts are.
+    instructions: u32,
     waiting: bool,
     backup: Option<Backup>,
 }
@@ -82,7 +85,15 @@ impl Process<'_> {
     }
 
     fn must_sync(&self) -> bool {
-        self.acts >= ACTS && self.backup.is_some()
+        (self.acts >= ACTS || self.instructions >= INSTRUCTIONS) && self.backup.is_some()
+    }
+
+    /// What a SET, an ADD or a JUMP asks.
+    fn ran_long(&self) -> Result<(), u8> {
+        if self.instructions >= INSTRUCTIONS && self.backup.is_some() {
+            return Err(37);
+        }
+        Ok(())
     }
 
     fn oldest(&self, mask: u32) -> Option<usize> {
@@ -160,6 +171,7 @@ impl<'t> Cabinet<'t> {
             place: 0,
             hold_back: 0,
             acts: 0,
+            instructions: 0,
             waiting: false,
             backup: Some(Backup { saved: Vec::new(), registers: [0; 4], board: given.backup, place: 0, count: 0 }),
         };
@@ -190,10 +202,12 @@ impl<'t> Cabinet<'t> {
         let Some(&instruction) = process.program.get(process.place as usize) else { return Err(35) };
         let answer = match instruction {
             Instruction::Set { a, word } => {
+                process.ran_long()?;
                 process.registers[a as usize] = word;
                 (0, 0, 0)
             }
             Instruction::Add { a, b } => {
+                process.ran_long()?;
                 process.registers[a as usize] = process.registers[a as usize].wrapping_add(process.registers[b as usize]);
                 (0, 0, 0)
             }
@@ -234,11 +248,14 @@ impl<'t> Cabinet<'t> {
                 }
             }
             Instruction::Jump { a, place } => {
+                process.ran_long()?;
                 process.place = if process.registers[a as usize] != 0 { place } else { process.place + 1 };
+                process.instructions += 1;
                 return DONE;
             }
         };
         process.place += 1;
+        process.instructions += 1;
         Ok(answer)
     }
 
@@ -258,6 +275,7 @@ impl<'t> Cabinet<'t> {
         queue.push_back(Entry::Sync { process: p as u8, snapshot });
         process.waiting = true;
         process.acts = 0;
+        process.instructions = 0;
         process.taken = [0; 4];
         DONE
     }

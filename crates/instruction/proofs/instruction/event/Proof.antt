@@ -13,8 +13,11 @@ tally-requires c κs = search needs
 bump-requires : tie.Need-bump-requires
 bump-requires c κs = search needs
 
+tally-requires-2 : tie.Need-tally-requires-2
+tally-requires-2 c κs = search needs
+
 returns : tie.Need-returns
-returns c = rw (c .bump .ensures, c .before .before .tally .ensures)
+returns c = rw (c .tally2 .ensures, c .before .before .bump .ensures, c .before .before .before .before .tally .ensures)
 
 pub event-spec : {M : Type 1} → statement M
-event-spec = tie.close (tie.spec tally-requires bump-requires returns)
+event-spec = tie.close (tie.spec tally-requires bump-requires tally-requires-2 returns)

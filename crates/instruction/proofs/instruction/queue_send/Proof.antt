@@ -1,4 +1,4 @@
-use Rattle.instruction.proofs.Cells.{queues}
+use Rattle.instruction.proofs.Done.{queues}
 use native.Mathlib.Omega.{arith}
 use borrow.Author.Needs.{needs}
 use Rattle.instruction.proofs.instruction.queue_send.Statement.{statement}

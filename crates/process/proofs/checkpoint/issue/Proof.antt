@@ -21,6 +21,9 @@ element-write-row-4 c = search needs
 element-write-row-5 : tie.Need-element-write-row-5
 element-write-row-5 c = search needs
 
+element-write-row-6 : tie.Need-element-write-row-6
+element-write-row-6 c = search needs
+
 returns : tie.Need-returns
 returns c = issued-became (c .args .row .now)
 
@@ -33,4 +36,5 @@ issue-spec =
     element-write-row-3
     element-write-row-4
     element-write-row-5
+    element-write-row-6
     returns)

@@ -53,6 +53,9 @@ element-write-row-13 c = search needs
 element-write-row-14 : tie.Need-element-write-row-14
 element-write-row-14 c = search needs
 
+element-write-row-15 : tie.Need-element-write-row-15
+element-write-row-15 c = search needs
+
 returns : tie.Need-returns
 unfolding restoredIn
 returns c =
@@ -81,4 +84,5 @@ restore-spec =
     element-write-row-12
     element-write-row-13
     element-write-row-14
+    element-write-row-15
     returns)

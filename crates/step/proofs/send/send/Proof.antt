@@ -12,7 +12,7 @@ use Rattle.instruction.proofs.instruction.suppress_send.Reads as suppress-send-
 use Rattle.std.proofs.num.wrapping_add_u32.Reads as wrapping-add-u32-reads
 use Rattle.state.proofs.channel.held.Reads as held-reads
 use Rattle.state.proofs.channel.index32.Reads as index32-reads
-use Rattle.step.proofs.guards.spent.Reads as spent-reads
+use Rattle.step.proofs.guards.owing.Reads as owing-reads
 use Rattle.state.proofs.board.index16.Reads as index16-reads
 use Rattle.state.proofs.board.place.Reads as place-reads
 use Rattle.state.proofs.board.push.Reads as push-reads
@@ -50,14 +50,14 @@ returns c =
     send-at-its-index (p .result) (s .args .a) (p .ensures .1)
     (λ e. send-suppressed (s .args .reader .now) (s .args .rows .now) (s .args .boards .now) (s .args .unread .now) (s .args .queued .now) (p .result) (s .args .channel) (s .args .word) _ (c .before .suppress-send .last .0) (c .before .before .before .if1 .taken) (c .before .suppress-send .ensures) (c .alone .ensures))
 
-mul-spent : tie.Need-mul-spent
-mul-spent c = search needs
+mul-owing : tie.Need-mul-owing
+mul-owing c = search needs
 
-index-1-spent : tie.Need-index-1-spent
-index-1-spent c = search needs
+index-1-owing : tie.Need-index-1-owing
+index-1-owing c = search needs
 
-spent-requires : tie.Need-spent-requires
-spent-requires c κs = search needs
+owing-requires : tie.Need-owing-requires
+owing-requires c κs = search needs
 
 refused-requires : tie.Need-refused-requires
 refused-requires c κs = search needs
@@ -68,7 +68,7 @@ returns-2 c =
     let p = c .before .before .before .before .before .before .index16 in
     let none = c .before .before .before .before .if1 .left in
     send-at-its-index (p .result) (s .args .a) (p .ensures .1)
-    (λ e. send-37 (s .args .reader .now) (s .args .rows .now) (s .args .boards .now) (s .args .unread .now) (s .args .queued .now) (p .result) (s .args .channel) (s .args .word) _ (omega arith) (sym (c .before .before .spent .ensures) ∙ c .before .if2 .taken) (rw (← e) (c .refused .ensures)))
+    (λ e. send-37 (s .args .reader .now) (s .args .rows .now) (s .args .boards .now) (s .args .unread .now) (s .args .queued .now) (p .result) (s .args .channel) (s .args .word) _ (omega arith) (sym (c .before .before .owing .ensures) ∙ c .before .if2 .taken) (rw (← e) (c .refused .ensures)))
 
 mul-index16 : tie.Need-mul-index16
 mul-index16 c = search needs
@@ -101,7 +101,7 @@ returns-3 c =
     let b = c .before .before .before .index162 in
     let none = c .before .before .before .before .before .before .before .before .if1 .left in
     send-at-its-index (p .result) (s .args .a) (p .ensures .1)
-    (λ e. send-38 (s .args .reader .now) (s .args .rows .now) (s .args .boards .now) (s .args .unread .now) (s .args .queued .now) (p .result) (s .args .channel) (s .args .word) _ (omega arith) (sym (c .before .before .before .before .before .before .spent .ensures) ∙ c .before .before .before .before .before .if2 .left) (b .result) (b .ensures .1) (c .before .if3 .taken) (rw (← e) (c .refused2 .ensures)))
+    (λ e. send-38 (s .args .reader .now) (s .args .rows .now) (s .args .boards .now) (s .args .unread .now) (s .args .queued .now) (p .result) (s .args .channel) (s .args .word) _ (omega arith) (sym (c .before .before .before .before .before .before .owing .ensures) ∙ c .before .before .before .before .before .if2 .left) (b .result) (b .ensures .1) (c .before .if3 .taken) (rw (← e) (c .refused2 .ensures)))
 
 index32-requires : tie.Need-index32-requires
 index32-requires c κs = search needs
@@ -138,7 +138,7 @@ returns-4 c =
     let k = c .before .before .before .before .before .before .index32 in
     let none = c .before .before .before .before .before .before .before .before .before .before .before .before .before .before .if1 .left in
     send-at-its-index (p .result) (s .args .a) (p .ensures .1)
-    (λ e. send-39 (s .args .reader .now) (s .args .rows .now) (s .args .boards .now) (s .args .unread .now) (s .args .queued .now) (p .result) (s .args .channel) (s .args .word) _ (omega arith) (sym (c .before .before .before .before .before .before .before .before .before .before .before .before .spent .ensures) ∙ c .before .before .before .before .before .before .before .before .before .before .before .if2 .left) (b .result) (b .ensures .1) (c .before .before .before .before .before .before .before .if3 .left) (k .result) (k .ensures .1) (sym (c .before .before .held .ensures) ∙ c .before .if4 .taken) (rw (← e) (c .refused3 .ensures)))
+    (λ e. send-39 (s .args .reader .now) (s .args .rows .now) (s .args .boards .now) (s .args .unread .now) (s .args .queued .now) (p .result) (s .args .channel) (s .args .word) _ (omega arith) (sym (c .before .before .before .before .before .before .before .before .before .before .before .before .owing .ensures) ∙ c .before .before .before .before .before .before .before .before .before .before .before .if2 .left) (b .result) (b .ensures .1) (c .before .before .before .before .before .before .before .if3 .left) (k .result) (k .ensures .1) (sym (c .before .before .held .ensures) ∙ c .before .if4 .taken) (rw (← e) (c .refused3 .ensures)))
 
 mul-place : tie.Need-mul-place
 mul-place c = search needs
@@ -192,7 +192,7 @@ returns-5 c =
     let none = c .before .before .before .before .before .before .before .before .before .before .before .before .before .before .before .before .before .before .before .before .before .if1 .left in
     send-at-its-index (p .result) (s .args .a) (p .ensures .1)
     (λ e. rw (c .before .before .push .ensures, c .wrapping-add-u32 .ensures)
-    (send-queued (s .args .reader .now) (s .args .rows .now) (s .args .boards .now) (s .args .unread .now) (s .args .queued .now) (p .result) (s .args .channel) (s .args .word) _ (omega arith) (sym (c .before .before .before .before .before .before .before .before .before .before .before .before .before .before .before .before .before .before .before .spent .ensures) ∙ c .before .before .before .before .before .before .before .before .before .before .before .before .before .before .before .before .before .before .if2 .left) (b .result) (b .ensures .1) (c .before .before .before .before .before .before .before .before .before .before .before .before .before .before .if3 .left) (k .result) (k .ensures .1) (c .before .before .before .before .queue-send .last .0) (sym (c .before .before .before .before .before .before .before .before .before .held .ensures) ∙ c .before .before .before .before .before .before .before .before .if4 .left) (c .before .before .before .before .queue-send .ensures)
+    (send-queued (s .args .reader .now) (s .args .rows .now) (s .args .boards .now) (s .args .unread .now) (s .args .queued .now) (p .result) (s .args .channel) (s .args .word) _ (omega arith) (sym (c .before .before .before .before .before .before .before .before .before .before .before .before .before .before .before .before .before .before .before .owing .ensures) ∙ c .before .before .before .before .before .before .before .before .before .before .before .before .before .before .before .before .before .before .if2 .left) (b .result) (b .ensures .1) (c .before .before .before .before .before .before .before .before .before .before .before .before .before .before .if3 .left) (k .result) (k .ensures .1) (c .before .before .before .before .queue-send .last .0) (sym (c .before .before .before .before .before .before .before .before .before .held .ensures) ∙ c .before .before .before .before .before .before .before .before .if4 .left) (c .before .before .before .before .queue-send .ensures)
     (rw (← at .ensures .1 (b .ensures .0)) (at .ensures .0))
     (λ i. record { answer = record { code = 2; a = s .args .channel; word = s .args .word }; at = at .ensures .1 (b .ensures .0) i; entry = record { item = Word (s .args .channel) (s .args .word) } })))
 
@@ -209,9 +209,9 @@ send-spec =
     suppress-send-requires
     alone-requires
     returns
-    mul-spent
-    index-1-spent
-    spent-requires
+    mul-owing
+    index-1-owing
+    owing-requires
     refused-requires
     returns-2
     mul-index16

@@ -1,17 +1,16 @@
-use Rattle.step.proofs.Stepping.{step-at-its-index, steps-35, steps-36, steps-computed, steps-taken, steps-sent}
+use Rattle.step.proofs.Stepping.{step-at-its-index, steps-35, steps-36, steps-calculated, steps-taken, steps-sent}
 use native.Mathlib.Omega.{arith}
 use borrow.Author.Needs.{needs}
 use Rattle.step.proofs.step.step.Statement.{statement}
 use Rattle.step.proofs.step.step.Tie as tie
 use Rattle.step.proofs.step.step.Reads as reads
 use Rattle.step.proofs.step.step.Lts as lts
-use Rattle.instruction.proofs.instruction.compute.Reads as compute-reads
+use Rattle.step.proofs.calculate.calculate.Reads as calculate-reads
 use Rattle.instruction.proofs.instruction.examine.Reads as examine-reads
 use Rattle.step.proofs.send.send.Reads as send-reads
 use Rattle.step.proofs.take.take.Reads as take-reads
 use Rattle.state.proofs.board.index16.Reads as index16-reads
 use Rattle.state.proofs.board.wide.Reads as wide-reads
-use Rattle.state.proofs.moved.alone.Reads as alone-reads
 use Rattle.state.proofs.moved.refused.Reads as refused-reads
 use Rattle.records.proofs.fetch.fetch.Reads as fetch-reads
 
@@ -78,17 +77,8 @@ refused-requires-2 c κs = search needs
 enum-told-3 : tie.Need-enum-told-3
 enum-told-3 c = search needs
 
-mul-compute : tie.Need-mul-compute
-mul-compute c = search needs
-
-index-1-compute : tie.Need-index-1-compute
-index-1-compute c = search needs
-
-compute-requires : tie.Need-compute-requires
-compute-requires c κs = search needs
-
-alone-requires : tie.Need-alone-requires
-alone-requires c κs = search needs
+calculate-requires : tie.Need-calculate-requires
+calculate-requires c κs = search needs
 
 enum-known-at : tie.Need-enum-known-at
 enum-known-at c = search needs
@@ -126,14 +116,14 @@ returns-2 c =
 
 returns-3 : tie.Need-returns-3
 returns-3 c =
-    let s = c .before .before .before .before .before .before .before .before .before .before .before .before .before .before .before .before in
-    let p = c .before .before .before .before .before .before .before .before .before .before .before .before .before .before .index16 in
-    let j = c .before .before .before .before .before .before .before .before .before .fetch in
-    let k = c .before .before .before .before .before .before .before .before .before .before .wide2 .ensures .0 in
-    let f = c .before .before .before .before .before .before .before .before .before .before .before .before .wide .ensures .0 in
-    let x = c .before .before .before .before .before .examine in
+    let s = c .before .before .before .before .before .before .before .before .before .before .before .before .before .before .before in
+    let p = c .before .before .before .before .before .before .before .before .before .before .before .before .before .index16 in
+    let j = c .before .before .before .before .before .before .before .before .fetch in
+    let k = c .before .before .before .before .before .before .before .before .before .wide2 .ensures .0 in
+    let f = c .before .before .before .before .before .before .before .before .before .before .before .wide .ensures .0 in
+    let x = c .before .before .before .before .examine in
     step-at-its-index (p .result) (s .args .a) (p .ensures .1)
-    (λ e. steps-computed (s .args .table .now) (s .args .start .now) (s .args .lengths .now) (s .args .reader .now) (s .args .port .now) (s .args .rows .now) (s .args .mails .now) (s .args .boards .now) (s .args .unread .now) (s .args .queued .now) (p .result) _ (j .result) (rw (← f, ← k) (j .ensures)) (c .before .compute .last .0) (record { seen = x .result; examined = x .ensures; is = c .before .before .before .enum-told3 .given .1 }) (c .before .compute .ensures) (c .alone .ensures))
+    (λ e. steps-calculated (s .args .table .now) (s .args .start .now) (s .args .lengths .now) (s .args .reader .now) (s .args .port .now) (s .args .rows .now) (s .args .mails .now) (s .args .boards .now) (s .args .unread .now) (s .args .queued .now) (p .result) _ (j .result) (rw (← f, ← k) (j .ensures)) (record { seen = x .result; examined = x .ensures; is = c .before .before .enum-told3 .given .1 }) (rw (← e) (c .calculate .ensures)))
 
 returns-4 : tie.Need-returns-4
 returns-4 c =
@@ -182,10 +172,7 @@ step-spec =
     enum-told-2
     refused-requires-2
     enum-told-3
-    mul-compute
-    index-1-compute
-    compute-requires
-    alone-requires
+    calculate-requires
     enum-known-at
     take-requires
     enum-known-channel

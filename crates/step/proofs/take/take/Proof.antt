@@ -11,7 +11,7 @@ use Rattle.process.proofs.mail.channel_of.Reads as channel-of-reads
 use Rattle.process.proofs.mail.word_of.Reads as word-of-reads
 use Rattle.std.proofs.num.wrapping_sub_u32.Reads as wrapping-sub-u32-reads
 use Rattle.state.proofs.channel.index32.Reads as index32-reads
-use Rattle.step.proofs.guards.spent.Reads as spent-reads
+use Rattle.step.proofs.guards.owing.Reads as owing-reads
 use Rattle.state.proofs.board.index16.Reads as index16-reads
 use Rattle.state.proofs.moved.alone.Reads as alone-reads
 use Rattle.state.proofs.moved.refused.Reads as refused-reads
@@ -19,14 +19,14 @@ use Rattle.state.proofs.moved.refused.Reads as refused-reads
 index16-requires : tie.Need-index16-requires
 index16-requires c κs = search needs
 
-mul-spent : tie.Need-mul-spent
-mul-spent c = search needs
+mul-owing : tie.Need-mul-owing
+mul-owing c = search needs
 
-index-1-spent : tie.Need-index-1-spent
-index-1-spent c = search needs
+index-1-owing : tie.Need-index-1-owing
+index-1-owing c = search needs
 
-spent-requires : tie.Need-spent-requires
-spent-requires c κs = search needs
+owing-requires : tie.Need-owing-requires
+owing-requires c κs = search needs
 
 refused-requires : tie.Need-refused-requires
 refused-requires c κs = search needs
@@ -36,7 +36,7 @@ returns c =
     let s = c .before .before .before .before .before in
     let p = c .before .before .before .before .index16 in
     take-at-its-index (p .result) (s .args .a) (p .ensures .1)
-    (λ e. take-37 (s .args .port .now) (s .args .rows .now) (s .args .mails .now) (s .args .unread .now) (p .result) (s .args .code) (s .args .register) (s .args .at) _ (sym (c .before .before .spent .ensures) ∙ c .before .if1 .taken) (rw (← e) (c .refused .ensures)))
+    (λ e. take-37 (s .args .port .now) (s .args .rows .now) (s .args .mails .now) (s .args .unread .now) (p .result) (s .args .code) (s .args .register) (s .args .at) _ (sym (c .before .before .owing .ensures) ∙ c .before .if1 .taken) (rw (← e) (c .refused .ensures)))
 
 refused-requires-2 : tie.Need-refused-requires-2
 refused-requires-2 c κs = search needs
@@ -118,7 +118,7 @@ returns-3 c =
     let u = c .before .before .wrapping-sub-u32 in
     let p = c .before .before .before .before .before .before .before .before .before .before .before .before .before .before .before .index16 in
     take-at-its-index (p .result) (s .args .a) (p .ensures .1)
-    (λ e. take-done (s .args .port .now) (s .args .rows .now) (s .args .mails .now) (s .args .unread .now) (p .result) (s .args .code) (s .args .register) (s .args .at) _ (k .result) (t .last .0) (t .last .1 .0) (u .result) (sym (c .before .before .before .before .before .before .before .before .before .before .before .before .before .spent .ensures) ∙ c .before .before .before .before .before .before .before .before .before .before .before .before .if1 .left) (rw (w .ensures) at (k .ensures .1)) (t .ensures) (u .ensures) (u .ok)
+    (λ e. take-done (s .args .port .now) (s .args .rows .now) (s .args .mails .now) (s .args .unread .now) (p .result) (s .args .code) (s .args .register) (s .args .at) _ (k .result) (t .last .0) (t .last .1 .0) (u .result) (sym (c .before .before .before .before .before .before .before .before .before .before .before .before .before .owing .ensures) ∙ c .before .before .before .before .before .before .before .before .before .before .before .before .if1 .left) (rw (w .ensures) at (k .ensures .1)) (t .ensures) (u .ensures) (u .ok)
     (rw (← w .ensures, ← v .ensures) (c .alone .ensures)))
 
 pub take-spec : {M : Type 1} → statement M
@@ -126,9 +126,9 @@ take-spec =
     tie.close
     (tie.spec
     index16-requires
-    mul-spent
-    index-1-spent
-    spent-requires
+    mul-owing
+    index-1-owing
+    owing-requires
     refused-requires
     returns
     refused-requires-2

@@ -1,0 +1,86 @@
+-- A step that computes, in the lists: the refusal 37, and what a SET, an ADD or a JUMP makes of its process.
+use mathlib.Core.Path.{_≡_, refl, ap, sym, _∙_, subst}
+use mathlib.Core.Bool.{Bool, true, false}
+use mathlib.Core.List.{List, []}
+use Prim.Native.Nat.{ℕ, _<_}
+use native.Mathlib.Omega.{arith}
+use lib.ListN.{length, getD, set}
+use Rattle.process.specs.Row.{machineOf}
+use Rattle.instruction.specs.Instruction.{Intends, Computes, afterInternal}
+use Rattle.instruction.specs.declared.instruction.Intent.the-variants.{Internal}
+use Rattle.rules.specs.Table.{Table, codeOf}
+use Rattle.rules.specs.Machine.{Machine, internal}
+use Rattle.rules.specs.Cabinet.{Cabinet, Process, processAt}
+use Rattle.rules.specs.Moves.{guard, refuse, accept, instructionsFull, stepDone, refusalNumber, numbers, advanced, counting, oneDone, step, stepFrom, withProcess}
+use Rattle.rules.proofs.Steps.{Steps, step-left}
+use Rattle.state.specs.declared.entry.Entry.{Entry}
+use Rattle.state.specs.declared.moved.Moved.{Moved}
+use Rattle.state.specs.Store.{Store, storeOf, Holds}
+use Rattle.state.specs.Moved.{Reachable, answerOf, aloneOf, refusedWith}
+use Rattle.state.proofs.Changing.{row-changed}
+use Rattle.state.proofs.Refusing.{turned-down}
+use Rattle.step.specs.Parts.{overrunIn, CalculateTurns}
+use Rattle.step.proofs.Stepping.{turned-to, machine-is, step-is, overrun-is, instructions-room}
+
+module _ {t : Table} {s : Store} {entries : List Entry} {c : Cabinet} (h : Holds t s entries c) (p : ℕ) (hp : p < length (t .processes))
+    (n code a operand : ℕ) (i : Intends (codeOf t p) (getD (s .rows) p []) (getD (s .mails) p []) n code a operand Internal) where
+  abbrev row : List ℕ
+  row = getD (s .rows) p []
+
+  abbrev mail : List ℕ
+  mail = getD (s .mails) p []
+
+  abbrev calculated : Process → Process
+  calculated x = advanced (afterInternal code a operand (machineOf row mail)) (counting oneDone x) (x .suppress) x
+
+  calculates-so : (b : Bool) → overrunIn row ≡ b → step t c p ≡ guard b instructionsFull (accept (withProcess p (calculated (processAt c p)) c) stepDone)
+  unfolding stepFrom
+  calculates-so b e =
+      step-is h p hp _ (i .outcome)
+      ∙ ap (λ (z : Bool). guard z instructionsFull (accept (withProcess p (calculated (processAt c p)) c) stepDone)) (overrun-is h p hp ∙ e)
+
+  calculate-refused : overrunIn row ≡ true → step t c p ≡ refuse instructionsFull
+  unfolding guard
+  calculate-refused e = calculates-so true e
+
+  calculate-accepted : overrunIn row ≡ false → step t c p ≡ accept (withProcess p (calculated (processAt c p)) c) stepDone
+  unfolding guard
+  calculate-accepted e = calculates-so false e
+
+  calculate-holds : Reachable t c → (row′ : List ℕ) → Computes row code a operand row′
+      → Holds t (storeOf (set (s .rows) p row′) (s .mails) (s .logs) (s .heads) (s .boards) (s .unread) (s .queued) (s .waits)) entries (withProcess p (calculated (processAt c p)) c)
+  unfolding advanced
+  calculate-holds reach row′ became =
+      let went : Steps (codeOf t p) (machineOf row mail) internal (afterInternal code a operand (machineOf row mail)) = record { is = i .outcome } in
+      row-changed h (reach .accepted .processes-high) p hp row′ calculated
+      (became (codeOf t p) n mail (getD (s .logs) p []) (getD (s .heads) p []) (h .kept p hp) i (instructions-room h p hp reach)) refl
+      (step-left went ∙ ap (λ (m : Machine). m .mailbox) (sym (machine-is h p hp)))
+
+-- ---- what the part promises
+
+-- of a process of the table the clamped number is the number
+pub calculate-at-its-index : {rows rows′ : List (List ℕ)} {code register operand : ℕ} {r : Moved} (p a : ℕ) → (a < 16 → p ≡ a)
+    → (a ≡ p → CalculateTurns rows p code register operand rows′ r) → CalculateTurns rows a code register operand rows′ r
+calculate-at-its-index {rows} {rows′} {code} {register} {operand} {r} p a is-p given = record {
+  turned = λ t mails logs heads boards unread queued waits entries c command n reach i h f ha.
+      let e : p ≡ a = is-p (let z = reach .accepted .processes-high in omega arith) in
+      subst (λ (q : ℕ). CalculateTurns rows q code register operand rows′ r) e (given (sym e))
+      .turned t mails logs heads boards unread queued waits entries c command n reach i h f ha;
+}
+
+module _ (rows : List (List ℕ)) (p code register operand : ℕ) (r : Moved) where
+  pub calculate-37 : overrunIn (getD rows p []) ≡ true → r ≡ refusedWith 37 p → CalculateTurns rows p code register operand rows r
+  unfolding refusalNumber
+  calculate-37 e g = record {
+    turned = λ t mails logs heads boards unread queued waits entries c command n reach i h f hp.
+        turned-down command p instructionsFull h (calculate-refused h p hp n code register operand i e) f g;
+  }
+
+  pub calculate-done : (row′ : List ℕ) → overrunIn (getD rows p []) ≡ false → Computes (getD rows p []) code register operand row′ → r ≡ aloneOf (answerOf 0 0 0)
+      → CalculateTurns rows p code register operand (set rows p row′) r
+  unfolding numbers
+  calculate-done row′ e became g = record {
+    turned = λ t mails logs heads boards unread queued waits entries c command n reach i h f hp.
+        turned-to entries command (aloneOf (answerOf 0 0 0)) _ stepDone (calculate-accepted h p hp n code register operand i e) g refl
+        (calculate-holds h p hp n code register operand i reach row′ became);
+  }

@@ -1,0 +1,27 @@
+use mathlib.Core.Path.{_≡_, sym, _∙_}
+use mathlib.Core.Bool.{true, false}
+use Rattle.step.specs.Parts.{spentIn}
+use borrow.Author.Needs.{needs}
+use Rattle.step.proofs.guards.owing.Statement.{statement}
+use Rattle.step.proofs.guards.owing.Tie as tie
+use Rattle.step.proofs.guards.owing.Reads as reads
+use Rattle.step.proofs.guards.owing.Lts as lts
+
+spent-requires : tie.Need-spent-requires
+spent-requires c κs = search needs
+
+overrun-requires : tie.Need-overrun-requires
+overrun-requires c κs = search needs
+
+returns : tie.Need-returns
+returns c =
+    let e : spentIn (c .before .before .args .row .now) ≡ true = sym (c .before .spent .ensures) ∙ c .if1 .taken in
+    rw e (c .if1 .taken)
+
+returns-2 : tie.Need-returns-2
+returns-2 c =
+    let e : spentIn (c .before .before .before .args .row .now) ≡ false = sym (c .before .before .spent .ensures) ∙ c .before .if1 .left in
+    rw e (c .overrun .ensures)
+
+pub owing-spec : {M : Type 1} → statement M
+owing-spec = tie.close (tie.spec spent-requires overrun-requires returns returns-2)
