@@ -1,6 +1,6 @@
 use borrow.Author.Tests.{le-leb, lt-leb}
-use Rattle.table.proofs.extent.within.Statement.{statement}
-use Rattle.table.proofs.extent.within.Tie as tie
+use Rattle.table.proofs.counts.within.Statement.{statement}
+use Rattle.table.proofs.counts.within.Tie as tie
 
 returns : tie.Need-returns
 returns c = rw (le-leb _ _ (c .if1 .taken))
