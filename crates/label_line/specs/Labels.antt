@@ -7,12 +7,13 @@ use lib.Dec.{leb}
 use lib.ListN.{length, getD, replicate}
 use Rattle.rules.specs.Moves.{Command, Numbers}
 use Rattle.rules.specs.Format.{decodeTable, validateTable}
+use Rattle.rules.specs.Encode.{encode, validateLists}
 use Rattle.rules.specs.Schedule.{decodeSchedule}
 use Rattle.rules.specs.Run.{Buffers, Ran, run, refusedWith}
 use Rattle.rules.specs.Transparency.{answersIn}
 use Rattle.cabinet.specs.Runs.{ranBy}
 use Rattle.cabinet.specs.declared.run.Verdict.{Verdict}
-use Rattle.label_line.specs.Line.{serialMost, lineNumber, lineTable, lineLength, lineBytes}
+use Rattle.label_line.specs.Line.{serialMost, lineNumber, lineTable, lineLength, lineLists, lineBytes}
 use Rattle.label_line.specs.Outlet.{labels, cartons, atOutlet, serials, inARow}
 use Rattle.label_line.specs.Spaced.{TakesOften}
 use Rattle.label_line.specs.declared.MadeTable.{MadeTable}
@@ -36,7 +37,10 @@ pub record Labelled (first : ℕ) (commands : List Command) (answers : List Numb
 pub record Makes (first : ℕ) (r : MadeTable) : Type 0 where
   pub number-is : r .number ≡ lineNumber first
   pub bytes-are : r .bytes ≡ cond (leb first serialMost) (lineBytes first) (replicate lineLength 0)
-  -- what is made, the reader accepts, and it says what the label line's table says
+  -- the writer of W-201 doesn't refuse its lists, and what it writes of them is made; the reader accepts that, and it says what the label
+  -- line's table says
+  pub writable : r .number ≡ 0 → validateLists (lineLists first) ≡ 0
+  pub written : r .number ≡ 0 → r .bytes ≡ encode (lineLists first)
   pub accepted : r .number ≡ 0 → validateTable (r .bytes) ≡ 0
   pub says : r .number ≡ 0 → decodeTable (r .bytes) ≡ lineTable first
   -- "In the plain cabinet neither program does nine instructions in a row without a take."

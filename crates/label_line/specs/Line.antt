@@ -4,7 +4,7 @@ use Prim.Native.Nat.{ℕ}
 use lib.Dec.{leb}
 use Rattle.rules.specs.Table.{environment, Channel, Instruction, SET, ADD, TAKE, SEND, JUMP, Table}
 use Rattle.rules.specs.Format.{orNumber}
-use Rattle.label_line.specs.Encode.{Lists, encode}
+use Rattle.rules.specs.Encode.{Lists, encode}
 
 -- "46, a first serial above 4,294,957,295, its only refusal": a schedule feeds at most 10,000 cartons, so no serial passes 2^32 - 1
 abbrev pub serialMost : ℕ
