@@ -25,10 +25,20 @@ writes-packed l out r out′ h n small e =
 takenIn-packedTaken : (r : Taken) → r .number < 256 → r .boards < 256 → r .processes < 256 → r .channels < 256 → takenIn (packedTaken r) ≡ r
 takenIn-packedTaken r h0 h1 h2 h3 =
     let n = packedTaken r in
+    -- what is left above each of the four bytes
+    let above0 = r .boards + 256 * r .processes + 65536 * r .channels + 16777216 * r .instructions in
+    let above1 = r .processes + 256 * r .channels + 65536 * r .instructions in
+    let above2 = r .channels + 256 * r .instructions in
     let e0 : n % 256 ≡ r .number = omega arith in
-    let e1 : n / 256 % 256 ≡ r .boards = omega arith in
-    let e2 : n / 65536 % 256 ≡ r .processes = omega arith in
-    let e3 : n / 16777216 % 256 ≡ r .channels = omega arith in
+    let q0 : n / 256 ≡ above0 = omega arith in
+    let q1 : n / 65536 ≡ above1 = omega arith in
+    let q2 : n / 16777216 ≡ above2 = omega arith in
+    let b0 : above0 % 256 ≡ r .boards = omega arith in
+    let b1 : above1 % 256 ≡ r .processes = omega arith in
+    let b2 : above2 % 256 ≡ r .channels = omega arith in
+    let e1 : n / 256 % 256 ≡ r .boards = ap (λ (x : ℕ). x % 256) q0 ∙ b0 in
+    let e2 : n / 65536 % 256 ≡ r .processes = ap (λ (x : ℕ). x % 256) q1 ∙ b1 in
+    let e3 : n / 16777216 % 256 ≡ r .channels = ap (λ (x : ℕ). x % 256) q2 ∙ b2 in
     let e4 : n / 4294967296 ≡ r .instructions = omega arith in
     λ i. record { number = e0 i; boards = e1 i; processes = e2 i; channels = e3 i; instructions = e4 i }
 

@@ -25,10 +25,19 @@ fn number(n: u64) {
     io::print_decimal(STDOUT_FILENO, n);
 }
 
+// A byte, and a word.
+fn byte(n: u8) {
+    number(n as u64);
+}
+
+fn word(n: u32) {
+    number(n as u64);
+}
+
 fn show(name: &[u8], r: Written) {
     text(name);
-    number(r.number as u64);
-    number(r.length as u64);
+    byte(r.number);
+    word(r.length);
 }
 
 // In a buffer with a byte to spare.
@@ -46,9 +55,9 @@ fn case(name: &[u8], c: Change) {
         name,
         write(counts, &ends, &placements, &instructions, &mut out),
     );
-    number(out[1] as u64);
-    number(out[13] as u64);
-    number(out[37] as u64);
+    byte(out[1]);
+    byte(out[13]);
+    byte(out[37]);
     text(b"\n");
 }
 
@@ -67,9 +76,9 @@ fn short(name: &[u8], code: u32) {
         name,
         write(counts, &ends, &placements, &instructions, &mut out),
     );
-    number(out[1] as u64);
-    number(out[13] as u64);
-    number(out[35] as u64);
+    byte(out[1]);
+    byte(out[13]);
+    byte(out[35]);
     text(b"\n");
 }
 
@@ -120,16 +129,16 @@ fn apart() {
     let mut instructions = [9u32; 12];
     let r = take_apart(&table, &mut ends, &mut placements, &mut instructions);
     text(b"apart");
-    number(r.number as u64);
-    number(r.boards as u64);
-    number(r.processes as u64);
-    number(r.channels as u64);
-    number(r.instructions as u64);
-    number(ends[0] as u64);
-    number(ends[4] as u64);
-    number(placements[2] as u64);
-    number(placements[3] as u64);
-    number(instructions[9] as u64);
+    byte(r.number);
+    byte(r.boards);
+    byte(r.processes);
+    byte(r.channels);
+    word(r.instructions);
+    word(ends[0]);
+    word(ends[4]);
+    word(placements[2]);
+    word(placements[3]);
+    word(instructions[9]);
     text(b"\n");
 }
 

@@ -1,8 +1,8 @@
 -- `ks_table_apart`: the promise of taking apart, with what it returned packed.
 use Rattle.kunzeastylus.proofs.Tabling.{takes-packed}
 use borrow.Author.Needs.{needs}
-use Rattle.kunzeastylus.proofs.table.ks_table_apart.Statement.{statement}
-use Rattle.kunzeastylus.proofs.table.ks_table_apart.Tie as tie
+use Rattle.kunzeastylus.proofs.tables.ks_table_apart.Statement.{statement}
+use Rattle.kunzeastylus.proofs.tables.ks_table_apart.Tie as tie
 
 take-apart-requires : tie.Need-take-apart-requires
 take-apart-requires c κs = search needs

@@ -2,8 +2,8 @@
 use Rattle.kunzeastylus.specs.Tables.{listsFrom}
 use Rattle.kunzeastylus.proofs.Tabling.{writes-packed}
 use borrow.Author.Needs.{needs}
-use Rattle.kunzeastylus.proofs.table.ks_table_write.Statement.{statement}
-use Rattle.kunzeastylus.proofs.table.ks_table_write.Tie as tie
+use Rattle.kunzeastylus.proofs.tables.ks_table_write.Statement.{statement}
+use Rattle.kunzeastylus.proofs.tables.ks_table_write.Tie as tie
 
 write-requires : tie.Need-write-requires
 write-requires c κs = search needs
