@@ -11,7 +11,7 @@ use Rattle.rules.specs.Moves.{Command, Numbers}
 use Rattle.rules.specs.Schedule.{commandsMost}
 use Rattle.rules.specs.Transparent.{Transparent, traceOf, fedOf}
 use Rattle.label_line.specs.Line.{serialMost, scanner, outlet, lineTable}
-use Rattle.label_line.specs.Outlet.{labels, wordsOn, cartons, printed, serials, inARow}
+use Rattle.label_line.specs.Outlet.{labels, wordsOn, cartons, atOutlet, serials, inARow}
 use Rattle.label_line.specs.Labels.{Labelled}
 use Rattle.label_line.proofs.Sequences.{length-wordsOn, wordLabels, wordLabels-labels}
 use Rattle.label_line.proofs.Serials.{serials-in-a-row, in-a-row-apart}
@@ -39,23 +39,23 @@ module _ (first : ℕ) (small : first ≤ serialMost) (commands : List Command) 
       subst (λ (l : List Mail). PlainLine first (wordsOn scanner l) (x .end)) (x .injected)
       (plain-line first (omega arith) (x .actions) (x .end) (x .ran))
 
-  printed-is : wordsOn outlet (x .end .trace) ≡ printed answers
+  printed-is : wordsOn outlet (x .end .trace) ≡ atOutlet answers
   printed-is = ap (wordsOn outlet) (x .same-trace)
 
   labels-are : wordLabels first (cartons commands answers) ≡ labels first (cartons commands answers)
   labels-are = wordLabels-labels first (cartons commands answers) (omega (arith, fits))
 
-  begins : IsPrefix (printed answers) (labels first (cartons commands answers))
+  begins : IsPrefix (atOutlet answers) (labels first (cartons commands answers))
   begins = rw (← printed-is, ← labels-are) (plain-begins first (cartons commands answers) (x .end) plain)
 
-  row : serials (printed answers) ≡ inARow first (length (serials (printed answers)))
-  row = serials-in-a-row first (cartons commands answers) (printed answers) begins
+  row : serials (atOutlet answers) ≡ inARow first (length (serials (atOutlet answers)))
+  row = serials-in-a-row first (cartons commands answers) (atOutlet answers) begins
 
   pub labelled : Labelled first commands answers quiet
   labelled = record {
     beginning = begins;
     all-printed = λ q. sym printed-is ∙ plain-ends first (cartons commands answers) (x .end) plain (x .no-step q) ∙ labels-are;
     in-a-row = row;
-    no-repeat = in-a-row-apart first (serials (printed answers)) row;
+    no-repeat = in-a-row-apart first (serials (atOutlet answers)) row;
     no-wrap = fits;
   }

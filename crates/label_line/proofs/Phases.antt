@@ -37,24 +37,24 @@ numberingRegisters first (serial-sent done c) = c ∷ word (first + length done)
 numberingRegisters first (raised done c) = c ∷ word (first + length (done ++ (c ∷ []))) ∷ 1 ∷ 0 ∷ []
 
 -- the cartons taken
-abbrev pub taken : Numbering → List ℕ
-taken starting = []
-taken unserialled = []
-taken (waiting done c) = done
-taken (coded done c) = done ++ (c ∷ [])
-taken (code-sent done c) = done ++ (c ∷ [])
-taken (serial-sent done c) = done ++ (c ∷ [])
-taken (raised done c) = done ++ (c ∷ [])
+abbrev pub cartonsTaken : Numbering → List ℕ
+cartonsTaken starting = []
+cartonsTaken unserialled = []
+cartonsTaken (waiting done c) = done
+cartonsTaken (coded done c) = done ++ (c ∷ [])
+cartonsTaken (code-sent done c) = done ++ (c ∷ [])
+cartonsTaken (serial-sent done c) = done ++ (c ∷ [])
+cartonsTaken (raised done c) = done ++ (c ∷ [])
 
 -- the words sent to the printer program
-abbrev pub numbered : ℕ → Numbering → List ℕ
-numbered first starting = []
-numbered first unserialled = []
-numbered first (waiting done c) = wordLabels first done
-numbered first (coded done c) = wordLabels first done
-numbered first (code-sent done c) = wordLabels first done ++ (c ∷ [])
-numbered first (serial-sent done c) = wordLabels first (done ++ (c ∷ []))
-numbered first (raised done c) = wordLabels first (done ++ (c ∷ []))
+abbrev pub wordsNumbered : ℕ → Numbering → List ℕ
+wordsNumbered first starting = []
+wordsNumbered first unserialled = []
+wordsNumbered first (waiting done c) = wordLabels first done
+wordsNumbered first (coded done c) = wordLabels first done
+wordsNumbered first (code-sent done c) = wordLabels first done ++ (c ∷ [])
+wordsNumbered first (serial-sent done c) = wordLabels first (done ++ (c ∷ []))
+wordsNumbered first (raised done c) = wordLabels first (done ++ (c ∷ []))
 
 -- instructions before the next take
 abbrev pub numberingLeft : Numbering → ℕ
@@ -86,18 +86,18 @@ printingRegisters (holding done w) = w ∷ 1 ∷ 0 ∷ 0 ∷ []
 printingRegisters (handed done w) = w ∷ 1 ∷ 0 ∷ 0 ∷ []
 
 -- the words taken
-abbrev pub received : Printing → List ℕ
-received resting = []
-received (listening done w) = done
-received (holding done w) = done ++ (w ∷ [])
-received (handed done w) = done ++ (w ∷ [])
+abbrev pub wordsTaken : Printing → List ℕ
+wordsTaken resting = []
+wordsTaken (listening done w) = done
+wordsTaken (holding done w) = done ++ (w ∷ [])
+wordsTaken (handed done w) = done ++ (w ∷ [])
 
 -- the words sent to the outlet
-abbrev pub handedOn : Printing → List ℕ
-handedOn resting = []
-handedOn (listening done w) = done
-handedOn (holding done w) = done
-handedOn (handed done w) = done ++ (w ∷ [])
+abbrev pub wordsHanded : Printing → List ℕ
+wordsHanded resting = []
+wordsHanded (listening done w) = done
+wordsHanded (holding done w) = done
+wordsHanded (handed done w) = done ++ (w ∷ [])
 
 abbrev pub printingLeft : Printing → ℕ
 printingLeft resting = 1
@@ -127,6 +127,6 @@ stateOf first l = record {
 
 -- what the words have to do with each other, once these cartons were fed
 pub record Lines (first : ℕ) (fed : List ℕ) (l : Line) : Type 0 where
-  pub fed-are : fed ≡ taken (l .numbering) ++ l .unread
-  pub sent-are : numbered first (l .numbering) ≡ received (l .printing) ++ l .pending
-  pub printed-are : wordsOn outlet (l .bus) ≡ handedOn (l .printing)
+  pub fed-are : fed ≡ cartonsTaken (l .numbering) ++ l .unread
+  pub sent-are : wordsNumbered first (l .numbering) ≡ wordsTaken (l .printing) ++ l .pending
+  pub printed-are : wordsOn outlet (l .bus) ≡ wordsHanded (l .printing)

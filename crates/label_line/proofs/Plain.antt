@@ -10,8 +10,8 @@ use Rattle.rules.specs.Reference.{Reference, Action, inject, step, act, andThen
 use Rattle.label_line.specs.Line.{scanner, outlet, lineTable}
 use Rattle.label_line.specs.Outlet.{wordsOn}
 use Rattle.label_line.proofs.Sequences.{wordsOn-append, wordLabels, wordLabels-snoc, wordLabels-prefix, prefix-trans}
-use Rattle.label_line.proofs.Phases.{Numbering, starting, unserialled, waiting, coded, code-sent, serial-sent, raised, taken, numbered, Printing, resting, listening, holding, handed, received, handedOn, Line, stateOf, Lines}
-use Rattle.label_line.proofs.Turns.{fedNext, Turn, refused, went, turn}
+use Rattle.label_line.proofs.Phases.{Numbering, starting, unserialled, waiting, coded, code-sent, serial-sent, raised, cartonsTaken, wordsNumbered, Printing, resting, listening, holding, handed, wordsTaken, wordsHanded, Line, stateOf, Lines}
+use Rattle.label_line.proofs.Turns.{fedNext, Turn, no-turn, turned, turn}
 
 -- ---- the invariant of a run
 
@@ -57,8 +57,8 @@ module _ (first : ℕ) (small : first < 2 ^ 32) where
           → PlainLine first (fedBy (fedNext fed x) l) e)
           → Turn first fed a x → andThen (act (lineTable first) (stateOf first a) x) (λ s. referenceRun (lineTable first) s l) ≡ some e
           → PlainLine first (fedBy (fedNext fed x) l) e
-      go ih (refused n) r = absurd (no-way (let z = rw n at r in cc))
-      go ih (went b is lines _) r = ih b lines e (rw is at r)
+      go ih (no-turn n) r = absurd (no-way (let z = rw n at r in cc))
+      go ih (turned b is lines _) r = ih b lines e (rw is at r)
 
   -- the invariant holds after every plain run
   pub plain-line : (l : List Action) (e : Reference) → referenceRun (lineTable first) (referenceStart (lineTable first)) l ≡ some e
@@ -69,7 +69,7 @@ module _ (first : ℕ) (small : first < 2 ^ 32) where
 
 -- ---- a beginning
 
-numbered-prefix : (first : ℕ) (n : Numbering) → IsPrefix (numbered first n) (wordLabels first (taken n))
+numbered-prefix : (first : ℕ) (n : Numbering) → IsPrefix (wordsNumbered first n) (wordLabels first (cartonsTaken n))
 unfolding wordLabels
 numbered-prefix first starting = ([], refl)
 numbered-prefix first unserialled = ([], refl)
@@ -80,7 +80,7 @@ numbered-prefix first (code-sent done c) =
 numbered-prefix first (serial-sent done c) = ([], append-nil _)
 numbered-prefix first (raised done c) = ([], append-nil _)
 
-handedOn-prefix : (p : Printing) → IsPrefix (handedOn p) (received p)
+handedOn-prefix : (p : Printing) → IsPrefix (wordsHanded p) (wordsTaken p)
 handedOn-prefix resting = ([], refl)
 handedOn-prefix (listening done w) = ([], append-nil done)
 handedOn-prefix (holding done w) = (w ∷ [], refl)
@@ -91,20 +91,20 @@ plain-begins first fed s h =
     let n = h .line .numbering in
     let p = h .line .printing in
     let l = h .lines in
-    let outlet-is : wordsOn outlet (s .trace) ≡ handedOn p = ap (λ (z : Reference). wordsOn outlet (z .trace)) (h .is) ∙ l .printed-are in
+    let outlet-is : wordsOn outlet (s .trace) ≡ wordsHanded p = ap (λ (z : Reference). wordsOn outlet (z .trace)) (h .is) ∙ l .printed-are in
     rw (outlet-is, l .fed-are)
-    (prefix-trans (handedOn p) (received p) (wordLabels first (taken n ++ h .line .unread)) (handedOn-prefix p)
-    (prefix-trans (received p) (numbered first n) (wordLabels first (taken n ++ h .line .unread)) (h .line .pending, sym (l .sent-are))
-    (prefix-trans (numbered first n) (wordLabels first (taken n)) (wordLabels first (taken n ++ h .line .unread)) (numbered-prefix first n)
-    (wordLabels-prefix first (taken n) (h .line .unread)))))
+    (prefix-trans (wordsHanded p) (wordsTaken p) (wordLabels first (cartonsTaken n ++ h .line .unread)) (handedOn-prefix p)
+    (prefix-trans (wordsTaken p) (wordsNumbered first n) (wordLabels first (cartonsTaken n ++ h .line .unread)) (h .line .pending, sym (l .sent-are))
+    (prefix-trans (wordsNumbered first n) (wordLabels first (cartonsTaken n)) (wordLabels first (cartonsTaken n ++ h .line .unread)) (numbered-prefix first n)
+    (wordLabels-prefix first (cartonsTaken n) (h .line .unread)))))
 
 -- ---- the end
 
 -- where neither program could step, each waits for a word and has none
 numbering-ends : (first : ℕ) (fed : List ℕ) (n : Numbering) (unread : List ℕ) (p : Printing) (pending : List ℕ) (bus : List Mail)
-    → fed ≡ taken n ++ unread
+    → fed ≡ cartonsTaken n ++ unread
     → act (lineTable first) (stateOf first (record { numbering = n; unread = unread; printing = p; pending = pending; bus = bus })) (step 0) ≡ none
-    → numbered first n ≡ wordLabels first fed
+    → wordsNumbered first n ≡ wordLabels first fed
 unfolding act
 numbering-ends first fed starting unread p pending bus e h = absurd (no-way (cc))
 numbering-ends first fed unserialled unread p pending bus e h = absurd (no-way (cc))
@@ -116,9 +116,9 @@ numbering-ends first fed (serial-sent done c) unread p pending bus e h = absurd 
 numbering-ends first fed (raised done c) unread p pending bus e h = absurd (no-way (cc))
 
 printing-ends : (first : ℕ) (words : List ℕ) (n : Numbering) (unread : List ℕ) (p : Printing) (pending : List ℕ) (bus : List Mail)
-    → words ≡ received p ++ pending
+    → words ≡ wordsTaken p ++ pending
     → act (lineTable first) (stateOf first (record { numbering = n; unread = unread; printing = p; pending = pending; bus = bus })) (step 1) ≡ none
-    → handedOn p ≡ words
+    → wordsHanded p ≡ words
 unfolding act
 printing-ends first words n unread resting pending bus e h = absurd (no-way (cc))
 printing-ends first words n unread (listening done w) [] bus e h = sym (append-nil done) ∙ sym e
@@ -132,5 +132,5 @@ plain-ends first fed s h none-steps =
     let a = h .line in
     let l = h .lines in
     ap (λ (z : Reference). wordsOn outlet (z .trace)) (h .is) ∙ l .printed-are
-    ∙ printing-ends first (numbered first (a .numbering)) (a .numbering) (a .unread) (a .printing) (a .pending) (a .bus) (l .sent-are) (rw (h .is) at (none-steps 1))
+    ∙ printing-ends first (wordsNumbered first (a .numbering)) (a .numbering) (a .unread) (a .printing) (a .pending) (a .bus) (l .sent-are) (rw (h .is) at (none-steps 1))
     ∙ numbering-ends first fed (a .numbering) (a .unread) (a .printing) (a .pending) (a .bus) (l .fed-are) (rw (h .is) at (none-steps 0))

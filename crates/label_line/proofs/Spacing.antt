@@ -14,7 +14,7 @@ use Rattle.rules.specs.Reference.{Reference, Action, inject, step, act, andThen
 use Rattle.label_line.specs.Line.{lineTable}
 use Rattle.label_line.specs.Spaced.{done, doneBy, onward, instructionsOf, isTake, hasTake, TakesOften}
 use Rattle.label_line.proofs.Phases.{Numbering, starting, unserialled, waiting, coded, code-sent, serial-sent, raised, numberingLeft, Printing, resting, listening, holding, handed, printingLeft, Line, stateOf, Lines}
-use Rattle.label_line.proofs.Turns.{leftMost, Spends, Spending, fedNext, Turn, refused, went, turn}
+use Rattle.label_line.proofs.Turns.{leftMost, Spends, Spending, fedNext, Turn, no-turn, turned, turn}
 use Rattle.label_line.proofs.Plain.{startLine, start-is, start-lines}
 
 -- ---- instructions with a take among any few
@@ -73,8 +73,8 @@ module _ (first : ℕ) (small : first < 2 ^ 32) (p : ℕ) (left : Line → ℕ)
           → Spaced (left b) (instructionsOf (lineTable first) p (stateOf first b) l))
           → Turn first fed a x → andThen (act (lineTable first) (stateOf first a) x) (λ s. referenceRun (lineTable first) s l) ≡ some e
           → Spaced (left a) (instructionsOf (lineTable first) p (stateOf first a) (x ∷ l))
-      go ih (refused n) r = absurd (no-way (let z = rw n at r in cc))
-      go ih (went b is lines s) r =
+      go ih (no-turn n) r = absurd (no-way (let z = rw n at r in cc))
+      go ih (turned b is lines s) r =
           rw is
           (spaced-on (doneBy (lineTable first) p (stateOf first a) x) (instructionsOf (lineTable first) p (stateOf first b) l) (left a) (left b)
           (spends a b x s) (ih b lines e (rw is at r)))

@@ -8,18 +8,19 @@ use lib.Dec.{leb}
 use lib.ListN.{set, replicate}
 use borrow.Author.Tests.{le-leb, lt-leb}
 use Rattle.rules.specs.Format.{decodeTable, validateTable}
+use Rattle.rules.specs.Encode.{encode, validateLists}
 use Rattle.rules.proofs.ReadBack.{word-back}
-use Rattle.label_line.specs.Line.{serialMost, lineNumber, lineTable, lineLength, lineBytes}
+use Rattle.label_line.specs.Line.{serialMost, lineNumber, lineTable, lineLength, lineLists, lineBytes}
 use Rattle.label_line.specs.Puts.{frameBytes, instructionIn}
 use Rattle.label_line.specs.Labels.{Makes}
 use Rattle.label_line.proofs.Spacing.{takes-often}
 
 -- six bytes, the last four each cut out of the operand
-pub instruction-put : (l : List ℕ) (at code a operand : ℕ) → operand < 2 ^ 32 → (b3 b2 b1 b0 : ℕ) → b3 ≡ operand / 16777216 % 256
+pub instruction-set : (l : List ℕ) (at code a operand : ℕ) → operand < 2 ^ 32 → (b3 b2 b1 b0 : ℕ) → b3 ≡ operand / 16777216 % 256
     → b2 ≡ operand / 65536 % 256 → b1 ≡ operand / 256 % 256 → b0 ≡ operand % 256
     → set (set (set (set (set (set l at code) (at + 1) a) (at + 2) b3) (at + 3) b2) (at + 4) b1) (at + 5) b0 ≡ instructionIn l at code a operand
 unfolding instructionIn
-instruction-put l at code a operand h b3 b2 b1 b0 e3 e2 e1 e0 =
+instruction-set l at code a operand h b3 b2 b1 b0 e3 e2 e1 e0 =
     let top : b3 ≡ operand / 2 ^ 24 = omega arith in rw (top, e2, e1, e0)
 
 -- the two programs, instruction by instruction
@@ -39,6 +40,14 @@ pub line-decoded : (first : ℕ) → decodeTable (lineBytes first) ≡ lineTable
 unfolding decodeTable lineBytes
 line-decoded first = rw (word-back first)
 
+line-written : (first : ℕ) → lineBytes first ≡ encode (lineLists first)
+unfolding lineBytes
+line-written first = refl
+
+line-writable : (first : ℕ) → validateLists (lineLists first) ≡ 0
+unfolding validateLists
+line-writable first = refl
+
 pub line-valid : (first : ℕ) → validateTable (lineBytes first) ≡ 0
 unfolding validateTable lineBytes
 line-valid first = refl
@@ -52,6 +61,8 @@ makes first word small bytes e =
     record {
       number-is = rw within;
       bytes-are = rw within e;
+      writable = λ _. line-writable first;
+      written = λ _. e ∙ line-written first;
       accepted = λ _. ap validateTable e ∙ line-valid first;
       says = λ _. decoded;
       takes-often = λ _. rw decoded (takes-often first word);
@@ -63,6 +74,8 @@ refuses first high =
     record {
       number-is = rw beyond;
       bytes-are = rw beyond;
+      writable = λ z. absurd (omega arith);
+      written = λ z. absurd (omega arith);
       accepted = λ z. absurd (omega arith);
       says = λ z. absurd (omega arith);
       takes-often = λ z. absurd (omega arith);

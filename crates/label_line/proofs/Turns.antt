@@ -12,7 +12,7 @@ use Rattle.label_line.specs.Line.{scanner, printer, outlet, lineTable}
 use Rattle.label_line.specs.Outlet.{wordsOn}
 use Rattle.label_line.specs.Spaced.{doneBy}
 use Rattle.label_line.proofs.Sequences.{wordsOn-append, onChannel, onChannel-snoc, word, wordLabels, wordLabels-snoc}
-use Rattle.label_line.proofs.Phases.{Numbering, starting, unserialled, waiting, coded, code-sent, serial-sent, raised, taken, numbered, numberingLeft, Printing, resting, listening, holding, handed, received, handedOn, printingLeft, Line, stateOf, Lines}
+use Rattle.label_line.proofs.Phases.{Numbering, starting, unserialled, waiting, coded, code-sent, serial-sent, raised, cartonsTaken, wordsNumbered, numberingLeft, Printing, resting, listening, holding, handed, wordsTaken, wordsHanded, printingLeft, Line, stateOf, Lines}
 
 -- the cartons fed, after one more action
 abbrev pub fedNext : List ℕ → Action → List ℕ
@@ -36,8 +36,8 @@ pub record Spending (first : ℕ) (a : Line) (x : Action) (b : Line) : Type 0 wh
   pub printing : Spends (doneBy (lineTable first) 1 (stateOf first a) x) (printingLeft (a .printing)) (printingLeft (b .printing))
 
 pub data Turn (first : ℕ) (fed : List ℕ) (a : Line) (x : Action) : Type 0 where
-  refused : act (lineTable first) (stateOf first a) x ≡ none → Turn first fed a x
-  went : (b : Line) → act (lineTable first) (stateOf first a) x ≡ some (stateOf first b) → Lines first (fedNext fed x) b
+  no-turn : act (lineTable first) (stateOf first a) x ≡ none → Turn first fed a x
+  turned : (b : Line) → act (lineTable first) (stateOf first a) x ≡ some (stateOf first b) → Lines first (fedNext fed x) b
       → Spending first a x b → Turn first fed a x
 
 abbrev mail : ℕ → ℕ → Mail
@@ -66,89 +66,89 @@ abbrev line : Numbering → List ℕ → Printing → List ℕ → List Mail →
 line n unread p pending bus = record { numbering = n; unread = unread; printing = p; pending = pending; bus = bus }
 
 module _ (first : ℕ) (small : first < 2 ^ 32) (fed : List ℕ) where
-  numbers : (n : Numbering) (unread : List ℕ) (p : Printing) (pending : List ℕ) (bus : List Mail) → Lines first fed (line n unread p pending bus)
+  numbering-turn : (n : Numbering) (unread : List ℕ) (p : Printing) (pending : List ℕ) (bus : List Mail) → Lines first fed (line n unread p pending bus)
       → Turn first fed (line n unread p pending bus) (step 0)
   unfolding act doneBy wordLabels wordsOn
-  numbers starting unread p pending bus h =
-      went (line unserialled unread p pending bus) refl
+  numbering-turn starting unread p pending bus h =
+      turned (line unserialled unread p pending bus) refl
       (record { fed-are = h .fed-are; sent-are = h .sent-are; printed-are = h .printed-are }) (record { numbering = (refl, refl); printing = refl })
-  numbers unserialled unread p pending bus h =
+  numbering-turn unserialled unread p pending bus h =
       let e : word (first + 0) ≡ first = omega arith in
-      went (line (waiting [] 0) unread p pending bus) (rw e)
+      turned (line (waiting [] 0) unread p pending bus) (rw e)
       (record { fed-are = h .fed-are; sent-are = h .sent-are; printed-are = h .printed-are }) (record { numbering = (refl, refl); printing = refl })
-  numbers (waiting done c) [] p pending bus h = refused refl
-  numbers (waiting done c) (w ∷ unread) p pending bus h =
-      went (line (coded done w) unread p pending bus) refl
+  numbering-turn (waiting done c) [] p pending bus h = no-turn refl
+  numbering-turn (waiting done c) (w ∷ unread) p pending bus h =
+      turned (line (coded done w) unread p pending bus) refl
       (record { fed-are = taken-on fed done unread w (h .fed-are); sent-are = h .sent-are; printed-are = h .printed-are }) (record { numbering = (omega arith, refl); printing = refl })
-  numbers (coded done c) unread p pending bus h =
-      went (line (code-sent done c) unread p (pending ++ (c ∷ [])) (bus ++ (mail printer c ∷ []))) (rw (onChannel-snoc printer pending c))
+  numbering-turn (coded done c) unread p pending bus h =
+      turned (line (code-sent done c) unread p (pending ++ (c ∷ [])) (bus ++ (mail printer c ∷ []))) (rw (onChannel-snoc printer pending c))
       (record {
         fed-are = h .fed-are;
-        sent-are = sent-on (wordLabels first done) (received p) pending c (h .sent-are);
-        printed-are = not-printed bus printer c refl (handedOn p) (h .printed-are);
+        sent-are = sent-on (wordLabels first done) (wordsTaken p) pending c (h .sent-are);
+        printed-are = not-printed bus printer c refl (wordsHanded p) (h .printed-are);
       })
       (record { numbering = (refl, refl); printing = refl })
-  numbers (code-sent done c) unread p pending bus h =
+  numbering-turn (code-sent done c) unread p pending bus h =
       let s : ℕ = word (first + length done) in
-      went (line (serial-sent done c) unread p (pending ++ (s ∷ [])) (bus ++ (mail printer s ∷ []))) (rw (onChannel-snoc printer pending s))
+      turned (line (serial-sent done c) unread p (pending ++ (s ∷ [])) (bus ++ (mail printer s ∷ []))) (rw (onChannel-snoc printer pending s))
       (record {
         fed-are = h .fed-are;
         sent-are =
             wordLabels-snoc first done c ∙ sym (append-assoc (wordLabels first done) (c ∷ []) (s ∷ []))
-            ∙ sent-on (wordLabels first done ++ (c ∷ [])) (received p) pending s (h .sent-are);
-        printed-are = not-printed bus printer s refl (handedOn p) (h .printed-are);
+            ∙ sent-on (wordLabels first done ++ (c ∷ [])) (wordsTaken p) pending s (h .sent-are);
+        printed-are = not-printed bus printer s refl (wordsHanded p) (h .printed-are);
       })
       (record { numbering = (refl, refl); printing = refl })
-  numbers (serial-sent done c) unread p pending bus h =
-      went (line (raised done c) unread p pending bus) (rw (one-more first done c))
+  numbering-turn (serial-sent done c) unread p pending bus h =
+      turned (line (raised done c) unread p pending bus) (rw (one-more first done c))
       (record { fed-are = h .fed-are; sent-are = h .sent-are; printed-are = h .printed-are }) (record { numbering = (refl, refl); printing = refl })
-  numbers (raised done c) unread p pending bus h =
-      went (line (waiting (done ++ (c ∷ [])) c) unread p pending bus) refl
+  numbering-turn (raised done c) unread p pending bus h =
+      turned (line (waiting (done ++ (c ∷ [])) c) unread p pending bus) refl
       (record { fed-are = h .fed-are; sent-are = h .sent-are; printed-are = h .printed-are }) (record { numbering = (refl, refl); printing = refl })
 
-  prints : (n : Numbering) (unread : List ℕ) (p : Printing) (pending : List ℕ) (bus : List Mail) → Lines first fed (line n unread p pending bus)
+  printing-turn : (n : Numbering) (unread : List ℕ) (p : Printing) (pending : List ℕ) (bus : List Mail) → Lines first fed (line n unread p pending bus)
       → Turn first fed (line n unread p pending bus) (step 1)
   unfolding act doneBy wordsOn
-  prints n unread resting pending bus h =
-      went (line n unread (listening [] 0) pending bus) refl
+  printing-turn n unread resting pending bus h =
+      turned (line n unread (listening [] 0) pending bus) refl
       (record { fed-are = h .fed-are; sent-are = h .sent-are; printed-are = h .printed-are }) (record { numbering = refl; printing = (refl, refl) })
-  prints n unread (listening done w) [] bus h = refused refl
-  prints n unread (listening done w) (x ∷ pending) bus h =
-      went (line n unread (holding done x) pending bus) refl
-      (record { fed-are = h .fed-are; sent-are = taken-on (numbered first n) done pending x (h .sent-are); printed-are = h .printed-are }) (record { numbering = refl; printing = (omega arith, refl) })
-  prints n unread (holding done w) pending bus h =
-      went (line n unread (handed done w) pending (bus ++ (mail outlet w ∷ []))) refl
+  printing-turn n unread (listening done w) [] bus h = no-turn refl
+  printing-turn n unread (listening done w) (x ∷ pending) bus h =
+      turned (line n unread (holding done x) pending bus) refl
+      (record { fed-are = h .fed-are; sent-are = taken-on (wordsNumbered first n) done pending x (h .sent-are); printed-are = h .printed-are }) (record { numbering = refl; printing = (omega arith, refl) })
+  printing-turn n unread (holding done w) pending bus h =
+      turned (line n unread (handed done w) pending (bus ++ (mail outlet w ∷ []))) refl
       (record {
         fed-are = h .fed-are;
         sent-are = h .sent-are;
         printed-are = wordsOn-append outlet bus (mail outlet w ∷ []) ∙ ap (λ (z : List ℕ). z ++ (w ∷ [])) (h .printed-are);
       })
       (record { numbering = refl; printing = (refl, refl) })
-  prints n unread (handed done w) pending bus h =
-      went (line n unread (listening (done ++ (w ∷ [])) w) pending bus) refl
+  printing-turn n unread (handed done w) pending bus h =
+      turned (line n unread (listening (done ++ (w ∷ [])) w) pending bus) refl
       (record { fed-are = h .fed-are; sent-are = h .sent-are; printed-are = h .printed-are }) (record { numbering = refl; printing = (refl, refl) })
 
   -- a word is fed: to the scanner's channel, or refused
-  feeds : (k w : ℕ) (a : Line) → Lines first fed a → Turn first fed a (inject (mail k w))
+  feed-turn : (k w : ℕ) (a : Line) → Lines first fed a → Turn first fed a (inject (mail k w))
   unfolding act doneBy wordsOn
-  feeds zero w a h =
-      went (line (a .numbering) (a .unread ++ (w ∷ [])) (a .printing) (a .pending) (a .bus ++ (mail scanner w ∷ []))) (rw (onChannel-snoc scanner (a .unread) w))
+  feed-turn zero w a h =
+      turned (line (a .numbering) (a .unread ++ (w ∷ [])) (a .printing) (a .pending) (a .bus ++ (mail scanner w ∷ []))) (rw (onChannel-snoc scanner (a .unread) w))
       (record {
-        fed-are = sent-on fed (taken (a .numbering)) (a .unread) w (h .fed-are);
+        fed-are = sent-on fed (cartonsTaken (a .numbering)) (a .unread) w (h .fed-are);
         sent-are = h .sent-are;
-        printed-are = not-printed (a .bus) scanner w refl (handedOn (a .printing)) (h .printed-are);
+        printed-are = not-printed (a .bus) scanner w refl (wordsHanded (a .printing)) (h .printed-are);
       })
       (record { numbering = refl; printing = refl })
-  feeds (suc zero) w a h = refused refl
-  feeds (suc (suc zero)) w a h = refused refl
-  feeds (suc (suc (suc k))) w a h = refused (rw (le-ltb (suc (suc (suc k))) 3 (omega arith)))
+  feed-turn (suc zero) w a h = no-turn refl
+  feed-turn (suc (suc zero)) w a h = no-turn refl
+  feed-turn (suc (suc (suc k))) w a h = no-turn (rw (le-ltb (suc (suc (suc k))) 3 (omega arith)))
 
-  steps : (p : ℕ) (a : Line) → Lines first fed a → Turn first fed a (step p)
+  step-turn : (p : ℕ) (a : Line) → Lines first fed a → Turn first fed a (step p)
   unfolding act
-  steps zero a h = numbers (a .numbering) (a .unread) (a .printing) (a .pending) (a .bus) h
-  steps (suc zero) a h = prints (a .numbering) (a .unread) (a .printing) (a .pending) (a .bus) h
-  steps (suc (suc p)) a h = refused (rw (le-ltb (suc (suc p)) 2 (omega arith)))
+  step-turn zero a h = numbering-turn (a .numbering) (a .unread) (a .printing) (a .pending) (a .bus) h
+  step-turn (suc zero) a h = printing-turn (a .numbering) (a .unread) (a .printing) (a .pending) (a .bus) h
+  step-turn (suc (suc p)) a h = no-turn (rw (le-ltb (suc (suc p)) 2 (omega arith)))
 
   pub turn : (x : Action) (a : Line) → Lines first fed a → Turn first fed a x
-  turn (inject x) a h = feeds (x .channel) (x .word) a h
-  turn (step p) a h = steps p a h
+  turn (inject x) a h = feed-turn (x .channel) (x .word) a h
+  turn (step p) a h = step-turn p a h

@@ -7,36 +7,40 @@ use lib.Dec.{leb}
 use lib.ListN.{length, getD, replicate}
 use Rattle.rules.specs.Moves.{Command, Numbers}
 use Rattle.rules.specs.Format.{decodeTable, validateTable}
+use Rattle.rules.specs.Encode.{encode, validateLists}
 use Rattle.rules.specs.Schedule.{decodeSchedule}
 use Rattle.rules.specs.Run.{Buffers, Ran, run, refusedWith}
 use Rattle.rules.specs.Transparency.{answersIn}
 use Rattle.cabinet.specs.Runs.{ranBy}
 use Rattle.cabinet.specs.declared.run.Verdict.{Verdict}
-use Rattle.label_line.specs.Line.{serialMost, lineNumber, lineTable, lineLength, lineBytes}
-use Rattle.label_line.specs.Outlet.{labels, cartons, printed, serials, inARow}
+use Rattle.label_line.specs.Line.{serialMost, lineNumber, lineTable, lineLength, lineLists, lineBytes}
+use Rattle.label_line.specs.Outlet.{labels, cartons, atOutlet, serials, inARow}
 use Rattle.label_line.specs.Spaced.{TakesOften}
 use Rattle.label_line.specs.declared.MadeTable.{MadeTable}
 
 -- Of the commands of a schedule, their answers, and whether the run ended quiet; whatever crashes are among them.
 pub record Labelled (first : ℕ) (commands : List Command) (answers : List Numbers) (quiet : Bool) : Type 0 where
   -- "With one crash at any place or none, the outlet's words so far are a beginning of that sequence."
-  pub beginning : IsPrefix (printed answers) (labels first (cartons commands answers))
+  pub beginning : IsPrefix (atOutlet answers) (labels first (cartons commands answers))
   -- "When the run ends quiet they are all of it"
-  pub all-printed : quiet ≡ true → printed answers ≡ labels first (cartons commands answers)
+  pub all-printed : quiet ≡ true → atOutlet answers ≡ labels first (cartons commands answers)
   -- "no serial repeats, none is skipped": the serials are first, first + 1, ..
-  pub in-a-row : serials (printed answers) ≡ inARow first (length (serials (printed answers)))
-  pub no-repeat : (i j : ℕ) → i < length (serials (printed answers)) → j < length (serials (printed answers))
-      → getD (serials (printed answers)) i 0 ≡ getD (serials (printed answers)) j 0 → i ≡ j
+  pub in-a-row : serials (atOutlet answers) ≡ inARow first (length (serials (atOutlet answers)))
+  pub no-repeat : (i j : ℕ) → i < length (serials (atOutlet answers)) → j < length (serials (atOutlet answers))
+      → getD (serials (atOutlet answers)) i 0 ≡ getD (serials (atOutlet answers)) j 0 → i ≡ j
   -- and none wraps: with a label for every carton even the serial after the last fits 32 bits
   pub no-wrap : first + length (cartons commands answers) < 2 ^ 32
 
 -- ---- the table
 
--- The table of any first serial: "46, a first serial above 4,294,957,295, its only refusal; no table is then made" (zeros, no table at all).
+-- The table of any first serial: "46, a first serial above 4,294,957,295, its only refusal; no table is then made" (then it is all zeros).
 pub record Makes (first : ℕ) (r : MadeTable) : Type 0 where
   pub number-is : r .number ≡ lineNumber first
   pub bytes-are : r .bytes ≡ cond (leb first serialMost) (lineBytes first) (replicate lineLength 0)
-  -- what is made, the reader accepts, and it says what the label line's table says
+  -- the writer of W-201 doesn't refuse its lists, and what it writes of them is made; the reader accepts that, and it says what the label
+  -- line's table says
+  pub writable : r .number ≡ 0 → validateLists (lineLists first) ≡ 0
+  pub written : r .number ≡ 0 → r .bytes ≡ encode (lineLists first)
   pub accepted : r .number ≡ 0 → validateTable (r .bytes) ≡ 0
   pub says : r .number ≡ 0 → decodeTable (r .bytes) ≡ lineTable first
   -- "In the plain cabinet neither program does nine instructions in a row without a take."

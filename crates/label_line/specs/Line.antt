@@ -1,10 +1,10 @@
 -- The label line's table (document 02, W-203): "one scanner, one numbering program and one printer program on two boards".
-use mathlib.Core.List.{List, [], _∷_, _++_}
+use mathlib.Core.List.{List, [], _∷_}
 use Prim.Native.Nat.{ℕ}
 use lib.Dec.{leb}
 use Rattle.rules.specs.Table.{environment, Channel, Instruction, SET, ADD, TAKE, SEND, JUMP, Table}
-use Rattle.rules.specs.Bytes.{wordBytes}
 use Rattle.rules.specs.Format.{orNumber}
+use Rattle.rules.specs.Encode.{Lists, encode}
 
 -- "46, a first serial above 4,294,957,295, its only refusal": a schedule feeds at most 10,000 cartons, so no serial passes 2^32 - 1
 abbrev pub serialMost : ℕ
@@ -54,15 +54,19 @@ lineTable first = record {
 abbrev pub lineLength : ℕ
 lineLength = 84
 
--- "n instructions of six bytes (code, a, a 32-bit operand)"
-abbrev pub six : ℕ → ℕ → ℕ → List ℕ
-six code a operand = code ∷ a ∷ wordBytes operand
+-- the lists of numbers from which the writer of W-201 makes them
+abbrev pub lineLists : ℕ → Lists
+lineLists first = record {
+  boards = 2;
+  processes = 2;
+  channels = 3;
+  ends = 255 ∷ 0 ∷ 0 ∷ 1 ∷ 1 ∷ 255 ∷ [];
+  placements = 0 ∷ 1 ∷ 7 ∷ 1 ∷ 0 ∷ 4 ∷ [];
+  instructions =
+      1 ∷ 1 ∷ first ∷ 1 ∷ 2 ∷ 1 ∷ 3 ∷ 0 ∷ 0 ∷ 5 ∷ 0 ∷ 1 ∷ 5 ∷ 1 ∷ 1 ∷ 2 ∷ 1 ∷ 2 ∷ 6 ∷ 2 ∷ 2
+      ∷ 1 ∷ 1 ∷ 1 ∷ 3 ∷ 0 ∷ 1 ∷ 5 ∷ 0 ∷ 2 ∷ 6 ∷ 1 ∷ 1 ∷ [];
+}
 
 unfoldable pub lineBytes : ℕ → List ℕ
-lineBytes first =
-    -- length, version, boards, processes, channels; then the channels' ends
-    (0 ∷ 82 ∷ 1 ∷ 2 ∷ 2 ∷ 3 ∷ []) ++ ((255 ∷ 0 ∷ []) ++ ((0 ∷ 1 ∷ []) ++ ((1 ∷ 255 ∷ [])
-    -- process 0
-    ++ ((0 ∷ 1 ∷ 7 ∷ []) ++ (six 1 1 first ++ (six 1 2 1 ++ (six 3 0 0 ++ (six 5 0 1 ++ (six 5 1 1 ++ (six 2 1 2 ++ (six 6 2 2
-    -- process 1
-    ++ ((1 ∷ 0 ∷ 4 ∷ []) ++ (six 1 1 1 ++ (six 3 0 1 ++ (six 5 0 2 ++ six 6 1 1)))))))))))))))
+unfolding encode
+lineBytes first = encode (lineLists first)

@@ -25,8 +25,8 @@ abbrev pub cartons : List Command → List Numbers → List ℕ
 cartons commands answers = wordsOn scanner (fedOf commands answers)
 
 -- the outlet's words: the answers 4 on the outlet's channel
-abbrev pub printed : List Numbers → List ℕ
-printed answers = wordsOn outlet (traceOf answers)
+abbrev pub atOutlet : List Numbers → List ℕ
+atOutlet answers = wordsOn outlet (traceOf answers)
 
 -- the serials among the outlet's words: every second one
 unfoldable pub serials : List ℕ → List ℕ

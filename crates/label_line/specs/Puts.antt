@@ -12,5 +12,5 @@ frameBytes =
 -- with an instruction at a place
 unfoldable pub instructionIn : List ℕ → ℕ → ℕ → ℕ → ℕ → List ℕ
 instructionIn l at code a operand =
-    set (set (set (set (set (set l at code) (at + 1) a) (at + 2) (operand / 2 ^ 24)) (at + 3) (operand / 2 ^ 16 % 2 ^ 8)) (at + 4) (operand / 2 ^ 8 % 2 ^ 8))
-    (at + 5) (operand % 2 ^ 8)
+    set (set (set (set (set (set l at code) (at + 1) a) (at + 2) (operand / 2 ^ 24)) (at + 3) (operand / 2 ^ 16 % 2 ^ 8))
+    (at + 4) (operand / 2 ^ 8 % 2 ^ 8)) (at + 5) (operand % 2 ^ 8)

@@ -65,7 +65,7 @@ fn frame() -> [u8; TABLE]
 }
 
 // An instruction at a place of the table: code, a, operand.
-fn put(table: &mut [u8; TABLE], at: usize, code: u8, a: u8, operand: u32)
+fn set_instruction(table: &mut [u8; TABLE], at: usize, code: u8, a: u8, operand: u32)
     requires { ⌜ at ≤ 78 ⌝ }
     ensures { λ _. ⌜ now (table .exit) ≡ instructionIn (now (table .entry)) at code a operand ⌝ }
 {
@@ -81,17 +81,17 @@ fn line_bytes(first: u32) -> [u8; TABLE]
     ensures { λ r. ⌜ r ≡ lineBytes first ⌝ }
 {
     let mut t = frame();
-    put(&mut t, 15, SET, 1, first); // register 1: the next serial
-    put(&mut t, 21, SET, 2, 1);
-    put(&mut t, 27, TAKE, 0, 0); // a carton's code, from the scanner
-    put(&mut t, 33, SEND, 0, 1); // the code
-    put(&mut t, 39, SEND, 1, 1); // the serial
-    put(&mut t, 45, ADD, 1, 2); // the next serial
-    put(&mut t, 51, JUMP, 2, 2);
-    put(&mut t, 60, SET, 1, 1);
-    put(&mut t, 66, TAKE, 0, 1); // a word to the printer program
-    put(&mut t, 72, SEND, 0, 2); // the same to the outlet
-    put(&mut t, 78, JUMP, 1, 1);
+    set_instruction(&mut t, 15, SET, 1, first); // register 1: the next serial
+    set_instruction(&mut t, 21, SET, 2, 1);
+    set_instruction(&mut t, 27, TAKE, 0, 0); // a carton's code, from the scanner
+    set_instruction(&mut t, 33, SEND, 0, 1); // the code
+    set_instruction(&mut t, 39, SEND, 1, 1); // the serial
+    set_instruction(&mut t, 45, ADD, 1, 2); // the next serial
+    set_instruction(&mut t, 51, JUMP, 2, 2);
+    set_instruction(&mut t, 60, SET, 1, 1);
+    set_instruction(&mut t, 66, TAKE, 0, 1); // a word to the printer program
+    set_instruction(&mut t, 72, SEND, 0, 2); // the same to the outlet
+    set_instruction(&mut t, 78, JUMP, 1, 1);
     t
 }
 

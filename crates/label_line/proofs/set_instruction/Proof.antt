@@ -1,11 +1,11 @@
--- `put`: six stores.
-use Rattle.label_line.proofs.Tables.{instruction-put}
+-- `set_instruction`: six stores.
+use Rattle.label_line.proofs.Tables.{instruction-set}
 use native.Mathlib.Omega.{arith}
 use borrow.Author.Needs.{needs}
-use Rattle.label_line.proofs.put.Statement.{statement}
-use Rattle.label_line.proofs.put.Tie as tie
-use Rattle.label_line.proofs.put.Reads as reads
-use Rattle.label_line.proofs.put.Lts as lts
+use Rattle.label_line.proofs.set_instruction.Statement.{statement}
+use Rattle.label_line.proofs.set_instruction.Tie as tie
+use Rattle.label_line.proofs.set_instruction.Reads as reads
+use Rattle.label_line.proofs.set_instruction.Lts as lts
 use Rattle.label_line.proofs.low_byte.Reads as low-byte-reads
 
 element-write-table : tie.Need-element-write-table
@@ -56,11 +56,11 @@ element-write-table-6 c = search needs
 returns : tie.Need-returns
 returns c =
     let s = c .before .before .before .before .args in
-    instruction-put (s .table .now) (s .at) (s .code) (s .a) (s .operand) (omega arith) _ _ _ _ (c .before .before .before .low-byte .ensures) (c .before .before .low-byte2 .ensures)
+    instruction-set (s .table .now) (s .at) (s .code) (s .a) (s .operand) (omega arith) _ _ _ _ (c .before .before .before .low-byte .ensures) (c .before .before .low-byte2 .ensures)
     (c .before .low-byte3 .ensures) (c .low-byte4 .ensures)
 
-pub put-spec : {M : Type 1} → statement M
-put-spec =
+pub set-instruction-spec : {M : Type 1} → statement M
+set-instruction-spec =
     tie.close
     (tie.spec
     element-write-table
