@@ -25,6 +25,9 @@ extern "C" {
 #define KS_SCHEDULE_MOST 60003  /* the longest schedule: 10,000 records */
 #define KS_RECORDS_MOST 10000
 #define KS_PROCESSES_MOST 16
+#define KS_ENDS_MOST 64         /* the longest lists of a table, in numbers */
+#define KS_PLACEMENTS_MOST 48
+#define KS_INSTRUCTIONS_MOST 3072
 #define KS_RECORD 6             /* a schedule's record, and an answer: code, a, word */
 #define KS_REPORT 20            /* of each process */
 #define KS_LABEL_TABLE 84       /* a label line's table */
@@ -55,6 +58,12 @@ enum ks_refusal {
     KS_ANSWERS_SHORT = 11,    /* answer buffer under six bytes a record */
     KS_REPORT_SHORT = 12,     /* report buffer under 20 bytes a process */
     KS_FIRST_SERIAL = 46      /* of the label line: a first serial above 4,294,957,295 */
+};
+
+/* ---- why a table is not written or not taken apart, beside 1 to 8 of ks_refusal */
+
+enum ks_table_refusal {
+    KS_NO_ROOM = 45           /* the buffer is shorter than the table, or a list shorter than the table's */
 };
 
 /* ---- the answer to a record */
@@ -118,6 +127,18 @@ uint32_t ks_judge(const uint8_t *table, size_t table_len, const uint8_t *schedul
  *     KS_TAKE_OVER                                              state stays, reply (KS_STATE numbers) becomes what is handed over
  * A refused call leaves state as it was; but for KS_TAKE_OVER, reply is left as it was. */
 uint32_t ks_backup_call(uint32_t *state, size_t state_len, const uint32_t *call, size_t call_len, uint32_t *reply, size_t reply_len);
+
+/* The table that lists of numbers say, to the front of out: ends has sender and reader of each channel, placements primary board, backup board
+ * and n of each process, instructions code, a and operand of each instruction, those of all processes in a row. Bytes behind the table stay as
+ * they were; refused, with 3 to 8 or KS_NO_ROOM, all of out does. The result is number + 2^32 * the table's length. */
+uint64_t ks_table_write(uint32_t boards, uint32_t processes, uint32_t channels, const uint32_t *ends, size_t ends_len,
+                        const uint32_t *placements, size_t placements_len, const uint32_t *instructions, size_t instructions_len,
+                        uint8_t *out, size_t out_len);
+
+/* The lists of a table, to the fronts of three lent ones. Numbers behind them stay as they were; refused, with 1 to 8 or KS_NO_ROOM, all do.
+ * The result is number + 256 * boards + 2^16 * processes + 2^24 * channels + 2^32 * how many instructions there are. */
+uint64_t ks_table_apart(const uint8_t *table, size_t table_len, uint32_t *ends, size_t ends_len, uint32_t *placements,
+                        size_t placements_len, uint32_t *instructions, size_t instructions_len);
 
 /* The label line's table of a first serial, with processes 0 (numbering, on board 0) and 1 (printing, on board 1), and channels KS_SCANNER,
  * KS_PRINTER and KS_OUTLET: 0, or KS_FIRST_SERIAL, and then the lent bytes are untouched. */

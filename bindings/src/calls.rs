@@ -1,5 +1,6 @@
 //! The exported calls of the proved library, and nothing else; the only unsafe code of the crate.
 use crate::label::LABEL_TABLE;
+use crate::table::Counts;
 
 mod raw {
     use crate::label::LABEL_TABLE;
@@ -47,6 +48,31 @@ mod raw {
             answers_len: usize,
             report: *mut u8,
             report_len: usize,
+        ) -> u64;
+
+        pub fn ks_table_write(
+            boards: u32,
+            processes: u32,
+            channels: u32,
+            ends: *const u32,
+            ends_len: usize,
+            placements: *const u32,
+            placements_len: usize,
+            instructions: *const u32,
+            instructions_len: usize,
+            out: *mut u8,
+            out_len: usize,
+        ) -> u64;
+
+        pub fn ks_table_apart(
+            table: *const u8,
+            table_len: usize,
+            ends: *mut u32,
+            ends_len: usize,
+            placements: *mut u32,
+            placements_len: usize,
+            instructions: *mut u32,
+            instructions_len: usize,
         ) -> u64;
     }
 }
@@ -100,6 +126,44 @@ pub fn ks_label_run(first: u32, schedule: &[u8], answers: &mut [u8], report: &mu
             answers_len,
             report.as_mut_ptr(),
             report_len,
+        )
+    }
+}
+
+/// The number by which lists or a buffer are refused or 0, plus 2^32 times the table's length.
+pub fn ks_table_write(counts: Counts, ends: &[u32], placements: &[u32], instructions: &[u32], out: &mut [u8]) -> u64 {
+    // SAFETY: four slices that don't overlap, each with its own length; the first three are only read. The call asks nothing else.
+    unsafe {
+        raw::ks_table_write(
+            counts.boards,
+            counts.processes,
+            counts.channels,
+            ends.as_ptr(),
+            ends.len(),
+            placements.as_ptr(),
+            placements.len(),
+            instructions.as_ptr(),
+            instructions.len(),
+            out.as_mut_ptr(),
+            out.len(),
+        )
+    }
+}
+
+/// The number by which a table or the lists lent for it are refused or 0, plus 256 times its boards, 2^16 times its processes, 2^24 times
+/// its channels and 2^32 times its instructions.
+pub fn ks_table_apart(table: &[u8], ends: &mut [u32], placements: &mut [u32], instructions: &mut [u32]) -> u64 {
+    // SAFETY: four slices that don't overlap, each with its own length; the first is only read. The call asks nothing else.
+    unsafe {
+        raw::ks_table_apart(
+            table.as_ptr(),
+            table.len(),
+            ends.as_mut_ptr(),
+            ends.len(),
+            placements.as_mut_ptr(),
+            placements.len(),
+            instructions.as_mut_ptr(),
+            instructions.len(),
         )
     }
 }

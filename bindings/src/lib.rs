@@ -1,5 +1,6 @@
-//! The proved calls for programs in Rust: the run of a schedule ([`run`]), the judging of its input ([`judge`]), the backup record
-//! ([`Backup`]) and the label line ([`label_run`]). They borrow slices, allocate nothing, keep nothing between calls and ask nothing of their caller. All numbers are
+//! The proved calls for programs in Rust: the run of a schedule ([`run`]), the judging of its input ([`judge`]), the writer of tables ([`Table`],
+//! [`Lists`]), the backup record ([`Backup`]) and the label line ([`label_run`]). They borrow slices, keep nothing between calls and ask nothing of
+//! their caller; the calls themselves allocate nothing. All numbers are
 //! document 01's.
 #![deny(unsafe_code)]
 
@@ -11,9 +12,11 @@ mod label;
 mod numbers;
 mod record;
 mod run;
+mod table;
 
 pub use answer::{Answer, Code};
 pub use backup::{Backup, BackupRefusal, Snapshot, STATE};
 pub use label::{label_run, label_table, labels, Label, LABEL_TABLE, OUTLET, SCANNER};
 pub use record::{Instruction, Move, Record, OUTSIDE};
 pub use run::{judge, run, ProcessEnd, Refusal, Run};
+pub use table::{take_apart, write_table, Counts, End, Lists, Operation, Process, Table, TableRefusal, TABLE_MOST};

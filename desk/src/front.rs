@@ -14,13 +14,15 @@ pub enum Failure {
     Unasked(String),
     /// The library refused, with this number of docs/NUMBERS.md.
     Refused(u8),
+    /// The library refused, with this number: `refused` and the number are printed as the result, and what it means and where it is are said.
+    Explained(u8, String),
 }
 
 impl Failure {
     pub fn exit_code(&self) -> u8 {
         match self {
             Failure::Usage | Failure::Unasked(_) => 2,
-            Failure::Refused(_) => 3,
+            Failure::Refused(_) | Failure::Explained(..) => 3,
         }
     }
 
@@ -30,6 +32,7 @@ impl Failure {
             Failure::Usage => format!("usage: {}", usage.trim_end()),
             Failure::Unasked(why) => why.clone(),
             Failure::Refused(number) => format!("refused {number}"),
+            Failure::Explained(_, why) => why.clone(),
         }
     }
 }
@@ -56,6 +59,9 @@ fn print(bytes: &[u8]) -> ExitCode {
 }
 
 fn complain(name: &str, usage: &str, failure: &Failure) -> ExitCode {
+    if let Failure::Explained(number, _) = failure {
+        print(format!("refused {number}\n").as_bytes());
+    }
     let _ = writeln!(std::io::stderr(), "{name}: {}", failure.message(usage));
     ExitCode::from(failure.exit_code())
 }

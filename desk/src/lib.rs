@@ -4,3 +4,4 @@
 pub mod front;
 pub mod hex;
 pub mod input;
+pub mod lists;

@@ -14,6 +14,7 @@ use Rattle.backup.specs.Replica.{Message, Replica, savedOn, takenOn, lac
 use Rattle.backup.specs.Laws.{saved-remaining}
 use Rattle.backup.specs.Accepts.{fit-parts, enough, sync-accepted, synced-fit}
 use Rattle.backup.specs.Place.{messages, viewIn, tallyIn, headLength, Sound, Called, takenOf, checkpointOf, lacksIn, Compacted, restatedIn}
+use Rattle.backup.specs.Rounds.{allTaken, syncRounds, syncRounds-none, syncRounds-some, OnePass, onePass-by}
 use Rattle.backup.specs.declared.place.Checkpoint.{Checkpoint}
 use Rattle.backup.proofs.InPlace.{refused-so, accepted-so, same-replica, view-length}
 
@@ -87,3 +88,20 @@ module _ (log head : List ℕ) (c : Checkpoint) where
             tally-restated head kept c (s .head-length) p l ∙ ap (λ (n : ℕ). n - takenOn (takenOf c) p) (s .tallies p l)
             ∙ sym (saved-remaining p (takenOf c) (viewIn log head .log));
       })
+
+-- ---- the rounds
+
+module _ (log head : List ℕ) (c : Checkpoint) where
+  -- refused: none
+  pub rounds-refused : (n : ℕ) → OnePass (viewIn log head) (checkpointOf c) (suc n) 0
+  unfolding syncRounds
+  rounds-refused n = onePass-by (viewIn log head) (checkpointOf c) (suc n) 0 refl
+
+  -- nothing taken: none
+  pub rounds-none : allTaken (takenOf c) ≡ 0 → OnePass (viewIn log head) (checkpointOf c) 0 0
+  rounds-none z = onePass-by (viewIn log head) (checkpointOf c) 0 0 (sym (syncRounds-none (viewIn log head) (checkpointOf c) z))
+
+  -- one for each message that the head says there are
+  pub rounds-all : (rounds : ℕ) → (allTaken (takenOf c) ≡ 0 → ⊥) → rounds ≡ getD head 0 0 → OnePass (viewIn log head) (checkpointOf c) 0 rounds
+  rounds-all rounds n e =
+      onePass-by (viewIn log head) (checkpointOf c) 0 rounds (e ∙ sym (view-length log head) ∙ sym (syncRounds-some (viewIn log head) (checkpointOf c) n))

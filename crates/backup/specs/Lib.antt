@@ -4,3 +4,4 @@ pub mod Replica
 pub mod Laws
 pub mod Accepts
 pub mod Place
+pub mod Rounds

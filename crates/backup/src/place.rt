@@ -7,7 +7,8 @@ ghost use Prim.Native.Nat.{ℕ, _+_, _-_, _%_, _^_, _≤_, _<_};
 ghost use lib.ListN.{length, getD, set};
 ghost use Rattle.backup.specs.Limits.{logMost};
 ghost use Rattle.backup.specs.Replica.{arrive, count, sync};
-ghost use Rattle.backup.specs.Place.{Called, headLength, portIn, wordIn, checkpointOf, takenOf, lacksIn, restatedIn, Compacted, promotionIn};
+ghost use Rattle.backup.specs.Place.{Called, headLength, portIn, wordIn, checkpointOf, takenOf, lacksIn, restatedIn, Compacted, promotionIn, viewIn};
+ghost use Rattle.backup.specs.Rounds.{allTaken, OnePass};
 use crate::limits::LOG;
 use crate::limits::PC_MOST;
 use crate::limits::PORTS;
@@ -64,6 +65,18 @@ pub struct Promotion {
     pub r1: u32,
     pub r2: u32,
     pub r3: u32,
+}
+
+// A sync's number, and the rounds of all its loops together.
+pub struct Metered {
+    pub number: u8,
+    pub rounds: usize,
+}
+
+// What a pass over a log did: how many messages stay, and in how many rounds.
+struct Pass {
+    kept: usize,
+    rounds: usize,
 }
 
 fn wide(x: u32) -> usize
@@ -138,27 +151,50 @@ fn lane(x: u64) -> usize
     wide(port_of(x) % 4)
 }
 
-// Drops the oldest messages of each port, as many as were taken on it, in one pass over the first len; says how many stay.
-fn compact(log: &mut [u64; LOG], len: usize, taken: [u32; 4]) -> usize
+// How many messages were taken, on all ports together.
+fn all_taken(c: Checkpoint) -> usize
+    ensures { λ r. ⌜ r ≡ allTaken (takenOf c) ⌝ }
+{
+    wide(c.t0) + wide(c.t1) + wide(c.t2) + wide(c.t3)
+}
+
+// Drops the oldest messages of each port, as many as were taken on it, in one pass over the first len, and counts its rounds: the first
+// loop looks for the `due` messages that go, the second moves up what stands behind the last of them.
+fn compact(log: &mut [u64; LOG], len: usize, taken: [u32; 4], all: usize) -> Pass
     requires { ⌜ len ≤ logMost ⌝ }
-    ensures { λ r. ⌜ Compacted (now (log .entry)) len taken r (now (log .exit)) ⌝ }
+    requires { ⌜ all ≡ allTaken taken ⌝ }
+    ensures { λ r. ⌜ Compacted (now (log .entry)) len taken (r .kept) (now (log .exit)) ⌝ }
+    ensures { λ r. ⌜ r .rounds ≡ len ⌝ }
 {
     let mut left = taken;
+    let mut due = all;
     let mut i = 0;
     let mut kept = 0;
-    while i < len {
+    let mut rounds = 0;
+    while i < len && due > 0 {
         let x = log[i];
         let s = lane(x);
         let n = left[s];
         if n > 0 {
             left[s] = n - 1;
+            due -= 1;
         } else {
             log[kept] = x;
             kept += 1;
         }
         i += 1;
+        rounds += 1;
     }
-    kept
+    while i < len {
+        log[kept] = log[i];
+        kept += 1;
+        i += 1;
+        rounds += 1;
+    }
+    Pass {
+        kept: kept,
+        rounds: rounds,
+    }
 }
 
 // The head of a log of len messages after a checkpoint: its state, no count, and the tallies less what was taken.
@@ -178,23 +214,52 @@ fn restate(head: &mut [u32; HEAD], len: u32, c: Checkpoint)
     head[SAVED3] = minus(head[SAVED3], c.t3);
 }
 
+// A checkpoint lands, with its rounds counted: 0, or 21 or 23. Where nothing was taken nothing moves, and there is no round.
+pub fn metered_sync_in(log: &mut [u64; LOG], head: &mut [u32; HEAD], c: Checkpoint) -> Metered
+    ensures { λ r. ⌜ Called (now (log .entry)) (now (head .entry)) (now (log .exit)) (now (head .exit)) (r .number) (λ v. sync v (checkpointOf c)) ⌝ }
+    ensures { λ r. ⌜ OnePass (viewIn (now (log .entry)) (now (head .entry))) (checkpointOf c) (r .number) (r .rounds) ⌝ }
+{
+    if c.pc > PC_MOST {
+        return Metered {
+            number: 21,
+            rounds: 0,
+        };
+    }
+    if lacks(head, c) {
+        return Metered {
+            number: 23,
+            rounds: 0,
+        };
+    }
+    let len = wide(head[LEN]);
+    if len > LOG {
+        return Metered {
+            number: 20,
+            rounds: 0,
+        };
+    }
+    let all = all_taken(c);
+    if all == 0 {
+        restate(head, len as u32, c);
+        return Metered {
+            number: 0,
+            rounds: 0,
+        };
+    }
+    let p = compact(log, len, [c.t0, c.t1, c.t2, c.t3], all);
+    restate(head, p.kept as u32, c);
+    Metered {
+        number: 0,
+        rounds: p.rounds,
+    }
+}
+
 // A checkpoint lands: 0, or 21 or 23.
 pub fn sync_in(log: &mut [u64; LOG], head: &mut [u32; HEAD], c: Checkpoint) -> u8
     ensures { λ r. ⌜ Called (now (log .entry)) (now (head .entry)) (now (log .exit)) (now (head .exit)) r (λ v. sync v (checkpointOf c)) ⌝ }
 {
-    if c.pc > PC_MOST {
-        return 21;
-    }
-    if lacks(head, c) {
-        return 23;
-    }
-    let len = wide(head[LEN]);
-    if len > LOG {
-        return 20;
-    }
-    let kept = compact(log, len, [c.t0, c.t1, c.t2, c.t3]);
-    restate(head, kept as u32, c);
-    0
+    let m = metered_sync_in(log, head, c);
+    m.number
 }
 
 // The backup takes over: what its process goes on from. The log holds the messages.

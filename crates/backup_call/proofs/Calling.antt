@@ -10,12 +10,15 @@ use borrow.Author.Tests.{eq-eqb, eqb-true}
 use Rattle.facts.specs.Tests.{and-left, and-right, no-way}
 use Rattle.backup.specs.Replica as value
 use Rattle.backup.specs.Replica.{Replica, initial, failOver, fit}
+use Rattle.backup.specs.Place.{checkpointOf}
+use Rattle.backup.specs.Rounds.{OnePass}
 use Rattle.backup_value.specs.Value.{view, promotedBy, Answered}
 use Rattle.backup_value.specs.declared.Backup.{Backup}
 use Rattle.backup_value.specs.declared.Reply.{Reply}
 use Rattle.backup_value.specs.declared.FailOver.{FailOver}
-use Rattle.backup_call.specs.Layout.{stateLength, callLength, stateView}
+use Rattle.backup_call.specs.Layout.{stateLength, callLength, stateView, checkpointAt}
 use Rattle.backup_call.specs.Exported.{Asked, start, promotion, unknown, missized, byNumber, Sized, lengthsMatch, asked, answered, handedBy, Exported, Settled, HandedOver}
+use Rattle.backup_call.specs.Rounds.{callRounds, CallPass}
 
 -- ---- what is asked
 
@@ -135,6 +138,35 @@ module _ (state call reply : List ℕ) (a : Asked) (e : asked state call reply �
             state-length = ap length u;
             reply-length = refl;
           }
+
+-- ---- the rounds
+
+-- no sync: none
+pass-none : (state call reply : List ℕ) (number : ℕ) → callRounds (asked state call reply) number (stateView state) ≡ 0
+    → CallPass state call reply number 0
+pass-none state call reply number z = record { counted = sym z; at-most = omega arith }
+
+pub pass-missized : (state call reply : List ℕ) (number : ℕ) → (Sized state call reply → ⊥) → CallPass state call reply number 0
+unfolding callRounds
+pass-missized state call reply number h = pass-none state call reply number (rw (asked-missized state call reply h))
+
+module _ {state call reply : List ℕ} (s : Sized state call reply) (number : ℕ) where
+  pub pass-roundless : (n : ℕ) → getD call 0 0 ≡ n → callRounds (byNumber n call) number (stateView state) ≡ 0 → CallPass state call reply number 0
+  pass-roundless n e z = pass-none state call reply number (rw (asked-by state call reply n s e) z)
+
+  pub pass-unknown : (getD call 0 0 ≡ 0 → ⊥) → (getD call 0 0 ≡ 1 → ⊥) → (getD call 0 0 ≡ 2 → ⊥) → (getD call 0 0 ≡ 3 → ⊥) → (getD call 0 0 ≡ 4 → ⊥)
+      → CallPass state call reply number 0
+  unfolding callRounds
+  pass-unknown h₀ h₁ h₂ h₃ h₄ = pass-roundless (getD call 0 0) refl (rw (no-call (getD call 0 0) call h₀ h₁ h₂ h₃ h₄))
+
+  -- a sync: the record's
+  pub pass-landed : getD call 0 0 ≡ 3 → (v : Replica) (n k rounds : ℕ) → v ≡ stateView state → OnePass v (checkpointOf (checkpointAt call)) n k
+      → number ≡ n → rounds ≡ k → CallPass state call reply number rounds
+  unfolding callRounds
+  pass-landed e v n k rounds o p a b = record {
+    counted = rw (asked-by state call reply 3 s e, a, b, ← o) (p .counted);
+    at-most = rw (b, ← o) (p .at-most);
+  }
 
 -- a slice of another length
 pub exported-missized : (state call reply : List ℕ) → (Sized state call reply → ⊥) → Exported state call reply 25 state reply

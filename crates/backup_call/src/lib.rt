@@ -5,18 +5,20 @@ ghost use lib.ListN.{length};
 ghost use Rattle.backup_value.specs.Value.{view};
 ghost use Rattle.backup_call.specs.Layout.{stateLength, callLength, stateView, checkpointAt};
 ghost use Rattle.backup_call.specs.Exported.{Sized, Exported, Stored, Settled, HandedOver};
+ghost use Rattle.backup_call.specs.Rounds.{CallPass, roundlessOf};
 use backup::pack::packed;
 use backup::pack::port_of;
 use backup::pack::word_of;
 use backup::place::Checkpoint;
 use backup_value::Backup;
 use backup_value::FailOver;
+use backup_value::MeteredReply;
 use backup_value::Reply;
 use backup_value::arrive;
 use backup_value::count;
 use backup_value::fail_over;
+use backup_value::metered_sync;
 use backup_value::new;
-use backup_value::sync;
 
 // Where a state has its numbers: the log's length, the count, the program counter, four registers, then a pair (port, word) for each
 // of 48 messages.
@@ -49,6 +51,13 @@ const CALL: usize = 10;
 const MISSIZED: u32 = 25;
 
 const UNKNOWN: u32 = 26;
+
+// A call's number, and the rounds of its sync's loops. The loops of `load` and `store` are no part of the sync: they move the lent numbers
+// in and out, at every call alike.
+pub struct MeteredCall {
+    pub number: u32,
+    pub rounds: usize,
+}
 
 // The backup that a state stands for, its numbers past the log's length included.
 fn load(state: &[u32]) -> Backup
@@ -136,26 +145,67 @@ fn checkpoint(call: &[u32]) -> Checkpoint
     }
 }
 
+// A call that is no sync has no round of one.
+fn roundless(number: u32) -> MeteredCall
+    ensures { λ r. ⌜ r ≡ roundlessOf number ⌝ }
+{
+    MeteredCall {
+        number: number,
+        rounds: 0,
+    }
+}
+
+// Stores what a sync left, unless it was refused, and hands on its number and rounds.
+fn land(state: &mut [u32], m: MeteredReply) -> MeteredCall
+    requires { ⌜ length (now state) ≡ stateLength ⌝ }
+    ensures { λ r. ⌜ Settled (now (state .entry)) (m .reply) (r .number) (now (state .exit)) ⌝ }
+    ensures { λ r. ⌜ r .rounds ≡ m .rounds ⌝ }
+{
+    let reply = m.reply;
+    MeteredCall {
+        number: settle(state, reply),
+        rounds: m.rounds,
+    }
+}
+
 // The call on slices of the right lengths.
-fn perform(state: &mut [u32], call: &[u32], reply: &mut [u32]) -> u32
+fn perform(state: &mut [u32], call: &[u32], reply: &mut [u32]) -> MeteredCall
     requires { ⌜ Sized (now state) (now call) (now reply) ⌝ }
-    ensures { λ n. ⌜ Exported (now (state .entry)) (now (call .entry)) (now (reply .entry)) n (now (state .exit)) (now (reply .exit)) ⌝ }
+    ensures { λ r. ⌜ Exported (now (state .entry)) (now (call .entry)) (now (reply .entry)) (r .number) (now (state .exit)) (now (reply .exit)) ⌝ }
+    ensures { λ r. ⌜ CallPass (now (state .entry)) (now (call .entry)) (now (reply .entry)) (r .number) (r .rounds) ⌝ }
 {
     let number = call[0];
     match number {
-        0 => settle(
+        0 => roundless(settle(
             state,
             Reply {
                 number: 0,
                 backup: new(),
             },
-        ),
-        1 => settle(state, arrive(load(state), call[1], call[2])),
-        2 => settle(state, count(load(state))),
-        3 => settle(state, sync(load(state), checkpoint(call))),
-        4 => hand_over(reply, fail_over(load(state))),
-        _ => UNKNOWN,
+        )),
+        1 => roundless(settle(state, arrive(load(state), call[1], call[2]))),
+        2 => roundless(settle(state, count(load(state)))),
+        3 => land(state, metered_sync(load(state), checkpoint(call))),
+        4 => roundless(hand_over(reply, fail_over(load(state)))),
+        _ => roundless(UNKNOWN),
     }
+}
+
+// The call, with the rounds of its sync counted.
+pub fn metered_call(state: &mut [u32], call: &[u32], reply: &mut [u32]) -> MeteredCall
+    ensures { λ r. ⌜ Exported (now (state .entry)) (now (call .entry)) (now (reply .entry)) (r .number) (now (state .exit)) (now (reply .exit)) ⌝ }
+    ensures { λ r. ⌜ CallPass (now (state .entry)) (now (call .entry)) (now (reply .entry)) (r .number) (r .rounds) ⌝ }
+{
+    if state.len() != STATE {
+        return roundless(MISSIZED);
+    }
+    if call.len() != CALL {
+        return roundless(MISSIZED);
+    }
+    if reply.len() != STATE {
+        return roundless(MISSIZED);
+    }
+    perform(state, call, reply)
 }
 
 // The call. `state` is a backup in 103 numbers, `call` a number and its arguments: 0 new; 1 arrive: port, word; 2 count;
@@ -164,14 +214,6 @@ fn perform(state: &mut [u32], call: &[u32], reply: &mut [u32]) -> u32
 pub fn backup_call(state: &mut [u32], call: &[u32], reply: &mut [u32]) -> u32
     ensures { λ n. ⌜ Exported (now (state .entry)) (now (call .entry)) (now (reply .entry)) n (now (state .exit)) (now (reply .exit)) ⌝ }
 {
-    if state.len() != STATE {
-        return MISSIZED;
-    }
-    if call.len() != CALL {
-        return MISSIZED;
-    }
-    if reply.len() != STATE {
-        return MISSIZED;
-    }
-    perform(state, call, reply)
+    let m = metered_call(state, call, reply);
+    m.number
 }

@@ -13,6 +13,7 @@ use Rattle.backup.specs.Replica as value
 use Rattle.backup.specs.Replica.{Message, Replica, fit, onPorts, savedOn}
 use Rattle.backup.specs.Accepts.{Fit, fit-parts, parts-fit}
 use Rattle.backup.specs.Place.{messages, viewIn, tallyIn, headLength, Sound, Called}
+use Rattle.backup.specs.Rounds.{syncRounds, OnePass, onePass-by}
 use Rattle.backup_value.specs.Value.{view, promotedBy, Answered, Census, Opened, Settled}
 use Rattle.backup_value.specs.declared.Backup.{Backup}
 use Rattle.backup_value.specs.declared.Reply.{Reply}
@@ -129,6 +130,18 @@ module _ (b : Backup) (h : Head) (o : Opened b h) (r : Reply) (call : Replica �
             untouched = λ _. s .refused k;
             fit-again = λ f. ap (λ (x : Backup). fit (view x)) (s .refused k) ∙ f;
           }
+
+-- ---- the rounds of a sync
+
+-- unfit: none beside the check for it
+pub rounds-20 : (v : Replica) (c : value.Checkpoint) (number : ℕ) → number ≡ 20 → OnePass v c number 0
+unfolding syncRounds
+rounds-20 v c number e = rw e (onePass-by v c 20 0 refl)
+
+-- fit: those of the call in place
+pub rounds-so : (b : Backup) (h : Head) → Opened b h → h .fits ≡ true → (c : value.Checkpoint) (number rounds n : ℕ)
+    → OnePass (viewIn (b .log) (h .head)) c number rounds → n ≡ number → OnePass (view b) c n rounds
+rounds-so b h o y c number rounds n p e = rw (e, ← o .same y) p
 
 -- what a promotion hands over is its number and the value of its backup
 pub promoted-is : (r : FailOver) (v : Replica) → view (r .promoted) ≡ v

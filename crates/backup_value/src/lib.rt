@@ -5,6 +5,7 @@ ghost use Prim.Native.Nat.{_≤_};
 ghost use Rattle.backup.specs.Limits.{logMost};
 ghost use Rattle.backup.specs.Replica.{initial, arrive as arriveOf, count as countOf, sync as syncOf, failOver};
 ghost use Rattle.backup.specs.Place.{viewIn, checkpointOf};
+ghost use Rattle.backup.specs.Rounds.{OnePass};
 ghost use Rattle.backup_value.specs.Value.{view, promotedBy, Answered, Census, Opened, Settled};
 use backup::limits::LOG;
 use backup::limits::PC_MOST;
@@ -41,6 +42,12 @@ pub struct Backup {
 pub struct Reply {
     pub number: u8,
     pub backup: Backup,
+}
+
+// A sync's reply, and the rounds of all its loops but the check for 20.
+pub struct MeteredReply {
+    pub reply: Reply,
+    pub rounds: usize,
 }
 
 // What a promotion hands over (document 01: take over): 0 or 20, and words, program counter, registers and count.
@@ -230,18 +237,34 @@ pub fn count(b: Backup) -> Reply
     unfit(b)
 }
 
-// A checkpoint lands: 20, 21, 23.
-pub fn sync(b: Backup, c: Checkpoint) -> Reply
-    ensures { λ r. ⌜ Answered b r (λ v. syncOf v (checkpointOf c)) ⌝ }
+// A checkpoint lands, with its rounds counted: 20, 21, 23. The look through the messages that tells 20 is not among them.
+pub fn metered_sync(b: Backup, c: Checkpoint) -> MeteredReply
+    ensures { λ r. ⌜ Answered b (r .reply) (λ v. syncOf v (checkpointOf c)) ⌝ }
+    ensures { λ r. ⌜ OnePass (view b) (checkpointOf c) (r .reply .number) (r .rounds) ⌝ }
 {
     let h = opened(b);
     if h.fits {
         let mut log = b.log;
         let mut head = h.head;
-        let landed = backup::place::sync_in(&mut log, &mut head, c);
-        return settled(b, landed, log, head);
+        let landed = backup::place::metered_sync_in(&mut log, &mut head, c);
+        let reply = settled(b, landed.number, log, head);
+        return MeteredReply {
+            reply: reply,
+            rounds: landed.rounds,
+        };
     }
-    unfit(b)
+    MeteredReply {
+        reply: unfit(b),
+        rounds: 0,
+    }
+}
+
+// A checkpoint lands: 20, 21, 23.
+pub fn sync(b: Backup, c: Checkpoint) -> Reply
+    ensures { λ r. ⌜ Answered b r (λ v. syncOf v (checkpointOf c)) ⌝ }
+{
+    let m = metered_sync(b, c);
+    m.reply
 }
 
 // The backup takes over: 20, and then no words and the rest 0.

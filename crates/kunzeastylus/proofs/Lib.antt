@@ -2,3 +2,4 @@
 pub mod Judging
 pub mod Packing
 pub mod Lending
+pub mod Tabling

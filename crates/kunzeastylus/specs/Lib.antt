@@ -2,3 +2,4 @@
 pub mod Judges
 pub mod Packed
 pub mod Label
+pub mod Tables

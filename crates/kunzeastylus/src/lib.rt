@@ -4,3 +4,4 @@ pub mod backup;
 pub mod judge;
 pub mod label;
 pub mod run;
+pub mod tables;

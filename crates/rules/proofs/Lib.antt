@@ -42,6 +42,8 @@ pub mod RollForward
 -- Tables and runs in bytes.
 pub mod Valid
 pub mod ReadBack
+pub mod Encoding
+pub mod Apart
 pub mod AcceptedRun
 pub mod Buffers
 -- Cases, computed: M1 to M13, then those that only a case can tell.

@@ -13,7 +13,7 @@ use Rattle.backup.specs.Limits.{pcMost}
 use Rattle.rules.specs.Table.{Placement, codeOf}
 use Rattle.rules.specs.Judge.{endsOk, inputsOk, boardsOk, instructionsOk, Accepted}
 use Rattle.rules.specs.Bytes.{sixes}
-use Rattle.rules.specs.Format.{boardsIn, processesIn, channelsIn, versionIn, pairs, recordsStart, recordBytes, programLength, recordLength, rests, placementIn, instruction, decodeTable, orNumber, lengthOk, countsOk, recordsOk, extentOk, validateTable}
+use Rattle.rules.specs.Format.{boardsIn, processesIn, channelsIn, versionIn, pairs, recordsStart, recordBytes, programLength, recordLength, rests, placementIn, instruction, decodeTable, orNumber, lengthOk, countsFit, countsOk, recordsOk, extentOk, validateTable}
 
 -- ---- one test of a list of them
 
@@ -118,33 +118,30 @@ short-programs bytes h =
 
 -- ---- together
 
-pub record Counted (bytes : List ℕ) : Type 0 where
-  pub boards-low : 2 ≤ boardsIn bytes
-  pub boards-high : boardsIn bytes ≤ 16
-  pub processes-low : 1 ≤ processesIn bytes
-  pub processes-high : processesIn bytes ≤ 16
-  pub channels-low : 1 ≤ channelsIn bytes
-  pub channels-high : channelsIn bytes ≤ 32
+-- what 3 asks
+pub record Counts (boards processes channels : ℕ) : Type 0 where
+  pub boards-low : 2 ≤ boards
+  pub boards-high : boards ≤ 16
+  pub processes-low : 1 ≤ processes
+  pub processes-high : processes ≤ 16
+  pub channels-low : 1 ≤ channels
+  pub channels-high : channels ≤ 32
 
 -- a number within two bounds
 within : (low n high : ℕ) → (leb low n && leb n high) ≡ true → (low ≤ n) × (n ≤ high)
 within low n high h = (leb-true low n (and-left (leb low n) (leb n high) h), leb-true n high (and-right (leb low n) (leb n high) h))
 
-pub counted : (bytes : List ℕ) → countsOk bytes ≡ true → Counted bytes
+pub counts-fit : (boards processes channels : ℕ) → countsFit boards processes channels ≡ true → Counts boards processes channels
+counts-fit b p c h =
+    let others = and-right (leb 2 b && leb b 16) _ h in
+    let x = within 2 b 16 (and-left _ ((leb 1 p && leb p 16) && (leb 1 c && leb c 32)) h) in
+    let y = within 1 p 16 (and-left _ (leb 1 c && leb c 32) others) in
+    let z = within 1 c 32 (and-right (leb 1 p && leb p 16) _ others) in
+    record { boards-low = x .0; boards-high = x .1; processes-low = y .0; processes-high = y .1; channels-low = z .0; channels-high = z .1 }
+
+pub counted : (bytes : List ℕ) → countsOk bytes ≡ true → Counts (boardsIn bytes) (processesIn bytes) (channelsIn bytes)
 unfolding countsOk
-counted bytes h =
-    let others = and-right (leb 2 (boardsIn bytes) && leb (boardsIn bytes) 16) _ h in
-    let b = within 2 (boardsIn bytes) 16 (and-left _ ((leb 1 (processesIn bytes) && leb (processesIn bytes) 16) && (leb 1 (channelsIn bytes) && leb (channelsIn bytes) 32)) h) in
-    let p = within 1 (processesIn bytes) 16 (and-left _ (leb 1 (channelsIn bytes) && leb (channelsIn bytes) 32) others) in
-    let c = within 1 (channelsIn bytes) 32 (and-right (leb 1 (processesIn bytes) && leb (processesIn bytes) 16) _ others) in
-    record {
-      boards-low = b .0;
-      boards-high = b .1;
-      processes-low = p .0;
-      processes-high = p .1;
-      channels-low = c .0;
-      channels-high = c .1;
-    }
+counted bytes = counts-fit (boardsIn bytes) (processesIn bytes) (channelsIn bytes)
 
 pub decoded-accepted : (bytes : List ℕ) → validateTable bytes ≡ 0 → Accepted (decodeTable bytes)
 unfolding decodeTable

@@ -109,11 +109,14 @@ unfoldable pub lengthOk : List ℕ → Bool
 lengthOk bytes = leb 6 (length bytes) && (leb (lengthField bytes) tableMost && eqb (2 + lengthField bytes) (length bytes))
 
 -- 3: "B, P or C"
+abbrev pub countsFit : ℕ → ℕ → ℕ → Bool
+countsFit boards processes channels =
+    (leb boardsLeast boards && leb boards boardsMost)
+    && ((leb 1 processes && leb processes processesMost)
+    && (leb 1 channels && leb channels channelsMost))
+
 unfoldable pub countsOk : List ℕ → Bool
-countsOk bytes =
-    (leb boardsLeast (boardsIn bytes) && leb (boardsIn bytes) boardsMost)
-    && ((leb 1 (processesIn bytes) && leb (processesIn bytes) processesMost)
-    && (leb 1 (channelsIn bytes) && leb (channelsIn bytes) channelsMost))
+countsOk bytes = countsFit (boardsIn bytes) (processesIn bytes) (channelsIn bytes)
 
 -- n records have at most 64 instructions each and end exactly where the list ends
 -- (past the list's end a byte is 0, so a record that lacks its n is 3 bytes long and isn't within it)
@@ -126,18 +129,22 @@ recordsOk (suc n) rest =
 unfoldable pub extentOk : List ℕ → Bool
 extentOk bytes = leb (recordsStart bytes) (length bytes) && recordsOk (processesIn bytes) (recordBytes bytes)
 
--- 0, or the number that refuses the table. 2 is "its version", 5 "channel ends", 6 "more than four channels read",
--- 7 "a board not below B, or primary equal to backup", 8 "an instruction".
+-- 5 to 8, of what a table says: "channel ends"; "more than four channels read"; "a board not below B, or primary equal to backup"; "an
+-- instruction"
+abbrev pub tableNumber : Table → ℕ
+tableNumber t =
+    orNumber (endsOk t) 5
+    (orNumber (inputsOk t) 6
+    (orNumber (boardsOk t) 7
+    (orNumber (instructionsOk t) 8
+    0)))
+
+-- 0, or the number that refuses the table. 2 is "its version".
 unfoldable pub validateTable : List ℕ → ℕ
 unfolding lengthOk countsOk extentOk decodeTable endsOk inputsOk boardsOk instructionsOk
 validateTable bytes =
-    let t = decodeTable bytes in
     orNumber (lengthOk bytes) 1
     (orNumber (eqb (versionIn bytes) 1) 2
     (orNumber (countsOk bytes) 3
     (orNumber (extentOk bytes) 4
-    (orNumber (endsOk t) 5
-    (orNumber (inputsOk t) 6
-    (orNumber (boardsOk t) 7
-    (orNumber (instructionsOk t) 8
-    0)))))))
+    (tableNumber (decodeTable bytes)))))

@@ -11,6 +11,7 @@ pub mod RollForward
 pub mod Transparent
 pub mod Bytes
 pub mod Format
+pub mod Encode
 pub mod Schedule
 pub mod Run
 pub mod Transparency

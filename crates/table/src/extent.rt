@@ -1,18 +1,14 @@
 // Numbers 1 to 4 of a table: its length, its version, its counts, and where its pairs and records end.
 ghost use mathlib.Core.Path.{_≡_};
-ghost use mathlib.Core.Bool.{_&&_};
-ghost use lib.Dec.{eqb, leb};
+ghost use lib.Dec.{eqb};
 ghost use Rattle.rules.specs.Format.{versionIn, recordsStart, lengthOk, countsOk, extentOk};
 ghost use Rattle.table.specs.Parts.{recordIn, framing};
+use crate::counts::counts_fit;
 use crate::format::BOARDS;
-use crate::format::BOARDS_LEAST;
-use crate::format::BOARDS_MOST;
 use crate::format::CHANNELS;
-use crate::format::CHANNELS_MOST;
 use crate::format::HEAD;
 use crate::format::N;
 use crate::format::PROCESSES;
-use crate::format::PROCESSES_MOST;
 use crate::format::PROGRAM;
 use crate::format::PROGRAM_MOST;
 use crate::format::TABLE_MOST;
@@ -42,19 +38,15 @@ fn version_ok(table: &[u8]) -> bool
     byte(table, VERSION) == 1
 }
 
-fn within(low: usize, n: usize, high: usize) -> bool
-    ensures { λ r. ⌜ r ≡ (leb low n && leb n high) ⌝ }
-{
-    low <= n && n <= high
-}
-
 // 3: the counts of boards, processes and channels.
 fn counts_ok(table: &[u8]) -> bool
     ensures { λ r. ⌜ r ≡ countsOk (now (table .entry)) ⌝ }
 {
-    within(BOARDS_LEAST, wide(byte(table, BOARDS)), BOARDS_MOST)
-        && (within(1, wide(byte(table, PROCESSES)), PROCESSES_MOST)
-            && within(1, wide(byte(table, CHANNELS)), CHANNELS_MOST))
+    counts_fit(
+        wide(byte(table, BOARDS)),
+        wide(byte(table, PROCESSES)),
+        wide(byte(table, CHANNELS)),
+    )
 }
 
 // Where the first record begins, behind the pairs.

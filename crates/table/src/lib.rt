@@ -3,6 +3,7 @@ ghost use mathlib.Core.Path.{_≡_};
 ghost use Rattle.table.specs.Plan.{noPlan, Decodes};
 
 mod boards;
+pub mod counts;
 mod ends;
 mod extent;
 pub mod format;

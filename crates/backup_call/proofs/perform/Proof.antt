@@ -2,10 +2,25 @@
 use mathlib.Core.Path.{refl}
 use Rattle.facts.specs.Tests.{no-way}
 use Rattle.backup_call.specs.Exported.{answered}
-use Rattle.backup_call.proofs.Calling.{replied-by, replied-start, exported-change, exported-unknown, exported-promoted}
+use Rattle.backup_call.specs.Rounds.{callRounds}
+use Rattle.backup_call.proofs.Calling.{replied-by, replied-start, exported-change, exported-unknown, exported-promoted, pass-roundless, pass-unknown, pass-landed}
+use native.Mathlib.Omega.{arith}
 use borrow.Author.Needs.{needs}
 use Rattle.backup_call.proofs.perform.Statement.{statement}
 use Rattle.backup_call.proofs.perform.Tie as tie
+use Rattle.backup_call.proofs.perform.Reads as reads
+use Rattle.backup_call.proofs.perform.Lts as lts
+use Rattle.backup_call.proofs.checkpoint.Reads as checkpoint-reads
+use Rattle.backup_call.proofs.hand_over.Reads as hand-over-reads
+use Rattle.backup_call.proofs.land.Reads as land-reads
+use Rattle.backup_call.proofs.load.Reads as load-reads
+use Rattle.backup_call.proofs.roundless.Reads as roundless-reads
+use Rattle.backup_call.proofs.settle.Reads as settle-reads
+use Rattle.backup_value.proofs.arrive.Reads as arrive-reads
+use Rattle.backup_value.proofs.count.Reads as count-reads
+use Rattle.backup_value.proofs.fail_over.Reads as fail-over-reads
+use Rattle.backup_value.proofs.metered_sync.Reads as metered-sync-reads
+use Rattle.backup_value.proofs.new.Reads as new-reads
 
 shared-slice-read-number : tie.Need-shared-slice-read-number
 shared-slice-read-number c = search needs
@@ -15,6 +30,9 @@ new-requires c κs = search needs
 
 settle-requires : tie.Need-settle-requires
 settle-requires c κs = search needs
+
+roundless-requires : tie.Need-roundless-requires
+roundless-requires c κs = search needs
 
 load-requires : tie.Need-load-requires
 load-requires c κs = search needs
@@ -31,6 +49,9 @@ arrive-requires c κs = search needs
 settle-requires-2 : tie.Need-settle-requires-2
 settle-requires-2 c κs = search needs
 
+roundless-requires-2 : tie.Need-roundless-requires-2
+roundless-requires-2 c κs = search needs
+
 load-requires-2 : tie.Need-load-requires-2
 load-requires-2 c κs = search needs
 
@@ -40,17 +61,20 @@ count-requires c κs = search needs
 settle-requires-3 : tie.Need-settle-requires-3
 settle-requires-3 c κs = search needs
 
+roundless-requires-3 : tie.Need-roundless-requires-3
+roundless-requires-3 c κs = search needs
+
 load-requires-3 : tie.Need-load-requires-3
 load-requires-3 c κs = search needs
 
 checkpoint-requires : tie.Need-checkpoint-requires
 checkpoint-requires c κs = search needs
 
-sync-requires : tie.Need-sync-requires
-sync-requires c κs = search needs
+metered-sync-requires : tie.Need-metered-sync-requires
+metered-sync-requires c κs = search needs
 
-settle-requires-4 : tie.Need-settle-requires-4
-settle-requires-4 c κs = search needs
+land-requires : tie.Need-land-requires
+land-requires c κs = search needs
 
 load-requires-4 : tie.Need-load-requires-4
 load-requires-4 c κs = search needs
@@ -61,37 +85,59 @@ fail-over-requires c κs = search needs
 hand-over-requires : tie.Need-hand-over-requires
 hand-over-requires c κs = search needs
 
+roundless-requires-4 : tie.Need-roundless-requires-4
+roundless-requires-4 c κs = search needs
+
+roundless-requires-5 : tie.Need-roundless-requires-5
+roundless-requires-5 c κs = search needs
+
 same-length : tie.Need-same-length
 same-length c = search needs
 
 returns : tie.Need-returns
-unfolding answered
+unfolding answered callRounds
 returns c =
-    exported-change (c .before .before .before .before .before .before .before .before .before .before .pre) 0 (c .before .before .before .before .before .match .keys1) (λ z. no-way (cc)) (replied-start _ _ refl (c .before .before .before .new .ensures)) (c .before .before .settle .ensures)
+    let p = c .before .before .before .before .before .before .before .before .before .before .before .pre in
+    let k = c .before .before .before .before .before .before .match .keys1 in
+    rw (c .roundless .ensures)
+    (exported-change p 0 k (λ z. no-way (cc)) (replied-start _ _ refl (c .before .before .before .before .new .ensures)) (c .before .before .before .settle .ensures), pass-roundless p _ 0 k refl)
 
 same-length-2 : tie.Need-same-length-2
 same-length-2 c = search needs
 
 returns-2 : tie.Need-returns-2
-unfolding answered
+unfolding answered callRounds
 returns-2 c =
-    exported-change (c .before .before .before .before .before .before .before .before .before .before .before .before .before .before .pre) 1 (c .before .before .before .before .before .before .before .before .before .match .keys2) (λ z. no-way (cc)) (replied-by _ _ _ _ (c .before .before .before .before .before .before .load .ensures) (c .before .before .before .arrive .ensures)) (c .before .before .settle2 .ensures)
+    let p = c .before .before .before .before .before .before .before .before .before .before .before .before .before .before .before .pre in
+    let k = c .before .before .before .before .before .before .before .before .before .before .match .keys2 in
+    rw (c .roundless2 .ensures)
+    (exported-change p 1 k (λ z. no-way (cc)) (replied-by _ _ _ _ (c .before .before .before .before .before .before .before .load .ensures) (c .before .before .before .before .arrive .ensures)) (c .before .before .before .settle2 .ensures), pass-roundless p _ 1 k refl)
 
 same-length-3 : tie.Need-same-length-3
 same-length-3 c = search needs
 
 returns-3 : tie.Need-returns-3
-unfolding answered
+unfolding answered callRounds
 returns-3 c =
-    exported-change (c .before .before .before .before .before .before .before .before .before .before .before .before .pre) 2 (c .before .before .before .before .before .before .before .match .keys3) (λ z. no-way (cc)) (replied-by _ _ _ _ (c .before .before .before .before .load2 .ensures) (c .before .before .before .count .ensures)) (c .before .before .settle3 .ensures)
+    let p = c .before .before .before .before .before .before .before .before .before .before .before .before .before .pre in
+    let k = c .before .before .before .before .before .before .before .before .match .keys3 in
+    rw (c .roundless3 .ensures)
+    (exported-change p 2 k (λ z. no-way (cc)) (replied-by _ _ _ _ (c .before .before .before .before .before .load2 .ensures) (c .before .before .before .before .count .ensures)) (c .before .before .before .settle3 .ensures), pass-roundless p _ 2 k refl)
 
 same-length-4 : tie.Need-same-length-4
 same-length-4 c = search needs
 
 returns-4 : tie.Need-returns-4
-unfolding answered
+unfolding answered callRounds
 returns-4 c =
-    exported-change (c .before .before .before .before .before .before .before .before .before .before .before .before .before .pre) 3 (c .before .before .before .before .before .before .before .before .match .keys4) (λ z. no-way (cc)) (replied-by _ _ _ _ (c .before .before .before .before .before .load3 .ensures) (rw (c .before .before .before .before .checkpoint .ensures) at (c .before .before .before .sync .ensures))) (c .before .before .settle4 .ensures)
+    let p = c .before .before .before .before .before .before .before .before .before .before .before .before .before .pre in
+    let k = c .before .before .before .before .before .before .before .before .match .keys4 in
+    let m = c .before .before .before .metered-sync in
+    let l = c .before .before .land in
+    let e = c .before .before .before .before .checkpoint .ensures in (
+      exported-change p 3 k (λ z. no-way (cc)) (replied-by _ _ _ _ (c .before .before .before .before .before .load3 .ensures) (rw e at (m .ensures .0))) (l .ensures .0),
+      pass-landed p _ k _ _ _ _ (c .before .before .before .before .before .load3 .ensures) (rw e at (m .ensures .1)) (l .ensures .0 .number-is) (l .ensures .1),
+    )
 
 same-length-5 : tie.Need-same-length-5
 same-length-5 c = search needs
@@ -100,13 +146,19 @@ same-length-6 : tie.Need-same-length-6
 same-length-6 c = search needs
 
 returns-5 : tie.Need-returns-5
+unfolding answered callRounds
 returns-5 c =
-    exported-promoted (c .before .before .before .before .before .before .before .before .before .before .before .before .pre) (c .before .before .before .before .before .before .before .match .keys5) _ (c .before .before .before .before .load4 .ensures) (c .before .before .before .fail-over .ensures) (c .before .before .hand-over .ensures)
+    let p = c .before .before .before .before .before .before .before .before .before .before .before .before .before .pre in
+    let k = c .before .before .before .before .before .before .before .before .match .keys5 in
+    rw (c .roundless4 .ensures)
+    (exported-promoted p k _ (c .before .before .before .before .before .load4 .ensures) (c .before .before .before .before .fail-over .ensures) (c .before .before .before .hand-over .ensures), pass-roundless p _ 4 k refl)
 
 returns-6 : tie.Need-returns-6
 returns-6 c =
-    let none = c .match .rest in
-    exported-unknown (c .before .before .before .before .before .pre) (none .0 .0 .0 .0 .1) (none .0 .0 .0 .1) (none .0 .0 .1) (none .0 .1) (none .1)
+    let p = c .before .before .before .before .before .before .pre in
+    let none = c .before .match .rest in
+    rw (c .roundless5 .ensures)
+    (exported-unknown p (none .0 .0 .0 .0 .1) (none .0 .0 .0 .1) (none .0 .0 .1) (none .0 .1) (none .1), pass-unknown p _ (none .0 .0 .0 .0 .1) (none .0 .0 .0 .1) (none .0 .0 .1) (none .0 .1) (none .1))
 
 pub perform-spec : {M : Type 1} → statement M
 perform-spec =
@@ -115,21 +167,26 @@ perform-spec =
     shared-slice-read-number
     new-requires
     settle-requires
+    roundless-requires
     load-requires
     shared-slice-read-arrive
     shared-slice-read-arrive-2
     arrive-requires
     settle-requires-2
+    roundless-requires-2
     load-requires-2
     count-requires
     settle-requires-3
+    roundless-requires-3
     load-requires-3
     checkpoint-requires
-    sync-requires
-    settle-requires-4
+    metered-sync-requires
+    land-requires
     load-requires-4
     fail-over-requires
     hand-over-requires
+    roundless-requires-4
+    roundless-requires-5
     same-length
     returns
     same-length-2

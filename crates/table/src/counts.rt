@@ -1,0 +1,23 @@
+// Number 3, as the reader of a table and the writer judge it.
+ghost use mathlib.Core.Path.{_≡_};
+ghost use mathlib.Core.Bool.{_&&_};
+ghost use lib.Dec.{leb};
+ghost use Rattle.rules.specs.Format.{countsFit};
+use crate::format::BOARDS_LEAST;
+use crate::format::BOARDS_MOST;
+use crate::format::CHANNELS_MOST;
+use crate::format::PROCESSES_MOST;
+
+fn within(low: usize, n: usize, high: usize) -> bool
+    ensures { λ r. ⌜ r ≡ (leb low n && leb n high) ⌝ }
+{
+    low <= n && n <= high
+}
+
+// 3: the counts of boards, processes and channels.
+pub fn counts_fit(boards: usize, processes: usize, channels: usize) -> bool
+    ensures { λ r. ⌜ r ≡ countsFit boards processes channels ⌝ }
+{
+    within(BOARDS_LEAST, boards, BOARDS_MOST)
+        && (within(1, processes, PROCESSES_MOST) && within(1, channels, CHANNELS_MOST))
+}

@@ -1,0 +1,177 @@
+-- The next piece of what is laid out or taken apart, and what is left behind it: of a list of numbers, of a program, of the records.
+use mathlib.Core.Path.{_≡_, refl, ap, sym, subst, _∙_}
+use mathlib.Core.Bool.{Bool, true, _&&_}
+use mathlib.Core.List.{List, [], _∷_, _++_, map}
+use Prim.Native.Nat.{ℕ, zero, suc, _+_, _-_, _*_, _≤_, _<_}
+use native.Mathlib.Omega.{arith}
+use lib.Dec.{leb}
+use lib.ListN.{length, getD, take, drop, length-drop, List·getD-map}
+use lib.Seq.{drop-cons, drop-drop, getD-drop}
+use borrow.Author.Tests.{leb-true, lt-ltb}
+use Rattle.facts.specs.Tests.{and-left, and-right}
+use Rattle.backup.specs.Limits.{pcMost}
+use Rattle.rules.specs.Bytes.{byteAt, number32, allBytes, sixes}
+use Rattle.rules.specs.Format.{programLength, recordLength, rests, recordsOk}
+use Rattle.rules.specs.Encode.{threes, instructionBytes, programBytes, recordsFor, programLengths, total, programIn, placementsIn, instructionsIn}
+use Rattle.writer.specs.Fitted.{fitByte, fitThrees}
+
+-- one of n is done
+one-fewer : (n p : ℕ) → p < n → n - p ≡ suc (n - (p + 1))
+one-fewer n p h = omega arith
+
+pub fit-same : (x : ℕ) → x < 256 → fitByte x ≡ x
+fit-same x h = rw (lt-ltb x 256 h)
+
+-- ---- a list of numbers
+
+pub ends-next : (l : List ℕ) (k : ℕ) → k < length l → map fitByte (drop k l) ≡ (fitByte (getD l k 0) ∷ []) ++ map fitByte (drop (k + 1) l)
+ends-next l k h =
+    let z : suc k ≡ k + 1 = omega arith in
+    ap (map fitByte) (drop-cons l k 0 h) ∙ ap (λ (n : ℕ). fitByte (getD l k 0) ∷ map fitByte (drop n l)) z
+
+pub take-next : (l : List ℕ) (at n k : ℕ) → k < n → at + n ≤ length l
+    → take (n - k) (drop (at + k) l) ≡ (getD l (at + k) 0 ∷ []) ++ take (n - (k + 1)) (drop (at + (k + 1)) l)
+take-next l at n k h r =
+    (λ j. take (one-fewer n k h j) (drop-cons l (at + k) 0 (let z : at + k < length l = omega arith in z) j))
+    ∙ ap (λ (i : ℕ). getD l (at + k) 0 ∷ take (n - (k + 1)) (drop i l)) (let z : suc (at + k) ≡ at + (k + 1) = omega arith in z)
+
+-- ---- instructions
+
+pub fitThrees-0 : (l : List ℕ) → getD (fitThrees l) 0 0 ≡ fitByte (getD l 0 0)
+fitThrees-0 [] = refl
+fitThrees-0 (c ∷ []) = refl
+fitThrees-0 (c ∷ a ∷ []) = refl
+fitThrees-0 (c ∷ a ∷ o ∷ l) = refl
+
+pub fitThrees-1 : (l : List ℕ) → getD (fitThrees l) 1 0 ≡ fitByte (getD l 1 0)
+fitThrees-1 [] = refl
+fitThrees-1 (c ∷ []) = refl
+fitThrees-1 (c ∷ a ∷ []) = refl
+fitThrees-1 (c ∷ a ∷ o ∷ l) = refl
+
+pub fitThrees-2 : (l : List ℕ) → getD (fitThrees l) 2 0 ≡ getD l 2 0
+fitThrees-2 [] = refl
+fitThrees-2 (c ∷ []) = refl
+fitThrees-2 (c ∷ a ∷ []) = refl
+fitThrees-2 (c ∷ a ∷ o ∷ l) = refl
+
+pub fitThrees-drop3 : (l : List ℕ) → drop 3 (fitThrees l) ≡ fitThrees (drop 3 l)
+fitThrees-drop3 [] = refl
+fitThrees-drop3 (c ∷ []) = refl
+fitThrees-drop3 (c ∷ a ∷ []) = refl
+fitThrees-drop3 (c ∷ a ∷ o ∷ l) = refl
+
+pub fitThrees-drop : (m : ℕ) (l : List ℕ) → drop (3 * m) (fitThrees l) ≡ fitThrees (drop (3 * m) l)
+fitThrees-drop zero l = refl
+fitThrees-drop (suc m) l =
+    let e : 3 * suc m ≡ 3 + 3 * m = omega arith in
+    ap (λ (n : ℕ). drop n (fitThrees l)) e ∙ sym (drop-drop (3 * m) 3 (fitThrees l)) ∙ ap (drop (3 * m)) (fitThrees-drop3 l) ∙ fitThrees-drop m (drop 3 l)
+    ∙ ap fitThrees (drop-drop (3 * m) 3 l ∙ ap (λ (n : ℕ). drop n l) (sym e))
+
+pub program-next : (is : List ℕ) (i n k : ℕ) → k < n
+    → programBytes (n - k) (drop (3 * (i + k)) (fitThrees is))
+    ≡ instructionBytes (fitByte (getD is (3 * (i + k)) 0)) (fitByte (getD is (3 * (i + k) + 1) 0)) (getD is (3 * (i + k) + 2) 0)
+    ++ programBytes (n - (k + 1)) (drop (3 * (i + (k + 1))) (fitThrees is))
+program-next is i n k h =
+    let m = 3 * (i + k) in
+    let d = drop m (fitThrees is) in
+    let same : d ≡ fitThrees (drop m is) = fitThrees-drop (i + k) is in
+    let x0 : getD d 0 0 ≡ fitByte (getD is m 0) =
+    ap (λ (l : List ℕ). getD l 0 0) same ∙ fitThrees-0 (drop m is) ∙ ap fitByte (getD-drop m is 0 0 ∙ ap (λ (j : ℕ). getD is j 0) (let z : m + 0 ≡ m = omega arith in z)) in
+    let x1 : getD d 1 0 ≡ fitByte (getD is (m + 1) 0) = ap (λ (l : List ℕ). getD l 1 0) same ∙ fitThrees-1 (drop m is) ∙ ap fitByte (getD-drop m is 1 0) in
+    let x2 : getD d 2 0 ≡ getD is (m + 2) 0 = ap (λ (l : List ℕ). getD l 2 0) same ∙ fitThrees-2 (drop m is) ∙ getD-drop m is 2 0 in
+    let later : drop 3 d ≡ drop (3 * (i + (k + 1))) (fitThrees is) = drop-drop 3 m (fitThrees is) ∙ ap (λ (j : ℕ). drop j (fitThrees is)) (let z : m + 3 ≡ 3 * (i + (k + 1)) = omega arith in z) in
+    ap (λ (c : ℕ). programBytes c d) (one-fewer n k h)
+    ∙ (λ j. instructionBytes (x0 j) (x1 j) (x2 j) ++ programBytes (n - (k + 1)) (later j))
+
+-- ---- records from lists
+
+pub lengths-next : (ps : List ℕ) (n p : ℕ) → p < n
+    → programLengths (n - p) (drop (3 * p) ps) ≡ getD ps (3 * p + 2) 0 ∷ programLengths (n - (p + 1)) (drop (3 * (p + 1)) ps)
+lengths-next ps n p h =
+    let x : getD (drop (3 * p) ps) 2 0 ≡ getD ps (3 * p + 2) 0 = getD-drop (3 * p) ps 2 0 in
+    let later : drop 3 (drop (3 * p) ps) ≡ drop (3 * (p + 1)) ps = drop-drop 3 (3 * p) ps ∙ ap (λ (j : ℕ). drop j ps) (let z : 3 * p + 3 ≡ 3 * (p + 1) = omega arith in z) in
+    ap (λ (c : ℕ). programLengths c (drop (3 * p) ps)) (one-fewer n p h)
+    ∙ (λ j. x j ∷ programLengths (n - (p + 1)) (later j))
+
+-- number i of fitted placements, seen from number at on
+fitted-at : (ps : List ℕ) (at i : ℕ) → getD (drop at (map fitByte ps)) i 0 ≡ fitByte (getD ps (at + i) 0)
+fitted-at ps at i = getD-drop at (map fitByte ps) i 0 ∙ List·getD-map fitByte ps (at + i) 0
+
+pub record-next : (ps is : List ℕ) (n p i : ℕ) → p < n → getD ps (3 * p + 2) 0 ≤ 64
+    → recordsFor (n - p) (drop (3 * p) (map fitByte ps)) (drop (3 * i) (fitThrees is))
+    ≡ (fitByte (getD ps (3 * p) 0) ∷ fitByte (getD ps (3 * p + 1) 0) ∷ fitByte (getD ps (3 * p + 2) 0) ∷ [])
+    ++ (programBytes (getD ps (3 * p + 2) 0) (drop (3 * i) (fitThrees is))
+    ++ recordsFor (n - (p + 1)) (drop (3 * (p + 1)) (map fitByte ps)) (drop (3 * (i + getD ps (3 * p + 2) 0)) (fitThrees is)))
+record-next ps is n p i h few =
+    let m = getD ps (3 * p + 2) 0 in
+    let d = drop (3 * p) (map fitByte ps) in
+    let code = drop (3 * i) (fitThrees is) in
+    let x0 : getD d 0 0 ≡ fitByte (getD ps (3 * p) 0) = fitted-at ps (3 * p) 0 ∙ ap (λ (j : ℕ). fitByte (getD ps j 0)) (let z : 3 * p + 0 ≡ 3 * p = omega arith in z) in
+    let x1 : getD d 1 0 ≡ fitByte (getD ps (3 * p + 1) 0) = fitted-at ps (3 * p) 1 in
+    let x2 : getD d 2 0 ≡ fitByte m = fitted-at ps (3 * p) 2 in
+    let same : getD d 2 0 ≡ m = x2 ∙ fit-same m (omega arith) in
+    let later : drop 3 d ≡ drop (3 * (p + 1)) (map fitByte ps) = drop-drop 3 (3 * p) (map fitByte ps) ∙ ap (λ (j : ℕ). drop j (map fitByte ps)) (let z : 3 * p + 3 ≡ 3 * (p + 1) = omega arith in z) in
+    let behind : drop (3 * getD d 2 0) code ≡ drop (3 * (i + m)) (fitThrees is) =
+    ap (λ (j : ℕ). drop (3 * j) code) same ∙ drop-drop (3 * m) (3 * i) (fitThrees is) ∙ ap (λ (j : ℕ). drop j (fitThrees is)) (let z : 3 * i + 3 * m ≡ 3 * (i + m) = omega arith in z) in
+    ap (λ (c : ℕ). recordsFor c d code) (one-fewer n p h)
+    ∙ (λ j. x0 j ∷ x1 j ∷ x2 j ∷ programBytes (same j) code ++ recordsFor (n - (p + 1)) (later j) (behind j))
+
+-- ---- and from bytes
+
+-- what six bytes say
+abbrev pub threeAt : List ℕ → ℕ → List ℕ
+threeAt t at = byteAt t at ∷ byteAt t (at + 1) ∷ number32 (byteAt t (at + 2)) (byteAt t (at + 3)) (byteAt t (at + 4)) (byteAt t (at + 5)) ∷ []
+
+pub program-in-next : (t : List ℕ) (at n k : ℕ) → k < n
+    → programIn (n - k) (drop (at + 6 * k) t) ≡ threeAt t (at + 6 * k) ++ programIn (n - (k + 1)) (drop (at + 6 * (k + 1)) t)
+program-in-next t at n k h =
+    let m = at + 6 * k in
+    let x : (i : ℕ) → getD (drop m t) i 0 ≡ getD t (m + i) 0 = λ i. getD-drop m t i 0 in
+    let x0 : getD (drop m t) 0 0 ≡ getD t m 0 = x 0 ∙ ap (λ (j : ℕ). getD t j 0) (let z : m + 0 ≡ m = omega arith in z) in
+    let later : drop 6 (drop m t) ≡ drop (at + 6 * (k + 1)) t = drop-drop 6 m t ∙ ap (λ (j : ℕ). drop j t) (let z : m + 6 ≡ at + 6 * (k + 1) = omega arith in z) in
+    ap (λ (c : ℕ). programIn c (drop m t)) (one-fewer n k h)
+    ∙ (λ j. x0 j ∷ x 1 j ∷ number32 (x 2 j) (x 3 j) (x 4 j) (x 5 j) ∷ programIn (n - (k + 1)) (later j))
+
+module _ (t : List ℕ) (n p at : ℕ) (h : p < n) where
+  -- the n of the record at `at`
+  abbrev here : ℕ
+  here = byteAt t (at + 2)
+
+  length-here : recordLength (drop at t) ≡ 3 + 6 * here
+  length-here = ap (λ (k : ℕ). 3 + 6 * k) (getD-drop at t 2 0)
+
+  later-here : drop (recordLength (drop at t)) (drop at t) ≡ drop (at + (3 + 6 * here)) t
+  later-here = ap (λ (k : ℕ). drop k (drop at t)) length-here ∙ drop-drop (3 + 6 * here) at t
+
+  pub placements-next : placementsIn (n - p) (drop at t)
+      ≡ (byteAt t at ∷ byteAt t (at + 1) ∷ byteAt t (at + 2) ∷ []) ++ placementsIn (n - (p + 1)) (drop (at + (3 + 6 * here)) t)
+  unfolding placementsIn
+  placements-next =
+      let x0 : getD (drop at t) 0 0 ≡ getD t at 0 = getD-drop at t 0 0 ∙ ap (λ (j : ℕ). getD t j 0) (let z : at + 0 ≡ at = omega arith in z) in
+      ap (λ (c : ℕ). placementsIn c (drop at t)) (one-fewer n p h)
+      ∙ (λ j. x0 j ∷ getD-drop at t 1 0 j ∷ getD-drop at t 2 0 j ∷ placementsIn (n - (p + 1)) (later-here j))
+
+  pub instructions-next : instructionsIn (n - p) (drop at t)
+      ≡ programIn here (drop (at + 3) t) ++ instructionsIn (n - (p + 1)) (drop (at + (3 + 6 * here)) t)
+  unfolding instructionsIn
+  instructions-next =
+      ap (λ (c : ℕ). instructionsIn c (drop at t)) (one-fewer n p h)
+      ∙ (λ j. programIn (getD-drop at t 2 0 j) (drop-drop 3 at t j) ++ instructionsIn (n - (p + 1)) (later-here j))
+
+  module _ (ok : recordsOk (n - p) (drop at t) ≡ true) where
+    split : recordsOk (suc (n - (p + 1))) (drop at t) ≡ true
+    split = sym (ap (λ (c : ℕ). recordsOk c (drop at t)) (one-fewer n p h)) ∙ ok
+
+    pub record-within : at + (3 + 6 * here) ≤ length t
+    record-within =
+        let a = leb-true (recordLength (drop at t)) (length (drop at t))
+        (and-left (leb (recordLength (drop at t)) (length (drop at t))) _ (and-right (leb (programLength (drop at t)) pcMost) _ split)) in
+        let b = length-drop at t in
+        let c = length-here in
+        omega arith
+
+    pub records-behind : recordsOk (n - (p + 1)) (drop (at + (3 + 6 * here)) t) ≡ true
+    records-behind =
+        sym (ap (recordsOk (n - (p + 1))) later-here)
+        ∙ and-right (leb (recordLength (drop at t)) (length (drop at t))) _ (and-right (leb (programLength (drop at t)) pcMost) _ split)

@@ -1,0 +1,153 @@
+-- Single pieces stored by straight-line code, and pieces stored in a loop while some are left.
+use mathlib.Core.Path.{_≡_, refl, ap, sym, _∙_}
+use mathlib.Core.Bool.{Bool, true, false, _&&_}
+use mathlib.Core.List.{List, [], _∷_, _++_, map}
+use Prim.Native.Nat.{ℕ, zero, suc, _+_, _-_, _*_, _/_, _%_, _^_, _≤_, _<_}
+use native.Mathlib.Omega.{arith}
+use lib.ListN.{length, getD, take, drop, set, drop-of-length-le}
+use lib.Seq.{sets}
+use Rattle.rules.specs.Bytes.{byteAt, number32, sixes}
+use Rattle.rules.specs.Encode.{instructionBytes, programBytes, programIn}
+use Rattle.records.specs.Fetch.{numbered, fetched}
+use Rattle.records.specs.declared.fetch.Instruction.{Instruction}
+use Rattle.records.proofs.Sixes.{six-from}
+use Rattle.writer.specs.Fitted.{fitByte, fitThrees, headBytes}
+use Rattle.writer.specs.declared.write.Counts.{Counts}
+use Rattle.writer.proofs.Laying.{Laying, laying-start, laying-more, laying-end}
+use Rattle.writer.proofs.Pieces.{ends-next, take-next, program-next, threeAt, program-in-next}
+
+-- ---- one behind the other
+
+pub three-put : (l : List ℕ) (n a b c x y z : ℕ) → x ≡ a → y ≡ b → z ≡ c → set (set (set l n x) (n + 1) y) (n + 2) z ≡ sets l n (a ∷ b ∷ c ∷ [])
+three-put l n a b c x y z e0 e1 e2 =
+    let i1 : n + 1 ≡ suc n = omega arith in
+    let i2 : n + 2 ≡ suc (suc n) = omega arith in
+    λ j. set (set (set l n (e0 j)) (i1 j) (e1 j)) (i2 j) (e2 j)
+
+pub instruction-put : (l : List ℕ) (n code a operand x0 x1 x2 x3 x4 x5 : ℕ) → operand < 2 ^ 32 → x0 ≡ fitByte code → x1 ≡ fitByte a
+    → x2 ≡ operand / 16777216 % 256 → x3 ≡ operand / 65536 % 256 → x4 ≡ operand / 256 % 256 → x5 ≡ operand % 256
+    → set (set (set (set (set (set l n x0) (n + 1) x1) (n + 2) x2) (n + 3) x3) (n + 4) x4) (n + 5) x5
+    ≡ sets l n (instructionBytes (fitByte code) (fitByte a) operand)
+instruction-put l n code a operand x0 x1 x2 x3 x4 x5 w e0 e1 e2 e3 e4 e5 =
+    let i1 : n + 1 ≡ suc n = omega arith in
+    let i2 : n + 2 ≡ suc (suc n) = omega arith in
+    let i3 : n + 3 ≡ suc (suc (suc n)) = omega arith in
+    let i4 : n + 4 ≡ suc (suc (suc (suc n))) = omega arith in
+    let i5 : n + 5 ≡ suc (suc (suc (suc (suc n)))) = omega arith in
+    let y2 : x2 ≡ operand / 2 ^ 24 = omega arith in
+    λ j. set (set (set (set (set (set l n (e0 j)) (i1 j) (e1 j)) (i2 j) (y2 j)) (i3 j) (e3 j)) (i4 j) (e4 j)) (i5 j) (e5 j)
+
+pub head-put : (l : List ℕ) (size : ℕ) (counts : Counts) (x0 x1 x3 x4 x5 : ℕ) → x0 ≡ size / 256 % 256 → x1 ≡ size % 256
+    → x3 ≡ fitByte (counts .boards) → x4 ≡ fitByte (counts .processes) → x5 ≡ fitByte (counts .channels)
+    → set (set (set (set (set (set l 0 x0) 1 x1) 2 1) 3 x3) 4 x4) 5 x5 ≡ sets l 0 (headBytes size counts)
+head-put l size counts x0 x1 x3 x4 x5 e0 e1 e3 e4 e5 =
+    λ j. set (set (set (set (set (set l 0 (e0 j)) 1 (e1 j)) 2 1) 3 (e3 j)) 4 (e4 j)) 5 (e5 j)
+
+-- ---- the numbers of a list
+
+pub record EndsLaid (before : List ℕ) (at : ℕ) (ends after : List ℕ) (k : ℕ) : Type 0 where
+  pub passed : k ≤ length ends
+  pub laid : Laying before at (map fitByte ends) after (at + k) (map fitByte (drop k ends))
+
+module _ (before : List ℕ) (at : ℕ) (ends : List ℕ) where
+  pub ends-start : EndsLaid before at ends before 0
+  ends-start = record { passed = omega arith; laid = laying-start before at (map fitByte ends) (at + 0) (map fitByte ends) (omega arith) refl }
+
+  module _ (after : List ℕ) (k : ℕ) (h : EndsLaid before at ends after k) where
+    pub ends-more : (x : ℕ) → k < length ends → x ≡ fitByte (getD ends k 0) → EndsLaid before at ends (set after (at + k) x) (k + 1)
+    ends-more x l e = record {
+      passed = omega arith;
+      laid = laying-more (fitByte (getD ends k 0) ∷ []) (map fitByte (drop (k + 1) ends)) (set after (at + k) x) (at + (k + 1)) (h .laid) (ends-next ends k l)
+          (ap (set after (at + k)) e) (omega arith);
+    }
+
+    pub ends-end : length ends ≤ k → after ≡ sets before at (map fitByte ends)
+    ends-end l = laying-end (h .laid) (ap (map fitByte) (drop-of-length-le ends l))
+
+-- ---- and bytes taken as numbers
+
+pub record BytesTaken (before table : List ℕ) (at n : ℕ) (after : List ℕ) (k : ℕ) : Type 0 where
+  pub passed : k ≤ n
+  pub laid : Laying before 0 (take n (drop at table)) after k (take (n - k) (drop (at + k) table))
+
+module _ (before table : List ℕ) (at n : ℕ) (r : at + n ≤ length table) where
+  pub bytes-start : BytesTaken before table at n before 0
+  bytes-start =
+      let z : n - 0 ≡ n = omega arith in
+      let i : at + 0 ≡ at = omega arith in
+      record { passed = omega arith; laid = laying-start before 0 (take n (drop at table)) 0 (take (n - 0) (drop (at + 0) table)) refl (λ j. take (z j) (drop (i j) table)) }
+
+  module _ (after : List ℕ) (k : ℕ) (h : BytesTaken before table at n after k) where
+    pub bytes-more : (x : ℕ) → k < n → x ≡ getD table (at + k) 0 → BytesTaken before table at n (set after k x) (k + 1)
+    bytes-more x l e = record {
+      passed = omega arith;
+      laid = laying-more (getD table (at + k) 0 ∷ []) (take (n - (k + 1)) (drop (at + (k + 1)) table)) (set after k x) (k + 1) (h .laid) (take-next table at n k l r)
+          (ap (set after k) e) refl;
+    }
+
+    pub bytes-end : n ≤ k → after ≡ sets before 0 (take n (drop at table))
+    bytes-end l = laying-end (h .laid) (ap (λ (m : ℕ). take m (drop (at + k) table)) (let z : n - k ≡ 0 = omega arith in z))
+
+-- ---- a program's bytes from its numbers
+
+pub record ProgramLaid (before : List ℕ) (at n : ℕ) (is : List ℕ) (i : ℕ) (after : List ℕ) (k : ℕ) : Type 0 where
+  pub passed : k ≤ n
+  pub laid : Laying before at (programBytes n (drop (3 * i) (fitThrees is))) after (at + 6 * k) (programBytes (n - k) (drop (3 * (i + k)) (fitThrees is)))
+
+module _ (before : List ℕ) (at n : ℕ) (is : List ℕ) (i : ℕ) where
+  pub program-start : ProgramLaid before at n is i before 0
+  program-start =
+      let z : n - 0 ≡ n = omega arith in
+      let y : 3 * (i + 0) ≡ 3 * i = omega arith in
+      record {
+        passed = omega arith;
+        laid = laying-start before at (programBytes n (drop (3 * i) (fitThrees is))) (at + 6 * 0) (programBytes (n - 0) (drop (3 * (i + 0)) (fitThrees is)))
+            (omega arith) (λ j. programBytes (z j) (drop (y j) (fitThrees is)));
+      }
+
+  module _ (after : List ℕ) (k : ℕ) (h : ProgramLaid before at n is i after k) where
+    pub program-more : (after′ : List ℕ) → k < n
+        → after′ ≡ sets after (at + 6 * k) (instructionBytes (fitByte (getD is (3 * (i + k)) 0)) (fitByte (getD is (3 * (i + k) + 1) 0)) (getD is (3 * (i + k) + 2) 0))
+        → ProgramLaid before at n is i after′ (k + 1)
+    program-more after′ l e = record {
+      passed = omega arith;
+      laid = laying-more (instructionBytes (fitByte (getD is (3 * (i + k)) 0)) (fitByte (getD is (3 * (i + k) + 1) 0)) (getD is (3 * (i + k) + 2) 0))
+          (programBytes (n - (k + 1)) (drop (3 * (i + (k + 1))) (fitThrees is))) after′ (at + 6 * (k + 1)) (h .laid) (program-next is i n k l) e (omega arith);
+    }
+
+    pub program-end : n ≤ k → after ≡ sets before at (programBytes n (drop (3 * i) (fitThrees is)))
+    program-end l = laying-end (h .laid) (ap (λ (m : ℕ). programBytes m (drop (3 * (i + k)) (fitThrees is))) (let z : n - k ≡ 0 = omega arith in z))
+
+-- ---- and its numbers from its bytes
+
+pub record ProgramTaken (before table : List ℕ) (at n i : ℕ) (after : List ℕ) (k : ℕ) : Type 0 where
+  pub passed : k ≤ n
+  pub laid : Laying before (3 * i) (programIn n (drop at table)) after (3 * (i + k)) (programIn (n - k) (drop (at + 6 * k) table))
+
+module _ (before table : List ℕ) (at n i : ℕ) where
+  pub taken-start : ProgramTaken before table at n i before 0
+  taken-start =
+      let z : n - 0 ≡ n = omega arith in
+      let y : at + 6 * 0 ≡ at = omega arith in
+      record {
+        passed = omega arith;
+        laid = laying-start before (3 * i) (programIn n (drop at table)) (3 * (i + 0)) (programIn (n - 0) (drop (at + 6 * 0) table))
+            (omega arith) (λ j. programIn (z j) (drop (y j) table));
+      }
+
+  module _ (after : List ℕ) (k : ℕ) (h : ProgramTaken before table at n i after k) where
+    pub taken-more : (s : Instruction) (x : ℕ) → k < n → at + 6 * n ≤ length table → s ≡ fetched table at k → x ≡ s .code
+        → ProgramTaken before table at n i (set (set (set after (3 * (i + k)) x) (3 * (i + k) + 1) (s .a)) (3 * (i + k) + 2) (s .operand)) (k + 1)
+    unfolding fetched
+    taken-more s x l r e c =
+        let m = at + 6 * k in
+        let is = e ∙ six-from numbered ((length table - at) / 6) table at k (numbered 0 0 0) (omega arith) in
+        record {
+          passed = omega arith;
+          laid = laying-more (threeAt table m) (programIn (n - (k + 1)) (drop (at + 6 * (k + 1)) table)) _ (3 * (i + (k + 1))) (h .laid) (program-in-next table at n k l)
+              (three-put after (3 * (i + k)) _ _ _ x (s .a) (s .operand) (c ∙ ap (λ (y : Instruction). y .code) is) (ap (λ (y : Instruction). y .a) is)
+              (ap (λ (y : Instruction). y .operand) is)) (omega arith);
+        }
+
+    pub taken-end : n ≤ k → after ≡ sets before (3 * i) (programIn n (drop at table))
+    taken-end l = laying-end (h .laid) (ap (λ (m : ℕ). programIn m (drop (at + 6 * k) table)) (let z : n - k ≡ 0 = omega arith in z))

@@ -1,0 +1,101 @@
+use Prim.Native.Nat.{_*_}
+use lib.ListN.{length-set}
+use Rattle.writer.proofs.Storing.{three-put}
+use native.Mathlib.Omega.{arith}
+use borrow.Author.Needs.{needs}
+use Rattle.writer.proofs.apart.take_placement.Statement.{statement}
+use Rattle.writer.proofs.apart.take_placement.Tie as tie
+use Rattle.writer.proofs.apart.take_placement.Reads as reads
+use Rattle.writer.proofs.apart.take_placement.Lts as lts
+use Rattle.records.proofs.bytes.word.Reads as word-reads
+
+shared-slice-read-word : tie.Need-shared-slice-read-word
+shared-slice-read-word c = search needs
+
+word-requires : tie.Need-word-requires
+word-requires c κs = search needs
+
+mul-out : tie.Need-mul-out
+mul-out c = search needs
+
+mul-out-2 : tie.Need-mul-out-2
+mul-out-2 c = search needs
+
+slice-write-out : tie.Need-slice-write-out
+slice-write-out c = search needs
+
+add-word : tie.Need-add-word
+add-word c = search needs
+
+shared-slice-read-word-2 : tie.Need-shared-slice-read-word-2
+shared-slice-read-word-2 c = search needs
+
+word-requires-2 : tie.Need-word-requires-2
+word-requires-2 c κs = search needs
+
+mul-out-3 : tie.Need-mul-out-3
+mul-out-3 c = search needs
+
+add-out : tie.Need-add-out
+add-out c = search needs
+
+mul-out-4 : tie.Need-mul-out-4
+mul-out-4 c = search needs
+
+slice-write-out-2 : tie.Need-slice-write-out-2
+slice-write-out-2 c = simp length-set (omega arith)
+
+add-word-2 : tie.Need-add-word-2
+add-word-2 c = search needs
+
+shared-slice-read-word-3 : tie.Need-shared-slice-read-word-3
+shared-slice-read-word-3 c = search needs
+
+word-requires-3 : tie.Need-word-requires-3
+word-requires-3 c κs = search needs
+
+mul-out-5 : tie.Need-mul-out-5
+mul-out-5 c = search needs
+
+add-out-2 : tie.Need-add-out-2
+add-out-2 c = search needs
+
+mul-out-6 : tie.Need-mul-out-6
+mul-out-6 c = search needs
+
+slice-write-out-3 : tie.Need-slice-write-out-3
+slice-write-out-3 c = simp length-set (omega arith)
+
+same-length : tie.Need-same-length
+same-length c = search needs
+
+returns : tie.Need-returns
+returns c =
+    let s = c .before .before .before .before .before .before .before .before .args in
+    three-put (s .out .now) (3 * s .p) _ _ _ _ _ _ (c .before .before .before .before .word .ensures) (c .before .before .word2 .ensures) (c .word3 .ensures)
+
+pub take-placement-spec : {M : Type 1} → statement M
+take-placement-spec =
+    tie.close
+    (tie.spec
+    shared-slice-read-word
+    word-requires
+    mul-out
+    mul-out-2
+    slice-write-out
+    add-word
+    shared-slice-read-word-2
+    word-requires-2
+    mul-out-3
+    add-out
+    mul-out-4
+    slice-write-out-2
+    add-word-2
+    shared-slice-read-word-3
+    word-requires-3
+    mul-out-5
+    add-out-2
+    mul-out-6
+    slice-write-out-3
+    same-length
+    returns)

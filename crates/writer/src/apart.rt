@@ -1,0 +1,180 @@
+// A table taken apart: its bytes become lists of numbers again, in lent lists.
+ghost use mathlib.Core.Path.{_≡_};
+ghost use mathlib.Core.List.{[], _∷_};
+ghost use Prim.Native.Nat.{_+_, _*_, _≤_};
+ghost use lib.ListN.{length, take, drop};
+ghost use lib.Seq.{sets};
+ghost use Rattle.rules.specs.Bytes.{byteAt};
+ghost use Rattle.rules.specs.Format.{validateTable};
+ghost use Rattle.rules.specs.Encode.{programIn, placementsIn, instructionsIn, apart};
+ghost use Rattle.writer.specs.Taken.{TakesApart, none};
+ghost use Rattle.writer.specs.Taking.{Records, Room, roomFor, ListsTaken};
+use records::bytes::byte;
+use records::bytes::wide;
+use records::bytes::word;
+use records::fetch::fetch;
+use table::decode;
+use table::format::BOARDS;
+use table::format::CHANNELS;
+use table::format::HEAD;
+use table::format::N;
+use table::format::PROCESSES;
+use table::format::PROGRAM;
+
+// 0, the counts, and how many instructions there are; or the number that refuses the table or the lists lent for it, and zeros.
+pub struct Taken {
+    pub number: u8,
+    pub boards: u8,
+    pub processes: u8,
+    pub channels: u8,
+    pub instructions: u32,
+}
+
+fn refused(number: u8) -> Taken
+    ensures { λ r. ⌜ r ≡ none number ⌝ }
+{
+    Taken {
+        number: number,
+        boards: 0,
+        processes: 0,
+        channels: 0,
+        instructions: 0,
+    }
+}
+
+// The n bytes from `at` on, as numbers at the front of a list.
+fn take_bytes(table: &[u8], at: usize, n: usize, out: &mut [u32])
+    requires { ⌜ (at + n ≤ length (now table)) × (n ≤ length (now out)) ⌝ }
+    ensures { λ _. ⌜ now (out .exit) ≡ sets (now (out .entry)) 0 (take n (drop at (now (table .entry)))) ⌝ }
+{
+    let mut k = 0;
+    while k < n {
+        out[k] = word(table[at + k]);
+        k += 1;
+    }
+}
+
+// The n instructions of a program that begins at `at`, as the i-th and those behind it.
+fn take_program(table: &[u8], at: usize, n: usize, out: &mut [u32], i: usize)
+    requires { ⌜ (at + 6 * n ≤ length (now table)) × (3 * (i + n) ≤ length (now out)) ⌝ }
+    ensures { λ _. ⌜ now (out .exit) ≡ sets (now (out .entry)) (3 * i) (programIn n (drop at (now (table .entry)))) ⌝ }
+{
+    let mut k = 0;
+    while k < n {
+        let j = 3 * (i + k);
+        let s = fetch(table, at, k);
+        out[j] = word(s.code);
+        out[j + 1] = s.a;
+        out[j + 2] = s.operand;
+        k += 1;
+    }
+}
+
+// The boards and n of the record at `at`, as those of process p.
+fn take_placement(table: &[u8], at: usize, out: &mut [u32], p: usize)
+    requires { ⌜ (at + 3 ≤ length (now table)) × (3 * p + 3 ≤ length (now out)) ⌝ }
+    ensures { λ _. ⌜ now (out .exit) ≡ sets (now (out .entry)) (3 * p) (byteAt (now (table .entry)) at
+        ∷ byteAt (now (table .entry)) (at + 1) ∷ byteAt (now (table .entry)) (at + 2) ∷ []) ⌝ }
+{
+    out[3 * p] = word(table[at]);
+    out[3 * p + 1] = word(table[at + 1]);
+    out[3 * p + 2] = word(table[at + 2]);
+}
+
+// The records from `at` on, one for each process.
+fn take_records(
+    table: &[u8],
+    at: usize,
+    processes: usize,
+    placements: &mut [u32],
+    instructions: &mut [u32],
+)
+    requires { ⌜ Records processes (drop at (now table)) ⌝ }
+    requires { ⌜ length (placementsIn processes (drop at (now table))) ≤ length (now placements) ⌝ }
+    requires { ⌜ length (instructionsIn processes (drop at (now table))) ≤ length (now instructions) ⌝ }
+    ensures { λ _. ⌜ (now (placements .exit) ≡ sets (now (placements .entry)) 0 (placementsIn processes (drop at (now (table .entry)))))
+        × (now (instructions .exit) ≡ sets (now (instructions .entry)) 0 (instructionsIn processes (drop at (now (table .entry))))) ⌝ }
+{
+    let mut next = at;
+    let mut i = 0;
+    let mut p = 0;
+    while p < processes {
+        let n = wide(table[next + N]);
+        take_placement(table, next, placements, p);
+        take_program(table, next + PROGRAM, n, instructions, i);
+        next += PROGRAM + 6 * n;
+        i += n;
+        p += 1;
+    }
+}
+
+// How many instructions an accepted table has, from its length.
+fn instructions_in(table: &[u8]) -> usize
+    requires { ⌜ validateTable (now table) ≡ 0 ⌝ }
+    ensures { λ r. ⌜ (3 * r ≡ length (apart (now (table .entry)) .instructions)) × (r ≤ 6262) ⌝ }
+{
+    (table.len() - HEAD - 2 * wide(byte(table, CHANNELS)) - 3 * wide(byte(table, PROCESSES))) / 6
+}
+
+// The lists of an accepted table, into lists that have room for them.
+fn take_lists(table: &[u8], ends: &mut [u32], placements: &mut [u32], instructions: &mut [u32])
+    requires { ⌜ validateTable (now table) ≡ 0 ⌝ }
+    requires { ⌜ Room (now table) (now ends) (now placements) (now instructions) ⌝ }
+    ensures { λ _. ⌜ ListsTaken (now (table .entry)) (now (ends .entry)) (now (placements .entry)) (now (instructions .entry))
+        (now (ends .exit)) (now (placements .exit)) (now (instructions .exit)) ⌝ }
+{
+    let pairs = 2 * wide(byte(table, CHANNELS));
+    take_bytes(table, HEAD, pairs, ends);
+    take_records(
+        table,
+        HEAD + pairs,
+        wide(byte(table, PROCESSES)),
+        placements,
+        instructions,
+    );
+}
+
+// Whether the three lists have room for a table's: two numbers for each channel, three for each process and three for each instruction.
+fn has_room(table: &[u8], total: usize, ends: usize, placements: usize, instructions: usize) -> bool
+    requires { ⌜ (validateTable (now table) ≡ 0) × ((3 * total ≡ length (apart (now table) .instructions)) × (total ≤ 6262)) ⌝ }
+    ensures { λ r. ⌜ r ≡ roomFor (now (table .entry)) ends placements instructions ⌝ }
+{
+    2 * wide(byte(table, CHANNELS)) <= ends
+        && (3 * wide(byte(table, PROCESSES)) <= placements && 3 * total <= instructions)
+}
+
+// A table's lists go to the fronts of three lent ones, and what is behind them stays. Refused, by the reader's number or by 45 where one of
+// the three is too short, they stay as they were.
+pub fn take_apart(
+    table: &[u8],
+    ends: &mut [u32],
+    placements: &mut [u32],
+    instructions: &mut [u32],
+) -> Taken
+    ensures { λ r. ⌜ TakesApart (now (table .entry)) (now (ends .entry)) (now (placements .entry)) (now (instructions .entry)) r
+        (now (ends .exit)) (now (placements .exit)) (now (instructions .exit)) ⌝ }
+{
+    let d = decode(table);
+    let number = d.number;
+    if number != 0 {
+        return refused(number);
+    }
+    let total = instructions_in(table);
+    if !has_room(
+        table,
+        total,
+        ends.len(),
+        placements.len(),
+        instructions.len(),
+    ) {
+        return refused(45);
+    }
+    take_lists(table, ends, placements, instructions);
+    Taken {
+        number: 0,
+        boards: byte(table, BOARDS),
+        processes: byte(table, PROCESSES),
+        channels: byte(table, CHANNELS),
+        instructions: total as u32,
+    }
+}

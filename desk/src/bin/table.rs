@@ -1,0 +1,53 @@
+//! `./table`: lists of numbers as text become a table, and a table such text.
+use desk::front::{self, Failure};
+use desk::{input, lists};
+use kunzeastylus::{Lists, TableRefusal};
+use std::process::ExitCode;
+
+const USAGE: &str = "./table [--bytes | --apart] FILE, where FILE - is standard input
+  FILE          lists as text: decimal numbers under the headings counts, ends, placements and instructions. Prints the table as hex text
+  --bytes FILE  the same, and prints the table's bytes
+  --apart FILE  a table, bytes or hex text. Prints its lists as such text
+What is refused prints `refused` and the number (docs/NUMBERS.md), says why on standard error, and ends with 3.";
+
+fn main() -> ExitCode {
+    front::main("table", USAGE, |arguments| match arguments {
+        [option, file] if option == "--bytes" => written(file).map(|(table, _)| table),
+        [option, file] if option == "--apart" => apart(file),
+        [file] if !file.starts_with("--") => written(file).map(|(table, lists)| lists::hex(&table, &lists).into_bytes()),
+        _ => Err(Failure::Usage),
+    })
+}
+
+/// The table of a file of text.
+fn written(file: &str) -> Result<(Vec<u8>, Lists), Failure> {
+    let text = lists::parse(&input::text(file)?).map_err(|why| Failure::Unasked(format!("{}: {why}", input::name(file))))?;
+    match text.lists.table() {
+        Ok(table) => Ok((table, text.lists)),
+        Err(refusal) => Err(refused(refusal, lists::explain(&text, refusal.number()))),
+    }
+}
+
+/// The text of a file with a table.
+fn apart(file: &str) -> Result<Vec<u8>, Failure> {
+    match Lists::of(&input::bytes(file)?) {
+        Ok(found) => Ok(lists::print(&found).into_bytes()),
+        Err(refusal) => Err(refused(refusal, String::new())),
+    }
+}
+
+fn refused(refusal: TableRefusal, place: String) -> Failure {
+    let meaning = match refusal {
+        TableRefusal::Length => "under 6 bytes, or a length field over 6,260 or not the true one",
+        TableRefusal::Version => "its version",
+        TableRefusal::Counts => "boards, processes or channels",
+        TableRefusal::Extent => "n over 64, or a list not as long as its counts say",
+        TableRefusal::ChannelEnds => "channel ends",
+        TableRefusal::ChannelsRead => "more than four channels read",
+        TableRefusal::Boards => "a board not below B, or primary equal to backup",
+        TableRefusal::Instruction => "an instruction",
+        TableRefusal::NoRoom => "no room for the table",
+    };
+    let why = if place.is_empty() { meaning.to_string() } else { format!("{meaning}: {place}") };
+    Failure::Explained(refusal.number(), why)
+}
