@@ -24,6 +24,7 @@ use Rattle.state.specs.Store.{Store, storeOf, Holds, itemOf, blankEntry, outbox
 use Rattle.state.specs.Moved.{Reachable, Answered, answerOf}
 use Rattle.state.proofs.Reading.{at-process, at-outbox, how-many-boards}
 use Rattle.state.proofs.Queueing.{QueueThen, left}
+use Rattle.state.proofs.Totals.{occupancy-outbox, totalled-same}
 use Rattle.state.proofs.Backing.{backup-changed}
 use Rattle.state.proofs.Reaching.{protected-is}
 use Rattle.state.proofs.Owners.{checkpoint-owner}
@@ -70,33 +71,35 @@ module _ {t : Table} {s : Store} {entries : List Entry} {c : Cabinet} (reach : R
       rw same (getD-set-other (s .waits) p q 0 0 n ∙ old ∙ ap (λ (i : ℕ). flag (waiting q (outboxAt c i))) e ∙ ap flag before))
       (λ m. rw (getD-set-other (c .outboxes) b (processAt c q .board) rest [] m) (getD-set-other (s .waits) p q 0 0 n ∙ old)))
 
-  queue-then : QueueThen t s c b board′ (s .queued) (set (s .waits) p 0) ((firstIn (s .boards) b + 1) % 32) (getD board′ 1 0) rest
+  queue-then : QueueThen t s c b board′ (s .totals) (set (s .waits) p 0) ((firstIn (s .boards) b + 1) % 32) (getD board′ 1 0) rest
   queue-then = record {
     is-first = popped .first-is;
     is-count = refl;
     is-dead = popped .dead-is;
     three = popped .three;
-    in-queues = λ i li. let a = flight-leave i (c .outboxes) b (rules.checkpoint p k) rest oldest in h .queued-is i li ∙ omega arith;
-    queued-long = h .queued-length;
+    totalled-then = totalled-same (h .totalled) (λ i.
+        let a = flight-leave i (c .outboxes) b (rules.checkpoint p k) rest oldest in
+        let d = occupancy-outbox t c b rest i 0 0 (omega arith) in
+        omega arith);
     waiting-there = waits-then;
     waits-long = length-set (s .waits) p 0 ∙ h .waits-length;
   }
 
   -- the lists afterwards hold the rules' cabinet afterwards
   pub sync-holds : (log′ head′ : List ℕ) → BackupBecame (getD (s .rows) p []) (getD (s .logs) p []) (getD (s .heads) p []) log′ head′ (keeps k)
-      → Holds t (storeOf (s .rows) (s .mails) (set (s .logs) p log′) (set (s .heads) p head′) (set (s .boards) b board′) (s .unread) (s .queued) (set (s .waits) p 0)) entries
+      → Holds t (storeOf (s .rows) (s .mails) (set (s .logs) p log′) (set (s .heads) p head′) (set (s .boards) b board′) (s .totals) (set (s .waits) p 0)) entries
       (withProcess p (keeps k (processAt c p)) (withOutbox b rest c))
   unfolding keeps
   sync-holds log′ head′ became =
       let count-is : countIn (s .boards) b ≡ suc (getD board′ 1 0) = sym (popped .count-is) in
-      let first = left h (reach .accepted .boards-high) b hb board′ (s .queued) (set (s .waits) p 0) (getD board′ 1 0) rest count-is
+      let first = left h (reach .accepted .boards-high) b hb board′ (s .totals) (set (s .waits) p 0) (getD board′ 1 0) rest count-is
       (oldest-is h b hb (getD board′ 1 0) (rules.checkpoint p k) rest count-is oldest) queue-then in
       backup-changed first (reach .accepted .processes-high) p its-process log′ head′ (keeps k) (became _ (h .kept p its-process)) (λ y. refl) (λ y. refl)
 
   -- and so the move: 5 where the process is protected, 6 where not
   pub sync-answered : (log′ head′ : List ℕ) → BackupBecame (getD (s .rows) p []) (getD (s .logs) p []) (getD (s .heads) p []) log′ head′ (keeps k)
       → (command : Command) (number : ℕ) → cond (eqb (getD (getD (s .rows) p []) 12 0) 0) 6 5 ≡ number
-      → Answered t (storeOf (s .rows) (s .mails) (set (s .logs) p log′) (set (s .heads) p head′) (set (s .boards) b board′) (s .unread) (s .queued) (set (s .waits) p 0)) entries c command
+      → Answered t (storeOf (s .rows) (s .mails) (set (s .logs) p log′) (set (s .heads) p head′) (set (s .boards) b board′) (s .totals) (set (s .waits) p 0)) entries c command
       (transmitItem t (withOutbox b rest c) (rules.checkpoint p k)) (answerOf number p 0)
   unfolding transmitItem numbers
   sync-answered log′ head′ became command number e = record {
@@ -118,11 +121,11 @@ module _ (rows logs heads : List (List ℕ)) (waits : List ℕ) (process : ℕ) 
   pub syncs-so : (number : ℕ) → cond (eqb (getD (getD rows p []) 12 0) 0) 6 5 ≡ number
       → Syncs rows logs heads waits process checkpoint (set logs p log′) (set heads p head′) (set waits p 0) (answerOf number process 0)
   syncs-so number e = record {
-    answered = λ t mails boards unread queued entries c command b board′ rest reach h hb popped oldest.
-        let s : Store = storeOf rows mails logs heads boards unread queued waits in
+    answered = λ t mails boards totals entries c command b board′ rest reach h hb popped oldest.
+        let s : Store = storeOf rows mails logs heads boards totals waits in
         let hq : process < length (t .processes) = its-process reach h b hb process (checkpointOf checkpoint) rest oldest board′ popped in
         let same : p ≡ process = is-p (let z = reach .accepted .processes-high in omega arith) in
-        subst (λ (i : ℕ). Answered t (storeOf rows mails (set logs i log′) (set heads i head′) (set boards b board′) unread queued (set waits i 0)) entries c command
+        subst (λ (i : ℕ). Answered t (storeOf rows mails (set logs i log′) (set heads i head′) (set boards b board′) totals (set waits i 0)) entries c command
         (transmitItem t (withOutbox b rest c) (rules.checkpoint process (checkpointOf checkpoint))) (answerOf number process 0)) (sym same)
         (sync-answered reach h b hb process (checkpointOf checkpoint) rest oldest board′ popped log′ head′
         (subst (λ (i : ℕ). BackupBecame (getD rows i []) (getD logs i []) (getD heads i []) log′ head′ (keeps (checkpointOf checkpoint))) same became) command number
