@@ -3,5 +3,6 @@ pub mod Limits
 pub mod Replica
 pub mod Laws
 pub mod Accepts
-pub mod Place
 pub mod Rounds
+pub mod Report
+pub mod Place
