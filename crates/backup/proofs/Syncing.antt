@@ -14,7 +14,8 @@ use Rattle.backup.specs.Replica.{Message, Replica, savedOn, takenOn, lac
 use Rattle.backup.specs.Laws.{saved-remaining}
 use Rattle.backup.specs.Accepts.{fit-parts, enough, answer-number, answer-done, sync-accepted, synced-fit}
 use Rattle.backup.specs.Place.{messages, viewIn, tallyIn, headLength, Sound, Called, takenOf, checkpointOf, lacksIn, Compacted, restatedIn, reportOf, refusedOf, landedIn, Reports}
-use Rattle.backup.specs.Report.{syncReport, syncReport-accepted, syncReport-refused, gone-taken}
+use Rattle.backup.specs.Report.{syncReport}
+use Rattle.backup.specs.ReportLaws.{syncReport-accepted, syncReport-refused, gone-taken}
 use Rattle.backup.specs.Rounds.{allTaken, syncRounds, syncRounds-none, syncRounds-some, OnePass, onePass-by}
 use Rattle.backup.specs.declared.place.Checkpoint.{Checkpoint}
 use Rattle.backup.proofs.InPlace.{refused-so, accepted-so, same-replica, view-length}
@@ -123,10 +124,10 @@ module _ (log head : List ℕ) (c : Checkpoint) where
 
   -- done: what was taken has gone, and the tallies are what remains
   pub reports-done : (log′ head′ : List ℕ) (rounds : ℕ) → Called log head log′ head′ 0 (λ v. sync v (checkpointOf c)) → Reports log head c (landedIn head′ c rounds .landed)
+  unfolding sync
   reports-done log′ head′ rounds k = record { refused-none = λ z. absurd (z refl); report-is = by-port }
     where
       by-port : Sound log head → reportOf (landedIn head′ c rounds .landed) ≡ syncReport (viewIn log head) (checkpointOf c)
-      unfolding sync
       by-port s =
           let v : Replica = viewIn log head in
           let z : syncNumber v (checkpointOf c) ≡ 0 = sym (answer-number (syncNumber v (checkpointOf c)) v (synced v (checkpointOf c))) ∙ sym (k .number-is s) in

@@ -121,7 +121,7 @@ pub sync-parts : (r : Replica) (c : Checkpoint) → syncNumber r c ≡ 0 → (fi
 unfolding syncNumber
 sync-parts r c h = go (fit r) (ltb pcMost (c .pc)) (lacking (c .taken) (r .log)) h
   where
-    go : (f p l : Bool) → cond (not f) 20 (cond p 21 (cond l 23 0)) ≡ 0 → (f ≡ true) × (l ≡ false)
+    go : (f p l : Bool) → _≡_ {A = ℕ} (cond (not f) 20 (cond p 21 (cond l 23 0))) 0 → (f ≡ true) × (l ≡ false)
     go false p l e = absurd (omega arith)
     go true true l e = absurd (omega arith)
     go true false true e = absurd (omega arith)

@@ -1,20 +1,12 @@
 -- What a sync reports of the saved words. W-202: "The backup record's sync shall also return, for each slot, how many words were dropped and
 -- how many remain, all 0 when refused. A carried sync then answers 5 with the total dropped as its word".
-use mathlib.Core.Path.{_≡_, refl, ap, sym, _∙_}
-use mathlib.Core.Bool.{Bool, true, false, cond}
 use mathlib.Core.List.{List, [], _∷_}
-use Prim.Native.Nat.{ℕ, zero, suc, _+_, _-_, _≤_, _<_}
-use native.Mathlib.Omega.{arith}
-use lib.ListN.{length, getD}
-use Rattle.facts.specs.Tests.{by-eq}
+use Prim.Native.Nat.{ℕ, zero, suc, _-_}
+use lib.ListN.{getD}
 use Rattle.facts.specs.Lists.{listed}
-use Rattle.facts.specs.Rings.{getD-listed}
-use Rattle.facts.specs.Sums.{sumBelow, sum-same}
+use Rattle.facts.specs.Sums.{sumBelow}
 use Rattle.backup.specs.Limits.{ports}
-use Rattle.backup.specs.Replica.{Message, Replica, Checkpoint, fit, savedOn, takenOn, remaining, lacking, synced, syncNumber}
-use Rattle.backup.specs.Laws.{saved-remaining, length-remaining}
-use Rattle.backup.specs.Accepts.{fit-parts, enough, sync-parts}
-use Rattle.backup.specs.Rounds.{allTaken}
+use Rattle.backup.specs.Replica.{Message, Replica, Checkpoint, savedOn, synced, syncNumber}
 
 -- for each port, from port 0 on: the messages that the sync dropped, and those that remain
 pub record Report : Type 0 where
@@ -46,54 +38,3 @@ syncReport r c = reportFor (syncNumber r c) (r .log) (synced r c .log)
 -- "the total dropped"
 abbrev pub totalDropped : Report → ℕ
 totalDropped r = sumBelow (λ p. getD (r .dropped) p 0) ports
-
--- ---- laws
-
-pub syncReport-accepted : (r : Replica) (c : Checkpoint) → syncNumber r c ≡ 0 → syncReport r c ≡ reportOn (r .log) (synced r c .log)
-unfolding syncReport
-syncReport-accepted r c h = rw h
-
-pub syncReport-refused : (r : Replica) (c : Checkpoint) → (syncNumber r c ≡ 0 → ⊥) → syncReport r c ≡ noReport
-unfolding syncReport
-syncReport-refused r c h = go (syncNumber r c) h
-  where
-    go : (n : ℕ) → (n ≡ 0 → ⊥) → reportFor n (r .log) (synced r c .log) ≡ noReport
-    go zero k = absurd (k refl)
-    go (suc n) k = refl
-
-module _ (r : Replica) (c : Checkpoint) (h : syncNumber r c ≡ 0) where
-  -- what has gone from a port is what was taken on it
-  pub gone-taken : (p : ℕ) → p < ports → savedOn p (r .log) - savedOn p (synced r c .log) ≡ takenOn (c .taken) p
-  gone-taken p l =
-      let a = saved-remaining p (c .taken) (r .log) in
-      let b = enough (c .taken) (r .log) (sync-parts r c h .1) p l in
-      omega arith
-
-  -- for each port: dropped is what was taken
-  pub syncReport-dropped : (p : ℕ) → p < ports → getD (syncReport r c .dropped) p 0 ≡ takenOn (c .taken) p
-  syncReport-dropped p l =
-      ap (λ (x : Report). getD (x .dropped) p 0) (syncReport-accepted r c h) ∙ getD-listed (λ q. savedOn q (r .log) - savedOn q (synced r c .log)) ports p 0 l ∙ gone-taken p l
-
-  -- dropped and remaining together are what was saved
-  pub syncReport-whole : (p : ℕ) → p < ports → getD (syncReport r c .dropped) p 0 + getD (syncReport r c .remained) p 0 ≡ savedOn p (r .log)
-  syncReport-whole p l =
-      let a = syncReport-dropped p l in
-      let b : getD (syncReport r c .remained) p 0 ≡ savedOn p (synced r c .log) =
-      ap (λ (x : Report). getD (x .remained) p 0) (syncReport-accepted r c h) ∙ getD-listed (λ q. savedOn q (synced r c .log)) ports p 0 l in
-      let d = saved-remaining p (c .taken) (r .log) in
-      let e = enough (c .taken) (r .log) (sync-parts r c h .1) p l in
-      omega arith
-
-  -- the total is that of all that was taken
-  pub totalDropped-taken : totalDropped (syncReport r c) ≡ allTaken (c .taken)
-  totalDropped-taken = sum-same (λ p. getD (syncReport r c .dropped) p 0) (takenOn (c .taken)) ports syncReport-dropped
-
--- and never more than was saved
-pub totalDropped-few : (r : Replica) (c : Checkpoint) → totalDropped (syncReport r c) ≤ length (r .log)
-totalDropped-few r c =
-    by-eq (syncNumber r c) 0
-    (λ h.
-    let a = totalDropped-taken r c h in
-    let b = length-remaining (c .taken) (r .log) (fit-parts r (sync-parts r c h .0) .on-ports) (enough (c .taken) (r .log) (sync-parts r c h .1)) in
-    omega arith)
-    (λ n. let a : totalDropped (syncReport r c) ≡ 0 = ap totalDropped (syncReport-refused r c n) in omega arith)

@@ -7,7 +7,8 @@ ghost use Prim.Native.Nat.{ℕ, _+_, _-_, _%_, _^_, _≤_, _<_};
 ghost use lib.ListN.{length, getD, set};
 ghost use Rattle.backup.specs.Limits.{logMost};
 ghost use Rattle.backup.specs.Replica.{arrive, count, sync};
-ghost use Rattle.backup.specs.Place.{Called, headLength, portIn, wordIn, checkpointOf, takenOf, lacksIn, restatedIn, Compacted, promotionIn, viewIn, Reports, refusedOf, landedIn};
+ghost use Rattle.backup.specs.Place.{Called, headLength, portIn, wordIn, checkpointOf, takenOf, lacksIn, restatedIn, Compacted, promotionIn, viewIn, Reports, reportOf, refusedOf, landedIn};
+ghost use Rattle.backup.specs.Report.{totalDropped};
 ghost use Rattle.backup.specs.Rounds.{allTaken, OnePass};
 use crate::limits::LOG;
 use crate::limits::PC_MOST;
@@ -283,6 +284,14 @@ pub fn sync_in(log: &mut [u64; LOG], head: &mut [u32; HEAD], c: Checkpoint) -> L
 {
     let m = metered_sync_in(log, head, c);
     m.landed
+}
+
+// How many messages a sync dropped, on all ports together, in 32 bits.
+pub fn total_dropped(r: Landed) -> u32
+    ensures { λ n. ⌜ n ≡ totalDropped (reportOf r) % 2 ^ 32 ⌝ }
+{
+    let d = r.dropped;
+    ((wide(d[0]) + wide(d[1]) + wide(d[2]) + wide(d[3])) % 4294967296) as u32
 }
 
 // The backup takes over: what its process goes on from. The log holds the messages.

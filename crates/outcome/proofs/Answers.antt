@@ -11,7 +11,7 @@ use Rattle.facts.specs.Counts.{same-yes}
 use Rattle.rules.specs.Table.{Table, codeOf, channelAt}
 use Rattle.rules.specs.Machine.{Mail, Machine, internal, took, sent, Outcome, halted, noMail, moved, localStep}
 use Rattle.rules.specs.Cabinet.{Item, message, checkpoint, Cabinet, processAt, outboxAt, protected}
-use Rattle.rules.specs.Moves.{Command, Refusal, refusalNumber, Answer, stepDone, issueDone, crashDone, received, queued, suppressed, transmitted, injected, syncKept, syncLost, refused, numbers, withOutbox, send, stepFrom, step, issue, transmitItem, transmitOldest, transmit, inject, crash, turn}
+use Rattle.rules.specs.Moves.{Command, Refusal, refusalNumber, Answer, stepDone, issueDone, crashDone, received, queued, suppressed, transmitted, injected, syncKept, syncLost, droppedFrom, refused, numbers, withOutbox, send, stepFrom, step, issue, transmitItem, transmitOldest, transmit, inject, crash, turn}
 use Rattle.rules.proofs.Decoded.{refusalNumber-listed}
 use Rattle.rules.proofs.Steps.{Steps}
 use Rattle.rules.proofs.Tables.{step-own}
@@ -68,10 +68,10 @@ unfolding numbers
 fits-injected x h = record { code-small = omega arith; a-small = h }
 
 -- and those that name a process
-fits-sync : (p : ℕ) (b : Bool) → p < 256 → Fits (cond b (syncKept p) (syncLost p))
+fits-sync : (p dropped : ℕ) (b : Bool) → p < 256 → Fits (cond b (syncKept p dropped) (syncLost p))
 unfolding numbers
-fits-sync p true h = record { code-small = omega arith; a-small = h }
-fits-sync p false h = record { code-small = omega arith; a-small = h }
+fits-sync p dropped true h = record { code-small = omega arith; a-small = h }
+fits-sync p dropped false h = record { code-small = omega arith; a-small = h }
 
 module _ {t : Table} {c : Cabinet} (reach : Reachable t c) where
   -- a channel's number, and a process's
@@ -124,7 +124,7 @@ module _ {t : Table} {c : Cabinet} (reach : Reachable t c) where
   item-fits : (b : ℕ) (item : Item) (rest : List Item) → outboxAt c b ≡ item ∷ rest → Yields Fitting (transmitItem t (withOutbox b rest c) item)
   unfolding transmitItem
   item-fits b (message x) rest e = leaves (fits-transmitted x (channel-small (x .channel) (sent-inside (reach .accepted) (x .channel) (word-owner reach b x rest e .0))))
-  item-fits b (checkpoint p s) rest e = leaves (fits-sync p (protected (processAt c p)) (process-small p (checkpoint-owner reach b p s rest e .0)))
+  item-fits b (checkpoint p s) rest e = leaves (fits-sync p (droppedFrom s (processAt c p .standby)) (protected (processAt c p)) (process-small p (checkpoint-owner reach b p s rest e .0)))
 
   oldest-fits : (b : ℕ) (q : List Item) → outboxAt c b ≡ q → Yields Fitting (transmitOldest t c b q)
   unfolding transmitOldest

@@ -15,7 +15,7 @@ use Rattle.rules.specs.Table.{Table, environment, channelAt, codeOf}
 use Rattle.rules.specs.Machine.{Mail, Machine, sent}
 use Rattle.rules.specs.Reference.{Reference, Action, posted, withMachine, act, injections}
 use Rattle.rules.specs.Cabinet.{Standby, Process, Item, message, checkpoint, Cabinet, nobody, processAt, outboxAt, protected}
-use Rattle.rules.specs.Moves.{syncKept, syncLost, numbers, accept, withProcess, withOutbox, onReplica, counts, keeps, deliver, transmitItem, transmitOldest, transmit, inject}
+use Rattle.rules.specs.Moves.{syncKept, syncLost, droppedFrom, numbers, accept, withProcess, withOutbox, onReplica, counts, keeps, deliver, transmitItem, transmitOldest, transmit, inject}
 use Rattle.rules.specs.Judge.{Accepted}
 use Rattle.rules.specs.Transparent.{traceOf}
 use Rattle.rules.proofs.Steps.{Steps}
@@ -141,11 +141,12 @@ module _ {t : Table} (ok : Accepted t) {c : Cabinet} {s : Reference} (inv : Inva
       leaves (transmits-word ok inv (senderOf t mail) (o .there) b mail rest (o .runs) refl oldest (roomy .for-oldest b mail rest oldest))
   follow-item b (checkpoint p k) rest oldest =
       let o = owner t c s b (checkpoint p k) rest inv oldest in
-      kept-or-lost (protected (processAt c p)) (transmits-checkpoint ok inv p (o .there) b k rest (o .runs) oldest)
+      kept-or-lost (protected (processAt c p)) (droppedFrom k (processAt c p .standby)) (transmits-checkpoint ok inv p (o .there) b k rest (o .runs) oldest)
     where
-      kept-or-lost : {d : Cabinet} (y : Bool) → Follows t d s [] [] → Yields (λ d a. Follows t d s (traced1 a) []) (accept d (cond y (syncKept p) (syncLost p)))
-      kept-or-lost true f = leaves f
-      kept-or-lost false f = leaves f
+      kept-or-lost : {d : Cabinet} (y : Bool) (dropped : ℕ) → Follows t d s [] []
+          → Yields (λ d a. Follows t d s (traced1 a) []) (accept d (cond y (syncKept p dropped) (syncLost p)))
+      kept-or-lost true dropped f = leaves f
+      kept-or-lost false dropped f = leaves f
 
   pub follow-transmit : (b : ℕ) → Yields (λ d a. Follows t d s (traced1 a) []) (transmit t c b)
   unfolding transmit transmitOldest
