@@ -160,11 +160,18 @@ fn lane(x: u64) -> usize
     wide(port_of(x) % 4)
 }
 
+// Four numbers, one of each port, together.
+fn together(n0: u32, n1: u32, n2: u32, n3: u32) -> usize
+    ensures { λ r. ⌜ r ≡ allTaken (n0 ∷ n1 ∷ n2 ∷ n3 ∷ []) ⌝ }
+{
+    wide(n0) + wide(n1) + wide(n2) + wide(n3)
+}
+
 // How many messages were taken, on all ports together.
 fn all_taken(c: Checkpoint) -> usize
     ensures { λ r. ⌜ r ≡ allTaken (takenOf c) ⌝ }
 {
-    wide(c.t0) + wide(c.t1) + wide(c.t2) + wide(c.t3)
+    together(c.t0, c.t1, c.t2, c.t3)
 }
 
 // Drops the oldest messages of each port, as many as were taken on it, in one pass over the first len, and counts its rounds: the first
@@ -291,7 +298,7 @@ pub fn total_dropped(r: Landed) -> u32
     ensures { λ n. ⌜ n ≡ totalDropped (reportOf r) % 2 ^ 32 ⌝ }
 {
     let d = r.dropped;
-    ((wide(d[0]) + wide(d[1]) + wide(d[2]) + wide(d[3])) % 4294967296) as u32
+    (together(d[0], d[1], d[2], d[3]) % 4294967296) as u32
 }
 
 // The backup takes over: what its process goes on from. The log holds the messages.
