@@ -1,7 +1,3 @@
-use Rattle.backup.specs.Accepts.{sync-unfit}
-use Rattle.backup_value.specs.Value.{view}
-use Rattle.backup.specs.Place.{checkpointOf}
-use Rattle.backup_value.proofs.ByValue.{answered-20, answered-so, rounds-20, rounds-so}
 use native.Mathlib.Omega.{arith}
 use borrow.Author.Needs.{needs}
 use Rattle.backup_value.proofs.metered_sync.Statement.{statement}
@@ -11,37 +7,40 @@ use Rattle.backup_value.proofs.metered_sync.Lts as lts
 use Rattle.backup.proofs.place.metered_sync_in.Reads as metered-sync-in-reads
 use Rattle.backup_value.proofs.opened.Reads as opened-reads
 use Rattle.backup_value.proofs.settled.Reads as settled-reads
+use Rattle.backup_value.proofs.told.Reads as told-reads
 use Rattle.backup_value.proofs.unfit.Reads as unfit-reads
 
+-- src/lib.rt:268:9
 opened-requires : tie.Need-opened-requires
 opened-requires c κs = search needs
 
+-- src/lib.rt:272:13
 metered-sync-in-requires : tie.Need-metered-sync-in-requires
 metered-sync-in-requires c κs = search needs
 
+-- src/lib.rt:276:13
 settled-requires : tie.Need-settled-requires
 settled-requires c κs = search needs
 
-returns : tie.Need-returns
-returns c =
-    let b = c .before .before .before .before .before .before .before .before .args .b in
-    let o = c .before .before .before .before .before .before .before .opened in
-    let k = c .before .metered-sync-in in
-    let y = c .before .before .before .before .before .before .if1 .taken in (
-      answered-so b (o .result) (o .ensures) (c .settled .result) _ (k .result .number) (k .last .0) (k .last .1 .0) y (k .ensures .0) (c .settled .ensures),
-      rounds-so b (o .result) (o .ensures) y _ (k .result .number) (k .result .rounds) _ (k .ensures .1) (c .settled .ensures .number-is),
-    )
+-- src/lib.rt:278:20
+told-requires : tie.Need-told-requires
+told-requires c κs = search needs
 
+-- src/lib.rt:277:9
+returns : tie.Need-returns
+returns c = search needs
+
+-- src/lib.rt:283:21
 unfit-requires : tie.Need-unfit-requires
 unfit-requires c κs = search needs
 
+-- src/lib.rt:283:16
+told-requires-2 : tie.Need-told-requires-2
+told-requires-2 c κs = search needs
+
+-- src/lib.rt:263:1
 returns-2 : tie.Need-returns-2
-returns-2 c =
-    let a = c .before .before .before .args in
-    let o = c .before .before .opened in (
-      answered-20 (a .b) (o .result) (o .ensures) _ _ (c .before .if1 .left) (c .unfit .ensures .0) (c .unfit .ensures .1) (sync-unfit (view (a .b)) (checkpointOf (a .c))),
-      rounds-20 (view (a .b)) (checkpointOf (a .c)) _ (c .unfit .ensures .0),
-    )
+returns-2 c = search needs
 
 pub metered-sync-spec : {M : Type 1} → statement M
 metered-sync-spec =
@@ -50,6 +49,8 @@ metered-sync-spec =
     opened-requires
     metered-sync-in-requires
     settled-requires
+    told-requires
     returns
     unfit-requires
+    told-requires-2
     returns-2)
