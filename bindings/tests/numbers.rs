@@ -1,6 +1,9 @@
 //! The enums have document 01's numbers, all of them and no others, here and in include/kunzeastylus.h; docs/NUMBERS.md explains each; and
 //! the calls hand them on.
-use kunzeastylus::{judge, run, Backup, BackupRefusal, Code, Instruction, Move, Record, Refusal, Snapshot, Synced, STATE};
+use kunzeastylus::{
+    judge, run, take_apart, write_table, Backup, BackupRefusal, Code, End, Instruction, Move, Operation, Record, Refusal,
+    Snapshot, Synced, Table, TableRefusal, STATE,
+};
 
 const HEADER: &str = include_str!("../../include/kunzeastylus.h");
 const NUMBERS: &str = include_str!("../../docs/NUMBERS.md");
@@ -53,6 +56,7 @@ fn explained() {
     Refusal::ALL.iter().for_each(|refusal| has_line("Of a run", refusal.number()));
     Code::ALL.iter().for_each(|code| has_line("Of a record", code.number()));
     BackupRefusal::ALL.iter().for_each(|refusal| has_line("Of the backup record", refusal.number()));
+    has_line("Of the writer of tables", TableRefusal::NoRoom.number());
 }
 
 #[test]
@@ -109,4 +113,36 @@ fn the_record() {
     let mut unfit = Backup::from_numbers(unfit);
     assert_eq!((unfit.arrive(0, 0), unfit.take_over()), (Err(BackupRefusal::Unfit), Err(BackupRefusal::Unfit)));
     assert_eq!(unfit.words().count(), 48);
+}
+
+/// What a builder says comes back from its bytes, and its refusals are the library's.
+#[test]
+fn tables() {
+    let mut table = Table::new(2);
+    let scans = table.channel(End::Outside, End::Process(0));
+    let outlet = table.channel(End::Process(0), End::Outside);
+    let program = [
+        Operation::Take { register: 0, channel: scans },
+        Operation::Send { register: 0, channel: outlet },
+        Operation::Jump { register: 0, place: 0 },
+    ];
+    table.process(0, 1, &program);
+    let bytes = table.bytes().expect("a table");
+    assert_eq!((bytes.len(), Table::of(&bytes).as_ref()), (31, Ok(&table)));
+    assert_eq!(judge(&bytes, &[0, 1, 1], 0, 20), Ok(()));
+    let lists = table.lists();
+    let mut short = [0xEE; 30];
+    assert_eq!(write_table(&lists, &mut short), Err(TableRefusal::NoRoom));
+    let mut few = [7; 8];
+    assert_eq!(take_apart(&bytes, &mut [0; 4], &mut [0; 3], &mut few), Err(TableRefusal::NoRoom));
+    assert!(short.iter().all(|&byte| byte == 0xEE) && few.iter().all(|&n| n == 7));
+    table.processes[0].backup = 256;
+    assert_eq!(table.bytes(), Err(TableRefusal::Boards));
+    table.processes[0].program[0] = Operation::Take { register: 256, channel: 0 };
+    table.processes[0].backup = 1;
+    assert_eq!(table.bytes(), Err(TableRefusal::Instruction));
+    assert_eq!(Table::of(&bytes[1..]), Err(TableRefusal::Length));
+    let numbers: Vec<u8> = TableRefusal::ALL.iter().map(|refusal| refusal.number()).collect();
+    assert_eq!(numbers, (1..=8).chain([45]).collect::<Vec<_>>());
+    assert_eq!(header("ks_table_refusal"), [45]);
 }
