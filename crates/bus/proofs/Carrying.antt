@@ -1,5 +1,6 @@
 -- A word is carried: the sender's half, and then the reader's, which may be the same process.
 use mathlib.Core.Path.{_≡_, refl, ap, sym, _∙_, subst}
+use mathlib.Core.Logic.{_≢_}
 use mathlib.Core.List.{List, []}
 use Prim.Native.Nat.{ℕ, _+_, _%_, _^_, _<_}
 use native.Mathlib.Omega.{arith}
@@ -7,18 +8,24 @@ use lib.ListN.{length, getD, set}
 use lib.Seq.{getD-set-same, getD-set-other, set-getD}
 use Rattle.facts.specs.Tests.{by-eq}
 use Rattle.process.specs.Change.{BackupBecame}
-use Rattle.rules.specs.Table.{channelAt}
+use Rattle.rules.specs.Table.{Table, environment, channelAt}
+use Rattle.rules.specs.Judge.{Accepted}
 use Rattle.rules.specs.Machine.{Mail}
-use Rattle.rules.specs.Cabinet.{Process, nobody, processAt}
-use Rattle.rules.specs.Moves.{counts, withProcess}
+use Rattle.rules.specs.Cabinet.{Cabinet, Process, nobody, processAt, occupancy}
+use Rattle.rules.specs.Moves.{deliver, counts, withProcess}
+use Rattle.state.specs.declared.entry.Entry.{Entry}
 use Rattle.state.specs.declared.moved.Answer.{Answer}
-use Rattle.state.specs.Store.{storeOf, Holds}
+use Rattle.state.specs.Store.{storeOf, Totalled, Holds}
+use Rattle.state.specs.Wired.{Wired}
 use Rattle.state.proofs.Reading.{how-many}
-use Rattle.bus.specs.Delivers.{Delivers}
+use Rattle.state.proofs.Totals.{occupancy-mailbox, totalled-less, retotalled}
+use Rattle.state.proofs.Ends.{reader-inside}
+use Rattle.bus.specs.Delivers.{mailOf, Delivers}
 use Rattle.bus.specs.Oldest.{lessOne}
 use Rattle.bus.specs.Transmitted.{transmittedOf}
 use Rattle.bus.specs.Carries.{countedAt, Carries}
 use Rattle.state.proofs.Backing.{backup-changed}
+use Rattle.bus.proofs.Delivering.{deliver-outside, deliver-more}
 
 -- a number one less in 32 bits
 pub is-less : (n less : ℕ) → (less + 1) % 2 ^ 32 ≡ n → less < 2 ^ 32 → less ≡ lessOne n
@@ -34,27 +41,72 @@ mailbox-stays l p q h =
     ∙ ap (λ (i : ℕ). getD l i nobody .machine .mailbox) (sym e))
     (λ n. ap (λ (x : Process). x .machine .mailbox) (getD-set-other l p q (counts (getD l p nobody)) nobody n))
 
-module _ (sender reader port : List ℕ) (rows mails logs heads : List (List ℕ)) (unread queued : List ℕ) (channel word k p less : ℕ) (head′ : List ℕ)
-    (rows′ mails′ logs′ heads′ : List (List ℕ)) (unread′ : List ℕ) (r : Answer) (is-k : channel < 32 → k ≡ channel) (is-p : getD sender k 0 < 16 → p ≡ getD sender k 0) where
-  pub carries : (less + 1) % 2 ^ 32 ≡ getD queued k 0 → less < 2 ^ 32
-      → ((log : List ℕ) → BackupBecame (getD rows p []) log (getD heads p []) log head′ counts)
-      → Delivers reader port rows mails logs (set heads p head′) unread channel word rows′ mails′ logs′ heads′ unread′ → r ≡ transmittedOf channel word
-      → Carries sender reader port rows mails logs heads unread queued channel word rows′ mails′ logs′ heads′ unread′ (set queued k less) r
-  unfolding counts
-  carries wraps small counted delivered e = record {
-    answer-is = e;
-    one-less = λ l. let same : k ≡ channel = is-k l in let n : less ≡ lessOne (getD queued k 0) = is-less (getD queued k 0) less wraps small in
-        ap (set queued k) n ∙ ap (λ (i : ℕ). set queued i (lessOne (getD queued i 0))) same;
-    holds = λ t boards waits entries c ok wired h l inside room.
-        let queued′ : List ℕ = set queued k less in
-        let same : k ≡ channel = is-k (let z = ok .channels-high in omega arith) in
-        let its : getD sender k 0 ≡ channelAt t channel .sender = ap (λ (i : ℕ). getD sender i 0) same ∙ wired .sender-at channel l in
+module _ (sender reader port : List ℕ) (rows mails logs heads : List (List ℕ)) (totals : List ℕ) (channel word k p : ℕ) (head′ : List ℕ) (r : Answer)
+    (is-k : channel < 32 → k ≡ channel) (is-p : getD sender k 0 < 16 → p ≡ getD sender k 0)
+    (counted : (log : List ℕ) → BackupBecame (getD rows p []) log (getD heads p []) log head′ counts) (is-answer : r ≡ transmittedOf channel word) where
+  module _ {t : Table} {boards : List (List ℕ)} {between waits : List ℕ} {entries : List Entry} {c : Cabinet} (ok : Accepted t) (wired : Wired t sender reader port)
+      (h : Holds t (storeOf rows mails logs heads boards between waits) entries c) (l : channel < length (t .channels)) (inside : channelAt t channel .sender < length (t .processes)) where
+    its-channel : k ≡ channel
+    its-channel = is-k (let z = ok .channels-high in omega arith)
+
+    there-is : channelAt t channel .sender < length (c .processes)
+    there-is = rw (how-many h) inside
+
+    -- the sender's half
+    sender-counts : Holds t (storeOf rows mails logs (set heads p head′) boards between waits) entries (countedAt t channel c)
+    unfolding counts
+    sender-counts =
+        let its : getD sender k 0 ≡ channelAt t channel .sender = ap (λ (i : ℕ). getD sender i 0) its-channel ∙ wired .sender-at channel l in
         let pr : p ≡ channelAt t channel .sender = is-p (let z = ok .processes-high in omega arith) ∙ its in
         let hp : p < length (t .processes) = rw pr inside in
         let first = backup-changed h (ok .processes-high) p hp (getD logs p []) head′ counts (counted (getD logs p []) (getD mails p []) (h .kept p hp)) (λ x. refl) (λ x. refl) in
-        let there = subst (λ (z : List (List ℕ)). Holds t (storeOf rows mails z (set heads p head′) boards unread queued′ waits) entries (withProcess p (counts (processAt c p)) c)) (set-getD logs p []) first in
-        let named = subst (λ (q : ℕ). Holds t (storeOf rows mails logs (set heads p head′) boards unread queued′ waits) entries (withProcess q (counts (processAt c q)) c)) pr there in
-        delivered .holds t sender boards queued′ waits entries (countedAt t channel c) ok wired named l
+        let there = subst (λ (z : List (List ℕ)). Holds t (storeOf rows mails z (set heads p head′) boards between waits) entries (withProcess p (counts (processAt c p)) c)) (set-getD logs p []) first in
+        subst (λ (q : ℕ). Holds t (storeOf rows mails logs (set heads p head′) boards between waits) entries (withProcess q (counts (processAt c q)) c)) pr there
+
+    -- it changes no mailbox, and so no count
+    counted-same : (i : ℕ) → occupancy t (countedAt t channel c) i ≡ occupancy t c i
+    unfolding counts
+    counted-same = occupancy-mailbox t c (channelAt t channel .sender) there-is (counts (processAt c (channelAt t channel .sender))) refl
+
+    its-reader : getD reader k 0 ≡ channelAt t channel .reader
+    its-reader = ap (λ (i : ℕ). getD reader i 0) its-channel ∙ wired .reader-at channel l
+
+  -- to a process: the totals are true again
+  pub carries-inside : (rows′ mails′ logs′ heads′ : List (List ℕ)) → getD reader k 0 ≢ environment
+      → Delivers reader port rows mails logs (set heads p head′) channel word rows′ mails′ logs′ heads′
+      → Carries sender reader port rows mails logs heads totals channel word rows′ mails′ logs′ heads′ totals r
+  carries-inside rows′ mails′ logs′ heads′ within delivered = record {
+    answer-is = is-answer;
+    holds = λ t boards between waits entries c ok wired h bus l inside room.
+        let named = sender-counts ok wired h l inside in
+        let to : channelAt t channel .reader < length (t .processes) = reader-inside ok channel l (λ f. within (its-reader ok wired h l inside ∙ f)) in
+        let true-again : Totalled t totals (deliver t (mailOf channel word) (countedAt t channel c)) = record {
+          total-is = λ i li.
+              let a = bus .total-is i li in
+              let b = counted-same ok wired h l inside i in
+              let d = deliver-more t (countedAt t channel c) channel word (rw (how-many named) to) i in
+              omega arith;
+          totals-length = bus .totals-length;
+        } in
+        delivered .holds t sender boards between totals waits entries (countedAt t channel c) ok wired named to
         (λ i. let a = room i in
-        let b = ap (λ (x : List Mail). length x) (mailbox-stays (c .processes) (channelAt t channel .sender) (channelAt t channel .reader) (rw (how-many h) inside)) in omega arith);
+        let b = ap (λ (x : List Mail). length x) (mailbox-stays (c .processes) (channelAt t channel .sender) (channelAt t channel .reader) (there-is ok wired h l inside)) in omega arith)
+        true-again;
+  }
+
+  -- to the outside: one less
+  pub carries-outside : (less : ℕ) → getD reader k 0 ≡ environment → (less + 1) % 2 ^ 32 ≡ getD totals k 0 → less < 2 ^ 32
+      → Carries sender reader port rows mails logs heads totals channel word rows mails logs (set heads p head′) (set totals k less) r
+  carries-outside less out wraps small = record {
+    answer-is = is-answer;
+    holds = λ t boards between waits entries c ok wired h bus l inside room.
+        let named = sender-counts ok wired h l inside in
+        let same-k : k ≡ channel = its-channel ok wired h l inside in
+        let nobody-gets : deliver t (mailOf channel word) (countedAt t channel c) ≡ countedAt t channel c =
+        deliver-outside t (countedAt t channel c) channel word (let a = how-many named in let b = ok .processes-high in omega arith) (sym (its-reader ok wired h l inside) ∙ out) in
+        let true-again : Totalled t (set totals channel less) (countedAt t channel c) =
+        totalled-less totals (ok .channels-high) channel l (bus .totals-length) less
+        (λ i li. let a = bus .total-is i li in let b = counted-same ok wired h l inside i in omega arith) (wraps ∙ ap (λ (i : ℕ). getD totals i 0) same-k) small in
+        subst (Holds t (storeOf rows mails logs (set heads p head′) boards (set totals k less) waits) entries) (sym nobody-gets)
+        (retotalled named (set totals k less) (subst (λ (i : ℕ). Totalled t (set totals i less) (countedAt t channel c)) (sym same-k) true-again));
   }

@@ -10,13 +10,14 @@ use lib.ListN.{length, getD, set, length-set}
 use lib.Seq.{getD-set-same, getD-set-other}
 use borrow.Author.Tests.{eq-eqb, ne-eqb, eqb-true}
 use Rattle.facts.specs.Tests.{by-eq, no-way}
-use Rattle.facts.specs.Counts.{same, same-yes, same-no}
+use Rattle.facts.specs.Counts.{same}
+use Rattle.facts.specs.Lists.{listed}
 use Rattle.facts.specs.Rings.{ring, ring-pop}
 use Rattle.backup.specs.declared.place.Checkpoint as code
 use Rattle.backup.specs.Place.{checkpointOf}
 use Rattle.rules.specs.Table.{Table}
 use Rattle.rules.specs.Cabinet as rules
-use Rattle.rules.specs.Cabinet.{Cabinet, outboxAt, processAt, inFlight, waiting}
+use Rattle.rules.specs.Cabinet.{Cabinet, outboxAt, processAt, occupancy, waiting}
 use Rattle.rules.specs.Moves.{Command, Result, refuse, guard, transmitDead, outboxEmpty, refusalNumber, transmit, transmitOldest, transmitItem, withOutbox, numbers}
 use Rattle.rules.proofs.Counting.{flight-leave}
 use Rattle.state.specs.declared.entry.Entry.{Entry}
@@ -27,8 +28,8 @@ use Rattle.state.specs.Store.{Store, storeOf, Holds, itemOf, blankEntry, outbox
 use Rattle.state.specs.Moved.{Reachable, Answered, refusalOf}
 use Rattle.state.specs.Wired.{Wired}
 use Rattle.state.proofs.Reading.{at-outbox, at-dead, how-many-boards}
+use Rattle.state.proofs.Totals.{occupancy-outbox, totalled-afresh}
 use Rattle.state.proofs.Queueing.{left}
-use Rattle.state.proofs.Reaching.{channel-bounds}
 use Rattle.state.proofs.Refusing.{turned-away}
 use Rattle.state.proofs.Ends.{sent-inside}
 use Rattle.state.proofs.Owners.{word-owner}
@@ -37,7 +38,7 @@ use Rattle.bus.specs.declared.queue.Front.{Front}
 use Rattle.bus.specs.declared.queue.Front.the-variants.{Oldest, Empty}
 use Rattle.bus.specs.Delivers.{mailOf}
 use Rattle.bus.specs.Oldest.{frontOf, lessOne, poppedIn}
-use Rattle.bus.specs.Carries.{Carries}
+use Rattle.bus.specs.Carries.{OnBus, Carries}
 use Rattle.bus.specs.Syncs.{Popped, Syncs}
 use Rattle.bus.specs.Transmits.{oldestPlace, Transmits}
 
@@ -121,25 +122,21 @@ module _ {t : Table} {s : Store} {entries : List Entry} {c : Cabinet} (reach : R
     (channel word fewer : ℕ) (rest : List rules.Item) (is-count : countIn (s .boards) b ≡ suc fewer)
     (is-word : itemOf (getD entries (oldestPlace (s .boards) b) blankEntry .item) ≡ rules.message (mailOf channel word))
     (is-queue : outboxAt c b ≡ rules.message (mailOf channel word) ∷ rest) where
-  abbrev queued′ : List ℕ
-  queued′ = set (s .queued) channel (lessOne (getD (s .queued) channel 0))
-
   there : channel < length (t .channels)
   there = sent-inside (reach .accepted) channel (word-owner reach b (mailOf channel word) rest is-queue .0)
 
-  -- the words in queues: one of its channel less
-  in-queues : (k : ℕ) → k < length (t .channels) → getD queued′ k 0 ≡ inFlight k (set (c .outboxes) b rest)
-  in-queues k l =
-      let few = reach .accepted .channels-high in
-      let a : inFlight k (set (c .outboxes) b rest) + same k channel ≡ inFlight k (c .outboxes) = flight-leave k (c .outboxes) b (rules.message (mailOf channel word)) rest is-queue in
-      let d = h .queued-is k l in
-      by-eq k channel
-      (λ e. let f = same-yes k channel e in
-      let small = channel-bounds reach k .few in
-      let g : getD queued′ k 0 ≡ lessOne (getD (s .queued) k 0) =
-      rw e (getD-set-same (s .queued) channel (lessOne (getD (s .queued) channel 0)) 0 (let z = h .queued-length in omega arith)) in
-      omega arith)
-      (λ n. let f = same-no k channel n in let g = getD-set-other (s .queued) channel k (lessOne (getD (s .queued) channel 0)) 0 n in omega arith)
+  abbrev left-cabinet : Cabinet
+  left-cabinet = withOutbox b rest c
+
+  -- the totals count the word still
+  on-bus : OnBus t (s .totals) channel left-cabinet
+  on-bus = record {
+    total-is = λ k l.
+        let a = flight-leave k (c .outboxes) b (rules.message (mailOf channel word)) rest is-queue in
+        let d = occupancy-outbox t c b rest k (same k channel) 0 (omega arith) in
+        h .totalled .total-is k l ∙ omega arith;
+    totals-length = h .totalled .totals-length;
+  }
 
   -- no checkpoint waits less
   waits-still : (p : ℕ) → p < length (t .processes) → getD (s .waits) p 0 ≡ flag (waiting p (getD (set (c .outboxes) b rest) (processAt c p .board) []))
@@ -150,60 +147,60 @@ module _ {t : Table} {s : Store} {entries : List Entry} {c : Cabinet} (reach : R
       ∙ ap (λ (q : List rules.Item). flag (waiting p q)) (sym (ap (λ (i : ℕ). getD (set (c .outboxes) b rest) i []) e ∙ getD-set-same (c .outboxes) b rest [] (rw (how-many-boards h) hb))))
       (λ n. h .waits-is p l ∙ ap (λ (q : List rules.Item). flag (waiting p q)) (sym (getD-set-other (c .outboxes) b (processAt c p .board) rest [] n)))
 
-  word-left : Holds t (storeOf (s .rows) (s .mails) (s .logs) (s .heads) (set (s .boards) b (poppedIn (getD (s .boards) b []))) (s .unread) queued′ (s .waits)) entries (withOutbox b rest c)
+  -- what a count made afresh gives meanwhile
+  abbrev between : List ℕ
+  between = listed (occupancy t left-cabinet) 32
+
+  word-left : Holds t (storeOf (s .rows) (s .mails) (s .logs) (s .heads) (set (s .boards) b (poppedIn (getD (s .boards) b []))) between (s .waits)) entries left-cabinet
   word-left =
       let row = row-then h b hb fewer is-count in
-      left h (reach .accepted .boards-high) b hb (poppedIn (getD (s .boards) b [])) queued′ (s .waits) fewer rest is-count
+      left h (reach .accepted .boards-high) b hb (poppedIn (getD (s .boards) b [])) between (s .waits) fewer rest is-count
       (is-queue ∙ ap (λ (i : rules.Item). i ∷ rest) (sym is-word))
       (record {
         is-first = row .first-is;
         is-count = let z = row .count-is in omega arith;
         is-dead = row .dead-is;
         three = row .three;
-        in-queues = in-queues;
-        queued-long = length-set (s .queued) channel _ ∙ h .queued-length;
+        totalled-then = totalled-afresh t left-cabinet (reach .accepted .channels-high);
         waiting-there = waits-still;
         waits-long = h .waits-length;
       })
 
   -- and what the rules make of it
-  word-answered : {sender reader port : List ℕ} (rows′ mails′ logs′ heads′ : List (List ℕ)) (unread′ queued″ : List ℕ) (r : Answer) (command : Command) → Wired t sender reader port
-      → Carries sender reader port (s .rows) (s .mails) (s .logs) (s .heads) (s .unread) (s .queued) channel word rows′ mails′ logs′ heads′ unread′ queued″ r
-      → Answered t (storeOf rows′ mails′ logs′ heads′ (set (s .boards) b (poppedIn (getD (s .boards) b []))) unread′ queued″ (s .waits)) entries c command
-      (transmitItem t (withOutbox b rest c) (rules.message (mailOf channel word))) r
+  word-answered : {sender reader port : List ℕ} (rows′ mails′ logs′ heads′ : List (List ℕ)) (totals′ : List ℕ) (r : Answer) (command : Command) → Wired t sender reader port
+      → Carries sender reader port (s .rows) (s .mails) (s .logs) (s .heads) (s .totals) channel word rows′ mails′ logs′ heads′ totals′ r
+      → Answered t (storeOf rows′ mails′ logs′ heads′ (set (s .boards) b (poppedIn (getD (s .boards) b []))) totals′ (s .waits)) entries c command
+      (transmitItem t left-cabinet (rules.message (mailOf channel word))) r
   unfolding transmitItem numbers
-  word-answered rows′ mails′ logs′ heads′ unread′ queued″ r command wired carried =
+  word-answered rows′ mails′ logs′ heads′ totals′ r command wired carried =
       let boards′ : List (List ℕ) = set (s .boards) b (poppedIn (getD (s .boards) b [])) in
-      let less : queued″ ≡ queued′ = carried .one-less (let z = reach .accepted .channels-high in let y = there in omega arith) in
-      let before : Holds t (storeOf (s .rows) (s .mails) (s .logs) (s .heads) boards′ (s .unread) queued″ (s .waits)) entries (withOutbox b rest c) =
-      subst (λ (q : List ℕ). Holds t (storeOf (s .rows) (s .mails) (s .logs) (s .heads) boards′ (s .unread) q (s .waits)) entries (withOutbox b rest c)) (sym less) word-left in
-      let after = carried .holds t boards′ (s .waits) entries (withOutbox b rest c) (reach .accepted) wired before there
+      let after = carried .holds t boards′ between (s .waits) entries left-cabinet (reach .accepted) wired word-left on-bus there
       (word-owner reach b (mailOf channel word) rest is-queue .0) (room-for-oldest reach b (mailOf channel word) rest is-queue) in
-      subst (λ (z : Answer). Answered t (storeOf rows′ mails′ logs′ heads′ boards′ unread′ queued″ (s .waits)) entries c command (transmitItem t (withOutbox b rest c) (rules.message (mailOf channel word))) z) (sym (carried .answer-is))
+      subst (λ (z : Answer). Answered t (storeOf rows′ mails′ logs′ heads′ boards′ totals′ (s .waits)) entries c command (transmitItem t left-cabinet (rules.message (mailOf channel word))) z) (sym (carried .answer-is))
       (record { answer-is = refl; holds = after })
 
 -- ---- what the move promises
 
 -- of a board of the table the clamped number is the number
-pub at-its-board : {sender reader port : List ℕ} {rows mails logs heads boards : List (List ℕ)} {unread queued waits : List ℕ} {x : Entry}
-    {rows′ mails′ logs′ heads′ boards′ : List (List ℕ)} {unread′ queued′ waits′ : List ℕ} {r : Answer} (b a : ℕ) → (a < 16 → b ≡ a)
-    → (a ≡ b → Transmits sender reader port rows mails logs heads boards unread queued waits b x rows′ mails′ logs′ heads′ boards′ unread′ queued′ waits′ r)
-    → Transmits sender reader port rows mails logs heads boards unread queued waits a x rows′ mails′ logs′ heads′ boards′ unread′ queued′ waits′ r
-at-its-board {sender} {reader} {port} {rows} {mails} {logs} {heads} {boards} {unread} {queued} {waits} {x} {rows′} {mails′} {logs′} {heads′} {boards′} {unread′} {queued′} {waits′} {r} b a is-b given = record {
+pub at-its-board : {sender reader port : List ℕ} {rows mails logs heads boards : List (List ℕ)} {totals waits : List ℕ} {x : Entry}
+    {rows′ mails′ logs′ heads′ boards′ : List (List ℕ)} {totals′ waits′ : List ℕ} {r : Answer} (b a : ℕ) → (a < 16 → b ≡ a)
+    → (a ≡ b → Transmits sender reader port rows mails logs heads boards totals waits b x rows′ mails′ logs′ heads′ boards′ totals′ waits′ r)
+    → Transmits sender reader port rows mails logs heads boards totals waits a x rows′ mails′ logs′ heads′ boards′ totals′ waits′ r
+at-its-board {sender} {reader} {port} {rows} {mails} {logs} {heads} {boards} {totals} {waits} {x} {rows′} {mails′} {logs′} {heads′} {boards′} {totals′} {waits′} {r} b a is-b given = record {
   answered = λ t entries c command reach wired h f ha o.
       let e : b ≡ a = is-b (let z = reach .accepted .boards-high in omega arith) in
-      subst (λ (i : ℕ). Transmits sender reader port rows mails logs heads boards unread queued waits i x rows′ mails′ logs′ heads′ boards′ unread′ queued′ waits′ r) e (given (sym e))
+      subst (λ (i : ℕ). Transmits sender reader port rows mails logs heads boards totals waits i x rows′ mails′ logs′ heads′ boards′ totals′ waits′ r) e (given (sym e))
       .answered t entries c command reach wired h f ha o;
 }
 
-module _ (sender reader port : List ℕ) (rows mails logs heads boards : List (List ℕ)) (unread queued waits : List ℕ) (b : ℕ) (x : Entry) (r : Answer) where
+module _ (sender reader port : List ℕ) (rows mails logs heads boards : List (List ℕ)) (totals waits : List ℕ) (b : ℕ) (x : Entry) (r : Answer) where
   pub transmits-34 : getD (getD boards b []) 2 0 ≢ 0 → r ≡ refusalOf 34 b
-      → Transmits sender reader port rows mails logs heads boards unread queued waits b x rows mails logs heads boards unread queued waits r
+      → Transmits sender reader port rows mails logs heads boards totals waits b x rows mails logs heads boards totals waits r
   unfolding refusalNumber
   transmits-34 n e = record { answered = λ t entries c command reach wired h f hb o. turned-away command b transmitDead h (refused-34 h b hb n) f e }
 
   pub transmits-42 : getD (getD boards b []) 2 0 ≡ 0 → frontOf (getD boards b []) x ≡ Empty → r ≡ refusalOf 42 b
-      → Transmits sender reader port rows mails logs heads boards unread queued waits b x rows mails logs heads boards unread queued waits r
+      → Transmits sender reader port rows mails logs heads boards totals waits b x rows mails logs heads boards totals waits r
   unfolding refusalNumber
   transmits-42 z none e = record {
     answered = λ t entries c command reach wired h f hb o. turned-away command b outboxEmpty h (refused-42 h b hb z (front-none (getD boards b []) x none)) f e;
@@ -211,22 +208,22 @@ module _ (sender reader port : List ℕ) (rows mails logs heads boards : List (L
 
   module _ (z : getD (getD boards b []) 2 0 ≡ 0) (i : Item) (some : frontOf (getD boards b []) x ≡ Oldest i) (board′ : List ℕ) (leaves : board′ ≡ poppedIn (getD boards b [])) where
     -- the entry in front is the queue's oldest
-    opened : {t : Table} {entries : List Entry} {c : Cabinet} (h : Holds t (storeOf rows mails logs heads boards unread queued waits) entries c) → b < t .boards
+    opened : {t : Table} {entries : List Entry} {c : Cabinet} (h : Holds t (storeOf rows mails logs heads boards totals waits) entries c) → b < t .boards
         → x ≡ getD entries (oldestPlace boards b) blankEntry → Begins c b (countIn boards b) (itemOf i)
     opened {t} {entries} {c} h hb o =
         let all = front-some (getD boards b []) x i some in
         subst (λ (y : rules.Item). Begins c b (countIn boards b) y) (ap (λ (y : Entry). itemOf (y .item)) (sym o) ∙ ap itemOf (all .1)) (begins h b hb (all .0))
 
     -- what the rules make of it
-    so : {t : Table} {entries : List Entry} {c : Cabinet} (h : Holds t (storeOf rows mails logs heads boards unread queued waits) entries c) → (hb : b < t .boards)
+    so : {t : Table} {entries : List Entry} {c : Cabinet} (h : Holds t (storeOf rows mails logs heads boards totals waits) entries c) → (hb : b < t .boards)
         → (q : Begins c b (countIn boards b) (itemOf i)) → transmit t c b ≡ transmitItem t (withOutbox b (q .rest) c) (itemOf i)
     unfolding transmitOldest
     so {t} {entries} {c} h hb q = live h b hb z ∙ ap (transmitOldest t c b) (q .is-queue)
 
-    pub transmits-word : (channel word : ℕ) → i ≡ Word channel word → (rows′ mails′ logs′ heads′ : List (List ℕ)) (unread′ queued′ : List ℕ)
-        → Carries sender reader port rows mails logs heads unread queued channel word rows′ mails′ logs′ heads′ unread′ queued′ r
-        → Transmits sender reader port rows mails logs heads boards unread queued waits b x rows′ mails′ logs′ heads′ (set boards b board′) unread′ queued′ waits r
-    transmits-word channel word is-word rows′ mails′ logs′ heads′ unread′ queued′ carried = record {
+    pub transmits-word : (channel word : ℕ) → i ≡ Word channel word → (rows′ mails′ logs′ heads′ : List (List ℕ)) (totals′ : List ℕ)
+        → Carries sender reader port rows mails logs heads totals channel word rows′ mails′ logs′ heads′ totals′ r
+        → Transmits sender reader port rows mails logs heads boards totals waits b x rows′ mails′ logs′ heads′ (set boards b board′) totals′ waits r
+    transmits-word channel word is-word rows′ mails′ logs′ heads′ totals′ carried = record {
       answered = λ t entries c command reach wired h f hb o.
           let q = opened h hb o in
           let m : itemOf i ≡ rules.message (mailOf channel word) = ap itemOf is-word in
@@ -234,23 +231,23 @@ module _ (sender reader port : List ℕ) (rows mails logs heads boards : List (L
           let first : itemOf (getD entries (oldestPlace boards b) blankEntry .item) ≡ rules.message (mailOf channel word) =
           ap (λ (y : Entry). itemOf (y .item)) (sym o) ∙ ap itemOf (all .1) ∙ m in
           let done = word-answered reach h b hb channel word (q .fewer) (q .rest) (q .is-count) first (q .is-queue ∙ ap (λ (y : rules.Item). y ∷ q .rest) m)
-          rows′ mails′ logs′ heads′ unread′ queued′ r command wired carried in
-          subst (λ (l : List ℕ). Answered t (storeOf rows′ mails′ logs′ heads′ (set boards b l) unread′ queued′ waits) entries c command (transmit t c b) r) (sym leaves)
-          (subst (λ (y : Result). Answered t (storeOf rows′ mails′ logs′ heads′ (set boards b (poppedIn (getD boards b []))) unread′ queued′ waits) entries c command y r)
+          rows′ mails′ logs′ heads′ totals′ r command wired carried in
+          subst (λ (l : List ℕ). Answered t (storeOf rows′ mails′ logs′ heads′ (set boards b l) totals′ waits) entries c command (transmit t c b) r) (sym leaves)
+          (subst (λ (y : Result). Answered t (storeOf rows′ mails′ logs′ heads′ (set boards b (poppedIn (getD boards b []))) totals′ waits) entries c command y r)
           (sym (so h hb q ∙ ap (transmitItem t (withOutbox b (q .rest) c)) m)) done);
     }
 
     pub transmits-sync : (process : ℕ) (checkpoint : code.Checkpoint) → i ≡ Sync process checkpoint → (logs′ heads′ : List (List ℕ)) (waits′ : List ℕ)
         → Syncs rows logs heads waits process checkpoint logs′ heads′ waits′ r
-        → Transmits sender reader port rows mails logs heads boards unread queued waits b x rows mails logs′ heads′ (set boards b board′) unread queued waits′ r
+        → Transmits sender reader port rows mails logs heads boards totals waits b x rows mails logs′ heads′ (set boards b board′) totals waits′ r
     transmits-sync process checkpoint is-sync logs′ heads′ waits′ carried = record {
       answered = λ t entries c command reach wired h f hb o.
           let q = opened h hb o in
           let m : itemOf i ≡ rules.checkpoint process (checkpointOf checkpoint) = ap itemOf is-sync in
-          let done = carried .answered t mails boards unread queued entries c command b (poppedIn (getD boards b [])) (q .rest) reach h hb
+          let done = carried .answered t mails boards totals entries c command b (poppedIn (getD boards b [])) (q .rest) reach h hb
           (row-then h b hb (q .fewer) (q .is-count)) (q .is-queue ∙ ap (λ (y : rules.Item). y ∷ q .rest) m) in
-          subst (λ (l : List ℕ). Answered t (storeOf rows mails logs′ heads′ (set boards b l) unread queued waits′) entries c command (transmit t c b) r) (sym leaves)
-          (subst (λ (y : Result). Answered t (storeOf rows mails logs′ heads′ (set boards b (poppedIn (getD boards b []))) unread queued waits′) entries c command y r)
+          subst (λ (l : List ℕ). Answered t (storeOf rows mails logs′ heads′ (set boards b l) totals waits′) entries c command (transmit t c b) r) (sym leaves)
+          (subst (λ (y : Result). Answered t (storeOf rows mails logs′ heads′ (set boards b (poppedIn (getD boards b []))) totals waits′) entries c command y r)
           (sym (so h hb q ∙ ap (transmitItem t (withOutbox b (q .rest) c)) m)) done);
     }
 

@@ -1,30 +1,34 @@
 -- What the carrying of a word makes of the lists, once its entry has left its queue: the sender's half, and then the reader's.
 use mathlib.Core.Path.{_≡_}
 use mathlib.Core.List.{List}
-use Prim.Native.Nat.{ℕ, _<_}
-use lib.ListN.{length, getD, set}
+use Prim.Native.Nat.{ℕ, _+_, _<_}
+use lib.ListN.{length, getD}
+use Rattle.facts.specs.Counts.{same}
 use Rattle.rules.specs.Table.{Table, channelAt}
 use Rattle.rules.specs.Judge.{Accepted}
-use Rattle.rules.specs.Cabinet.{Cabinet, processAt}
+use Rattle.rules.specs.Cabinet.{Cabinet, processAt, occupancy}
 use Rattle.rules.specs.Moves.{deliver, counts, withProcess}
 use Rattle.state.specs.declared.entry.Entry.{Entry}
 use Rattle.state.specs.declared.moved.Answer.{Answer}
 use Rattle.state.specs.Store.{storeOf, Holds}
 use Rattle.state.specs.Wired.{Wired}
 use Rattle.bus.specs.Delivers.{mailOf, Room}
-use Rattle.bus.specs.Oldest.{lessOne}
 use Rattle.bus.specs.Transmitted.{transmittedOf}
 
 -- "the sender's backup record, which counts it and keeps no copy"
 abbrev pub countedAt : Table → ℕ → Cabinet → Cabinet
 countedAt t k c = withProcess (channelAt t k .sender) (counts (processAt c (channelAt t k .sender))) c
 
+-- The totals while a word of a channel is on the bus: it has left its queue, nobody has it yet, and they count it still.
+pub record OnBus (t : Table) (totals : List ℕ) (channel : ℕ) (c : Cabinet) : Type 0 where
+  pub total-is : (k : ℕ) → k < length (t .channels) → getD totals k 0 ≡ occupancy t c k + same k channel
+  pub totals-length : length totals ≡ 32
+
 -- whatever the lists are that it isn't lent
-pub record Carries (sender reader port : List ℕ) (rows mails logs heads : List (List ℕ)) (unread queued : List ℕ) (channel word : ℕ)
-    (rows′ mails′ logs′ heads′ : List (List ℕ)) (unread′ queued′ : List ℕ) (r : Answer) : Type 0 where
+pub record Carries (sender reader port : List ℕ) (rows mails logs heads : List (List ℕ)) (totals : List ℕ) (channel word : ℕ)
+    (rows′ mails′ logs′ heads′ : List (List ℕ)) (totals′ : List ℕ) (r : Answer) : Type 0 where
   pub answer-is : r ≡ transmittedOf channel word
-  pub one-less : channel < 32 → queued′ ≡ set queued channel (lessOne (getD queued channel 0))
-  pub holds : (t : Table) (boards : List (List ℕ)) (waits : List ℕ) (entries : List Entry) (c : Cabinet)
-      → Accepted t → Wired t sender reader port → Holds t (storeOf rows mails logs heads boards unread queued′ waits) entries c
+  pub holds : (t : Table) (boards : List (List ℕ)) (between waits : List ℕ) (entries : List Entry) (c : Cabinet)
+      → Accepted t → Wired t sender reader port → Holds t (storeOf rows mails logs heads boards between waits) entries c → OnBus t totals channel c
       → channel < length (t .channels) → channelAt t channel .sender < length (t .processes) → Room t c channel
-      → Holds t (storeOf rows′ mails′ logs′ heads′ boards unread′ queued′ waits) entries (deliver t (mailOf channel word) (countedAt t channel c))
+      → Holds t (storeOf rows′ mails′ logs′ heads′ boards totals′ waits) entries (deliver t (mailOf channel word) (countedAt t channel c))

@@ -1,5 +1,5 @@
--- What a delivery makes of the lists: of those that hold a cabinet, those that hold the rules' cabinet after it. Document 01: "to the reader's
--- inbox, the reader's backup record".
+-- What a delivery to a process makes of the lists: of those that hold a cabinet, those that hold the rules' cabinet after it. Document 01: "to
+-- the reader's inbox, the reader's backup record".
 use mathlib.Core.List.{List}
 use Prim.Native.Nat.{ℕ, _<_}
 use lib.ListN.{length}
@@ -10,7 +10,7 @@ use Rattle.rules.specs.Machine.{Mail}
 use Rattle.rules.specs.Cabinet.{Cabinet, processAt}
 use Rattle.rules.specs.Moves.{deliver}
 use Rattle.state.specs.declared.entry.Entry.{Entry}
-use Rattle.state.specs.Store.{storeOf, Holds}
+use Rattle.state.specs.Store.{storeOf, Totalled, Holds}
 use Rattle.state.specs.Wired.{Wired}
 
 -- a word on a channel
@@ -21,10 +21,10 @@ mailOf channel word = record { channel = channel; word = word }
 abbrev pub Room : Table → Cabinet → ℕ → Type 0
 Room t c k = channelAt t k .reader < length (t .processes) → length (processAt c (channelAt t k .reader) .machine .mailbox) < logMost
 
--- whatever the lists are that it isn't lent
-pub record Delivers (reader port : List ℕ) (rows mails logs heads : List (List ℕ)) (unread : List ℕ) (channel word : ℕ)
-    (rows′ mails′ logs′ heads′ : List (List ℕ)) (unread′ : List ℕ) : Type 0 where
-  pub holds : (t : Table) (sender : List ℕ) (boards : List (List ℕ)) (queued waits : List ℕ) (entries : List Entry) (c : Cabinet)
-      → Accepted t → Wired t sender reader port → Holds t (storeOf rows mails logs heads boards unread queued waits) entries c
-      → channel < length (t .channels) → Room t c channel
-      → Holds t (storeOf rows′ mails′ logs′ heads′ boards unread′ queued waits) entries (deliver t (mailOf channel word) c)
+-- whatever the lists are that it isn't lent; the totals are those that are true afterwards, and its caller's matter
+pub record Delivers (reader port : List ℕ) (rows mails logs heads : List (List ℕ)) (channel word : ℕ)
+    (rows′ mails′ logs′ heads′ : List (List ℕ)) : Type 0 where
+  pub holds : (t : Table) (sender : List ℕ) (boards : List (List ℕ)) (totals totals′ waits : List ℕ) (entries : List Entry) (c : Cabinet)
+      → Accepted t → Wired t sender reader port → Holds t (storeOf rows mails logs heads boards totals waits) entries c
+      → channelAt t channel .reader < length (t .processes) → Room t c channel → Totalled t totals′ (deliver t (mailOf channel word) c)
+      → Holds t (storeOf rows′ mails′ logs′ heads′ boards totals′ waits) entries (deliver t (mailOf channel word) c)

@@ -13,9 +13,9 @@ use Rattle.state.specs.Moved.{Reachable, Answered}
 use Rattle.state.specs.Wired.{Wired}
 
 -- whatever the lists are that it isn't lent
-pub record Injects (sender reader port : List ℕ) (rows mails logs heads : List (List ℕ)) (unread queued : List ℕ) (a word : ℕ)
-    (rows′ mails′ logs′ heads′ : List (List ℕ)) (unread′ : List ℕ) (r : Answer) : Type 0 where
+pub record Injects (sender reader port : List ℕ) (rows mails logs heads : List (List ℕ)) (totals : List ℕ) (a word : ℕ)
+    (rows′ mails′ logs′ heads′ : List (List ℕ)) (totals′ : List ℕ) (r : Answer) : Type 0 where
   pub answered : (t : Table) (boards : List (List ℕ)) (waits : List ℕ) (entries : List Entry) (c : Cabinet) (command : Command)
       → Reachable t c → Wired t sender reader port
-      → Holds t (storeOf rows mails logs heads boards unread queued waits) entries c → command .a ≡ a → a < length (t .channels)
-      → Answered t (storeOf rows′ mails′ logs′ heads′ boards unread′ queued waits) entries c command (inject t c (record { channel = a; word = word })) r
+      → Holds t (storeOf rows mails logs heads boards totals waits) entries c → command .a ≡ a → a < length (t .channels)
+      → Answered t (storeOf rows′ mails′ logs′ heads′ boards totals′ waits) entries c command (inject t c (record { channel = a; word = word })) r

@@ -26,9 +26,9 @@ pub record Popped (board board′ : List ℕ) : Type 0 where
 -- leaving made it, they hold the cabinet that the rules give. Whatever the lists are that it isn't lent.
 pub record Syncs (rows logs heads : List (List ℕ)) (waits : List ℕ) (process : ℕ) (checkpoint : code.Checkpoint)
     (logs′ heads′ : List (List ℕ)) (waits′ : List ℕ) (r : Answer) : Type 0 where
-  pub answered : (t : Table) (mails boards : List (List ℕ)) (unread queued : List ℕ) (entries : List Entry) (c : Cabinet) (command : Command)
+  pub answered : (t : Table) (mails boards : List (List ℕ)) (totals : List ℕ) (entries : List Entry) (c : Cabinet) (command : Command)
       (b : ℕ) (board′ : List ℕ) (rest : List rules.Item)
-      → Reachable t c → Holds t (storeOf rows mails logs heads boards unread queued waits) entries c → b < t .boards
+      → Reachable t c → Holds t (storeOf rows mails logs heads boards totals waits) entries c → b < t .boards
       → Popped (getD boards b []) board′ → outboxAt c b ≡ rules.checkpoint process (checkpointOf checkpoint) ∷ rest
-      → Answered t (storeOf rows mails logs′ heads′ (set boards b board′) unread queued waits′) entries c command
+      → Answered t (storeOf rows mails logs′ heads′ (set boards b board′) totals waits′) entries c command
       (transmitItem t (withOutbox b rest c) (rules.checkpoint process (checkpointOf checkpoint))) r

@@ -17,10 +17,10 @@ abbrev pub oldestPlace : List (List ℕ) → ℕ → ℕ
 oldestPlace boards b = 32 * b + firstIn boards b % 32
 
 -- whatever the entries are of which it is handed the oldest
-pub record Transmits (sender reader port : List ℕ) (rows mails logs heads boards : List (List ℕ)) (unread queued waits : List ℕ) (a : ℕ) (oldest : Entry)
-    (rows′ mails′ logs′ heads′ boards′ : List (List ℕ)) (unread′ queued′ waits′ : List ℕ) (r : Answer) : Type 0 where
+pub record Transmits (sender reader port : List ℕ) (rows mails logs heads boards : List (List ℕ)) (totals waits : List ℕ) (a : ℕ) (oldest : Entry)
+    (rows′ mails′ logs′ heads′ boards′ : List (List ℕ)) (totals′ waits′ : List ℕ) (r : Answer) : Type 0 where
   pub answered : (t : Table) (entries : List Entry) (c : Cabinet) (command : Command)
       → Reachable t c → Wired t sender reader port
-      → Holds t (storeOf rows mails logs heads boards unread queued waits) entries c → command .a ≡ a → a < t .boards
+      → Holds t (storeOf rows mails logs heads boards totals waits) entries c → command .a ≡ a → a < t .boards
       → oldest ≡ getD entries (oldestPlace boards a) blankEntry
-      → Answered t (storeOf rows′ mails′ logs′ heads′ boards′ unread′ queued′ waits′) entries c command (transmit t c a) r
+      → Answered t (storeOf rows′ mails′ logs′ heads′ boards′ totals′ waits′) entries c command (transmit t c a) r

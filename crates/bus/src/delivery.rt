@@ -1,11 +1,10 @@
-// A word reaches its reader: "to the reader's inbox, the reader's backup record"; one that the outside reads goes to no process.
+// A word reaches its reader, a process: "to the reader's inbox, the reader's backup record".
 ghost use Rattle.bus.specs.Delivers.{Delivers};
 use backup::place::HEAD;
 use process::delivery::receive;
 use process::mail::MAIL;
 use process::row::ROW;
 use state::board::index16;
-use state::channel::ENVIRONMENT;
 use state::channel::index32;
 
 pub fn deliver(
@@ -15,16 +14,12 @@ pub fn deliver(
     mails: &mut [[u64; MAIL]; 16],
     logs: &mut [[u64; MAIL]; 16],
     heads: &mut [[u32; HEAD]; 16],
-    unread: &mut [u32; 32],
     channel: u32,
     word: u32,
 )
-    ensures { λ _. ⌜ Delivers (now (reader .entry)) (now (port .entry)) (now (rows .entry)) (now (mails .entry)) (now (logs .entry)) (now (heads .entry)) (now (unread .entry)) channel word (now (rows .exit)) (now (mails .exit)) (now (logs .exit)) (now (heads .exit)) (now (unread .exit)) ⌝ }
+    ensures { λ _. ⌜ Delivers (now (reader .entry)) (now (port .entry)) (now (rows .entry)) (now (mails .entry)) (now (logs .entry)) (now (heads .entry)) channel word (now (rows .exit)) (now (mails .exit)) (now (logs .exit)) (now (heads .exit)) ⌝ }
 {
     let k = index32(channel);
-    if reader[k] == ENVIRONMENT {
-        return;
-    }
     let p = index16(reader[k]);
     receive(
         &mut rows[p],
@@ -35,5 +30,4 @@ pub fn deliver(
         channel,
         word,
     );
-    unread[k] = std::num::wrapping_add_u32(unread[k], 1);
 }

@@ -18,21 +18,21 @@ pub fn inject(
     mails: &mut [[u64; MAIL]; 16],
     logs: &mut [[u64; MAIL]; 16],
     heads: &mut [[u32; HEAD]; 16],
-    unread: &mut [u32; 32],
-    queued: &[u32; 32],
+    totals: &mut [u32; 32],
     a: u32,
     word: u32,
 ) -> Answer
-    ensures { λ r. ⌜ Injects (now (sender .entry)) (now (reader .entry)) (now (port .entry)) (now (rows .entry)) (now (mails .entry)) (now (logs .entry)) (now (heads .entry)) (now (unread .entry)) (now (queued .entry)) a word (now (rows .exit)) (now (mails .exit)) (now (logs .exit)) (now (heads .exit)) (now (unread .exit)) r ⌝ }
+    ensures { λ r. ⌜ Injects (now (sender .entry)) (now (reader .entry)) (now (port .entry)) (now (rows .entry)) (now (mails .entry)) (now (logs .entry)) (now (heads .entry)) (now (totals .entry)) a word (now (rows .exit)) (now (mails .exit)) (now (logs .exit)) (now (heads .exit)) (now (totals .exit)) r ⌝ }
 {
     let k = index32(a);
     if sender[k] != ENVIRONMENT {
         return refusal(43, a);
     }
-    if held(reader[k], unread[k], queued[k]) {
+    if held(reader[k], totals[k]) {
         return refusal(39, a);
     }
-    deliver(reader, port, rows, mails, logs, heads, unread, a, word);
+    deliver(reader, port, rows, mails, logs, heads, a, word);
+    totals[k] = std::num::wrapping_add_u32(totals[k], 1);
     Answer {
         code: 4,
         a: a,

@@ -38,13 +38,12 @@ pub fn transmit(
     logs: &mut [[u64; MAIL]; 16],
     heads: &mut [[u32; HEAD]; 16],
     boards: &mut [[u32; BOARD_ROW]; 16],
-    unread: &mut [u32; 32],
-    queued: &mut [u32; 32],
+    totals: &mut [u32; 32],
     waits: &mut [u32; 16],
     a: u32,
     oldest: Entry,
 ) -> Answer
-    ensures { λ r. ⌜ Transmits (now (sender .entry)) (now (reader .entry)) (now (port .entry)) (now (rows .entry)) (now (mails .entry)) (now (logs .entry)) (now (heads .entry)) (now (boards .entry)) (now (unread .entry)) (now (queued .entry)) (now (waits .entry)) a oldest (now (rows .exit)) (now (mails .exit)) (now (logs .exit)) (now (heads .exit)) (now (boards .exit)) (now (unread .exit)) (now (queued .exit)) (now (waits .exit)) r ⌝ }
+    ensures { λ r. ⌜ Transmits (now (sender .entry)) (now (reader .entry)) (now (port .entry)) (now (rows .entry)) (now (mails .entry)) (now (logs .entry)) (now (heads .entry)) (now (boards .entry)) (now (totals .entry)) (now (waits .entry)) a oldest (now (rows .exit)) (now (mails .exit)) (now (logs .exit)) (now (heads .exit)) (now (boards .exit)) (now (totals .exit)) (now (waits .exit)) r ⌝ }
 {
     let b = index16(a);
     if boards[b][DEAD] != 0 {
@@ -63,8 +62,7 @@ pub fn transmit(
             mails,
             logs,
             heads,
-            unread,
-            queued,
+            totals,
             channel,
             word,
         );

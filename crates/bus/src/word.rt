@@ -7,10 +7,12 @@ use process::delivery::counts;
 use process::mail::MAIL;
 use process::row::ROW;
 use state::board::index16;
+use state::channel::ENVIRONMENT;
 use state::channel::index32;
 use state::moved::Answer;
 
-// One less in the queues; the sender's half, and then the reader's, which may be the same process. The sender of a word in a queue is one.
+// The sender's half, and then the reader's, which may be the same process. The sender of a word in a queue is one. The channel's total stays,
+// with a word less in the queues and one more unread; of a word that the outside reads it is one less.
 pub fn transmit_word(
     sender: &[u32; 32],
     reader: &[u32; 32],
@@ -19,31 +21,24 @@ pub fn transmit_word(
     mails: &mut [[u64; MAIL]; 16],
     logs: &mut [[u64; MAIL]; 16],
     heads: &mut [[u32; HEAD]; 16],
-    unread: &mut [u32; 32],
-    queued: &mut [u32; 32],
+    totals: &mut [u32; 32],
     channel: u32,
     word: u32,
 ) -> Answer
-    ensures { λ r. ⌜ Carries (now (sender .entry)) (now (reader .entry)) (now (port .entry)) (now (rows .entry)) (now (mails .entry)) (now (logs .entry)) (now (heads .entry)) (now (unread .entry)) (now (queued .entry)) channel word (now (rows .exit)) (now (mails .exit)) (now (logs .exit)) (now (heads .exit)) (now (unread .exit)) (now (queued .exit)) r ⌝ }
+    ensures { λ r. ⌜ Carries (now (sender .entry)) (now (reader .entry)) (now (port .entry)) (now (rows .entry)) (now (mails .entry)) (now (logs .entry)) (now (heads .entry)) (now (totals .entry)) channel word (now (rows .exit)) (now (mails .exit)) (now (logs .exit)) (now (heads .exit)) (now (totals .exit)) r ⌝ }
 {
     let k = index32(channel);
-    queued[k] = std::num::wrapping_sub_u32(queued[k], 1);
     let p = index16(sender[k]);
     counts(&rows[p], &mut heads[p]);
-    deliver(
-        reader,
-        port,
-        rows,
-        mails,
-        logs,
-        heads,
-        unread,
-        channel,
-        word,
-    );
-    Answer {
+    let answer = Answer {
         code: 4,
         a: channel,
         word: word,
+    };
+    if reader[k] == ENVIRONMENT {
+        totals[k] = std::num::wrapping_sub_u32(totals[k], 1);
+        return answer;
     }
+    deliver(reader, port, rows, mails, logs, heads, channel, word);
+    answer
 }

@@ -80,10 +80,10 @@ unfolding accepted ranFrom
 passed table schedule buffers h = rw h
 
 module _ (table schedule : List ℕ) (records : ℕ) (plan : Plan) (answers report answers′ report′ : List ℕ)
-    (rows rows₀ mails₀ logs₀ heads₀ boards₀ : List (List ℕ)) (unread₀ queued₀ waits₀ : List ℕ) (s : Store) (quiet : Bool)
-    (fresh : Fresh (storeOf rows₀ mails₀ logs₀ heads₀ boards₀ unread₀ queued₀ waits₀) (replicate 512 blankEntry))
+    (rows rows₀ mails₀ logs₀ heads₀ boards₀ : List (List ℕ)) (totals₀ waits₀ : List ℕ) (s : Store) (quiet : Bool)
+    (fresh : Fresh (storeOf rows₀ mails₀ logs₀ heads₀ boards₀ totals₀ waits₀) (replicate 512 blankEntry))
     (seats : Seats rows₀ (plan .primary) (plan .standby) (plan .processes) rows)
-    (plays : Plays (lentBy table plan) schedule records (storeOf rows mails₀ logs₀ heads₀ boards₀ unread₀ queued₀ waits₀) answers s answers′)
+    (plays : Plays (lentBy table plan) schedule records (storeOf rows mails₀ logs₀ heads₀ boards₀ totals₀ waits₀) answers s answers′)
     (reports : Reports (s .rows) (plan .processes) report report′)
     (quiets : Quiets table (plan .boards) (plan .processes) (plan .start) (plan .length) (s .rows) (s .mails) (s .boards) quiet) where
   abbrev t : Table
@@ -102,13 +102,13 @@ module _ (table schedule : List ℕ) (records : ℕ) (plan : Plan) (answers repo
         let at : Accepted t = decoded-accepted table tv in
         let su = suits table plan tv plans in
         let placed : Placed t (plan .primary) (plan .standby) (plan .processes) = record { processes-is = plans .processes-is; primary-at = plans .primary-at; standby-at = plans .standby-at } in
-        let begins = seats .holds t mails₀ logs₀ heads₀ boards₀ unread₀ queued₀ waits₀ (replicate 512 blankEntry) at placed fresh in
+        let begins = seats .holds t mails₀ logs₀ heads₀ boards₀ totals₀ waits₀ (replicate 512 blankEntry) at placed fresh in
         let so-many : records ≡ length (decodeSchedule schedule) = many ∙ sym (commands-many schedule) in
         let played = plays .played t (record { accepted = at; suits = su; records-is = so-many; room = rw many (answers-fit table schedule before acc); starts = begins }) in
         let reach : Reachable t end = record { accepted = at; commands = decodeSchedule schedule; is-reached = refl } in
         let room : 20 * plan .processes ≤ length report = rw (plans .processes-is, processes-counted table) (report-fits table schedule before acc) in
-        let r = reports .reported t (s .mails) (s .logs) (s .heads) (s .boards) (s .unread) (s .queued) (s .waits) (plays .entries) end reach (played .holds) (plans .processes-is) room in
-        let q = quiets .answers t (s .logs) (s .heads) (s .unread) (s .queued) (s .waits) (plays .entries) end reach (su .programmed) (played .holds) (plans .boards-is) (plans .processes-is) in
+        let r = reports .reported t (s .mails) (s .logs) (s .heads) (s .boards) (s .totals) (s .waits) (plays .entries) end reach (played .holds) (plans .processes-is) room in
+        let q = quiets .answers t (s .logs) (s .heads) (s .totals) (s .waits) (plays .entries) end reach (su .programmed) (played .holds) (plans .boards-is) (plans .processes-is) in
         λ i. record { number = 0; records = so-many i; quiet = q i; buffers = record { answers = played .answers-are i; report = r i } };
   }
 

@@ -1,3 +1,3 @@
 // The whole run: a table and a schedule in, answers and a report out. `run::run` is the public call.
-pub mod play;
+mod play;
 pub mod run;

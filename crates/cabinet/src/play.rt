@@ -44,12 +44,11 @@ pub fn play(
     logs: &mut [[u64; MAIL]; 16],
     heads: &mut [[u32; HEAD]; 16],
     boards: &mut [[u32; BOARD_ROW]; 16],
-    unread: &mut [u32; 32],
-    queued: &mut [u32; 32],
+    totals: &mut [u32; 32],
     waits: &mut [u32; 16],
     answers: &mut [u8],
 )
-    ensures { λ _. ⌜ Plays (lentOf (now (table .entry)) «boards_many» processes channels (now (start .entry)) (now (lengths .entry)) (now (sender .entry)) (now (reader .entry)) (now (port .entry)) (now (ins .entry)) (now (arity .entry))) (now (schedule .entry)) records (storeOf (now (rows .entry)) (now (mails .entry)) (now (logs .entry)) (now (heads .entry)) (now (boards .entry)) (now (unread .entry)) (now (queued .entry)) (now (waits .entry))) (now (answers .entry)) (storeOf (now (rows .exit)) (now (mails .exit)) (now (logs .exit)) (now (heads .exit)) (now (boards .exit)) (now (unread .exit)) (now (queued .exit)) (now (waits .exit))) (now (answers .exit)) ⌝ }
+    ensures { λ _. ⌜ Plays (lentOf (now (table .entry)) «boards_many» processes channels (now (start .entry)) (now (lengths .entry)) (now (sender .entry)) (now (reader .entry)) (now (port .entry)) (now (ins .entry)) (now (arity .entry))) (now (schedule .entry)) records (storeOf (now (rows .entry)) (now (mails .entry)) (now (logs .entry)) (now (heads .entry)) (now (boards .entry)) (now (totals .entry)) (now (waits .entry))) (now (answers .entry)) (storeOf (now (rows .exit)) (now (mails .exit)) (now (logs .exit)) (now (heads .exit)) (now (boards .exit)) (now (totals .exit)) (now (waits .exit))) (now (answers .exit)) ⌝ }
 {
     let none = blank();
     let mut entries = [none; ENTRIES];
@@ -76,8 +75,7 @@ pub fn play(
                 logs,
                 heads,
                 boards,
-                unread,
-                queued,
+                totals,
                 waits,
                 a,
                 word,
@@ -103,8 +101,7 @@ pub fn play(
             logs,
             heads,
             boards,
-            unread,
-            queued,
+            totals,
             waits,
             mv,
             a,

@@ -53,8 +53,7 @@ fn conduct(
     let mut logs = [[0u64; MAIL]; 16];
     let mut heads = [[0u32; HEAD]; 16];
     let mut boards = [[0u32; BOARD_ROW]; 16];
-    let mut unread = [0u32; 32];
-    let mut queued = [0u32; 32];
+    let mut totals = [0u32; 32];
     let mut waits = [0u32; 16];
     seat(&mut rows, &primary, &standby, processes);
     play(
@@ -76,8 +75,7 @@ fn conduct(
         &mut logs,
         &mut heads,
         &mut boards,
-        &mut unread,
-        &mut queued,
+        &mut totals,
         &mut waits,
         answers,
     );

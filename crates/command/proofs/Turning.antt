@@ -39,7 +39,7 @@ module _ (boards processes channels : ℕ) (sender reader port : List ℕ) (s : 
   }
 
   pub carry-made : (s′ : Store) (r : Answer) → n ≡ 0
-      → Transmits sender reader port (s .rows) (s .mails) (s .logs) (s .heads) (s .boards) (s .unread) (s .queued) (s .waits) a oldest (s′ .rows) (s′ .mails) (s′ .logs) (s′ .heads) (s′ .boards) (s′ .unread) (s′ .queued) (s′ .waits) r
+      → Transmits sender reader port (s .rows) (s .mails) (s .logs) (s .heads) (s .boards) (s .totals) (s .waits) a oldest (s′ .rows) (s′ .mails) (s′ .logs) (s′ .heads) (s′ .boards) (s′ .totals) (s′ .waits) r
       → Carries boards processes channels sender reader port s a word oldest s′ r
   carry-made s′ r z made = record {
     carried = λ t entries c reach wired eb holds o.
@@ -69,13 +69,13 @@ module _ (l : Lent) (s : Store) (mv a word n : ℕ) (is-n : n ≡ judgeOf (l .bo
   at-number : (k : ℕ) → mv ≡ k → (t : Table) (c : Cabinet) → Suits t l → n ≡ 0 → judgement t c a word k ≡ 0
   at-number k e t c u z = ap (judgement t c a word) (sym e) ∙ by-table t c u ∙ z
 
-  pub turn-steps : (rows mails boards : List (List ℕ)) (unread queued : List ℕ) (r : Moved) → n ≡ 0 → mv ≡ 1
-      → Steps (l .table) (l .start) (l .lengths) (l .reader) (l .port) (s .rows) (s .mails) (s .boards) (s .unread) (s .queued) a rows mails boards unread queued r
-      → Turns l s mv a word (storeOf rows mails (s .logs) (s .heads) boards unread queued (s .waits)) r
-  turn-steps rows mails boards unread queued r z e made = record {
+  pub turn-steps : (rows mails boards : List (List ℕ)) (totals : List ℕ) (r : Moved) → n ≡ 0 → mv ≡ 1
+      → Steps (l .table) (l .start) (l .lengths) (l .reader) (l .port) (s .rows) (s .mails) (s .boards) (s .totals) a rows mails boards totals r
+      → Turns l s mv a word (storeOf rows mails (s .logs) (s .heads) boards totals (s .waits)) r
+  turn-steps rows mails boards totals r z e made = record {
     turned = λ t entries c reach u holds other.
         let x = steps t c a word (at-number 1 e t c u z) in
-        let after : Store = storeOf rows mails (s .logs) (s .heads) boards unread queued (s .waits) in
+        let after : Store = storeOf rows mails (s .logs) (s .heads) boards totals (s .waits) in
         subst (λ (k : ℕ). Turned t after entries c (command k a word) (judged t c (command k a word)) r) (sym e)
         (subst (λ (y : Result). Turned t after entries c (command 1 a word) y r) (sym (x .0))
         (made .turned t (l .sender) (s .logs) (s .heads) (s .waits) entries c (command 1 a word) reach (u .wired) (u .programmed) holds refl (x .1)));
@@ -83,36 +83,36 @@ module _ (l : Lent) (s : Store) (mv a word n : ℕ) (is-n : n ≡ judgeOf (l .bo
 
   pub turn-issues : (rows boards : List (List ℕ)) (waits : List ℕ) (r : Moved) → n ≡ 0 → mv ≡ 2
       → Issues (s .rows) (s .boards) (s .waits) a rows boards waits r
-      → Turns l s mv a word (storeOf rows (s .mails) (s .logs) (s .heads) boards (s .unread) (s .queued) waits) r
+      → Turns l s mv a word (storeOf rows (s .mails) (s .logs) (s .heads) boards (s .totals) waits) r
   turn-issues rows boards waits r z e made = record {
     turned = λ t entries c reach u holds other.
         let x = issues t c a word (at-number 2 e t c u z) in
-        let after : Store = storeOf rows (s .mails) (s .logs) (s .heads) boards (s .unread) (s .queued) waits in
+        let after : Store = storeOf rows (s .mails) (s .logs) (s .heads) boards (s .totals) waits in
         subst (λ (k : ℕ). Turned t after entries c (command k a word) (judged t c (command k a word)) r) (sym e)
         (subst (λ (y : Result). Turned t after entries c (command 2 a word) y r) (sym (x .0))
-        (made .turned t (s .mails) (s .logs) (s .heads) (s .unread) (s .queued) entries c (command 2 a word) reach holds refl (x .1)));
+        (made .turned t (s .mails) (s .logs) (s .heads) (s .totals) entries c (command 2 a word) reach holds refl (x .1)));
   }
 
-  pub turn-injects : (rows mails logs heads : List (List ℕ)) (unread : List ℕ) (x : Answer) (r : Moved) → n ≡ 0 → mv ≡ 4 → r ≡ aloneOf x
-      → Injects (l .sender) (l .reader) (l .port) (s .rows) (s .mails) (s .logs) (s .heads) (s .unread) (s .queued) a word rows mails logs heads unread x
-      → Turns l s mv a word (storeOf rows mails logs heads (s .boards) unread (s .queued) (s .waits)) r
-  turn-injects rows mails logs heads unread answer r z e f made = record {
+  pub turn-injects : (rows mails logs heads : List (List ℕ)) (totals : List ℕ) (x : Answer) (r : Moved) → n ≡ 0 → mv ≡ 4 → r ≡ aloneOf x
+      → Injects (l .sender) (l .reader) (l .port) (s .rows) (s .mails) (s .logs) (s .heads) (s .totals) a word rows mails logs heads totals x
+      → Turns l s mv a word (storeOf rows mails logs heads (s .boards) totals (s .waits)) r
+  turn-injects rows mails logs heads totals answer r z e f made = record {
     turned = λ t entries c reach u holds other.
         let x = injects t c a word (at-number 4 e t c u z) in
-        let after : Store = storeOf rows mails logs heads (s .boards) unread (s .queued) (s .waits) in
+        let after : Store = storeOf rows mails logs heads (s .boards) totals (s .waits) in
         subst (λ (y : Moved). Turned t after entries c (command mv a word) (judged t c (command mv a word)) y) (sym f)
         (subst (λ (k : ℕ). Answered t after entries c (command k a word) (judged t c (command k a word)) answer) (sym e)
         (subst (λ (y : Result). Answered t after entries c (command 4 a word) y answer) (sym (x .0))
         (made .answered t (s .boards) (s .waits) entries c (command 4 a word) reach (u .wired) holds refl (x .1))));
   }
 
-  pub turn-crashes : (rows mails boards : List (List ℕ)) (unread queued waits : List ℕ) (x : Answer) (r : Moved) → n ≡ 0 → mv ≡ 5 → r ≡ aloneOf x
-      → Crashes (l .boards) (l .processes) (l .channels) (l .sender) (l .reader) (l .ins) (l .arity) (s .rows) (s .mails) (s .logs) (s .heads) (s .boards) (s .unread) (s .queued) (s .waits) a rows mails boards unread queued waits x
-      → Turns l s mv a word (storeOf rows mails (s .logs) (s .heads) boards unread queued waits) r
-  turn-crashes rows mails boards unread queued waits answer r z e f made = record {
+  pub turn-crashes : (rows mails boards : List (List ℕ)) (totals waits : List ℕ) (x : Answer) (r : Moved) → n ≡ 0 → mv ≡ 5 → r ≡ aloneOf x
+      → Crashes (l .boards) (l .processes) (l .channels) (l .sender) (l .reader) (l .ins) (l .arity) (s .rows) (s .mails) (s .logs) (s .heads) (s .boards) (s .totals) (s .waits) a rows mails boards totals waits x
+      → Turns l s mv a word (storeOf rows mails (s .logs) (s .heads) boards totals waits) r
+  turn-crashes rows mails boards totals waits answer r z e f made = record {
     turned = λ t entries c reach u holds other.
         let x = crashes t c a word (at-number 5 e t c u z) in
-        let after : Store = storeOf rows mails (s .logs) (s .heads) boards unread queued waits in
+        let after : Store = storeOf rows mails (s .logs) (s .heads) boards totals waits in
         subst (λ (y : Moved). Turned t after entries c (command mv a word) (judged t c (command mv a word)) y) (sym f)
         (subst (λ (k : ℕ). Answered t after entries c (command k a word) (judged t c (command k a word)) answer) (sym e)
         (subst (λ (y : Result). Answered t after entries c (command 5 a word) y answer) (sym (x .0))

@@ -51,7 +51,7 @@ fn worded(mv: u8, word: u32) -> bool
 }
 
 // "Any record: 32 for an unknown move or a word that should be 0", then 33; 0 for neither.
-pub fn judge(boards: usize, processes: usize, channels: usize, mv: u8, a: u32, word: u32) -> u32
+fn judge(boards: usize, processes: usize, channels: usize, mv: u8, a: u32, word: u32) -> u32
     ensures { λ r. ⌜ r ≡ judgeOf boards processes channels mv a word ⌝ }
 {
     if worded(mv, word) {
@@ -78,14 +78,13 @@ pub fn turn(
     logs: &mut [[u64; MAIL]; 16],
     heads: &mut [[u32; HEAD]; 16],
     boards: &mut [[u32; BOARD_ROW]; 16],
-    unread: &mut [u32; 32],
-    queued: &mut [u32; 32],
+    totals: &mut [u32; 32],
     waits: &mut [u32; 16],
     mv: u8,
     a: u32,
     word: u32,
 ) -> Moved
-    ensures { λ r. ⌜ Turns (lentOf (now (table .entry)) «boards_many» processes channels (now (start .entry)) (now (lengths .entry)) (now (sender .entry)) (now (reader .entry)) (now (port .entry)) (now (ins .entry)) (now (arity .entry))) (storeOf (now (rows .entry)) (now (mails .entry)) (now (logs .entry)) (now (heads .entry)) (now (boards .entry)) (now (unread .entry)) (now (queued .entry)) (now (waits .entry))) mv a word (storeOf (now (rows .exit)) (now (mails .exit)) (now (logs .exit)) (now (heads .exit)) (now (boards .exit)) (now (unread .exit)) (now (queued .exit)) (now (waits .exit))) r ⌝ }
+    ensures { λ r. ⌜ Turns (lentOf (now (table .entry)) «boards_many» processes channels (now (start .entry)) (now (lengths .entry)) (now (sender .entry)) (now (reader .entry)) (now (port .entry)) (now (ins .entry)) (now (arity .entry))) (storeOf (now (rows .entry)) (now (mails .entry)) (now (logs .entry)) (now (heads .entry)) (now (boards .entry)) (now (totals .entry)) (now (waits .entry))) mv a word (storeOf (now (rows .exit)) (now (mails .exit)) (now (logs .exit)) (now (heads .exit)) (now (boards .exit)) (now (totals .exit)) (now (waits .exit))) r ⌝ }
 {
     let number = judge(boards_many, processes, channels, mv, a, word);
     if number != 0 {
@@ -101,8 +100,7 @@ pub fn turn(
             rows,
             mails,
             boards,
-            unread,
-            queued,
+            totals,
             a,
         ),
         2 => issue(rows, boards, waits, a),
@@ -114,8 +112,7 @@ pub fn turn(
             mails,
             logs,
             heads,
-            unread,
-            queued,
+            totals,
             a,
             word,
         )),
@@ -132,8 +129,7 @@ pub fn turn(
             logs,
             heads,
             boards,
-            unread,
-            queued,
+            totals,
             waits,
             a,
         )),
@@ -154,14 +150,13 @@ pub fn carry(
     logs: &mut [[u64; MAIL]; 16],
     heads: &mut [[u32; HEAD]; 16],
     boards: &mut [[u32; BOARD_ROW]; 16],
-    unread: &mut [u32; 32],
-    queued: &mut [u32; 32],
+    totals: &mut [u32; 32],
     waits: &mut [u32; 16],
     a: u32,
     word: u32,
     oldest: Entry,
 ) -> Answer
-    ensures { λ r. ⌜ Carries «boards_many» processes channels (now (sender .entry)) (now (reader .entry)) (now (port .entry)) (storeOf (now (rows .entry)) (now (mails .entry)) (now (logs .entry)) (now (heads .entry)) (now (boards .entry)) (now (unread .entry)) (now (queued .entry)) (now (waits .entry))) a word oldest (storeOf (now (rows .exit)) (now (mails .exit)) (now (logs .exit)) (now (heads .exit)) (now (boards .exit)) (now (unread .exit)) (now (queued .exit)) (now (waits .exit))) r ⌝ }
+    ensures { λ r. ⌜ Carries «boards_many» processes channels (now (sender .entry)) (now (reader .entry)) (now (port .entry)) (storeOf (now (rows .entry)) (now (mails .entry)) (now (logs .entry)) (now (heads .entry)) (now (boards .entry)) (now (totals .entry)) (now (waits .entry))) a word oldest (storeOf (now (rows .exit)) (now (mails .exit)) (now (logs .exit)) (now (heads .exit)) (now (boards .exit)) (now (totals .exit)) (now (waits .exit))) r ⌝ }
 {
     let number = judge(boards_many, processes, channels, 3, a, word);
     if number != 0 {
@@ -176,8 +171,7 @@ pub fn carry(
         logs,
         heads,
         boards,
-        unread,
-        queued,
+        totals,
         waits,
         a,
         oldest,

@@ -21,7 +21,7 @@ use Rattle.state.proofs.Refusing.{turned-away}
 use Rattle.crash.specs.Crashes.{Crashes}
 use Rattle.crash.specs.Losses.{runsOn, lostWords, deadApart, Zeroed, deadRow}
 use Rattle.crash.specs.Processes.{AllCrashed}
-use Rattle.crash.specs.Recount.{Recounted}
+use Rattle.crash.specs.Recount.{Dropped, Added}
 use Rattle.crash.proofs.Holding.{crashedCabinet, crash-holds}
 
 -- ---- the rules' tests, as the lists have them
@@ -52,10 +52,10 @@ module _ {t : Table} {s : Store} {entries : List Entry} {c : Cabinet} (h : Holds
 
 -- ---- what the move promises
 
-module _ (boards-many processes channels : ℕ) (sender reader ins arity : List ℕ) (rows mails logs heads boards : List (List ℕ)) (unread queued waits : List ℕ) (a b : ℕ)
+module _ (boards-many processes channels : ℕ) (sender reader ins arity : List ℕ) (rows mails logs heads boards : List (List ℕ)) (totals waits : List ℕ) (a b : ℕ)
     (is-b : a < 16 → b ≡ a) (r : Answer) where
   pub crashes-34 : (getD (getD boards b []) 2 0 ≡ 0 → ⊥) → r ≡ refusalOf 34 a
-      → Crashes boards-many processes channels sender reader ins arity rows mails logs heads boards unread queued waits a rows mails boards unread queued waits r
+      → Crashes boards-many processes channels sender reader ins arity rows mails logs heads boards totals waits a rows mails boards totals waits r
   unfolding refusalNumber
   crashes-34 n e = record {
     answered = λ t port entries c command reach wired addressed eb ep ec h f ha.
@@ -72,7 +72,7 @@ module _ (boards-many processes channels : ℕ) (sender reader ins arity : List 
         sym (ap (λ (i : ℕ). anyBelow (deadApart boards i) n) its ∙ ap (anyBelow (deadApart boards a)) m) ∙ e
 
     pub crashes-44 : (found : Bool) → found ≡ anyBelow (deadApart boards b) n → found ≡ true → r ≡ refusalOf 44 a
-        → Crashes boards-many processes channels sender reader ins arity rows mails logs heads boards unread queued waits a rows mails boards unread queued waits r
+        → Crashes boards-many processes channels sender reader ins arity rows mails logs heads boards totals waits a rows mails boards totals waits r
     unfolding refusalNumber
     crashes-44 found f-is d e = record {
       answered = λ t port entries c command reach wired addressed eb ep ec h f ha.
@@ -82,25 +82,26 @@ module _ (boards-many processes channels : ℕ) (sender reader ins arity : List 
 
     pub crashes-done : (p k : ℕ) → (processes ≤ 16 → p ≡ processes) → (channels ≤ 32 → k ≡ channels)
         → (found : Bool) → found ≡ anyBelow (deadApart boards b) n → found ≡ false
-        → (rows′ mails′ : List (List ℕ)) (unread′ queued′ waits′ row : List ℕ)
-        → Zeroed (lostWords sender rows a) k queued queued′ → Zeroed (runsOn rows a) p waits waits′ → AllCrashed p ins arity rows mails logs heads a rows′ mails′
-        → Recounted k reader rows′ mails′ unread unread′ → row ≡ deadRow (getD boards b []) → r ≡ answerOf 0 0 0
-        → Crashes boards-many processes channels sender reader ins arity rows mails logs heads boards unread queued waits a rows′ mails′ (set boards b row) unread′ queued′ waits′ r
+        → (rows′ mails′ : List (List ℕ)) (queues queues′ totals′ waits′ row : List ℕ)
+        → Dropped k reader rows mails totals queues → Zeroed (lostWords sender rows a) k queues queues′ → Zeroed (runsOn rows a) p waits waits′ → AllCrashed p ins arity rows mails logs heads a rows′ mails′
+        → Added k reader rows′ mails′ queues′ totals′ → row ≡ deadRow (getD boards b []) → r ≡ answerOf 0 0 0
+        → Crashes boards-many processes channels sender reader ins arity rows mails logs heads boards totals waits a rows′ mails′ (set boards b row) totals′ waits′ r
     unfolding numbers
-    crashes-done p k is-p is-k found f-is d rows′ mails′ unread′ queued′ waits′ row words flags all counts is-row e = record {
+    crashes-done p k is-p is-k found f-is d rows′ mails′ queues queues′ totals′ waits′ row dropped words flags all added is-row e = record {
       answered = λ t port entries c command reach wired addressed eb ep ec h f ha.
           let its : b ≡ a = is-b (let z = reach .accepted .boards-high in omega arith) in
           let ps : p ≡ length (t .processes) = is-p (let z = reach .accepted .processes-high in omega arith) ∙ ep in
           let ks : k ≡ length (t .channels) = is-k (let z = reach .accepted .channels-high in omega arith) ∙ ec in
           let so = accepted-so h a ha (subst (λ (i : ℕ). getD (getD boards i []) 2 0 ≡ 0) its live) (the-test false (sym f-is ∙ d) t c reach eb its) in
           let cab = crash-holds reach h wired addressed ha
-          (subst (λ (i : ℕ). Zeroed (lostWords sender rows a) i queued queued′) ks words)
+          (subst (λ (i : ℕ). Dropped i reader rows mails totals queues) ks dropped)
+          (subst (λ (i : ℕ). Zeroed (lostWords sender rows a) i queues queues′) ks words)
           (subst (λ (i : ℕ). Zeroed (runsOn rows a) i waits waits′) ps flags)
           (subst (λ (i : ℕ). AllCrashed i ins arity rows mails logs heads a rows′ mails′) ps all)
-          (subst (λ (i : ℕ). Recounted i reader rows′ mails′ unread unread′) ks counts) in
-          let there = subst (λ (l : List (List ℕ)). Holds t (storeOf rows′ mails′ logs heads l unread′ queued′ waits′) entries (crashedCabinet t c a))
+          (subst (λ (i : ℕ). Added i reader rows′ mails′ queues′ totals′) ks added) in
+          let there = subst (λ (l : List (List ℕ)). Holds t (storeOf rows′ mails′ logs heads l totals′ waits′) entries (crashedCabinet t c a))
           (sym (ap (λ (x : List ℕ). set boards b x) is-row ∙ ap (λ (i : ℕ). set boards i (deadRow (getD boards i []))) its)) cab in
-          let after : Store = storeOf rows′ mails′ logs heads (set boards b row) unread′ queued′ waits′ in
+          let after : Store = storeOf rows′ mails′ logs heads (set boards b row) totals′ waits′ in
           subst (λ (z : Answer). Answered t after entries c command (crash t c a) z) (sym e)
           (subst (λ (z : Result). Answered t after entries c command z (answerOf 0 0 0)) (sym so) (record { answer-is = refl; holds = there }));
     }

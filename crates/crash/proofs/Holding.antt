@@ -4,37 +4,39 @@ use mathlib.Core.Logic.{_≢_}
 use mathlib.Core.Bool.{Bool, true, false, cond}
 use mathlib.Core.Option.{Option, none, some}
 use mathlib.Core.List.{List, [], _∷_}
-use Prim.Native.Nat.{ℕ, zero, suc, _+_, _≤_, _<_}
+use Prim.Native.Nat.{ℕ, zero, suc, _+_, _≤_, _<_, min}
 use native.Mathlib.Omega.{arith}
-use lib.Dec.{eqb}
-use lib.ListN.{length, getD, set, length-set, List·getD-eq-default}
+use lib.Dec.{eqb, ltb}
+use lib.ListN.{length, getD, set, length-set, length-map, List·getD-eq-default}
 use lib.Seq.{getD-set-same, getD-set-other}
 use borrow.Author.Tests.{lt-ltb, le-ltb, eq-eqb, ne-eqb}
 use Rattle.facts.specs.Tests.{by-eq, by-lt}
 use Rattle.facts.specs.Counts.{total-set}
-use Rattle.facts.specs.Lists.{listed}
-use Rattle.facts.specs.Rings.{ring, listed-set, getD-listed}
+use Rattle.facts.specs.Lists.{prefix, length-prefix, listed}
+use Rattle.facts.specs.Rings.{ring, listed-set, getD-listed, listed-length}
 use Rattle.backup.specs.Limits.{logMost}
-use Rattle.process.specs.Row.{mailsIn, processOf, machineOf}
+use Rattle.process.specs.Row.{mailIn, mailsIn, processOf, machineOf}
 use Rattle.process.specs.Change.{Became}
 use Rattle.process.specs.Promotion.{Routes}
 use Rattle.rules.specs.Table.{Table, environment, inputs, channelAt}
+use Rattle.rules.specs.Machine.{booted}
 use Rattle.rules.specs.Cabinet as rules
-use Rattle.rules.specs.Cabinet.{Cabinet, Process, Standby, nobody, processAt, outboxAt, unreadOn, queuedOn, inFlight, waiting}
+use Rattle.rules.specs.Cabinet.{Cabinet, Process, Standby, nobody, processAt, outboxAt, unreadOn, queuedOn, inFlight, occupancy, waiting}
 use Rattle.rules.specs.Moves.{unprotected, afterCrash, allAfterCrash}
 use Rattle.rules.proofs.Counting.{flight-total, flight-lost}
 use Rattle.state.specs.declared.entry.Entry.{Entry}
-use Rattle.state.specs.Store.{Store, storeOf, Holds, processIn, outboxIn, deadIn, flag}
+use Rattle.state.specs.Store.{Store, storeOf, Totalled, Holds, processIn, outboxIn, deadIn, flag}
 use Rattle.state.specs.Moved.{Reachable}
 use Rattle.state.specs.Wired.{Wired}
-use Rattle.state.proofs.Reading.{at-process, how-many-boards}
+use Rattle.state.proofs.Reading.{at-process, how-many, how-many-boards}
+use Rattle.state.proofs.Totals.{unread-few}
 use Rattle.state.proofs.Reaching.{channel-bounds}
-use Rattle.state.proofs.Ends.{sender-inside}
+use Rattle.state.proofs.Ends.{sender-inside, reader-inside}
 use Rattle.state.proofs.Owners.{waiting-elsewhere, queued-elsewhere, fed-not-queued}
 use Rattle.crash.specs.Crashes.{Addressed}
 use Rattle.crash.specs.Losses.{runsOn, lostWords, Zeroed, deadRow}
 use Rattle.crash.specs.Processes.{inputIn, inputsIn, AllCrashed}
-use Rattle.crash.specs.Recount.{Recounted}
+use Rattle.crash.specs.Recount.{unreadHere, unreadIn, Dropped, Added}
 
 -- ---- the rules' functions
 
@@ -88,14 +90,47 @@ routes {t} {ins} {arity} d p hp i l =
     (λ h. rw (lt-ltb i (getD arity p 0) (rw (d .arity-at p hp) h)) (d .input-at p hp i h))
     (λ h. rw (le-ltb i (getD arity p 0) (rw (d .arity-at p hp) h)) (sym (List·getD-eq-default (inputs t p) 0 {n = i} h))))
 
+-- ---- unread words
+
+-- no more than a mailbox has
+unread-below : (rows mails : List (List ℕ)) (p k : ℕ) → unreadIn rows mails p k ≤ logMost
+unread-below rows mails p k = go (ltb p 16)
+  where
+    go : (a : Bool) → cond a (unreadHere (getD rows p []) (getD mails p []) k) 0 ≤ logMost
+    go true =
+        let n : ℕ = min (getD (getD rows p []) 14 0) logMost in
+        let few = unread-few k (mailsIn n (getD mails p [])) in
+        let long = length-map (prefix n (getD mails p [])) mailIn ∙ length-prefix n (getD mails p []) in
+        omega arith
+    go false = omega arith
+
+-- those of a channel, in the mailbox of its reader; the outside has none
+unread-there : {t : Table} {sender reader port : List ℕ} {c₀ : Cabinet} → Reachable t c₀ → (c : Cabinet) (rows mails logs heads : List (List ℕ))
+    → ((p : ℕ) → p < length (t .processes) → processAt c p ≡ processOf (getD rows p []) (getD mails p []) (getD logs p []) (getD heads p []))
+    → length (c .processes) ≡ length (t .processes) → ((p : ℕ) → p < length (t .processes) → getD (getD rows p []) 14 0 ≤ logMost) → Wired t sender reader port
+    → (k : ℕ) → k < length (t .channels) → unreadIn rows mails (getD reader k 0) k ≡ unreadOn k (processAt c (channelAt t k .reader) .machine .mailbox)
+unfolding processOf machineOf nobody booted
+unread-there {t} {reader = reader} reach c rows mails logs heads is many kept wired k l =
+    let r : ℕ = channelAt t k .reader in
+    ap (λ (p : ℕ). unreadIn rows mails p k) (wired .reader-at k l)
+    ∙ by-eq r environment
+    (λ e.
+    let none : processAt c r ≡ nobody = List·getD-eq-default (c .processes) nobody {n = r} (let z = reach .accepted .processes-high in omega arith) in
+    rw (le-ltb r 16 (omega arith)) (ap (λ (x : Process). unreadOn k (x .machine .mailbox)) (sym none)))
+    (λ n.
+    let inside = reader-inside (reach .accepted) k l n in
+    let whole : min (getD (getD rows r []) 14 0) logMost ≡ getD (getD rows r []) 14 0 = (let z = kept r inside in omega arith) in
+    rw (lt-ltb r 16 (let z = reach .accepted .processes-high in omega arith), whole) (ap (λ (x : Process). unreadOn k (x .machine .mailbox)) (sym (is r inside))))
+
 -- ---- the cabinet afterwards
 
-module _ {t : Table} {s : Store} {entries : List Entry} {c : Cabinet} {sender reader port ins arity : List ℕ} {b : ℕ} {rows′ mails′ : List (List ℕ)} {unread′ queued′ waits′ : List ℕ}
+module _ {t : Table} {s : Store} {entries : List Entry} {c : Cabinet} {sender reader port ins arity : List ℕ} {b : ℕ} {rows′ mails′ : List (List ℕ)} {queues queues′ totals′ waits′ : List ℕ}
     (reach : Reachable t c) (h : Holds t s entries c) (wired : Wired t sender reader port) (addressed : Addressed t ins arity) (hb : b < t .boards)
-    (words : Zeroed (lostWords sender (s .rows) b) (length (t .channels)) (s .queued) queued′)
+    (dropped : Dropped (length (t .channels)) reader (s .rows) (s .mails) (s .totals) queues)
+    (words : Zeroed (lostWords sender (s .rows) b) (length (t .channels)) queues queues′)
     (flags : Zeroed (runsOn (s .rows) b) (length (t .processes)) (s .waits) waits′)
     (all : AllCrashed (length (t .processes)) ins arity (s .rows) (s .mails) (s .logs) (s .heads) b rows′ mails′)
-    (counts : Recounted (length (t .channels)) reader rows′ mails′ (s .unread) unread′) where
+    (added : Added (length (t .channels)) reader rows′ mails′ queues′ totals′) where
   abbrev row : List ℕ
   row = getD (s .boards) b []
 
@@ -103,7 +138,7 @@ module _ {t : Table} {s : Store} {entries : List Entry} {c : Cabinet} {sender re
   boards′ = set (s .boards) b (deadRow row)
 
   abbrev after : Store
-  after = storeOf rows′ mails′ (s .logs) (s .heads) boards′ unread′ queued′ waits′
+  after = storeOf rows′ mails′ (s .logs) (s .heads) boards′ totals′ waits′
 
   -- processes
   became : (p : ℕ) → p < length (t .processes)
@@ -174,12 +209,26 @@ module _ {t : Table} {s : Store} {entries : List Entry} {c : Cabinet} {sender re
   there-are : b < length (c .outboxes)
   there-are = rw (how-many-boards h) hb
 
-  queued-then : (k : ℕ) → k < length (t .channels) → getD queued′ k 0 ≡ inFlight k (set (c .outboxes) b [])
-  queued-then k l =
-      let long = h .queued-length in
+  -- the unread words taken out, the words in queues are left
+  queued-was : (k : ℕ) → k < length (t .channels) → getD queues k 0 ≡ inFlight k (c .outboxes)
+  unfolding occupancy
+  queued-was k l =
+      let long = h .totalled .totals-length in
       let few = reach .accepted .channels-high in
-      let at = words .zeroed-at k l (omega arith) in
-      let was = h .queued-is k l in
+      let at = dropped .each-at k l (omega arith) in
+      let was = h .totalled .total-is k l in
+      let out = unread-there reach c (s .rows) (s .mails) (s .logs) (s .heads) (at-process h) (how-many h) (λ p lp. h .kept p lp .unread) wired k l in
+      let small = channel-bounds reach k .few in
+      let less = unread-below (s .rows) (s .mails) (getD reader k 0) k in
+      omega arith
+
+  -- and those of the dead queue
+  queued-then : (k : ℕ) → k < length (t .channels) → getD queues′ k 0 ≡ inFlight k (set (c .outboxes) b [])
+  queued-then k l =
+      let long : length queues ≡ 32 = dropped .same-length ∙ h .totalled .totals-length in
+      let few = reach .accepted .channels-high in
+      let at = words .each-at k l (omega arith) in
+      let was = queued-was k l in
       let split = flight-without k (c .outboxes) b there-are in
       let from = wired .sender-at k l in
       by-eq (channelAt t k .sender) environment
@@ -210,7 +259,7 @@ module _ {t : Table} {s : Store} {entries : List Entry} {c : Cabinet} {sender re
   waits-then p l =
       let long = h .waits-length in
       let few = reach .accepted .processes-high in
-      let at = flags .zeroed-at p l (omega arith) in
+      let at = flags .each-at p l (omega arith) in
       by-eq (processAt c p .board) b
       (λ e. at ∙ rw (runs-is p l, eq-eqb (processAt c p .board) b e, nothing-waits p (processIn after p .board) e))
       (λ n.
@@ -221,17 +270,23 @@ module _ {t : Table} {s : Store} {entries : List Entry} {c : Cabinet} {sender re
       ap (λ (i : ℕ). getD (set (c .outboxes) b []) i []) same ∙ getD-set-other (c .outboxes) b (processAt c p .board) [] [] n in
       at ∙ rw (runs-is p l, ne-eqb (processAt c p .board) b n) (h .waits-is p l ∙ ap (λ (q : List rules.Item). flag (waiting p q)) (sym queue)))
 
-  unread-then : (k : ℕ) → k < length (t .channels) → channelAt t k .reader < length (t .processes)
-      → getD unread′ k 0 ≡ unreadOn k (processIn after (channelAt t k .reader) .machine .mailbox)
-  unfolding processOf machineOf
-  unread-then k l r =
-      let long = h .unread-length in
-      let few = reach .accepted .channels-high in
-      let small = reach .accepted .processes-high in
-      let to = wired .reader-at k l in
-      let at = counts .counted-at k l (omega arith) (omega arith) in
-      subst (λ (q : ℕ). getD (getD rows′ q []) 14 0 ≤ logMost → getD unread′ k 0 ≡ unreadOn k (mailsIn (getD (getD rows′ q []) 14 0) (getD mails′ q []))) to at
-      (became (channelAt t k .reader) r .kept-again .unread)
+  -- and the unread words of the inboxes as they are now
+  totals-then : Totalled t totals′ (crashedCabinet t c b)
+  unfolding occupancy
+  totals-then = record {
+    total-is = λ k l.
+        let long : length queues′ ≡ 32 = words .same-length ∙ dropped .same-length ∙ h .totalled .totals-length in
+        let few = reach .accepted .channels-high in
+        let at = added .each-at k l (omega arith) in
+        let was = queued-then k l in
+        let back = unread-there reach (crashedCabinet t c b) rows′ mails′ (s .logs) (s .heads) process-then
+        (ap (λ (x : List Process). length x) processes-then ∙ listed-length (processIn after) (length (t .processes))) (λ p lp. became p lp .kept-again .unread) wired k l in
+        let small = channel-bounds reach k .few in
+        let fewer = flight-lost k (c .outboxes) b in
+        let more = unread-below rows′ mails′ (getD reader k 0) k in
+        omega arith;
+    totals-length = added .same-length ∙ words .same-length ∙ dropped .same-length ∙ h .totalled .totals-length;
+  }
 
   pub crash-holds : Holds t after entries (crashedCabinet t c b)
   crash-holds = record {
@@ -242,16 +297,13 @@ module _ {t : Table} {s : Store} {entries : List Entry} {c : Cabinet} {sender re
     first-small = λ i l. by-eq i b (λ e. rw (e, here, is-first) (h .first-small b hb)) (λ n. rw (there i n) (h .first-small i l));
     count-small = λ i l. by-eq i b (λ e. rw (e, here, is-count) (omega arith)) (λ n. rw (there i n) (h .count-small i l));
     board-length = λ i l. by-eq i b (λ e. rw (e, here) three) (λ n. rw (there i n) (h .board-length i l));
-    unread-is = λ k l r. unread-then k l r ∙ ap (λ (x : Process). unreadOn k (x .machine .mailbox)) (sym (process-then (channelAt t k .reader) r));
-    queued-is = queued-then;
+    totalled = totals-then;
     waits-is = λ p l. waits-then p l ∙ ap (λ (x : Process). flag (waiting p (getD (set (c .outboxes) b []) (x .board) []))) (sym (process-then p l));
     rows-length = all .rows-length ∙ h .rows-length;
     mails-length = all .mails-length ∙ h .mails-length;
     logs-length = h .logs-length;
     heads-length = h .heads-length;
     boards-length = length-set (s .boards) b (deadRow row) ∙ h .boards-length;
-    unread-length = counts .same-length ∙ h .unread-length;
-    queued-length = words .same-length ∙ h .queued-length;
     waits-length = flags .same-length ∙ h .waits-length;
     entries-length = h .entries-length;
   }

@@ -1,4 +1,5 @@
 -- Why move 5 is the rules'.
+pub mod Passing
 pub mod Losing
 pub mod Recounting
 pub mod Promoting

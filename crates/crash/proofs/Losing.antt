@@ -6,11 +6,11 @@ use Prim.Native.Nat.{ℕ, _+_, _≤_, _<_}
 use native.Mathlib.Omega.{arith}
 use native.Mathlib.Numerals.{add-one}
 use lib.Dec.{eqb}
-use lib.ListN.{length, getD, set, length-set}
-use lib.Seq.{getD-set-same, getD-set-other}
+use lib.ListN.{getD, set}
 use borrow.Author.Tests.{lt-ltb, le-ltb, eq-eqb, ne-eqb}
-use Rattle.facts.specs.Tests.{by-eq, anyBelow}
+use Rattle.facts.specs.Tests.{anyBelow}
 use Rattle.crash.specs.Losses.{runsOn, deadApart, Zeroed}
+use Rattle.crash.proofs.Passing.{Passing, passing-start, passing-on, passing-over, passing-end}
 
 -- ---- tests
 
@@ -49,38 +49,24 @@ module _ (test : ℕ → Bool) (n : ℕ) where
         let e : k ≡ n = (let a = s .looked in omega arith) in
         s .so-far ∙ ap (anyBelow test) e
 
--- ---- totals that become 0
+-- ---- numbers that become 0
+
+abbrev zeroIf : (ℕ → Bool) → ℕ → ℕ → ℕ
+zeroIf named i x = cond (named i) 0 x
 
 -- of the first i numbers those that the test names are 0
-pub record Zeroing (named : ℕ → Bool) (n : ℕ) (l₀ l : List ℕ) (i : ℕ) : Type 0 where
-  pub looked : i ≤ n
-  pub same-length : length l ≡ length l₀
-  pub done-at : (j : ℕ) → j < i → j < length l₀ → getD l j 0 ≡ cond (named j) 0 (getD l₀ j 0)
-  pub rest-at : (j : ℕ) → i ≤ j → getD l j 0 ≡ getD l₀ j 0
+abbrev pub Zeroing : (ℕ → Bool) → ℕ → List ℕ → List ℕ → ℕ → Type 0
+Zeroing named n l₀ l i = Passing (zeroIf named) n l₀ l i
 
 pub zeroing-start : (named : ℕ → Bool) (n : ℕ) (l : List ℕ) → Zeroing named n l l 0
-zeroing-start named n l = record { looked = omega arith; same-length = refl; done-at = λ j h. absurd (omega arith); rest-at = λ j h. refl }
+zeroing-start named n l = passing-start (zeroIf named) n l
 
 module _ (named : ℕ → Bool) (n : ℕ) (l₀ l : List ℕ) (i : ℕ) (z : Zeroing named n l₀ l i) where
   pub zeroing-hit : i < n → named i ≡ true → Zeroing named n l₀ (set l i 0) (i + 1)
-  zeroing-hit h e = record {
-    looked = omega arith;
-    same-length = length-set l i 0 ∙ z .same-length;
-    done-at = λ j a b. by-eq j i
-        (λ f. rw (f, e) (getD-set-same l i 0 0 (let c = z .same-length in omega arith)))
-        (λ f. getD-set-other l i j 0 0 f ∙ z .done-at j (omega arith) b);
-    rest-at = λ j a. getD-set-other l i j 0 0 (λ f. omega arith) ∙ z .rest-at j (omega arith);
-  }
+  zeroing-hit h e = passing-on (zeroIf named) n l₀ l i z h 0 (rw e)
 
   pub zeroing-miss : i < n → named i ≡ false → Zeroing named n l₀ l (i + 1)
-  zeroing-miss h e = record {
-    looked = omega arith;
-    same-length = z .same-length;
-    done-at = λ j a b. by-eq j i
-        (λ f. rw (f, e) (z .rest-at i (omega arith)))
-        (λ f. z .done-at j (omega arith) b);
-    rest-at = λ j a. z .rest-at j (omega arith);
-  }
+  zeroing-miss h e = passing-over (zeroIf named) n l₀ l i z h (rw e)
 
   pub zeroing-end : n ≤ i → Zeroed named n l₀ l
-  zeroing-end h = record { same-length = z .same-length; zeroed-at = λ j a b. z .done-at j (omega arith) b }
+  zeroing-end h = passing-end (zeroIf named) n l₀ l i z h

@@ -1,18 +1,17 @@
--- The unread totals counted afresh: what is true between two rounds, and at the end.
-use mathlib.Core.Path.{_≡_, refl, ap, sym, _∙_, subst}
+-- Unread words counted in a mailbox: what is true between two rounds, and at the end; and what a total is without them.
+use mathlib.Core.Path.{_≡_, refl, ap, sym, _∙_}
 use mathlib.Core.List.{List, [], _∷_, map, map-append}
 use Prim.Native.Nat.{ℕ, suc, _+_, _%_, _^_, _≤_, _<_}
 use native.Mathlib.Omega.{arith}
 use native.Mathlib.Numerals.{add-one}
-use lib.ListN.{length, getD, set, length-set}
-use lib.Seq.{getD-set-same, getD-set-other}
-use Rattle.facts.specs.Tests.{by-eq}
+use lib.ListN.{getD}
+use borrow.Author.Tests.{lt-ltb, le-ltb}
 use Rattle.facts.specs.Lists.{prefix, prefix-more}
 use Rattle.facts.specs.Counts.{same, same-yes, same-no}
 use Rattle.rules.specs.Cabinet.{unreadOn}
 use Rattle.rules.proofs.Counting.{unread-append}
 use Rattle.process.specs.Row.{mailIn, mailsIn}
-use Rattle.crash.specs.Recount.{UnreadHere, Recounted}
+use Rattle.crash.specs.Recount.{unreadHere, unreadIn, lessBy}
 
 -- ---- one channel in one mailbox
 
@@ -55,34 +54,13 @@ module _ (mail : List ℕ) (n k count i : ℕ) (c : Counting mail n k count i) (
       let e : i ≡ n = (let a = c .looked in omega arith) in
       c .so-far ∙ ap (λ (j : ℕ). unreadOn k (mailsIn j mail)) e
 
--- ---- every channel
+-- ---- taken out of a total, or added
 
--- the first i of n channels are counted
-pub record Recounting (n : ℕ) (reader : List ℕ) (rows mails : List (List ℕ)) (unread₀ unread : List ℕ) (i : ℕ) : Type 0 where
-  pub looked : i ≤ n
-  pub same-length : length unread ≡ length unread₀
-  pub done-at : (k : ℕ) → k < i → k < length unread₀ → getD reader k 0 < 16
-      → UnreadHere (getD rows (getD reader k 0) []) (getD mails (getD reader k 0) []) k (getD unread k 0)
+pub less-by : (x y less : ℕ) → (less + y) % 2 ^ 32 ≡ x → less < 2 ^ 32 → y < 2 ^ 32 → less ≡ lessBy x y
+less-by x y less e l h = omega arith
 
-module _ (n : ℕ) (reader : List ℕ) (rows mails : List (List ℕ)) (unread₀ : List ℕ) where
-  pub recounting-start : Recounting n reader rows mails unread₀ unread₀ 0
-  recounting-start = record { looked = omega arith; same-length = refl; done-at = λ k h. absurd (omega arith) }
+pub unread-inside : (rows mails : List (List ℕ)) (p k : ℕ) → p < 16 → unreadHere (getD rows p []) (getD mails p []) k ≡ unreadIn rows mails p k
+unread-inside rows mails p k l = rw (lt-ltb p 16 l)
 
-  module _ (unread : List ℕ) (i : ℕ) (c : Recounting n reader rows mails unread₀ unread i) where
-    pub recounting-on : (p r : ℕ) → i < n → (getD reader i 0 < 16 → p ≡ getD reader i 0) → UnreadHere (getD rows p []) (getD mails p []) i r
-        → Recounting n reader rows mails unread₀ (set unread i r) (i + 1)
-    recounting-on p r l e u = record {
-      looked = omega arith;
-      same-length = length-set unread i r ∙ c .same-length;
-      done-at = λ k a b d. by-eq k i
-          (λ f.
-          let here : getD (set unread i r) k 0 ≡ r = rw f (getD-set-same unread i r 0 (let z = c .same-length in omega arith)) in
-          let its : p ≡ getD reader k 0 = rw f (e (rw (← f) d)) in
-          subst (λ (x : ℕ). UnreadHere (getD rows (getD reader k 0) []) (getD mails (getD reader k 0) []) k x) (sym here)
-          (subst (λ (q : ℕ). UnreadHere (getD rows q []) (getD mails q []) k r) its
-          (subst (λ (j : ℕ). UnreadHere (getD rows p []) (getD mails p []) j r) (sym f) u)))
-          (λ f. subst (λ (x : ℕ). UnreadHere (getD rows (getD reader k 0) []) (getD mails (getD reader k 0) []) k x) (sym (getD-set-other unread i k r 0 f)) (c .done-at k (omega arith) b d));
-    }
-
-    pub recounting-end : n ≤ i → Recounted n reader rows mails unread₀ unread
-    recounting-end l = record { same-length = c .same-length; counted-at = λ k a b d. c .done-at k (omega arith) b d }
+pub unread-outside : (rows mails : List (List ℕ)) (p k : ℕ) → 16 ≤ p → 0 ≡ unreadIn rows mails p k
+unread-outside rows mails p k l = rw (le-ltb p 16 l)

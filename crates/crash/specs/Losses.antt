@@ -1,11 +1,11 @@
 -- What the parts of a crash promise that make its losses: which boards and processes it concerns, and which totals become 0.
-use mathlib.Core.Path.{_≡_}
 use mathlib.Core.Bool.{Bool, not, cond, _&&_}
 use mathlib.Core.List.{List, []}
-use Prim.Native.Nat.{ℕ, _<_}
+use Prim.Native.Nat.{ℕ}
 use lib.Dec.{eqb, ltb}
-use lib.ListN.{length, getD, set}
+use lib.ListN.{getD, set}
 use Rattle.state.specs.Store.{deadIn}
+use Rattle.crash.specs.Each.{Each}
 
 -- p is a process that runs on board a
 abbrev pub runsOn : List (List ℕ) → ℕ → ℕ → Bool
@@ -20,9 +20,8 @@ abbrev pub lostWords : List ℕ → List (List ℕ) → ℕ → ℕ → Bool
 lostWords sender rows a k = runsOn rows a (getD sender k 0)
 
 -- of the first n numbers those that the test names are 0, and the others as they were
-pub record Zeroed (named : ℕ → Bool) (n : ℕ) (l l′ : List ℕ) : Type 0 where
-  pub same-length : length l′ ≡ length l
-  pub zeroed-at : (i : ℕ) → i < n → i < length l → getD l′ i 0 ≡ cond (named i) 0 (getD l i 0)
+abbrev pub Zeroed : (ℕ → Bool) → ℕ → List ℕ → List ℕ → Type 0
+Zeroed named n l l′ = Each (λ i x. cond (named i) 0 x) n l l′
 
 -- a board's row once it is dead
 abbrev pub deadRow : List ℕ → List ℕ

@@ -1,18 +1,32 @@
--- The unread totals, counted afresh.
-use mathlib.Core.Path.{_≡_}
+-- The unread words of a channel counted in its reader's mailbox, and taken out of the totals or added to them.
+use mathlib.Core.Bool.{cond}
 use mathlib.Core.List.{List, []}
-use Prim.Native.Nat.{ℕ, _≤_, _<_}
-use lib.ListN.{length, getD}
+use Prim.Native.Nat.{ℕ, _+_, _-_, _%_, _^_, min}
+use lib.Dec.{ltb}
+use lib.ListN.{getD}
 use Rattle.backup.specs.Limits.{logMost}
 use Rattle.rules.specs.Cabinet.{unreadOn}
 use Rattle.process.specs.Row.{mailsIn}
+use Rattle.crash.specs.Each.{Each}
 
 -- how many unread words of channel k a row and a mailbox have
-abbrev pub UnreadHere : List ℕ → List ℕ → ℕ → ℕ → Type 0
-UnreadHere row mail k r = getD row 14 0 ≤ logMost → r ≡ unreadOn k (mailsIn (getD row 14 0) mail)
+abbrev pub unreadHere : List ℕ → List ℕ → ℕ → ℕ
+unreadHere row mail k = unreadOn k (mailsIn (min (getD row 14 0) logMost) mail)
 
--- of each of the first n channels that a process reads, what the process's mailbox has
-pub record Recounted (n : ℕ) (reader : List ℕ) (rows mails : List (List ℕ)) (unread unread′ : List ℕ) : Type 0 where
-  pub same-length : length unread′ ≡ length unread
-  pub counted-at : (k : ℕ) → k < n → k < length unread → getD reader k 0 < 16
-      → UnreadHere (getD rows (getD reader k 0) []) (getD mails (getD reader k 0) []) k (getD unread′ k 0)
+-- how many process p has; none where p is no process
+abbrev pub unreadIn : List (List ℕ) → List (List ℕ) → ℕ → ℕ → ℕ
+unreadIn rows mails p k = cond (ltb p 16) (unreadHere (getD rows p []) (getD mails p []) k) 0
+
+-- a number less or more another, in 32 bits
+abbrev pub lessBy : ℕ → ℕ → ℕ
+lessBy x y = (x + (2 ^ 32 - y)) % 2 ^ 32
+
+abbrev pub moreBy : ℕ → ℕ → ℕ
+moreBy x y = (x + y) % 2 ^ 32
+
+-- each of the first n totals less, or more, the unread words of its channel
+abbrev pub Dropped : ℕ → List ℕ → List (List ℕ) → List (List ℕ) → List ℕ → List ℕ → Type 0
+Dropped n reader rows mails totals totals′ = Each (λ k x. lessBy x (unreadIn rows mails (getD reader k 0) k)) n totals totals′
+
+abbrev pub Added : ℕ → List ℕ → List (List ℕ) → List (List ℕ) → List ℕ → List ℕ → Type 0
+Added n reader rows mails totals totals′ = Each (λ k x. moreBy x (unreadIn rows mails (getD reader k 0) k)) n totals totals′

@@ -1,6 +1,6 @@
 // Counts that are clamped to what the arrays have, so that no loop runs past them.
 ghost use mathlib.Core.Path.{_≡_};
-ghost use Prim.Native.Nat.{_≤_};
+ghost use Prim.Native.Nat.{_≤_, min};
 
 // A count of processes or boards; 16 stands for any that is more.
 pub fn most16(n: usize) -> usize
@@ -18,7 +18,7 @@ pub fn most32(n: usize) -> usize
 
 // A count of unread words; 48 stands for any that is more.
 pub fn most48(n: usize) -> usize
-    ensures { λ r. ⌜ (r ≤ 48) × (n ≤ 48 → r ≡ n) ⌝ }
+    ensures { λ r. ⌜ r ≡ min n 48 ⌝ }
 {
     if n > 48 { 48 } else { n }
 }

@@ -1,4 +1,5 @@
-// Move 5: "crash board a: its queue is lost." "Crash: 34 already dead, 44 another board has crashed."
+// Move 5: "crash board a: its queue is lost." "Crash: 34 already dead, 44 another board has crashed." The totals: a dead queue's words go, and
+// the inbox of a process that went on takes the place of the one that it had.
 ghost use Rattle.crash.specs.Crashes.{Crashes};
 use crate::bounds::most16;
 use crate::bounds::most32;
@@ -7,7 +8,8 @@ use crate::losses::lose_flags;
 use crate::losses::lose_words;
 use crate::losses::other_dead;
 use crate::processes::crash_all;
-use crate::recount::recount;
+use crate::recount::add_unread;
+use crate::recount::drop_unread;
 use backup::place::HEAD;
 use process::mail::MAIL;
 use process::row::ROW;
@@ -30,12 +32,11 @@ pub fn crash(
     logs: &[[u64; MAIL]; 16],
     heads: &[[u32; HEAD]; 16],
     boards: &mut [[u32; BOARD_ROW]; 16],
-    unread: &mut [u32; 32],
-    queued: &mut [u32; 32],
+    totals: &mut [u32; 32],
     waits: &mut [u32; 16],
     a: u32,
 ) -> Answer
-    ensures { λ r. ⌜ Crashes «boards_many» processes channels (now (sender .entry)) (now (reader .entry)) (now (ins .entry)) (now (arity .entry)) (now (rows .entry)) (now (mails .entry)) (now (logs .entry)) (now (heads .entry)) (now (boards .entry)) (now (unread .entry)) (now (queued .entry)) (now (waits .entry)) a (now (rows .exit)) (now (mails .exit)) (now (boards .exit)) (now (unread .exit)) (now (queued .exit)) (now (waits .exit)) r ⌝ }
+    ensures { λ r. ⌜ Crashes «boards_many» processes channels (now (sender .entry)) (now (reader .entry)) (now (ins .entry)) (now (arity .entry)) (now (rows .entry)) (now (mails .entry)) (now (logs .entry)) (now (heads .entry)) (now (boards .entry)) (now (totals .entry)) (now (waits .entry)) a (now (rows .exit)) (now (mails .exit)) (now (boards .exit)) (now (totals .exit)) (now (waits .exit)) r ⌝ }
 {
     let b = index16(a);
     if boards[b][DEAD] != 0 {
@@ -46,10 +47,11 @@ pub fn crash(
     }
     let p = most16(processes);
     let k = most32(channels);
-    lose_words(k, sender, rows, a, queued);
+    drop_unread(k, reader, rows, mails, totals);
+    lose_words(k, sender, rows, a, totals);
     lose_flags(p, rows, a, waits);
     crash_all(p, ins, arity, rows, mails, logs, heads, a);
-    recount(k, reader, rows, mails, unread);
+    add_unread(k, reader, rows, mails, totals);
     die(&mut boards[b]);
     Answer {
         code: 0,

@@ -41,21 +41,21 @@ pub fn other_dead(n: usize, boards: &[[u32; BOARD_ROW]; 16], b: usize) -> bool
     found
 }
 
-// No word of a process that runs on board a is in a queue any more.
+// Of the words in queues those of a process that runs on board a are lost.
 pub fn lose_words(
     n: usize,
     sender: &[u32; 32],
     rows: &[[u32; ROW]; 16],
     a: u32,
-    queued: &mut [u32; 32],
+    totals: &mut [u32; 32],
 )
     requires { ⌜ n ≤ 32 ⌝ }
-    ensures { λ _. ⌜ Zeroed (lostWords (now (sender .entry)) (now (rows .entry)) a) n (now (queued .entry)) (now (queued .exit)) ⌝ }
+    ensures { λ _. ⌜ Zeroed (lostWords (now (sender .entry)) (now (rows .entry)) a) n (now (totals .entry)) (now (totals .exit)) ⌝ }
 {
     let mut k = 0;
     while k < n {
         if runs_on(rows, wide(sender[k]), a) {
-            queued[k] = 0;
+            totals[k] = 0;
         }
         k += 1;
     }

@@ -1,15 +1,14 @@
-// The unread words of each channel, counted afresh in its reader's mailbox.
+// The unread words of each channel, counted in its reader's mailbox: a take-over's inbox replaces them in the channel's total.
 ghost use mathlib.Core.Path.{_≡_};
 ghost use Prim.Native.Nat.{_≤_, _<_};
 ghost use Rattle.rules.specs.Cabinet.{unreadOn};
 ghost use Rattle.process.specs.Row.{mailIn, mailsIn};
-ghost use Rattle.crash.specs.Recount.{UnreadHere, Recounted};
+ghost use Rattle.crash.specs.Recount.{unreadHere, unreadIn, Dropped, Added};
 use crate::bounds::most48;
 use process::mail::MAIL;
 use process::mail::channel_of;
 use process::row::ROW;
 use process::row::UNREAD;
-use state::board::index16;
 use state::board::wide;
 
 // The channel of a word of a mailbox.
@@ -36,27 +35,57 @@ fn count_on(mail: &[u64; MAIL], n: usize, k: usize) -> u32
 }
 
 // How many unread words of channel k a process has.
-pub fn unread_of(row: &[u32; ROW], mail: &[u64; MAIL], k: usize) -> u32
-    ensures { λ r. ⌜ UnreadHere (now (row .entry)) (now (mail .entry)) k r ⌝ }
+fn unread_of(row: &[u32; ROW], mail: &[u64; MAIL], k: usize) -> u32
+    ensures { λ r. ⌜ r ≡ unreadHere (now (row .entry)) (now (mail .entry)) k ⌝ }
 {
     count_on(mail, most48(wide(row[UNREAD])), k)
 }
 
-// The same of each of n channels that a process reads; what stands for one that the outside reads is looked at by no move.
-pub fn recount(
+// How many process p has; none where p is no process.
+fn unread_at(rows: &[[u32; ROW]; 16], mails: &[[u64; MAIL]; 16], p: usize, k: usize) -> u32
+    ensures { λ r. ⌜ r ≡ unreadIn (now (rows .entry)) (now (mails .entry)) p k ⌝ }
+{
+    if p < 16 {
+        unread_of(&rows[p], &mails[p], k)
+    } else {
+        0
+    }
+}
+
+// Each of n totals less its channel's unread words: the words in queues are left.
+pub fn drop_unread(
     n: usize,
     reader: &[u32; 32],
     rows: &[[u32; ROW]; 16],
     mails: &[[u64; MAIL]; 16],
-    unread: &mut [u32; 32],
+    totals: &mut [u32; 32],
 )
     requires { ⌜ n ≤ 32 ⌝ }
-    ensures { λ _. ⌜ Recounted n (now (reader .entry)) (now (rows .entry)) (now (mails .entry)) (now (unread .entry)) (now (unread .exit)) ⌝ }
+    ensures { λ _. ⌜ Dropped n (now (reader .entry)) (now (rows .entry)) (now (mails .entry)) (now (totals .entry)) (now (totals .exit)) ⌝ }
 {
     let mut k = 0;
     while k < n {
-        let p = index16(reader[k]);
-        unread[k] = unread_of(&rows[p], &mails[p], k);
+        let unread = unread_at(rows, mails, wide(reader[k]), k);
+        totals[k] = std::num::wrapping_sub_u32(totals[k], unread);
+        k += 1;
+    }
+}
+
+// Each of n totals and its channel's unread words.
+pub fn add_unread(
+    n: usize,
+    reader: &[u32; 32],
+    rows: &[[u32; ROW]; 16],
+    mails: &[[u64; MAIL]; 16],
+    totals: &mut [u32; 32],
+)
+    requires { ⌜ n ≤ 32 ⌝ }
+    ensures { λ _. ⌜ Added n (now (reader .entry)) (now (rows .entry)) (now (mails .entry)) (now (totals .entry)) (now (totals .exit)) ⌝ }
+{
+    let mut k = 0;
+    while k < n {
+        let unread = unread_at(rows, mails, wide(reader[k]), k);
+        totals[k] = std::num::wrapping_add_u32(totals[k], unread);
         k += 1;
     }
 }

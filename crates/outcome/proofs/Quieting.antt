@@ -62,13 +62,12 @@ pub record Hosted (table : List ℕ) (processes : ℕ) (start lengths : List ℕ
   pub logs : List (List ℕ)
   pub heads : List (List ℕ)
   pub boards : List (List ℕ)
-  pub unread : List ℕ
-  pub queued : List ℕ
+  pub totals : List ℕ
   pub waits : List ℕ
   pub entries : List Entry
   pub reach : Reachable t c
   pub programmed : Programmed t table start lengths
-  pub holds : Holds t (storeOf rows mails logs heads boards unread queued waits) entries c
+  pub holds : Holds t (storeOf rows mails logs heads boards totals waits) entries c
   pub processes-is : processes ≡ length (t .processes)
 
 -- the first p of n rest
@@ -100,9 +99,9 @@ module _ (table : List ℕ) (processes : ℕ) (start lengths : List ℕ) (rows m
   pub resting-fails : (p : ℕ) (r : Bool) → p < n → Rests table (getD start p 0) (getD lengths p 0) (getD rows p []) (getD mails p []) r → not r ≡ true
       → AllRest table processes start lengths rows mails false
   resting-fails p r l rests z = record {
-    answers = λ t logs heads boards unread queued waits entries c reach programmed holds e.
+    answers = λ t logs heads boards totals waits entries c reach programmed holds e.
         let x : Hosted table processes start lengths rows mails t c =
-        record { logs = logs; heads = heads; boards = boards; unread = unread; queued = queued; waits = waits; entries = entries; reach = reach; programmed = programmed; holds = holds; processes-is = e } in
+        record { logs = logs; heads = heads; boards = boards; totals = totals; waits = waits; entries = entries; reach = reach; programmed = programmed; holds = holds; processes-is = e } in
         let en = n-is t c x in
         let k : p < length (t .processes) = omega arith in
         walk-fails (restsIn t c) (length (t .processes)) p r k (its-answer p r rests t c x k) z;
@@ -110,9 +109,9 @@ module _ (table : List ℕ) (processes : ℕ) (start lengths : List ℕ) (rows m
 
   pub resting-end : (p : ℕ) → Resting table processes start lengths rows mails n p → n ≤ p → AllRest table processes start lengths rows mails true
   resting-end p w h = record {
-    answers = λ t logs heads boards unread queued waits entries c reach programmed holds e.
+    answers = λ t logs heads boards totals waits entries c reach programmed holds e.
         let x : Hosted table processes start lengths rows mails t c =
-        record { logs = logs; heads = heads; boards = boards; unread = unread; queued = queued; waits = waits; entries = entries; reach = reach; programmed = programmed; holds = holds; processes-is = e } in
+        record { logs = logs; heads = heads; boards = boards; totals = totals; waits = waits; entries = entries; reach = reach; programmed = programmed; holds = holds; processes-is = e } in
         let en = n-is t c x in
         walk-end (restsIn t c) (length (t .processes)) p (w .walked t c x) (omega arith);
   }
@@ -151,16 +150,16 @@ module _ {t : Table} {s : Store} {entries : List Entry} {c : Cabinet} (h : Holds
 module _ (table : List ℕ) (many processes : ℕ) (start lengths : List ℕ) (rows mails boards : List (List ℕ)) where
   pub quiets-not : (r : Bool) → AllRest table processes start lengths rows mails r → not r ≡ true → Quiets table many processes start lengths rows mails boards false
   quiets-not r rest z = record {
-    answers = λ t logs heads unread queued waits entries c reach programmed holds e f.
+    answers = λ t logs heads totals waits entries c reach programmed holds e f.
         let g : r ≡ false = not-true r z in
-        quiet-is holds false (allBelow (emptyIn boards) (t .boards)) (sym g ∙ rest .answers t logs heads boards unread queued waits entries c reach programmed holds f) refl;
+        quiet-is holds false (allBelow (emptyIn boards) (t .boards)) (sym g ∙ rest .answers t logs heads boards totals waits entries c reach programmed holds f) refl;
   }
 
   pub quiets-so : (r q : Bool) → AllRest table processes start lengths rows mails r → not r ≡ false → AllEmpty many boards q → Quiets table many processes start lengths rows mails boards q
   quiets-so r q rest z empty = record {
-    answers = λ t logs heads unread queued waits entries c reach programmed holds e f.
+    answers = λ t logs heads totals waits entries c reach programmed holds e f.
         let g : r ≡ true = not-false r z in
         let high = reach .accepted .boards-high in
-        quiet-is holds true q (sym g ∙ rest .answers t logs heads boards unread queued waits entries c reach programmed holds f)
+        quiet-is holds true q (sym g ∙ rest .answers t logs heads boards totals waits entries c reach programmed holds f)
         (empty (omega arith) ∙ ap (allBelow (emptyIn boards)) e);
   }

@@ -157,7 +157,7 @@ module _ {t : Table} {s : Store} {entries : List Entry} {c : Cabinet} (reach : R
 pub reporting-end : (rows : List (List ℕ)) (processes n : ℕ) (report₀ report : List ℕ) (p : ℕ) → (processes ≤ 16 → n ≡ processes) → Reporting rows n report₀ report p
     → n ≤ p → Reports rows processes report₀ report
 reporting-end rows processes n report₀ report p clamp w h = record {
-  reported = λ t mails logs heads boards unread queued waits entries c reach holds e room.
+  reported = λ t mails logs heads boards totals waits entries c reach holds e room.
       let high = reach .accepted .processes-high in
       let within = w .within in
       let en : n ≡ processes = clamp (omega arith) in

@@ -5,7 +5,7 @@ use mathlib.Core.List.{List, [], _∷_, map}
 use Prim.Native.Nat.{ℕ, zero, suc, _+_, _≤_, _<_, _^_}
 use native.Mathlib.Omega.{arith}
 use native.Mathlib.Nat.{not-suc-le-zero}
-use lib.ListN.{length, getD, set, replicate, length-set, length-replicate, getD-replicate}
+use lib.ListN.{length, getD, set, replicate, length-set, length-map, length-replicate, getD-replicate, List·getD-eq-default}
 use lib.Seq.{getD-set-same, getD-set-other}
 use Rattle.facts.specs.Tests.{by-eq, by-lt}
 use Rattle.facts.specs.Lists.{listed, listed-same, map-listed, written-out}
@@ -18,13 +18,13 @@ use Rattle.process.specs.Row.{rowLength, machineOf, standbyOf, processOf, Kept}
 use Rattle.process.proofs.Rows.{Words, stored}
 use Rattle.rules.specs.Table.{Table, Placement, placementAt, channelAt}
 use Rattle.rules.specs.Judge.{Accepted}
-use Rattle.rules.specs.Machine.{booted}
+use Rattle.rules.specs.Machine.{Mail, booted}
 use Rattle.rules.specs.Cabinet as rules
-use Rattle.rules.specs.Cabinet.{Process, placed, started, nobody, processAt, outboxAt, unreadOn, inFlight, waiting}
+use Rattle.rules.specs.Cabinet.{Process, placed, started, nobody, processAt, outboxAt, unreadOn, inFlight, occupancy, waiting}
 use Rattle.rules.proofs.Tables.{primary-ok, standby-ok}
 use Rattle.rules.proofs.Counting.{flight-none}
 use Rattle.state.specs.declared.entry.Entry.{Entry}
-use Rattle.state.specs.Store.{Store, storeOf, Holds, blankEntry, processIn, outboxIn, deadIn, flag}
+use Rattle.state.specs.Store.{Store, storeOf, Totalled, Holds, blankEntry, processIn, outboxIn, deadIn, flag}
 use Rattle.outcome.specs.Starts.{seatedIn, Fresh, Seats}
 
 -- ---- a list of one value
@@ -69,13 +69,13 @@ seated-is x = refl
 
 -- ---- fresh lists with their rows seated
 
-module _ (t : Table) (ok : Accepted t) (rows′ mails logs heads boards : List (List ℕ)) (unread queued waits : List ℕ) (entries : List Entry)
+module _ (t : Table) (ok : Accepted t) (rows′ mails logs heads boards : List (List ℕ)) (totals waits : List ℕ) (entries : List Entry)
     (mails-is : mails ≡ replicate 16 (zeros 48)) (logs-is : logs ≡ replicate 16 (zeros 48)) (heads-is : heads ≡ replicate 16 (zeros 11))
-    (boards-is : boards ≡ replicate 16 (zeros 3)) (unread-is : unread ≡ zeros 32) (queued-is : queued ≡ zeros 32) (waits-is : waits ≡ zeros 16)
+    (boards-is : boards ≡ replicate 16 (zeros 3)) (totals-is : totals ≡ zeros 32) (waits-is : waits ≡ zeros 16)
     (entries-is : entries ≡ replicate 512 blankEntry) (rows-length : length rows′ ≡ 16)
     (row-at : (p : ℕ) → p < length (t .processes) → getD rows′ p [] ≡ seatedRow (placementAt t p .primary) (placementAt t p .standby)) where
   abbrev s : Store
-  s = storeOf rows′ mails logs heads boards unread queued waits
+  s = storeOf rows′ mails logs heads boards totals waits
 
   -- one of 16
   one-of : (l : List (List ℕ)) (x : List ℕ) → l ≡ replicate 16 x → (p : ℕ) → p < 16 → getD l p [] ≡ x
@@ -113,9 +113,13 @@ module _ (t : Table) (ok : Accepted t) (rows′ mails logs heads boards : List (
   live-at : (b : ℕ) → b < t .boards → false ≡ deadIn boards b
   live-at b h = rw (board-at b h)
 
-  mailbox-is : (p : ℕ) → p < length (t .processes) → processAt (started t) p .machine .mailbox ≡ []
-  unfolding started placed booted
-  mailbox-is p h = ap (λ (x : Process). x .machine .mailbox) (getD-map placed (t .processes) p nowhere nobody h)
+  -- also where the table has no such process
+  mailbox-is : (p : ℕ) → processAt (started t) p .machine .mailbox ≡ []
+  unfolding started placed booted nobody
+  mailbox-is p =
+      by-lt p (length (t .processes))
+      (λ h. ap (λ (x : Process). x .machine .mailbox) (getD-map placed (t .processes) p nowhere nobody h))
+      (λ h. ap (λ (x : Process). x .machine .mailbox) (List·getD-eq-default (map placed (t .processes)) nobody {n = p} (let a = length-map (t .processes) placed in omega arith)))
 
   outbox-is : (b : ℕ) → outboxAt (started t) b ≡ []
   unfolding started
@@ -136,6 +140,17 @@ module _ (t : Table) (ok : Accepted t) (rows′ mails logs heads boards : List (
   number-at : (l : List ℕ) (n : ℕ) → l ≡ zeros n → (k : ℕ) → getD l k 0 ≡ 0
   number-at l n e k = ap (λ (x : List ℕ). getD x k 0) e ∙ getD-replicate-any {A = ℕ} n k 0
 
+  -- no word is unread or in a queue
+  start-totalled : Totalled t totals (started t)
+  unfolding occupancy
+  start-totalled = record {
+    total-is = λ k h.
+        let a = ap (λ (l : List Mail). unreadOn k l) (mailbox-is (channelAt t k .reader)) in
+        let b = in-flight k in
+        number-at totals 32 totals-is k ∙ omega arith;
+    totals-length = ap length totals-is;
+  }
+
   pub start-held : Holds t s entries (started t)
   unfolding started
   start-held = record {
@@ -146,16 +161,13 @@ module _ (t : Table) (ok : Accepted t) (rows′ mails logs heads boards : List (
     first-small = λ b h. rw (board-at b h) (omega arith);
     count-small = λ b h. rw (board-at b h) (omega arith);
     board-length = λ b h. rw (board-at b h);
-    unread-is = λ k h r. number-at unread 32 unread-is k ∙ ap (unreadOn k) (sym (mailbox-is (channelAt t k .reader) r));
-    queued-is = λ k h. number-at queued 32 queued-is k ∙ sym (in-flight k);
+    totalled = start-totalled;
     waits-is = λ p h. number-at waits 16 waits-is p ∙ ap (λ (q : List rules.Item). flag (waiting p q)) (sym (outbox-is (processAt (started t) p .board)));
     rows-length = rows-length;
     mails-length = ap length mails-is;
     logs-length = ap length logs-is;
     heads-length = ap length heads-is;
     boards-length = ap length boards-is;
-    unread-length = ap length unread-is;
-    queued-length = ap length queued-is;
     waits-length = ap length waits-is;
     entries-length = ap length entries-is ∙ length-replicate 512 blankEntry;
   }
@@ -194,10 +206,10 @@ module _ (rows : List (List ℕ)) (primary standby : List ℕ) (most : ℕ) (row
         same-length = h .same-length;
         seated-at = at;
         others = λ p u. h .others p (let w = h .so-far in omega arith);
-        holds = λ t mails logs heads boards unread queued waits entries ok places fresh.
+        holds = λ t mails logs heads boards totals waits entries ok places fresh.
             let z : length rows ≡ 16 = ap length (fresh .rows-is) in
-            start-held t ok rows′ mails logs heads boards unread queued waits entries (fresh .mails-is) (fresh .logs-is) (fresh .heads-is) (fresh .boards-is)
-            (fresh .unread-is) (fresh .queued-is) (fresh .waits-is) (fresh .entries-is) (h .same-length ∙ z)
+            start-held t ok rows′ mails logs heads boards totals waits entries (fresh .mails-is) (fresh .logs-is) (fresh .heads-is) (fresh .boards-is)
+            (fresh .totals-is) (fresh .waits-is) (fresh .entries-is) (h .same-length ∙ z)
             (λ p u.
             let v : p < 16 = (let a = ok .processes-high in omega arith) in
             at z p v (rw (places .processes-is) u)
@@ -208,15 +220,14 @@ module _ (rows : List (List ℕ)) (primary standby : List ℕ) (most : ℕ) (row
 -- ---- lists as an array of zeros and an array of blank entries come out
 
 pub fresh-made : (entries : List Entry) → entries ≡ replicate 512 blankEntry
-    → Fresh (storeOf (replicate 16 (zeros rowLength)) (replicate 16 (zeros 48)) (replicate 16 (zeros 48)) (replicate 16 (zeros 11)) (replicate 16 (zeros 3)) (zeros 32) (zeros 32) (zeros 16)) entries
+    → Fresh (storeOf (replicate 16 (zeros rowLength)) (replicate 16 (zeros 48)) (replicate 16 (zeros 48)) (replicate 16 (zeros 11)) (replicate 16 (zeros 3)) (zeros 32) (zeros 16)) entries
 fresh-made entries e = record {
   rows-is = refl;
   mails-is = refl;
   logs-is = refl;
   heads-is = refl;
   boards-is = refl;
-  unread-is = refl;
-  queued-is = refl;
+  totals-is = refl;
   waits-is = refl;
   entries-is = e;
 }

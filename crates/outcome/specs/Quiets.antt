@@ -43,8 +43,8 @@ restsIn t c p = idle (localStep (codeOf t p) (processAt c p .machine))
 -- ---- all of them, and the queues
 
 pub record AllRest (table : List ℕ) (processes : ℕ) (start lengths : List ℕ) (rows mails : List (List ℕ)) (r : Bool) : Type 0 where
-  pub answers : (t : Table) (logs heads boards : List (List ℕ)) (unread queued waits : List ℕ) (entries : List Entry) (c : Cabinet) → Reachable t c
-      → Programmed t table start lengths → Holds t (storeOf rows mails logs heads boards unread queued waits) entries c → processes ≡ length (t .processes)
+  pub answers : (t : Table) (logs heads boards : List (List ℕ)) (totals waits : List ℕ) (entries : List Entry) (c : Cabinet) → Reachable t c
+      → Programmed t table start lengths → Holds t (storeOf rows mails logs heads boards totals waits) entries c → processes ≡ length (t .processes)
       → r ≡ allBelow (restsIn t c) (length (t .processes))
 
 abbrev pub emptyIn : List (List ℕ) → ℕ → Bool
@@ -55,6 +55,6 @@ AllEmpty many boards r = many ≤ 16 → r ≡ allBelow (emptyIn boards) many
 
 -- Whether a cabinet that the lists hold is quiet, whatever the lists are that the call isn't lent.
 pub record Quiets (table : List ℕ) (many processes : ℕ) (start lengths : List ℕ) (rows mails boards : List (List ℕ)) (r : Bool) : Type 0 where
-  pub answers : (t : Table) (logs heads : List (List ℕ)) (unread queued waits : List ℕ) (entries : List Entry) (c : Cabinet) → Reachable t c
-      → Programmed t table start lengths → Holds t (storeOf rows mails logs heads boards unread queued waits) entries c → many ≡ t .boards
+  pub answers : (t : Table) (logs heads : List (List ℕ)) (totals waits : List ℕ) (entries : List Entry) (c : Cabinet) → Reachable t c
+      → Programmed t table start lengths → Holds t (storeOf rows mails logs heads boards totals waits) entries c → many ≡ t .boards
       → processes ≡ length (t .processes) → r ≡ quiescent t c

@@ -25,7 +25,7 @@ pub record LinePut (row buffer : List ℕ) (p : ℕ) (buffer′ : List ℕ) : Ty
 
 -- The report of a cabinet that the lists hold, whatever the lists are that the call isn't lent.
 pub record Reports (rows : List (List ℕ)) (processes : ℕ) (report report′ : List ℕ) : Type 0 where
-  pub reported : (t : Table) (mails logs heads boards : List (List ℕ)) (unread queued waits : List ℕ) (entries : List Entry) (c : Cabinet) → Reachable t c
-      → Holds t (storeOf rows mails logs heads boards unread queued waits) entries c → processes ≡ length (t .processes) → 20 * processes ≤ length report
+  pub reported : (t : Table) (mails logs heads boards : List (List ℕ)) (totals waits : List ℕ) (entries : List Entry) (c : Cabinet) → Reachable t c
+      → Holds t (storeOf rows mails logs heads boards totals waits) entries c → processes ≡ length (t .processes) → 20 * processes ≤ length report
       → report′ ≡ written (allBytes reportBytes (c .processes)) report
   pub same-length : length report′ ≡ length report

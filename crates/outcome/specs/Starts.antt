@@ -22,8 +22,7 @@ pub record Fresh (s : Store) (entries : List Entry) : Type 0 where
   pub logs-is : s .logs ≡ replicate 16 (replicate 48 0)
   pub heads-is : s .heads ≡ replicate 16 (replicate 11 0)
   pub boards-is : s .boards ≡ replicate 16 (replicate 3 0)
-  pub unread-is : s .unread ≡ replicate 32 0
-  pub queued-is : s .queued ≡ replicate 32 0
+  pub totals-is : s .totals ≡ replicate 32 0
   pub waits-is : s .waits ≡ replicate 16 0
   pub entries-is : entries ≡ replicate 512 blankEntry
 
@@ -38,6 +37,6 @@ pub record Seats (rows : List (List ℕ)) (primary standby : List ℕ) (processe
   pub same-length : length rows′ ≡ length rows
   pub seated-at : length rows ≡ 16 → (p : ℕ) → p < 16 → p < processes → getD rows′ p [] ≡ seatedIn (getD rows p []) (getD primary p 0) (getD standby p 0)
   pub others : (p : ℕ) → processes ≤ p → getD rows′ p [] ≡ getD rows p []
-  pub holds : (t : Table) (mails logs heads boards : List (List ℕ)) (unread queued waits : List ℕ) (entries : List Entry)
-      → Accepted t → Placed t primary standby processes → Fresh (storeOf rows mails logs heads boards unread queued waits) entries
-      → Holds t (storeOf rows′ mails logs heads boards unread queued waits) entries (started t)
+  pub holds : (t : Table) (mails logs heads boards : List (List ℕ)) (totals waits : List ℕ) (entries : List Entry)
+      → Accepted t → Placed t primary standby processes → Fresh (storeOf rows mails logs heads boards totals waits) entries
+      → Holds t (storeOf rows′ mails logs heads boards totals waits) entries (started t)

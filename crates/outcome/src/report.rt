@@ -59,7 +59,7 @@ fn put_line(row: &[u32; ROW], report: &mut [u8], p: usize)
 }
 
 // No more than there are rows.
-pub fn at_most_16(n: usize) -> usize
+pub(crate) fn at_most_16(n: usize) -> usize
     ensures { λ r. ⌜ (r ≤ 16) × (n ≤ 16 → r ≡ n) ⌝ }
 {
     if n > 16 { 16 } else { n }

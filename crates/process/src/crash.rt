@@ -14,7 +14,7 @@ use crate::row::STANDBY;
 use backup::place::HEAD;
 
 // The process has no backup from now on.
-pub fn unprotect(row: &mut [u32; ROW])
+fn unprotect(row: &mut [u32; ROW])
     ensures { λ _. ⌜ RowBecame (now (row .entry)) (now (row .exit)) unprotected ⌝ }
 {
     row[PROTECTED] = 0;

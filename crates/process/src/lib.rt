@@ -5,5 +5,5 @@ pub mod crash;
 pub mod delivery;
 pub mod mail;
 mod mailbox;
-pub mod promotion;
+mod promotion;
 pub mod row;

@@ -5,7 +5,7 @@ ghost use Rattle.process.specs.Row.{packMail, mailIn};
 // Words that a mailbox holds at most.
 pub const MAIL: usize = 48;
 
-pub fn packed(channel: u32, word: u32) -> u64
+pub(crate) fn packed(channel: u32, word: u32) -> u64
     ensures { λ r. ⌜ r ≡ packMail channel word ⌝ }
 {
     (channel as u64) * 4294967296 + (word as u64)

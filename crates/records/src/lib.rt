@@ -2,6 +2,5 @@
 pub mod bytes;
 pub mod fetch;
 pub mod head;
-pub mod mask;
 pub mod schedule;
 mod six;

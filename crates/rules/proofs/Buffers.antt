@@ -9,16 +9,15 @@ use lib.Dec.{eqb}
 use lib.ListN.{length, drop, set, length-append, length-drop, length-set, length-map}
 use lib.Seq.{drop-append-seam}
 use Rattle.facts.specs.Tests.{no-way}
-use Rattle.rules.specs.Table.{Table, codeOf}
-use Rattle.rules.specs.Machine.{Mail, Machine, internal, took, sent, Outcome, halted, noMail, moved, localStep}
-use Rattle.rules.specs.Cabinet.{Process, Item, message, checkpoint, Cabinet, processAt, outboxAt, started, placed}
-use Rattle.rules.specs.Moves.{Command, send, stepFrom, step, issue, transmitItem, transmitOldest, transmit, deliver, inject, crash, turn, runFrom}
+use Rattle.rules.specs.Table.{Table}
+use Rattle.rules.specs.Cabinet.{Process, Cabinet, started, placed}
+use Rattle.rules.specs.Moves.{Command, deliver}
 use Rattle.rules.specs.Transparent.{answered, finished}
 use Rattle.rules.specs.Bytes.{allBytes, written}
 use Rattle.rules.specs.Format.{processesIn, decodeTable}
 use Rattle.rules.specs.Schedule.{commandsIn, decodeSchedule, command}
 use Rattle.rules.specs.Run.{Buffers, lengthsOf, answerBytes, reportBytes, validateRun, ranFrom, refusedWith, run, accepted}
-use Rattle.rules.proofs.Guards.{Leaves, unmoved, leaves, after-guard, after-turn}
+use Rattle.rules.proofs.Guards.{Leaves, after-run}
 use Rattle.rules.proofs.Crashed.{crash-length}
 use Rattle.rules.proofs.Valid.{length-sixes, processes-counted}
 use Rattle.rules.proofs.AcceptedRun.{answered-length, run-is, answers-fit, report-fits}
@@ -47,47 +46,24 @@ module _ (t : Table) (n : ℕ) (c : Cabinet) (h : Many n c) where
   one : (p : ℕ) (x : Process) → length (set (c .processes) p x) ≡ n
   one p x = length-set (c .processes) p x ∙ h
 
-  send-many : (p : ℕ) (x : Process) (m : Machine) (mail : Mail) (k : ℕ) → Leaves (Many n) (send t c p x m mail k)
-  unfolding send
-  send-many p x m mail (suc k) = leaves (one p _)
-  send-many p x m mail zero = after-guard _ _ _ λ _. after-guard _ _ _ λ _. after-guard _ _ _ λ _. leaves (one p _)
-
-  outcome-many : (p : ℕ) (x : Process) (o : Outcome) → Leaves (Many n) (stepFrom t c p x o)
-  unfolding stepFrom
-  outcome-many p x halted = unmoved
-  outcome-many p x noMail = unmoved
-  outcome-many p x (moved m internal) = after-guard _ _ _ λ _. leaves (one p _)
-  outcome-many p x (moved m (took mail)) = after-guard _ _ _ λ _. leaves (one p _)
-  outcome-many p x (moved m (sent mail)) = send-many p x m mail (x .suppress)
-
-  item-many : (b : ℕ) (rest : List Item) (i : Item) → Leaves (Many n) (transmitItem t (record { processes = c .processes; outboxes = set (c .outboxes) b rest; dead = c .dead }) i)
-  unfolding transmitItem deliver
-  item-many b rest (message mail) = leaves (length-set (set (c .processes) _ _) _ _ ∙ one _ _)
-  item-many b rest (checkpoint p s) = leaves (one p _)
-
-  oldest-many : (b : ℕ) (q : List Item) → Leaves (Many n) (transmitOldest t c b q)
-  unfolding transmitOldest
-  oldest-many b [] = unmoved
-  oldest-many b (i ∷ rest) = item-many b rest i
-
-  turn-many : (r : Command) → Many n (turn t c r .cabinet)
-  unfolding step issue transmit inject deliver crash
-  turn-many =
-      after-turn t c h
-      (λ p _. outcome-many p (processAt c p) (localStep (codeOf t p) (processAt c p .machine)))
-      (λ p _. after-guard _ _ _ λ _. after-guard _ _ _ λ _. after-guard _ _ _ λ _. leaves (one p _))
-      (λ b _. after-guard _ _ _ λ _. oldest-many b (outboxAt c b))
-      (λ mail _. after-guard _ _ _ λ _. after-guard _ _ _ λ _. leaves (one _ _))
-      (λ b _. after-guard _ _ _ λ _. after-guard _ _ _ λ _. leaves (crash-length t b 0 (c .processes) ∙ h))
-
-run-many : (t : Table) (n : ℕ) (c : Cabinet) (commands : List Command) → Many n c → Many n (runFrom t c commands .cabinet)
-unfolding runFrom
-run-many t n c [] h = h
-run-many t n c (r ∷ rs) h = run-many t n (turn t c r .cabinet) rs (turn-many t n c h r)
+  keep-many : (r : Command) → Leaves t c r (Many n)
+  unfolding deliver
+  keep-many r = record {
+    computes = λ _ _ _ _. one (r .a) _;
+    takes = λ _ _ _ _ _. one (r .a) _;
+    suppresses = λ _ _ _ _ _ _. one (r .a) _;
+    sends = λ _ _ _ _ _ _ _ _. one (r .a) _;
+    issues = λ _ _ _ _. one (r .a) _;
+    transmits = λ _ _ mail rest e. length-set (set (c .processes) _ _) _ _ ∙ one _ _;
+    syncs = λ _ _ p k rest e. one p _;
+    injects = λ _ _ _. one _ _;
+    crashes = λ _ _ _. crash-length t (r .a) 0 (c .processes) ∙ h;
+  }
 
 pub processes-stay : (t : Table) (commands : List Command) → length (finished t commands .processes) ≡ length (t .processes)
 unfolding started
-processes-stay t commands = run-many t (length (t .processes)) (started t) commands (length-map (t .processes) placed)
+processes-stay t commands =
+    after-run t (λ c r h. keep-many t (length (t .processes)) c h r) (started t) commands (length-map (t .processes) placed)
 
 -- ---- the buffers of a run
 

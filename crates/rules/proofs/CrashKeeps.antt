@@ -1,4 +1,4 @@
--- The crash of a board keeps the invariant, if each process that runs there has a backup: the reference machine does nothing.
+-- The crash of a board keeps the invariant, if every process has a backup: the reference machine does nothing.
 use mathlib.Core.Logic.{_≢_}
 use mathlib.Core.Path.{_≡_, refl, ap, sym, _∙_, subst}
 use mathlib.Core.Bool.{Bool, true, false, not, cond, _&&_}
@@ -13,29 +13,28 @@ use Rattle.facts.specs.Tests.{no-way, by-eq, by-lt, none-below}
 use Rattle.rules.specs.Table.{Table}
 use Rattle.rules.specs.Reference.{Reference}
 use Rattle.rules.specs.Cabinet.{Standby, Process, Item, Cabinet, processAt, outboxAt, deadAt, isSome, protected}
-use Rattle.rules.specs.Moves.{numbers, promoted, unprotected, afterCrash, allAfterCrash, otherDead, crash}
+use Rattle.rules.specs.Moves.{promoted, unprotected, afterCrash, allAfterCrash, otherDead}
 use Rattle.rules.specs.Judge.{Accepted}
-use Rattle.rules.specs.Transparent.{traceOf}
 use Rattle.rules.proofs.Good.{Good}
 use Rattle.rules.proofs.GoodMoves.{good-promoted, good-unprotected}
 use Rattle.rules.proofs.Invariant.{mine, machineAt, Live, Seated, Invariant, in-table}
 use Rattle.rules.proofs.Crashed.{crash-length, crash-at}
-use Rattle.rules.proofs.Guards.{Yields, leaves, after-guard}
-use Rattle.rules.proofs.Follow.{Follows, stay, traced1}
+use Rattle.rules.proofs.Guards.{crashedBy}
+use Rattle.rules.proofs.Follow.{Follows, stay}
 
--- ---- what the crash of board b makes of a process that runs elsewhere or has a backup
+-- ---- what the crash of board b makes of a process that has a backup
 
 pub data Fate (t : Table) (b p : ℕ) (x : Process) : Process → Type 0 where
   taken-over : (s : Standby) → x .standby ≡ some s → x .board ≡ b → Fate t b p x (promoted t p s)
   bared : (s : Standby) → x .standby ≡ some s → x .board ≢ b → Fate t b p x (unprotected x)
   spared : x .board ≢ b → ((s : Standby) → x .standby ≡ some s → s .board ≢ b) → Fate t b p x x
 
-pub fate : (t : Table) (b p : ℕ) (x : Process) → (x .board ≡ b → protected x ≡ true) → Fate t b p x (afterCrash t b p x (x .standby))
+pub fate : (t : Table) (b p : ℕ) (x : Process) → protected x ≡ true → Fate t b p x (afterCrash t b p x (x .standby))
 unfolding afterCrash
 fate t b p x safe = go (x .standby) refl
   where
     go : (o : Option Standby) → x .standby ≡ o → Fate t b p x (afterCrash t b p x o)
-    go none e = spared (λ here. no-way (let a = safe here in let d = ap isSome e in cc)) (λ s f. absurd (no-way (cc)))
+    go none e = absurd (no-way (let d = ap isSome e in cc))
     go (some s) e = by-board (eqb b (x .board)) (eqb b (s .board)) refl refl
       where
         by-board : (y z : Bool) → eqb b (x .board) ≡ y → eqb b (s .board) ≡ z → Fate t b p x (cond y (promoted t p s) (cond z (unprotected x) x))
@@ -79,9 +78,9 @@ fate-board (spared m k) n = refl
 -- ---- the invariant
 
 module _ {t : Table} (ok : Accepted t) {c : Cabinet} {s : Reference} (inv : Invariant t c s) (b : ℕ) (there : b < t .boards)
-    (safe : (p : ℕ) → p < length (c .processes) → processAt c p .board ≡ b → protected (processAt c p) ≡ true) where
+    (safe : (p : ℕ) → p < length (c .processes) → protected (processAt c p) ≡ true) where
   crashed : Cabinet
-  crashed = record { processes = allAfterCrash t b 0 (c .processes); outboxes = set (c .outboxes) b []; dead = set (c .dead) b true }
+  crashed = crashedBy t b c
 
   fate-at : (p : ℕ) → p < length (c .processes) → Fate t b p (processAt c p) (processAt crashed p)
   unfolding crashed
@@ -112,7 +111,7 @@ module _ {t : Table} (ok : Accepted t) {c : Cabinet} {s : Reference} (inv : Inva
   good-then p hp (spared n m) =
       subst (λ (l : List Item). Good t p l (processAt c p) (machineAt s p)) (sym (ap (mine t p) (same-outbox (processAt c p .board) n))) (inv .good p hp)
 
-  pub crash-invariant : Invariant t (record { processes = allAfterCrash t b 0 (c .processes); outboxes = set (c .outboxes) b []; dead = set (c .dead) b true }) s
+  pub crash-invariant : Invariant t (crashedBy t b c) s
   unfolding crashed
   crash-invariant =
       let same : length (allAfterCrash t b 0 (c .processes)) ≡ length (c .processes) = crash-length t b 0 (c .processes) in
@@ -141,9 +140,6 @@ all-alive c b h g k =
     (λ l. rw (ne-eqb k b n) at (none-below (λ i. not (eqb i b) && deadAt c i) (length (c .dead)) g k l))
     (λ l. List·getD-eq-default (c .dead) false l))
 
-pub follow-crash : {t : Table} → Accepted t → {c : Cabinet} {s : Reference} → Invariant t c s → (b : ℕ) → b < t .boards
-    → Yields (λ d a. Follows t d s (traced1 a) []) (crash t c b)
-unfolding crash numbers traceOf
-follow-crash ok {c} inv b there =
-    after-guard _ _ _ λ fine. after-guard _ _ _ λ no-other.
-    leaves (stay (crash-invariant ok inv b there (λ p hp _. inv .unharmed (all-alive c b fine no-other) p hp)))
+pub follow-crash : {t : Table} → Accepted t → {c : Cabinet} {s : Reference} → Invariant t c s → (b : ℕ) → b < t .boards → deadAt c b ≡ false → otherDead c b ≡ false
+    → Follows t (crashedBy t b c) s [] []
+follow-crash ok {c} inv b there alive no-other = stay (crash-invariant ok inv b there (inv .unharmed (all-alive c b alive no-other)))

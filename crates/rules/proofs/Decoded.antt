@@ -87,7 +87,6 @@ refusalNumber-listed otherCrashed = record { low = omega arith; high = omega ari
 pub refusalNumber-not-4 : (why : Refusal) → eqb (refusalNumber why) 4 ≡ false
 refusalNumber-not-4 why = ne-eqb (refusalNumber why) 4 (λ e. let a = refusalNumber-listed why .low in omega arith)
 
--- whichever of the two found no word
 -- "37": for the acts or for the instructions
 pub owed-number : (x : Process) → refusalNumber (owedFor x) ≡ 37
 unfolding refusalNumber
@@ -97,6 +96,7 @@ owed-number x = go (exhausted x)
     go true = refl
     go false = refl
 
+-- whichever of the two found no word
 pub missing-number : (i : Instruction) → refusalNumber (missing i) ≡ 36
 unfolding missing refusalNumber
 missing-number (SET a v) = refl

@@ -1,32 +1,30 @@
--- Each accepted move is followed by actions of the reference machine. Step and sync are followed by none: the reference machine waits.
+-- What each thing that a command does is followed by in the reference machine. A step and a sync are followed by nothing: it waits.
 use mathlib.Core.Path.{_≡_, refl, ap, sym, _∙_, subst}
 use mathlib.Core.Bool.{Bool, true, false, cond, _||_}
 use mathlib.Core.Option.{some}
 use mathlib.Core.List.{List, [], _∷_, _++_, append-assoc, append-nil}
-use Prim.Native.Nat.{ℕ, zero, suc, _<_}
+use Prim.Native.Nat.{ℕ, suc, _<_}
 use native.Mathlib.Omega.{arith}
 use lib.Dec.{eqb}
 use lib.ListN.{length, getD, set, length-set}
 use lib.Seq.{set-getD}
-use borrow.Author.Tests.{leb-false, not-false}
+use borrow.Author.Tests.{leb-false}
 use Rattle.facts.specs.Tests.{no-way, or-left, or-right}
 use Rattle.rules.specs.Table.{Table, channelAt, codeOf, portOf}
-use Rattle.rules.specs.Machine.{Mail, Machine, booted, Act, internal, took, sent, Outcome, halted, noMail, moved, localStep}
+use Rattle.rules.specs.Machine.{Mail, Machine, booted, Act, internal, took, sent, moved, localStep}
 use Rattle.rules.specs.Reference.{Reference, Action, referenceRun, injections}
-use Rattle.rules.specs.Cabinet.{instructionsMost, eventsMost, Since, Process, Item, message, checkpoint, Cabinet, processAt, outboxAt, limited, exhausted, overrun, owing, waiting}
-use Rattle.rules.specs.Moves.{Answer, numbers, withProcess, withOutbox, advanced, send, stepFrom, step, counting, oneDone, oneSent, oneTaken, issued, snapshot, issue}
+use Rattle.rules.specs.Cabinet.{instructionsMost, eventsMost, Process, Item, message, checkpoint, Cabinet, processAt, outboxAt, protected, limited, exhausted, overrun, owing, waiting}
+use Rattle.rules.specs.Moves.{Answer, numbers, withProcess, withOutbox, enqueue, advanced, counting, oneDone, oneSent, oneTaken, issued, snapshot}
 use Rattle.rules.specs.Judge.{Accepted}
 use Rattle.rules.specs.Transparent.{traceOf}
-use Rattle.rules.proofs.Steps.{Steps}
 use Rattle.rules.proofs.Runs.{busy1, Allows}
 use Rattle.rules.proofs.Tables.{step-own}
 use Rattle.rules.proofs.Ahead.{checkpoints}
 use Rattle.rules.proofs.Good.{Good}
 use Rattle.rules.proofs.GoodMoves.{good-silent, good-suppressed, good-send, good-issued}
 use Rattle.rules.proofs.Invariant.{ownerOf, mine, machineAt, Invariant, in-table, its-outbox}
-use Rattle.rules.proofs.Frame.{SameSeat, same-boards, changed, OthersStay, change, join-others, join-own}
+use Rattle.rules.proofs.Frame.{SameSeat, same-boards, changed, OthersStay, change-same, join-others, join-own}
 use Rattle.rules.proofs.References.{run-append, injections-append}
-use Rattle.rules.proofs.Guards.{Yields, unmoved, leaves, after-guard}
 
 -- from s the reference machine can go on so that the invariant holds beside c, its trace has `trace` more, and its feeds are `fed`
 pub record Follows (t : Table) (c : Cabinet) (s : Reference) (trace fed : List Mail) : Type 0 where
@@ -40,10 +38,6 @@ pub record Follows (t : Table) (c : Cabinet) (s : Reference) (trace fed : List M
 -- the words that an answer puts into the trace
 abbrev pub traced1 : Answer → List Mail
 traced1 a = traceOf (numbers a ∷ [])
-
--- the feed of a word, where it was accepted
-abbrev pub fed1 : Mail → Answer → List Mail
-fed1 mail a = cond (eqb (numbers a .code) 4) (mail ∷ []) []
 
 -- one after another
 pub follows-then : {t : Table} {c d : Cabinet} {s : Reference} {tr fd tr′ fd′ : List Mail} (f : Follows t c s tr fd) → Follows t d (f .end) tr′ fd′
@@ -106,7 +100,7 @@ module _ {t : Table} (ok : Accepted t) {c : Cabinet} {s : Reference} (inv : Inva
       → Good t p (mine t p (getD outboxes (processAt c p .board) [])) y (machineAt s p) → Follows t (changed p y outboxes c) s [] []
   wait y outboxes seat same-length others good =
       stay (subst (λ (l : List Machine). Invariant t (changed p y outboxes c) (record { machines = l; trace = s .trace })) (set-getD (s .machines) p booted)
-      (change inv p hp y seat (machineAt s p) outboxes others good (s .trace) same-length))
+      (change-same inv p hp y seat (machineAt s p) outboxes others good (s .trace) same-length))
 
   -- no item joins an outbox
   wait-only : (y : Process) → SameSeat y (processAt c p) → Good t p (mine t p (outboxAt c (processAt c p .board))) y (machineAt s p)
@@ -128,44 +122,43 @@ module _ {t : Table} (ok : Accepted t) {c : Cabinet} {s : Reference} (inv : Inva
 
   -- ---- step
 
-  follow-send : (m : Machine) (mail : Mail) (h : ℕ) → processAt c p .suppress ≡ h → Steps (codeOf t p) (processAt c p .machine) (sent mail) m
-      → Yields (λ d a. Follows t d s (traced1 a) []) (send t c p (processAt c p) m mail h)
-  unfolding send numbers traceOf advanced
-  follow-send m mail (suc h) z e =
-      leaves (wait-only (advanced m (processAt c p .since) h (processAt c p)) (same-boards refl refl)
-      (good-suppressed ok (in-table inv hp) (inv .good p hp) z e))
-  follow-send m mail zero z e =
-      after-guard _ _ _ λ limit. after-guard _ _ _ λ _. after-guard _ _ _ λ _.
-      leaves (wait-joined (advanced m (counting oneSent (processAt c p)) 0 (processAt c p)) (message mail) (same-boards refl refl)
-      (step-own t ok p (in-table inv hp) e)
-      (good-send ok (in-table inv hp) (inv .good p hp) z e (allows-act (processAt c p) (sent mail) refl limit)))
-
-  follow-outcome : (o : Outcome) → localStep (codeOf t p) (processAt c p .machine) ≡ o
-      → Yields (λ d a. Follows t d s (traced1 a) []) (stepFrom t c p (processAt c p) o)
-  unfolding stepFrom numbers traceOf advanced
-  follow-outcome halted e = unmoved
-  follow-outcome noMail e = unmoved
-  follow-outcome (moved m internal) e =
+  pub follow-computing : (m : Machine) → localStep (codeOf t p) (processAt c p .machine) ≡ moved m internal → overrun (processAt c p) ≡ false
+      → Follows t (withProcess p (advanced m (counting oneDone (processAt c p)) (processAt c p .suppress) (processAt c p)) c) s [] []
+  unfolding advanced
+  follow-computing m e long =
       let x : Process = processAt c p in
-      after-guard _ _ _ λ long.
-      leaves (wait-only (advanced m (counting oneDone x) (x .suppress) x) (same-boards refl refl)
-      (good-silent ok (in-table inv hp) {k = internal} (inv .good p hp) (record { is = e }) refl (allows-done x long)))
-  follow-outcome (moved m (took mail)) e =
-      let x : Process = processAt c p in
-      after-guard _ _ _ λ limit.
-      leaves (wait-only (advanced m (counting (oneTaken (portOf t p (mail .channel))) x) (x .suppress) x) (same-boards refl refl)
-      (good-silent ok (in-table inv hp) {k = took mail} (inv .good p hp) (record { is = e }) refl (allows-act x (took mail) refl limit)))
-  follow-outcome (moved m (sent mail)) e = follow-send m mail (processAt c p .suppress) refl (record { is = e })
+      wait-only (advanced m (counting oneDone x) (x .suppress) x) (same-boards refl refl)
+      (good-silent ok (in-table inv hp) {k = internal} (inv .good p hp) (record { is = e }) refl (allows-done x long))
 
-  pub follow-step : Yields (λ d a. Follows t d s (traced1 a) []) (step t c p)
-  unfolding step
-  follow-step = follow-outcome (localStep (codeOf t p) (processAt c p .machine)) refl
+  pub follow-taking : (m : Machine) (mail : Mail) → localStep (codeOf t p) (processAt c p .machine) ≡ moved m (took mail) → owing (processAt c p) ≡ false
+      → Follows t (withProcess p (advanced m (counting (oneTaken (portOf t p (mail .channel))) (processAt c p)) (processAt c p .suppress) (processAt c p)) c) s [] []
+  unfolding advanced
+  follow-taking m mail e limit =
+      let x : Process = processAt c p in
+      wait-only (advanced m (counting (oneTaken (portOf t p (mail .channel))) x) (x .suppress) x) (same-boards refl refl)
+      (good-silent ok (in-table inv hp) {k = took mail} (inv .good p hp) (record { is = e }) refl (allows-act x (took mail) refl limit))
+
+  pub follow-suppressing : (m : Machine) (mail : Mail) → localStep (codeOf t p) (processAt c p .machine) ≡ moved m (sent mail)
+      → (h : ℕ) → processAt c p .suppress ≡ suc h → Follows t (withProcess p (advanced m (processAt c p .since) h (processAt c p)) c) s [] []
+  unfolding advanced
+  follow-suppressing m mail e h z =
+      wait-only (advanced m (processAt c p .since) h (processAt c p)) (same-boards refl refl)
+      (good-suppressed ok (in-table inv hp) (inv .good p hp) z (record { is = e }))
+
+  pub follow-sending : (m : Machine) (mail : Mail) → localStep (codeOf t p) (processAt c p .machine) ≡ moved m (sent mail)
+      → processAt c p .suppress ≡ 0 → owing (processAt c p) ≡ false
+      → Follows t (withProcess p (advanced m (counting oneSent (processAt c p)) 0 (processAt c p)) (enqueue (processAt c p .board) (message mail) c)) s [] []
+  unfolding advanced
+  follow-sending m mail e z limit =
+      wait-joined (advanced m (counting oneSent (processAt c p)) 0 (processAt c p)) (message mail) (same-boards refl refl)
+      (step-own t ok p (in-table inv hp) (record { is = e }))
+      (good-send ok (in-table inv hp) (inv .good p hp) z (record { is = e }) (allows-act (processAt c p) (sent mail) refl limit))
 
   -- ---- sync
 
-  pub follow-issue : Yields (λ d a. Follows t d s (traced1 a) []) (issue t c p)
-  unfolding issue numbers traceOf issued
-  follow-issue =
-      after-guard _ _ _ λ safe. after-guard _ _ _ λ none-there. after-guard _ _ _ λ _.
-      leaves (wait-joined (issued (processAt c p)) (checkpoint p (snapshot (processAt c p))) (same-boards refl refl) refl
-      (good-issued ok (in-table inv hp) (inv .good p hp) (not-false _ safe) (none-waits t p (outboxAt c (processAt c p .board)) none-there)))
+  pub follow-issue : protected (processAt c p) ≡ true → waiting p (outboxAt c (processAt c p .board)) ≡ false
+      → Follows t (withProcess p (issued (processAt c p)) (enqueue (processAt c p .board) (checkpoint p (snapshot (processAt c p))) c)) s [] []
+  unfolding issued
+  follow-issue safe none-there =
+      wait-joined (issued (processAt c p)) (checkpoint p (snapshot (processAt c p))) (same-boards refl refl) refl
+      (good-issued ok (in-table inv hp) (inv .good p hp) safe (none-waits t p (outboxAt c (processAt c p .board)) none-there))

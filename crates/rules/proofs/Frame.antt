@@ -2,7 +2,7 @@
 -- and transmit have in common. And when a word arrives.
 use mathlib.Core.Logic.{_≢_}
 use mathlib.Core.Path.{_≡_, refl, ap, sym, _∙_, subst}
-use mathlib.Core.Bool.{Bool}
+use mathlib.Core.Bool.{Bool, true}
 use mathlib.Core.Option.{Option, none, some}
 use mathlib.Core.List.{List, [], _∷_, _++_, append-nil}
 use Prim.Native.Nat.{ℕ, _<_}
@@ -40,7 +40,7 @@ pub called-board : (call : Replica → Reply) (o : Option Standby) → boardOf (
 called-board call none = refl
 called-board call (some s) = refl
 
-same-protected : {x y : Process} → SameSeat x y → protected x ≡ protected y
+pub same-protected : {x y : Process} → SameSeat x y → protected x ≡ protected y
 same-protected {x} {y} h = go (x .standby) (y .standby) (h .standby)
   where
     go : (o u : Option Standby) → boardOf o ≡ boardOf u → isSome o ≡ isSome u
@@ -57,7 +57,7 @@ same-beside {x} {y} {s} P h e f = go (y .standby) (sym (h .standby) ∙ ap board
     go none g k = absurd (no-way (cc))
     go (some r) g k = let same : r .board ≡ s .board = cc in subst P same (k r refl)
 
-seated-same : {t : Table} {dead : List Bool} {x y : Process} → SameSeat x y → Seated t dead y → Seated t dead x
+pub seated-same : {t : Table} {dead : List Bool} {x y : Process} → SameSeat x y → Seated t dead y → Seated t dead x
 seated-same {t} {dead} {x} h g =
     record {
       at = subst (Live t dead) (sym (h .board)) (g .at);
@@ -77,8 +77,10 @@ put p m trace s = record { machines = set (s .machines) p m; trace = trace }
 abbrev pub OthersStay : Table → ℕ → List (List Item) → Cabinet → Type 0
 OthersStay t p outboxes c = (b j : ℕ) → (j ≡ p → b ≡ processAt c p .board → ⊥) → mine t j (getD outboxes b []) ≡ mine t j (outboxAt c b)
 
+-- it runs where it ran; where its backup is then, if it has one, is any live board but its own
 module _ {t : Table} {c : Cabinet} {s : Reference} (inv : Invariant t c s) (p : ℕ) (hp : p < length (c .processes))
-    (x : Process) (seat : SameSeat x (processAt c p)) (m : Machine) (outboxes : List (List Item)) (others : OthersStay t p outboxes c)
+    (x : Process) (same-board : x .board ≡ processAt c p .board) (sits : Seated t (c .dead) x) (safe : protected (processAt c p) ≡ true → protected x ≡ true)
+    (m : Machine) (outboxes : List (List Item)) (others : OthersStay t p outboxes c)
     (good-x : Good t p (mine t p (getD outboxes (processAt c p .board) [])) x m) (trace : List Mail) where
   is-x : processAt (changed p x outboxes c) p ≡ x
   is-x = getD-set-same (c .processes) p x nobody hp
@@ -86,17 +88,20 @@ module _ {t : Table} {c : Cabinet} {s : Reference} (inv : Invariant t c s) (p : 
   is-other : (j : ℕ) → j ≢ p → processAt (changed p x outboxes c) j ≡ processAt c j
   is-other j n = getD-set-other (c .processes) p j x nobody n
 
-  same-seat : (j : ℕ) → SameSeat (processAt (changed p x outboxes c) j) (processAt c j)
-  same-seat j =
+  -- what holds of x, and of every other process, holds of all
+  each : (P : ℕ → Process → Type 0) (j : ℕ) → P p x → (j ≢ p → P j (processAt c j)) → P j (processAt (changed p x outboxes c) j)
+  each P j here elsewhere =
       by-eq j p
-      (λ e. subst (λ (i : ℕ). SameSeat (processAt (changed p x outboxes c) i) (processAt c i)) (sym e)
-      (subst (λ (y : Process). SameSeat y (processAt c p)) (sym is-x) seat))
-      (λ n. subst (λ (y : Process). SameSeat y (processAt c j)) (sym (is-other j n)) (same-boards refl refl))
+      (λ e. subst (λ (i : ℕ). P i (processAt (changed p x outboxes c) i)) (sym e) (subst (P p) (sym is-x) here))
+      (λ n. subst (P j) (sym (is-other j n)) (elsewhere n))
+
+  board-at : (j : ℕ) → processAt (changed p x outboxes c) j .board ≡ processAt c j .board
+  board-at j = each (λ i y. y .board ≡ processAt c i .board) j same-board (λ _. refl)
 
   good-p : GoodAt t (changed p x outboxes c) (put p m trace s) p
   good-p =
       rw (getD-set-same (s .machines) p m booted (in-reference inv hp), is-x)
-      (subst (λ (b : ℕ). Good t p (mine t p (getD outboxes b [])) x m) (sym (seat .board)) good-x)
+      (subst (λ (b : ℕ). Good t p (mine t p (getD outboxes b [])) x m) (sym same-board) good-x)
 
   good-other : (j : ℕ) → j < length (c .processes) → j ≢ p → GoodAt t (changed p x outboxes c) (put p m trace s) j
   good-other j hj n =
@@ -113,11 +118,18 @@ module _ {t : Table} {c : Cabinet} {s : Reference} (inv : Invariant t c s) (p : 
             (λ e. subst (GoodAt t (changed p x outboxes c) (put p m trace s)) (sym e) good-p)
             (λ n. good-other j (rw length-set at hj) n);
         own = λ b j h.
-            let elsewhere : j < length (c .processes) → processAt c j .board ≡ b → ⊥ = λ hj e. h (rw length-set hj) (same-seat j .board ∙ e) in
+            let elsewhere : j < length (c .processes) → processAt c j .board ≡ b → ⊥ = λ hj e. h (rw length-set hj) (board-at j ∙ e) in
             others b j (λ e f. elsewhere (rw e hp) (ap (λ (i : ℕ). processAt c i .board) e ∙ sym f)) ∙ inv .own b j elsewhere;
-        seated = λ j hj. seated-same (same-seat j) (inv .seated j (rw length-set at hj));
-        unharmed = λ alive j hj. same-protected (same-seat j) ∙ inv .unharmed alive j (rw length-set at hj);
+        seated = λ j hj. each (λ i y. Seated t (c .dead) y) j sits (λ _. inv .seated j (rw length-set at hj));
+        unharmed = λ alive j hj. each (λ i y. protected y ≡ true) j (safe (inv .unharmed alive p hp)) (λ _. inv .unharmed alive j (rw length-set at hj));
       }
+
+-- its backup stands where it stood, too
+pub change-same : {t : Table} {c : Cabinet} {s : Reference} (inv : Invariant t c s) (p : ℕ) (hp : p < length (c .processes)) (x : Process) → SameSeat x (processAt c p)
+    → (m : Machine) (outboxes : List (List Item)) → OthersStay t p outboxes c → Good t p (mine t p (getD outboxes (processAt c p .board) [])) x m → (trace : List Mail)
+    → length outboxes ≡ length (c .outboxes) → Invariant t (changed p x outboxes c) (put p m trace s)
+change-same inv p hp x seat =
+    change inv p hp x (seat .board) (seated-same seat (inv .seated p hp)) (λ h. same-protected seat ∙ h)
 
 -- ---- a word arrives
 
@@ -128,7 +140,7 @@ deliver-keeps {t} {c} {s} mail ok inv room =
     let r : ℕ = channelAt t (mail .channel) .reader in
     let x : Process = processAt c r in
     by-lt r (length (c .processes))
-    (λ h. change inv r h (receive t r mail x) (record { board = refl; standby = called-board (λ k. arrive k (portOf t r (mail .channel)) (mail .word)) (x .standby) })
+    (λ h. change-same inv r h (receive t r mail x) (record { board = refl; standby = called-board (λ k. arrive k (portOf t r (mail .channel)) (mail .word)) (x .standby) })
     (delivered mail (machineAt s r)) (c .outboxes) (λ b j n. refl)
     (good-receive ok (in-table inv h) mail refl room (inv .good r h)) (s .trace ++ (mail ∷ [])) refl)
     (λ h. rw (set-out (c .processes) r (receive t r mail x) h, set-out (s .machines) r (delivered mail (machineAt s r)) (omega (arith, inv .same-number)))

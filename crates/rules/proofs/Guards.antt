@@ -1,61 +1,141 @@
--- What a move yields: a property of its result, through the checks, and of a whole command.
+-- What a command does: the one walk over the moves and their checks. A property that holds where nothing is done, and after each thing that a
+-- move can do (`Done`, a field for each, with what the checks have found), holds after every command.
 use mathlib.Core.Path.{_≡_, refl}
-use mathlib.Core.Bool.{Bool, true, false}
+use mathlib.Core.Bool.{Bool, true, false, not}
+use mathlib.Core.List.{List, [], _∷_}
 use Prim.Native.Nat.{ℕ, zero, suc, _<_}
-use lib.ListN.{length}
-use borrow.Author.Tests.{leb-false}
-use Rattle.rules.specs.Table.{Table}
-use Rattle.rules.specs.Machine.{Mail}
-use Rattle.rules.specs.Cabinet.{Cabinet}
-use Rattle.rules.specs.Moves.{Command, Refusal, Answer, refused, Result, refuse, accept, guard, step, issue, transmit, inject, crash, Move, stepMove, issueMove, transmitMove, injectMove, crashMove, unknown, moveOf, perform, judged, settle, turn}
+use lib.Dec.{eqb, leb}
+use lib.ListN.{length, set}
+use borrow.Author.Tests.{leb-false, not-false, eqb-true}
+use Rattle.facts.specs.Tests.{no-way}
+use Rattle.backup.specs.Replica.{Checkpoint}
+use Rattle.rules.specs.Table.{Table, environment, channelAt, codeOf, portOf}
+use Rattle.rules.specs.Machine.{Mail, Machine, internal, took, sent, Outcome, halted, noMail, moved, localStep}
+use Rattle.rules.specs.Cabinet.{outboxMost, Process, Item, message, checkpoint, Cabinet, processAt, outboxAt, deadAt, protected, overrun, owing, full, waiting}
+use Rattle.rules.specs.Moves.{Command, Refusal, Answer, stepDone, issueDone, crashDone, received, queued, suppressed, transmitted, injected, refused, Result, refuse, accept, guard, withProcess, withOutbox, enqueue, advanced, counting, oneDone, oneSent, oneTaken, send, stepFrom, step, issued, snapshot, issue, deliver, counts, keeps, landed, transmitItem, transmitOldest, transmit, inject, allAfterCrash, otherDead, crash, Move, stepMove, issueMove, transmitMove, injectMove, crashMove, unknown, moveOf, perform, judged, settle, turn, runFrom}
 
--- refused, or the cabinet afterwards and the answer have the property
-pub data Yields (P : Cabinet → Answer → Type 0) : Result → Type 0 where
-  unmoved : {why : Refusal} → Yields P (refuse why)
-  leaves : {c : Cabinet} {a : Answer} → P c a → Yields P (accept c a)
+-- ---- what each move can do
 
--- a property of the cabinet alone
-abbrev pub Leaves : (Cabinet → Type 0) → Result → Type 0
-Leaves P = Yields (λ c _. P c)
+-- the word of a feed
+abbrev pub fedMail : Command → Mail
+fedMail r = record { channel = r .a; word = r .word }
 
-pub after-guard : {P : Cabinet → Answer → Type 0} (test : Bool) (why : Refusal) (rest : Result) → (test ≡ false → Yields P rest) → Yields P (guard test why rest)
+-- the cabinet after a crash of board b
+abbrev pub crashedBy : Table → ℕ → Cabinet → Cabinet
+crashedBy t b c = record { processes = allAfterCrash t b 0 (c .processes); outboxes = set (c .outboxes) b []; dead = set (c .dead) b true }
+
+-- what a command does in cabinet c, by its move, with the cabinet and the answer afterwards
+module _ (t : Table) (c : Cabinet) (r : Command) (P : Move → Cabinet → Answer → Type 0) where
+  -- the process and the board that it names
+  abbrev x : Process
+  x = processAt c (r .a)
+
+  pub record Done : Type 0 where
+    -- a SET, an ADD or a JUMP
+    pub computes : r .a < length (t .processes) → (m : Machine) → localStep (codeOf t (r .a)) (x .machine) ≡ moved m internal → overrun x ≡ false
+        → P stepMove (withProcess (r .a) (advanced m (counting oneDone x) (x .suppress) x) c) stepDone
+    -- a TAKE or a FIRST
+    pub takes : r .a < length (t .processes) → (m : Machine) (mail : Mail) → localStep (codeOf t (r .a)) (x .machine) ≡ moved m (took mail)
+        → owing x ≡ false
+        → P stepMove (withProcess (r .a) (advanced m (counting (oneTaken (portOf t (r .a) (mail .channel))) x) (x .suppress) x) c) (received mail)
+    -- a SEND held back
+    pub suppresses : r .a < length (t .processes) → (m : Machine) (mail : Mail) → localStep (codeOf t (r .a)) (x .machine) ≡ moved m (sent mail)
+        → (h : ℕ) → x .suppress ≡ suc h → P stepMove (withProcess (r .a) (advanced m (x .since) h x) c) (suppressed mail)
+    -- a SEND whose word joins the queue
+    pub sends : r .a < length (t .processes) → (m : Machine) (mail : Mail) → localStep (codeOf t (r .a)) (x .machine) ≡ moved m (sent mail)
+        → x .suppress ≡ 0 → owing x ≡ false → leb outboxMost (length (outboxAt c (x .board))) ≡ false → full t c (mail .channel) ≡ false
+        → P stepMove (withProcess (r .a) (advanced m (counting oneSent x) 0 x) (enqueue (x .board) (message mail) c)) (queued mail)
+    pub issues : r .a < length (t .processes) → protected x ≡ true → waiting (r .a) (outboxAt c (x .board)) ≡ false
+        → leb outboxMost (length (outboxAt c (x .board))) ≡ false
+        → P issueMove (withProcess (r .a) (issued x) (enqueue (x .board) (checkpoint (r .a) (snapshot x)) c)) issueDone
+    -- a word is carried
+    pub transmits : r .a < t .boards → deadAt c (r .a) ≡ false → (mail : Mail) (rest : List Item) → outboxAt c (r .a) ≡ message mail ∷ rest
+        → (let sender = channelAt t (mail .channel) .sender in
+        P transmitMove (deliver t mail (withProcess sender (counts (processAt c sender)) (withOutbox (r .a) rest c))) (transmitted mail))
+    -- a sync is carried
+    pub syncs : r .a < t .boards → deadAt c (r .a) ≡ false → (p : ℕ) (s : Checkpoint) (rest : List Item) → outboxAt c (r .a) ≡ checkpoint p s ∷ rest
+        → P transmitMove (withProcess p (keeps s (processAt c p)) (withOutbox (r .a) rest c)) (landed p s (processAt c p))
+    pub injects : r .a < length (t .channels) → channelAt t (r .a) .sender ≡ environment → full t c (r .a) ≡ false
+        → P injectMove (deliver t (fedMail r) c) (injected (fedMail r))
+    pub crashes : r .a < t .boards → deadAt c (r .a) ≡ false → otherDead c (r .a) ≡ false → P crashMove (crashedBy t (r .a) c) crashDone
+
+  -- ---- the walk
+
+  -- refused, or the cabinet afterwards and the answer have the property
+  data Yields (m : Move) : Result → Type 0 where
+    unmoved : {why : Refusal} → Yields m (refuse why)
+    leaves : {d : Cabinet} {a : Answer} → P m d a → Yields m (accept d a)
+
+  after-guard : {m : Move} (test : Bool) (why : Refusal) (rest : Result) → (test ≡ false → Yields m rest) → Yields m (guard test why rest)
+  unfolding guard
+  after-guard true why rest h = unmoved
+  after-guard false why rest h = h refl
+
+  module _ (d : Done) where
+    by-send : r .a < length (t .processes) → (m : Machine) (mail : Mail) → localStep (codeOf t (r .a)) (x .machine) ≡ moved m (sent mail)
+        → (h : ℕ) → x .suppress ≡ h → Yields stepMove (send t c (r .a) x m mail h)
+    unfolding send
+    by-send l m mail e (suc h) f = leaves (d .suppresses l m mail e h f)
+    by-send l m mail e zero f =
+        after-guard _ _ _ λ limit. after-guard _ _ _ λ free. after-guard _ _ _ λ unheld. leaves (d .sends l m mail e f limit free unheld)
+
+    by-outcome : r .a < length (t .processes) → (o : Outcome) → localStep (codeOf t (r .a)) (x .machine) ≡ o → Yields stepMove (stepFrom t c (r .a) x o)
+    unfolding stepFrom
+    by-outcome l halted e = unmoved
+    by-outcome l noMail e = unmoved
+    by-outcome l (moved m internal) e = after-guard _ _ _ λ long. leaves (d .computes l m e long)
+    by-outcome l (moved m (took mail)) e = after-guard _ _ _ λ limit. leaves (d .takes l m mail e limit)
+    by-outcome l (moved m (sent mail)) e = by-send l m mail e (x .suppress) refl
+
+    by-oldest : r .a < t .boards → deadAt c (r .a) ≡ false → (q : List Item) → outboxAt c (r .a) ≡ q → Yields transmitMove (transmitOldest t c (r .a) q)
+    unfolding transmitOldest transmitItem
+    by-oldest l alive [] e = unmoved
+    by-oldest l alive (message mail ∷ rest) e = leaves (d .transmits l alive mail rest e)
+    by-oldest l alive (checkpoint p s ∷ rest) e = leaves (d .syncs l alive p s rest e)
+
+    by-move : (m : Move) → Yields m (perform t c r m)
+    unfolding perform step issue transmit inject crash
+    by-move stepMove = after-guard _ _ _ λ _. after-guard _ _ _ λ h. by-outcome (leb-false _ _ h) (localStep (codeOf t (r .a)) (x .machine)) refl
+    by-move issueMove =
+        after-guard _ _ _ λ _. after-guard _ _ _ λ h. after-guard _ _ _ λ safe. after-guard _ _ _ λ none-waits. after-guard _ _ _ λ free.
+        leaves (d .issues (leb-false _ _ h) (not-false _ safe) none-waits free)
+    by-move transmitMove =
+        after-guard _ _ _ λ _. after-guard _ _ _ λ h. after-guard _ _ _ λ alive. by-oldest (leb-false _ _ h) alive (outboxAt c (r .a)) refl
+    by-move injectMove =
+        after-guard _ _ _ λ h. after-guard _ _ _ λ outside. after-guard _ _ _ λ free.
+        leaves (d .injects (leb-false _ _ h) (eqb-true _ _ (not-false _ outside)) free)
+    by-move crashMove =
+        after-guard _ _ _ λ _. after-guard _ _ _ λ h. after-guard _ _ _ λ alive. after-guard _ _ _ λ none-dead.
+        leaves (d .crashes (leb-false _ _ h) alive none-dead)
+    by-move unknown = unmoved
+
+    after-settle : (m : Move) {result : Result} → ((why : Refusal) → P m c (refused why (r .a))) → Yields m result
+        → P m (settle c r result .cabinet) (settle c r result .answer)
+    after-settle m h (unmoved {why = why}) = h why
+    after-settle m h (leaves g) = g
+
+    pub yields-turn : ((m : Move) (why : Refusal) → P m c (refused why (r .a))) → P (moveOf (r .move)) (turn t c r .cabinet) (turn t c r .answer)
+    unfolding turn judged
+    yields-turn nothing-done = after-settle (moveOf (r .move)) (nothing-done (moveOf (r .move))) (by-move (moveOf (r .move)))
+
+-- where a checked move is accepted, the check didn't apply
+pub guard-accepted : (test : Bool) (why : Refusal) (rest : Result) {d : Cabinet} {a : Answer} → guard test why rest ≡ accept d a → rest ≡ accept d a
 unfolding guard
-after-guard true why rest h = unmoved
-after-guard false why rest h = h refl
+guard-accepted true why rest e = absurd (no-way (cc))
+guard-accepted false why rest e = e
 
-after-settle : (P : Cabinet → Answer → Type 0) (c : Cabinet) (r : Command) {res : Result} → ((why : Refusal) → P c (refused why (r .a))) → Yields P res
-    → P (settle c r res .cabinet) (settle c r res .answer)
-after-settle P c r h (unmoved {why = why}) = h why
-after-settle P c r h (leaves g) = g
+-- ---- properties of the cabinet alone
 
--- what each of the moves yields, the command yields
-module _ (t : Table) (c : Cabinet) (r : Command) (P : Move → Cabinet → Answer → Type 0) (nothing-done : (m : Move) (why : Refusal) → P m c (refused why (r .a)))
-    (by-step : r .a < length (t .processes) → Yields (P stepMove) (step t c (r .a)))
-    (by-issue : r .a < length (t .processes) → Yields (P issueMove) (issue t c (r .a)))
-    (by-transmit : r .a < t .boards → Yields (P transmitMove) (transmit t c (r .a)))
-    (by-inject : r .a < length (t .channels) → Yields (P injectMove) (inject t c (record { channel = r .a; word = r .word })))
-    (by-crash : r .a < t .boards → Yields (P crashMove) (crash t c (r .a))) where
-  by-move : (m : Move) → Yields (P m) (perform t c r m)
-  unfolding perform
-  by-move stepMove = after-guard _ _ _ λ _. after-guard _ _ _ λ h. by-step (leb-false _ _ h)
-  by-move issueMove = after-guard _ _ _ λ _. after-guard _ _ _ λ h. by-issue (leb-false _ _ h)
-  by-move transmitMove = after-guard _ _ _ λ _. after-guard _ _ _ λ h. by-transmit (leb-false _ _ h)
-  by-move injectMove = after-guard _ _ _ λ h. by-inject (leb-false _ _ h)
-  by-move crashMove = after-guard _ _ _ λ _. after-guard _ _ _ λ h. by-crash (leb-false _ _ h)
-  by-move unknown = unmoved
+-- what each thing that a command does leaves
+abbrev pub Leaves : Table → Cabinet → Command → (Cabinet → Type 0) → Type 0
+Leaves t c r P = Done t c r (λ _ d _. P d)
 
-  pub yields-turn : P (moveOf (r .move)) (turn t c r .cabinet) (turn t c r .answer)
-  unfolding turn judged
-  yields-turn = after-settle (P (moveOf (r .move))) c r (nothing-done (moveOf (r .move))) (by-move (moveOf (r .move)))
+pub after-turn : {P : Cabinet → Type 0} (t : Table) (c : Cabinet) (r : Command) → P c → Leaves t c r P → P (turn t c r .cabinet)
+after-turn {P} t c r before d = yields-turn t c r (λ _ e _. P e) d (λ _ _. before)
 
--- what the five moves leave, a command leaves
-pub after-turn : {P : Cabinet → Type 0} (t : Table) (c : Cabinet) → P c
-    → ((p : ℕ) → p < length (t .processes) → Leaves P (step t c p))
-    → ((p : ℕ) → p < length (t .processes) → Leaves P (issue t c p))
-    → ((b : ℕ) → b < t .boards → Leaves P (transmit t c b))
-    → ((mail : Mail) → mail .channel < length (t .channels) → Leaves P (inject t c mail))
-    → ((b : ℕ) → b < t .boards → Leaves P (crash t c b))
-    → (r : Command) → P (turn t c r .cabinet)
-after-turn {P} t c before by-step by-issue by-transmit by-inject by-crash r =
-    yields-turn t c r (λ _ d _. P d) (λ _ _. before) (by-step (r .a)) (by-issue (r .a)) (by-transmit (r .a))
-    (by-inject (record { channel = r .a; word = r .word })) (by-crash (r .a))
+-- what every command keeps, a list of them keeps
+pub after-run : {P : Cabinet → Type 0} (t : Table) → ((c : Cabinet) (r : Command) → P c → Leaves t c r P) → (c : Cabinet) (commands : List Command) → P c
+    → P (runFrom t c commands .cabinet)
+unfolding runFrom
+after-run t each c [] h = h
+after-run t each c (r ∷ rs) h = after-run t each (turn t c r .cabinet) rs (after-turn t c r h (each c r h))

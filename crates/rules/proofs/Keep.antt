@@ -4,22 +4,22 @@ use mathlib.Core.Path.{_≡_, refl, ap, sym, _∙_}
 use mathlib.Core.Bool.{Bool, true, false, cond}
 use mathlib.Core.Option.{Option, none, some}
 use mathlib.Core.List.{List, [], _∷_, _++_}
-use Prim.Native.Nat.{ℕ, zero, suc, _+_, _*_, _≤_, _<_}
+use Prim.Native.Nat.{ℕ, _+_, _*_, _≤_, _<_}
 use native.Mathlib.Omega.{arith}
 use lib.Dec.{eqb}
 use lib.ListN.{length, set, length-map}
 use Rattle.facts.specs.Tests.{no-way}
 use Rattle.facts.specs.Indexing.{getD-map}
 use Rattle.facts.specs.Counts.{occurs}
-use Rattle.backup.specs.Replica.{Replica, Reply, count, sync}
+use Rattle.backup.specs.Replica.{Checkpoint, count, sync}
 use Rattle.rules.specs.Table.{Table, environment, channelAt, codeOf}
-use Rattle.rules.specs.Machine.{Mail, Machine, Act, internal, took, sent, Outcome, halted, noMail, moved, localStep, booted}
-use Rattle.rules.specs.Cabinet.{eventsMost, Standby, Since, Process, Item, message, checkpoint, Cabinet, nobody, processAt, outboxAt, protected, isSome, unreadOn, inFlight, placed, started}
-use Rattle.rules.specs.Moves.{withProcess, withOutbox, advanced, send, stepFrom, step, issued, issue, snapshot, counts, keeps, transmitItem, transmitOldest, transmit, inject, onReplica, promoted, unprotected, afterCrash, allAfterCrash, crash}
+use Rattle.rules.specs.Machine.{Mail, Machine, Act, sent, moved, localStep, booted}
+use Rattle.rules.specs.Cabinet.{eventsMost, Standby, Since, Process, Item, message, checkpoint, Cabinet, nobody, processAt, outboxAt, limited, isSome, full, unreadOn, inFlight, placed, started}
+use Rattle.rules.specs.Moves.{withProcess, withOutbox, enqueue, advanced, issued, snapshot, deliver, counts, keeps, promoted, unprotected, afterCrash}
 use Rattle.rules.proofs.Counting.{weight, step-unread, flight-join, flight-leave, flight-lost, flight-none}
 use Rattle.rules.proofs.Steps.{Steps}
 use Rattle.rules.proofs.Room.{Roomed, Room, change-room, admit, deliver-room, call-some}
-use Rattle.rules.proofs.Guards.{Leaves, unmoved, leaves, after-guard}
+use Rattle.rules.proofs.Guards.{crashedBy}
 use Rattle.rules.proofs.Crashed.{crash-length, crash-at}
 
 module _ (t : Table) (c : Cabinet) (small : length (c .processes) ≤ environment) (rm : Room t [] c) where
@@ -39,89 +39,68 @@ module _ (t : Table) (c : Cabinet) (small : length (c .processes) ≤ environmen
     unfolding advanced
     step-room pending with-pending counted suppress qs joins =
         change-room t pending [] c with-pending p (advanced m counted suppress (processAt c p)) qs
+        (λ k. let y = joins k in omega arith)
         (λ h. h)
         (λ k. let x = fewer k in let y = joins k in omega arith)
-        (λ k. let y = joins k in omega arith)
         (λ hp k n. let x = fewer k in let y = with-pending p hp .own k n in omega arith)
 
-    stays : (counted : Since) (suppress : ℕ) → Room t [] (withProcess p (advanced m counted suppress (processAt c p)) c)
+    -- it sends nothing
+    pub stays : (counted : Since) (suppress : ℕ) → Room t [] (withProcess p (advanced m counted suppress (processAt c p)) c)
     stays counted suppress = step-room [] rm counted suppress (c .outboxes) (λ k. omega arith)
 
-  send-room : (p : ℕ) (m : Machine) (mail : Mail) → localStep (codeOf t p) (processAt c p .machine) ≡ moved m (sent mail)
-      → (h : ℕ) → Leaves (Room t []) (send t c p (processAt c p) m mail h)
-  unfolding send
-  send-room p m mail e (suc h) = leaves (stays p m (sent mail) e _ _)
-  send-room p m mail e zero =
-      after-guard _ _ _ λ _. after-guard _ _ _ λ _. after-guard _ _ _ λ free.
-      leaves (step-room p m (sent mail) e (mail .channel ∷ []) (admit t c (mail .channel) small free rm) _ _ _
-      (λ k. let j = flight-join k (c .outboxes) (processAt c p .board) (message mail) in omega arith))
-
-  outcome-room : (p : ℕ) (o : Outcome) → localStep (codeOf t p) (processAt c p .machine) ≡ o → Leaves (Room t []) (stepFrom t c p (processAt c p) o)
-  unfolding stepFrom
-  outcome-room p halted e = unmoved
-  outcome-room p noMail e = unmoved
-  outcome-room p (moved m internal) e = after-guard _ _ _ λ _. leaves (stays p m internal e _ _)
-  outcome-room p (moved m (took mail)) e =
-      after-guard _ _ _ λ _.
-      leaves (stays p m (took mail) e _ _)
-  outcome-room p (moved m (sent mail)) e = send-room p m mail e (processAt c p .suppress)
-
-  pub step-keeps : (p : ℕ) → Leaves (Room t []) (step t c p)
-  unfolding step
-  step-keeps p = outcome-room p (localStep (codeOf t p) (processAt c p .machine)) refl
+  pub sent-room : (p : ℕ) (m : Machine) (mail : Mail) → localStep (codeOf t p) (processAt c p .machine) ≡ moved m (sent mail) → full t c (mail .channel) ≡ false
+      → (counted : Since)
+      → Room t [] (withProcess p (advanced m counted 0 (processAt c p)) (enqueue (processAt c p .board) (message mail) c))
+  sent-room p m mail e free counted =
+      step-room p m (sent mail) e (mail .channel ∷ []) (admit t c (mail .channel) small free rm) counted 0 _
+      (λ k. let j = flight-join k (c .outboxes) (processAt c p .board) (message mail) in omega arith)
 
   -- ---- sync
 
-  pub issue-keeps : (p : ℕ) → Leaves (Room t []) (issue t c p)
-  unfolding issue issued
-  issue-keeps p =
-      after-guard _ _ _ λ _. after-guard _ _ _ λ _. after-guard _ _ _ λ _.
+  pub issued-room : (p : ℕ) → Room t [] (withProcess p (issued (processAt c p)) (enqueue (processAt c p .board) (checkpoint p (snapshot (processAt c p))) c))
+  unfolding issued
+  issued-room p =
       let joins : (k : ℕ) → inFlight k (set (c .outboxes) (processAt c p .board) (outboxAt c (processAt c p .board) ++ (checkpoint p (snapshot (processAt c p)) ∷ []))) ≤ inFlight k (c .outboxes) =
       λ k. (let j = flight-join k (c .outboxes) (processAt c p .board) (checkpoint p (snapshot (processAt c p))) in omega arith) in
-      leaves (change-room t [] [] c rm p (issued (processAt c p)) _
+      change-room t [] [] c rm p (issued (processAt c p)) _
+      (λ k. let j = joins k in omega arith)
       (λ h. h)
       (λ k. let j = joins k in omega arith)
-      (λ k. let j = joins k in omega arith)
-      (λ hp k n. rm p hp .own k n))
+      (λ hp k n. rm p hp .own k n)
 
   -- ---- feed
 
-  pub inject-keeps : (mail : Mail) → Leaves (Room t []) (inject t c mail)
-  unfolding inject
-  inject-keeps mail = after-guard _ _ _ λ _. after-guard _ _ _ λ free. leaves (deliver-room t c mail (admit t c (mail .channel) small free rm))
+  pub fed-room : (mail : Mail) → full t c (mail .channel) ≡ false → Room t [] (deliver t mail c)
+  fed-room mail free = deliver-room t c mail (admit t c (mail .channel) small free rm)
 
   -- ---- carry
 
-  -- the oldest entry leaves, and a process's backup is called; a word that left is pending
-  called-room : (b p : ℕ) (item : Item) (rest : List Item) (pending : List ℕ) (call : Replica → Reply) → outboxAt c b ≡ item ∷ rest
-      → ((k : ℕ) → occurs k pending ≤ weight k item)
-      → (x : Process) → x .machine ≡ processAt c p .machine → x .standby ≡ onReplica call (processAt c p .standby)
+  -- the oldest entry leaves, and a process with the same machine is limited as before; a word that left is pending
+  called-room : (b p : ℕ) (item : Item) (rest : List Item) (pending : List ℕ) → outboxAt c b ≡ item ∷ rest → ((k : ℕ) → occurs k pending ≤ weight k item)
+      → (x : Process) → x .machine ≡ processAt c p .machine → limited x ≡ limited (processAt c p)
       → Room t pending (withProcess p x (withOutbox b rest c))
-  called-room b p item rest pending call e few x same-machine same-standby =
+  called-room b p item rest pending e few x same-machine same-limit =
       let same-mail : (k : ℕ) → unreadOn k (x .machine .mailbox) ≡ unreadOn k (processAt c p .machine .mailbox) =
       λ k. ap (λ (m : Machine). unreadOn k (m .mailbox)) same-machine in
       change-room t [] pending c rm p x (set (c .outboxes) b rest)
-      (λ h. sym (ap isSome same-standby ∙ call-some call (processAt c p .standby)) ∙ h)
-      (λ k. let a = same-mail k in let d = few k in let l = flight-leave k (c .outboxes) b item rest e in omega arith)
       (λ k. let d = few k in let l = flight-leave k (c .outboxes) b item rest e in omega arith)
+      (λ h. sym same-limit ∙ h)
+      (λ k. let a = same-mail k in let d = few k in let l = flight-leave k (c .outboxes) b item rest e in omega arith)
       (λ hp k n. same-mail k ∙ rm p hp .own k n)
 
-  item-room : (b : ℕ) (item : Item) (rest : List Item) → outboxAt c b ≡ item ∷ rest → Leaves (Room t []) (transmitItem t (withOutbox b rest c) item)
-  unfolding transmitItem counts keeps
-  item-room b (message mail) rest e =
-      leaves (deliver-room t _ mail (called-room b (channelAt t (mail .channel) .sender) (message mail) rest (mail .channel ∷ []) count e
-      (λ k. omega arith) (counts (processAt c (channelAt t (mail .channel) .sender))) refl refl))
-  item-room b (checkpoint p s) rest e =
-      leaves (called-room b p (checkpoint p s) rest [] (λ r. sync r s) e (λ k. omega arith) (keeps s (processAt c p)) refl refl)
+  pub word-room : (b : ℕ) (mail : Mail) (rest : List Item) → outboxAt c b ≡ message mail ∷ rest
+      → (let sender = channelAt t (mail .channel) .sender in Room t [] (deliver t mail (withProcess sender (counts (processAt c sender)) (withOutbox b rest c))))
+  unfolding counts
+  word-room b mail rest e =
+      let sender : ℕ = channelAt t (mail .channel) .sender in
+      deliver-room t _ mail (called-room b sender (message mail) rest (mail .channel ∷ []) e (λ k. omega arith) (counts (processAt c sender)) refl
+      (call-some count (processAt c sender .standby)))
 
-  oldest-room : (b : ℕ) (q : List Item) → outboxAt c b ≡ q → Leaves (Room t []) (transmitOldest t c b q)
-  unfolding transmitOldest
-  oldest-room b [] e = unmoved
-  oldest-room b (item ∷ rest) e = item-room b item rest e
-
-  pub transmit-keeps : (b : ℕ) → Leaves (Room t []) (transmit t c b)
-  unfolding transmit
-  transmit-keeps b = after-guard _ _ _ λ _. oldest-room b (outboxAt c b) refl
+  pub sync-room : (b p : ℕ) (s : Checkpoint) (rest : List Item) → outboxAt c b ≡ checkpoint p s ∷ rest
+      → Room t [] (withProcess p (keeps s (processAt c p)) (withOutbox b rest c))
+  unfolding keeps
+  sync-room b p s rest e =
+      called-room b p (checkpoint p s) rest [] e (λ k. omega arith) (keeps s (processAt c p)) refl (call-some (λ r. sync r s) (processAt c p .standby))
 
 -- ---- crash
 
@@ -135,11 +114,11 @@ pub record Behind (t : Table) (x : Process) (p : ℕ) (s : Standby) : Type 0 whe
 module _ (t : Table) (c : Cabinet) (rm : Room t [] c)
     (behind : (p : ℕ) → p < length (c .processes) → (s : Standby) → processAt c p .standby ≡ some s → Behind t (processAt c p) p s) (b : ℕ) where
   crashed : Cabinet
-  crashed = record { processes = allAfterCrash t b 0 (c .processes); outboxes = set (c .outboxes) b []; dead = set (c .dead) b true }
+  crashed = crashedBy t b c
 
   module _ (p : ℕ) (hp : p < length (c .processes)) where
     -- the crash makes y of a process, with no other words
-    as-before : (y : Process) → processAt crashed p ≡ y → (protected y ≡ true → protected (processAt c p) ≡ true) → y .machine ≡ processAt c p .machine
+    as-before : (y : Process) → processAt crashed p ≡ y → (limited y ≡ true → limited (processAt c p) ≡ true) → y .machine ≡ processAt c p .machine
         → Roomed t [] crashed p
     unfolding crashed
     as-before y is-y kind same-machine =
@@ -149,7 +128,7 @@ module _ (t : Table) (c : Cabinet) (rm : Room t [] c)
         record {
           again = r .again;
           few = r .few;
-          none-yet = λ g. r .none-yet (kind (ap protected (sym is-y) ∙ g));
+          none-yet = λ g. r .none-yet (kind (ap limited (sym is-y) ∙ g));
           room = λ k g. rw is-y (let a = r .room k g in let l = flight-lost k (c .outboxes) b in let d = same-mail k in omega arith);
           own = λ k g. rw is-y (same-mail k ∙ r .own k g);
         }
@@ -163,7 +142,7 @@ module _ (t : Table) (c : Cabinet) (rm : Room t [] c)
         record {
           again = v .received;
           few = v .few;
-          none-yet = λ g. absurd (no-way (let a = ap protected (sym is-promoted) ∙ g in cc));
+          none-yet = λ g. absurd (no-way (let a = ap limited (sym is-promoted) ∙ g in cc));
           room = λ k g.
               rw is-promoted
               (let a = r .room k g in
@@ -185,15 +164,11 @@ module _ (t : Table) (c : Cabinet) (rm : Room t [] c)
         go false true e′ = as-before (unprotected (processAt c p)) e′ (λ h. absurd (no-way (cc))) refl
         go false false e′ = as-before (processAt c p) e′ (λ h. h) refl
 
-  crash-room : Room t [] crashed
+  pub crash-room : Room t [] (crashedBy t b c)
   unfolding crashed
   crash-room p hp =
       let h : p < length (c .processes) = rw (crash-length t b 0 (c .processes)) at hp in
       by-standby p h (processAt c p .standby) refl (crash-at t b (c .processes) p h)
-
-  pub crash-keeps : Leaves (Room t []) (crash t c b)
-  unfolding crash crashed
-  crash-keeps = after-guard _ _ _ λ _. after-guard _ _ _ λ _. leaves crash-room
 
 -- ---- the start
 

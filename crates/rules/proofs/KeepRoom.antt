@@ -8,7 +8,7 @@ use lib.ListN.{length}
 use Rattle.backup.specs.Limits.{sentMost}
 use Rattle.backup.specs.Replica.{Replica}
 use Rattle.rules.specs.Table.{Table, environment}
-use Rattle.rules.specs.Machine.{Machine}
+use Rattle.rules.specs.Machine.{Machine, internal, took, sent}
 use Rattle.rules.specs.Reference.{Reference}
 use Rattle.rules.specs.Cabinet.{Standby, Cabinet, processAt, unreadOn}
 use Rattle.rules.specs.Moves.{Command, promoted, turn}
@@ -17,11 +17,11 @@ use Rattle.rules.proofs.Runs.{takes, takes-busy}
 use Rattle.rules.proofs.Good.{mailOf, stateOf, good-span, good-small, good-kept}
 use Rattle.rules.proofs.Backups.{recovers}
 use Rattle.rules.proofs.Invariant.{Invariant}
-use Rattle.rules.proofs.Guards.{after-turn}
+use Rattle.rules.proofs.Guards.{fedMail, after-turn}
 use Rattle.rules.proofs.Inputs.{log-own}
 use Rattle.rules.proofs.Counting.{run-unread}
 use Rattle.rules.proofs.Room.{Room}
-use Rattle.rules.proofs.Keep.{Behind, step-keeps, issue-keeps, transmit-keeps, inject-keeps, crash-keeps}
+use Rattle.rules.proofs.Keep.{Behind, stays, sent-room, issued-room, word-room, sync-room, fed-room, crash-room}
 
 module _ (t : Table) (ok : Accepted t) (c : Cabinet) (s : Reference) (inv : Invariant t c s) where
   behind : (p : ℕ) → p < length (c .processes) → (b : Standby) → processAt c p .standby ≡ some b → Behind t (processAt c p) p b
@@ -42,11 +42,17 @@ module _ (t : Table) (ok : Accepted t) (c : Cabinet) (s : Reference) (inv : Inva
       }
 
   pub turn-room : Room t [] c → (r : Command) → Room t [] (turn t c r .cabinet)
-  turn-room rm =
+  turn-room rm r =
       let small : length (c .processes) ≤ environment = (let a = inv .all-processes in let b = ok .processes-high in omega arith) in
-      after-turn {P = Room t []} t c rm
-      (λ p _. step-keeps t c small rm p)
-      (λ p _. issue-keeps t c small rm p)
-      (λ b _. transmit-keeps t c small rm b)
-      (λ mail _. inject-keeps t c small rm mail)
-      (λ b _. crash-keeps t c rm behind b)
+      after-turn {P = Room t []} t c r rm
+      (record {
+        computes = λ _ m e _. stays t c small rm (r .a) m internal e _ _;
+        takes = λ _ m mail e _. stays t c small rm (r .a) m (took mail) e _ _;
+        suppresses = λ _ m mail e h _. stays t c small rm (r .a) m (sent mail) e _ h;
+        sends = λ _ m mail e _ _ _ free. sent-room t c small rm (r .a) m mail e free _;
+        issues = λ _ _ _ _. issued-room t c small rm (r .a);
+        transmits = λ _ _ mail rest e. word-room t c small rm (r .a) mail rest e;
+        syncs = λ _ _ p k rest e. sync-room t c small rm (r .a) p k rest e;
+        injects = λ _ _ free. fed-room t c small rm (fedMail r) free;
+        crashes = λ _ _ _. crash-room t c rm behind (r .a);
+      })

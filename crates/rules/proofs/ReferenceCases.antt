@@ -1,13 +1,20 @@
--- The plain cabinet on the sample, computed: it runs, it gives the sample page's bus order and last line, and it refuses.
+-- The plain cabinet on the sample, computed: it runs, it gives the sample page's bus order and last line, and it refuses. And what demand 3
+-- compares, computed of our run of the page with its crash: what was fed, the bus order and the end are the plain run's.
 use mathlib.Core.Path.{_≡_, refl}
 use mathlib.Core.Option.{Option, none, some}
 use mathlib.Core.List.{List, [], _∷_, _++_, map}
 use Prim.Native.Nat.{ℕ}
 use lib.ListN.{replicate}
+use Rattle.backup.specs.Replica.{fit, arriveNumber, countNumber}
 use Rattle.rules.specs.Machine.{Mail}
 use Rattle.rules.specs.Reference.{Reference, Action, inject, step, referenceStart, referenceRun}
+use Rattle.rules.specs.Moves.{guard, Numbers}
+use Rattle.rules.specs.Transparent.{traceOf, fedOf, machinesOf, finished}
 use Rattle.rules.specs.Format.{decodeTable}
-use Rattle.rules.proofs.Marked.{sample}
+use Rattle.rules.specs.Run.{run}
+use Rattle.rules.specs.Transparency.{answersIn}
+use Rattle.rules.proofs.Cases.{runOf}
+use Rattle.rules.proofs.Marked.{sample, samplePage}
 
 abbrev mail : ℕ → ℕ → Mail
 mail channel word = record { channel = channel; word = word }
@@ -31,3 +38,18 @@ pub plain-page : map plainRun
     ≡ some plainEnd ∷ none ∷ none ∷ none ∷ none ∷ []
 unfolding referenceRun referenceStart decodeTable
 plain-page = refl
+
+-- ---- what demand 3 compares
+
+abbrev pageAnswers : List Numbers
+pageAnswers = answersIn (runOf sample samplePage)
+
+-- "its feeds are, in order, the feeds of our list that answered 4", and "the answers 4, each as its channel and word"
+pub page-compared : fedOf samplePage pageAnswers ∷ traceOf pageAnswers ∷ [] ≡ (mail 0 5 ∷ mail 0 7 ∷ []) ∷ plainEnd .trace ∷ []
+unfolding fedOf traceOf run guard fit arriveNumber countNumber
+page-compared = refl
+
+-- "At a quiet end its places, registers and inboxes": those after our last record
+pub page-end : machinesOf (finished (decodeTable sample) samplePage) ≡ plainEnd .machines
+unfolding run guard fit arriveNumber countNumber
+page-end = refl

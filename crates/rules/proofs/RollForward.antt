@@ -1,19 +1,18 @@
 -- At a crash, in any state that commands reach, no process has more to do again than two issues let pass (specs/RollForward.antt).
-use mathlib.Core.Path.{_≡_, refl, ap, sym, _∙_, subst}
+use mathlib.Core.Path.{_≡_, refl, ap, sym, _∙_}
 use mathlib.Core.Bool.{Bool, true, false, cond}
 use mathlib.Core.Option.{Option, none, some}
-use mathlib.Core.List.{List, [], _∷_}
+use mathlib.Core.List.{List}
 use Prim.Native.Nat.{ℕ, _<_}
 use native.Mathlib.Omega.{arith}
 use lib.Dec.{eqb}
 use lib.ListN.{length, getD}
-use Rattle.facts.specs.Tests.{no-way}
 use Rattle.backup.specs.Limits.{sentMost}
 use Rattle.rules.specs.Table.{Table, Instruction, codeOf}
 use Rattle.rules.specs.Machine.{Machine, Act, internal, took, sent, localStep}
 use Rattle.rules.specs.Reference.{Reference}
 use Rattle.rules.specs.Cabinet.{Standby, Process, Cabinet, nobody, processAt, started}
-use Rattle.rules.specs.Moves.{Command, Answer, Result, accept, promoted, unprotected, afterCrash, allAfterCrash, crash, runFrom}
+use Rattle.rules.specs.Moves.{Command, Answer, crashDone, accept, promoted, unprotected, afterCrash, allAfterCrash, crash, runFrom}
 use Rattle.rules.specs.Judge.{Accepted}
 use Rattle.rules.specs.RollForward.{actsOf, goOn, redo, RollsForward}
 use Rattle.rules.proofs.Steps.{Steps}
@@ -21,7 +20,7 @@ use Rattle.rules.proofs.Runs.{Run, here, more, busy, busy1}
 use Rattle.rules.proofs.Good.{stateOf, good-span, good-small, good-kept}
 use Rattle.rules.proofs.Backups.{recovers}
 use Rattle.rules.proofs.Invariant.{Invariant}
-use Rattle.rules.proofs.Guards.{Leaves, unmoved, leaves, after-guard}
+use Rattle.rules.proofs.Guards.{crashedBy, guard-accepted}
 use Rattle.rules.proofs.Crashed.{crash-at}
 use Rattle.rules.proofs.Start.{reached}
 
@@ -83,19 +82,13 @@ module _ {t : Table} (ok : Accepted t) {c : Cabinet} {s : Reference} (inv : Inva
 
 -- ---- every crash that commands reach
 
-left : {P : Cabinet → Type 0} {r : Result} {d : Cabinet} {a : Answer} → Leaves P r → r ≡ accept d a → P d
-left unmoved e = absurd (no-way (cc))
-left {P} (leaves h) e = subst P (cc) h
-
 module _ {t : Table} (ok : Accepted t) (commands : List Command) where
-  crash-leaves : (b : ℕ) → Leaves (λ d. (p : ℕ) → p < length (t .processes) → RollsForward t (runFrom t (started t) commands .cabinet) d p)
-      (crash t (runFrom t (started t) commands .cabinet) b)
-  unfolding crash
-  crash-leaves b =
-      let f = reached t ok commands .follows in
-      after-guard _ _ _ λ _. after-guard _ _ _ λ _.
-      leaves (λ p h. crash-rolls ok (f .invariant) b _ refl p (rw (f .invariant .all-processes) h))
-
   pub rolls-forward : (b : ℕ) (d : Cabinet) (a : Answer) → crash t (runFrom t (started t) commands .cabinet) b ≡ accept d a
       → (p : ℕ) → p < length (t .processes) → RollsForward t (runFrom t (started t) commands .cabinet) d p
-  rolls-forward b d a e = left (crash-leaves b) e
+  unfolding crash
+  rolls-forward b d a e p h =
+      let c : Cabinet = runFrom t (started t) commands .cabinet in
+      let f = reached t ok commands .follows in
+      let made : accept (crashedBy t b c) crashDone ≡ accept d a = guard-accepted _ _ _ (guard-accepted _ _ _ e) in
+      let same : crashedBy t b c ≡ d = cc in
+      crash-rolls ok (f .invariant) b d (ap (λ (y : Cabinet). y .processes) (sym same)) p (rw (f .invariant .all-processes) h)

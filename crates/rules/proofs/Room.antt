@@ -14,7 +14,7 @@ use Rattle.facts.specs.Counts.{same, occurs, same-yes, same-no}
 use Rattle.backup.specs.Replica.{Replica, Reply, arrive}
 use Rattle.rules.specs.Table.{Table, environment, channelAt, portOf}
 use Rattle.rules.specs.Machine.{Mail, delivered}
-use Rattle.rules.specs.Cabinet.{eventsMost, occupancyMost, Standby, Process, Item, Cabinet, nobody, processAt, protected, isSome, unreadOn, inFlight, occupancy, full}
+use Rattle.rules.specs.Cabinet.{eventsMost, occupancyMost, Standby, Process, Item, Cabinet, nobody, processAt, limited, isSome, unreadOn, inFlight, occupancy, full}
 use Rattle.rules.specs.Moves.{onReplica, receive, deliver}
 use Rattle.rules.proofs.Counting.{unread-append}
 
@@ -22,10 +22,10 @@ use Rattle.rules.proofs.Counting.{unread-append}
 
 -- `pending`: the channels of words that are admitted and neither unread nor in flight, in the middle of a move
 pub record Roomed (t : Table) (pending : List ℕ) (c : Cabinet) (p : ℕ) : Type 0 where
-  -- the channels of words that it had received before a crash and then had again; none while it is protected
+  -- the channels of words that it had received before a crash and then had again; none while it is limited
   pub again : List ℕ
   pub few : length again ≤ 2 * eventsMost
-  pub none-yet : protected (processAt c p) ≡ true → again ≡ []
+  pub none-yet : limited (processAt c p) ≡ true → again ≡ []
   pub room : (k : ℕ) → channelAt t k .reader ≡ p
       → unreadOn k (processAt c p .machine .mailbox) + inFlight k (c .outboxes) + occurs k pending ≤ occupancyMost + occurs k again
   -- it holds words of its own channels only
@@ -34,29 +34,12 @@ pub record Roomed (t : Table) (pending : List ℕ) (c : Cabinet) (p : ℕ) : Typ
 abbrev pub Room : Table → List ℕ → Cabinet → Type 0
 Room t pending c = (p : ℕ) → p < length (c .processes) → Roomed t pending c p
 
--- ---- one process and the outboxes change, and no channel has more words than before
+-- ---- one process and the outboxes change, and no other process's channel has more words than before
 
 module _ (t : Table) (pending pending′ : List ℕ) (c : Cabinet) (rm : Room t pending c) (p : ℕ) (x : Process) (qs : List (List Item))
-    (kind : protected x ≡ true → protected (processAt c p) ≡ true)
-    (there : (k : ℕ) → unreadOn k (x .machine .mailbox) + inFlight k qs + occurs k pending′
-    ≤ unreadOn k (processAt c p .machine .mailbox) + inFlight k (c .outboxes) + occurs k pending)
-    (elsewhere : (k : ℕ) → inFlight k qs + occurs k pending′ ≤ inFlight k (c .outboxes) + occurs k pending)
-    (own-x : p < length (c .processes) → (k : ℕ) → channelAt t k .reader ≢ p → unreadOn k (x .machine .mailbox) ≡ 0) where
+    (elsewhere : (k : ℕ) → inFlight k qs + occurs k pending′ ≤ inFlight k (c .outboxes) + occurs k pending) where
   now : Cabinet
   now = record { processes = set (c .processes) p x; outboxes = qs; dead = c .dead }
-
-  at-p : p < length (c .processes) → Roomed t pending′ now p
-  unfolding now
-  at-p hp =
-      let e = getD-set-same (c .processes) p x nobody hp in
-      let r = rm p hp in
-      record {
-        again = r .again;
-        few = r .few;
-        none-yet = λ g. r .none-yet (kind (ap protected (sym e) ∙ g));
-        room = λ k g. rw e (let a = r .room k g in let b = there k in omega arith);
-        own = λ k g. rw e (own-x hp k g);
-      }
 
   at-other : (j : ℕ) → j < length (c .processes) → j ≢ p → Roomed t pending′ now j
   unfolding now
@@ -66,14 +49,34 @@ module _ (t : Table) (pending pending′ : List ℕ) (c : Cabinet) (rm : Room t 
       record {
         again = r .again;
         few = r .few;
-        none-yet = λ g. r .none-yet (ap protected (sym e) ∙ g);
+        none-yet = λ g. r .none-yet (ap limited (sym e) ∙ g);
         room = λ k g. rw e (let a = r .room k g in let b = elsewhere k in omega arith);
         own = λ k g. rw e (r .own k g);
       }
 
-  pub change-room : Room t pending′ (record { processes = set (c .processes) p x; outboxes = qs; dead = c .dead })
+  -- where its own room is known
+  pub change-by : (p < length (c .processes) → Roomed t pending′ (record { processes = set (c .processes) p x; outboxes = qs; dead = c .dead }) p)
+      → Room t pending′ (record { processes = set (c .processes) p x; outboxes = qs; dead = c .dead })
   unfolding now
-  change-room j hj = by-eq j p (λ e. rw e (at-p (rw e at (rw length-set at hj)))) (λ n. at-other j (rw length-set at hj) n)
+  change-by at-p j hj = by-eq j p (λ e. rw e (at-p (rw e at (rw length-set at hj)))) (λ n. at-other j (rw length-set at hj) n)
+
+  -- where no channel of its own has more words either
+  module _ (kind : limited x ≡ true → limited (processAt c p) ≡ true)
+      (there : (k : ℕ) → unreadOn k (x .machine .mailbox) + inFlight k qs + occurs k pending′
+      ≤ unreadOn k (processAt c p .machine .mailbox) + inFlight k (c .outboxes) + occurs k pending)
+      (own-x : p < length (c .processes) → (k : ℕ) → channelAt t k .reader ≢ p → unreadOn k (x .machine .mailbox) ≡ 0) where
+    pub change-room : Room t pending′ (record { processes = set (c .processes) p x; outboxes = qs; dead = c .dead })
+    change-room =
+        change-by λ hp.
+        let e = getD-set-same (c .processes) p x nobody hp in
+        let r = rm p hp in
+        record {
+          again = r .again;
+          few = r .few;
+          none-yet = λ g. r .none-yet (kind (ap limited (sym e) ∙ g));
+          room = λ k g. rw e (let a = r .room k g in let b = there k in omega arith);
+          own = λ k g. rw e (own-x hp k g);
+        }
 
 -- ---- a channel that isn't full has room for one more
 
@@ -114,8 +117,7 @@ deliver-room t c mail rm =
     let x : Process = processAt c r in
     let more : (k : ℕ) → unreadOn k (x .machine .mailbox ++ (mail ∷ [])) ≡ unreadOn k (x .machine .mailbox) + same k (mail .channel) =
     λ k. unread-append k (x .machine .mailbox) mail in
-    change-room t (mail .channel ∷ []) [] c rm r (receive t r mail x) (c .outboxes)
+    change-room t (mail .channel ∷ []) [] c rm r (receive t r mail x) (c .outboxes) (λ k. omega arith)
     (λ h. sym (call-some (λ s. arrive s (portOf t r (mail .channel)) (mail .word)) (x .standby)) ∙ h)
     (λ k. let a = more k in omega arith)
-    (λ k. omega arith)
     (λ hr k n. let a = more k in let b = rm r hr .own k n in let d = same-no k (mail .channel) (λ e. n (ap (λ (y : ℕ). channelAt t y .reader) e)) in omega arith)

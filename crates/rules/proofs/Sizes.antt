@@ -13,7 +13,7 @@ use Rattle.backup.specs.Limits.{logMost}
 use Rattle.rules.specs.Table.{Table, environment, channelAt, inputs, channelOn}
 use Rattle.rules.specs.Machine.{Mail}
 use Rattle.rules.specs.Reference.{Reference}
-use Rattle.rules.specs.Cabinet.{eventsMost, occupancyMost, Standby, Process, message, Cabinet, nobody, processAt, protected, isSome, unreadOn, inFlight, occupancy}
+use Rattle.rules.specs.Cabinet.{eventsMost, occupancyMost, Standby, Process, message, Cabinet, nobody, processAt, limited, isSome, unreadOn, inFlight, occupancy}
 use Rattle.rules.specs.Judge.{Accepted}
 use Rattle.rules.proofs.Tables.{few-ports}
 use Rattle.rules.proofs.Good.{good-small}
@@ -52,9 +52,9 @@ module _ (t : Table) (ok : Accepted t) (pending : List ℕ) (c : Cabinet) (p : �
       let d = r .few in
       omega arith
 
-  -- one more word is on its way to a protected process
+  -- one more word is on its way to a limited process
   pub mailbox-shorter : (k : ℕ) → channelAt t k .reader ≡ p → ((i : ℕ) → same i k ≤ inFlight i (c .outboxes) + occurs i pending)
-      → protected (processAt c p) ≡ true → length (processAt c p .machine .mailbox) + 2 * eventsMost < logMost
+      → limited (processAt c p) ≡ true → length (processAt c p .machine .mailbox) + 2 * eventsMost < logMost
   mailbox-shorter k reads on-the-way safe =
       let one : (i : ℕ) → occurs i (k ∷ []) ≡ same i k = λ i. omega arith in
       let a = words-few (k ∷ []) (λ i. let h = on-the-way i in let o = one i in omega arith)

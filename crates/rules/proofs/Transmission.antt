@@ -1,31 +1,28 @@
 -- Transmission and feeds, followed by the reference machine: the steps that lead up to the item, or the same feed.
 use mathlib.Core.Path.{_≡_, refl, ap, sym, _∙_, subst}
-use mathlib.Core.Bool.{Bool, true, false, cond}
+use mathlib.Core.Bool.{true, false}
 use mathlib.Core.Option.{Option, none, some}
 use mathlib.Core.List.{List, [], _∷_, _++_, append-nil}
 use Prim.Native.Nat.{ℕ, zero, suc, _<_}
-use lib.Dec.{eqb}
 use lib.ListN.{length, getD, set, length-set}
 use lib.Seq.{getD-set-same, getD-set-other}
-use borrow.Author.Tests.{not-false, eqb-true, lt-ltb}
+use borrow.Author.Tests.{eq-eqb, lt-ltb}
 use Rattle.facts.specs.Tests.{no-way, by-eq}
 use Rattle.backup.specs.Limits.{logMost}
 use Rattle.backup.specs.Replica.{Replica, Checkpoint, answer, counted, countNumber, count, sync}
 use Rattle.rules.specs.Table.{Table, environment, channelAt, codeOf}
 use Rattle.rules.specs.Machine.{Mail, Machine, sent}
 use Rattle.rules.specs.Reference.{Reference, Action, posted, withMachine, act, injections}
-use Rattle.rules.specs.Cabinet.{Standby, Process, Item, message, checkpoint, Cabinet, nobody, processAt, outboxAt, protected}
-use Rattle.rules.specs.Moves.{syncKept, syncLost, droppedFrom, numbers, accept, withProcess, withOutbox, onReplica, counts, keeps, deliver, transmitItem, transmitOldest, transmit, inject}
+use Rattle.rules.specs.Cabinet.{Standby, Process, Item, message, checkpoint, Cabinet, nobody, processAt, outboxAt, protected, full}
+use Rattle.rules.specs.Moves.{withProcess, withOutbox, onReplica, counts, keeps, deliver}
 use Rattle.rules.specs.Judge.{Accepted}
-use Rattle.rules.specs.Transparent.{traceOf}
 use Rattle.rules.proofs.Steps.{Steps}
 use Rattle.rules.proofs.Good.{Good}
 use Rattle.rules.proofs.GoodMoves.{Transmitted, Synced, good-counts, good-keeps}
-use Rattle.rules.proofs.Invariant.{ownerOf, mine, machineAt, Invariant, in-table, in-reference, its-outbox, RoomFor, Roomy, owner}
-use Rattle.rules.proofs.Frame.{called-board, OthersStay, change, deliver-keeps, leave-others, leave-own}
+use Rattle.rules.proofs.Invariant.{ownerOf, mine, machineAt, Seated, Invariant, in-table, in-reference, its-outbox, RoomFor, Roomy, owner}
+use Rattle.rules.proofs.Frame.{SameSeat, called-board, same-protected, seated-same, OthersStay, change, change-same, deliver-keeps, leave-others, leave-own}
 use Rattle.rules.proofs.References.{run-append, run-one, injections-append, steps, injections-steps, act-sent, put-put, put-get, put-length, run-silent}
-use Rattle.rules.proofs.Guards.{Yields, unmoved, leaves, after-guard}
-use Rattle.rules.proofs.Follow.{Follows, traced1, fed1}
+use Rattle.rules.proofs.Follow.{Follows}
 
 -- a count leaves the log, so that the room stays
 count-log : (r : Replica) → count r .replica .log ≡ r .log
@@ -89,30 +86,40 @@ module _ {t : Table} (ok : Accepted t) {c : Cabinet} {s : Reference} (inv : Inva
         ran = run-append t s (steps p (v .steps .acts)) (Action.step p ∷ []) mid up-to-mid
             ∙ run-one t mid (Action.step p) end (acts ∙ ap (λ (z : Reference). some (posted t mail z)) (put-put p (v .mid) s (v .last)));
         invariant = deliver-keeps mail ok
-            (change inv p hp (counts (processAt c p)) (record { board = refl; standby = called-board count (processAt c p .standby) }) (v .last)
+            (change-same inv p hp (counts (processAt c p)) (record { board = refl; standby = called-board count (processAt c p .standby) }) (v .last)
             (set (c .outboxes) B rest) (others (message mail) is-own rest oldest) (v .good) (s .trace) (length-set (c .outboxes) B rest))
             (room-left t c (mail .channel) p B rest hp room);
         traced = refl;
         injected = injections-append (steps p (v .steps .acts)) (Action.step p ∷ []) ∙ ap (λ (l : List Mail). l ++ []) (injections-steps p (v .steps .acts));
       }
 
-  -- ---- a checkpoint
+  -- ---- an item that leads the reference machine silently to where the process's backup then stands
 
-  follow-checkpoint : (k : Checkpoint) (rest : List Item) → outboxAt c (processAt c p .board) ≡ checkpoint p k ∷ rest
-      → Synced t p (mine t p (getD (set (c .outboxes) (processAt c p .board) rest) (processAt c p .board) [])) (keeps k (processAt c p)) (machineAt s p)
-      → Follows t (withProcess p (keeps k (processAt c p)) (withOutbox (processAt c p .board) rest c)) s [] []
-  unfolding keeps withMachine
-  follow-checkpoint k rest oldest v =
+  follow-synced : (item : Item) → ownerOf t item ≡ p → (y : Process) → y .board ≡ processAt c p .board → Seated t (c .dead) y
+      → (protected (processAt c p) ≡ true → protected y ≡ true) → (rest : List Item) → outboxAt c (processAt c p .board) ≡ item ∷ rest
+      → Synced t p (mine t p (getD (set (c .outboxes) (processAt c p .board) rest) (processAt c p .board) [])) y (machineAt s p)
+      → Follows t (withProcess p y (withOutbox (processAt c p .board) rest c)) s [] []
+  unfolding withMachine
+  follow-synced item is-own y same-board sits safe rest oldest v =
       let B : ℕ = processAt c p .board in
       record {
         actions = steps p (v .steps .acts);
         end = withMachine p (v .mid) s;
         ran = run-silent t p (v .steps .to-mid) refl (v .steps .silent-there) s (in-reference inv hp) refl;
-        invariant = change inv p hp (keeps k (processAt c p)) (record { board = refl; standby = called-board (λ r. sync r k) (processAt c p .standby) }) (v .mid)
-            (set (c .outboxes) B rest) (others (checkpoint p k) refl rest oldest) (v .good) (s .trace) (length-set (c .outboxes) B rest);
+        invariant = change inv p hp y same-board sits safe (v .mid) (set (c .outboxes) B rest) (others item is-own rest oldest) (v .good) (s .trace)
+            (length-set (c .outboxes) B rest);
         traced = sym (append-nil (s .trace));
         injected = injections-steps p (v .steps .acts);
       }
+
+  -- a checkpoint is one
+  follow-checkpoint : (k : Checkpoint) (rest : List Item) → outboxAt c (processAt c p .board) ≡ checkpoint p k ∷ rest
+      → Synced t p (mine t p (getD (set (c .outboxes) (processAt c p .board) rest) (processAt c p .board) [])) (keeps k (processAt c p)) (machineAt s p)
+      → Follows t (withProcess p (keeps k (processAt c p)) (withOutbox (processAt c p .board) rest c)) s [] []
+  unfolding keeps
+  follow-checkpoint k rest oldest v =
+      let seat : SameSeat (keeps k (processAt c p)) (processAt c p) = record { board = refl; standby = called-board (λ r. sync r k) (processAt c p .standby) } in
+      follow-synced (checkpoint p k) refl (keeps k (processAt c p)) refl (seated-same seat (inv .seated p hp)) (λ h. same-protected seat ∙ h) rest oldest v
 
   -- ---- either, from the board that p runs on
 
@@ -132,43 +139,30 @@ module _ {t : Table} (ok : Accepted t) {c : Cabinet} {s : Reference} (inv : Inva
       (λ oldest. follow-checkpoint k rest oldest (good-keeps ok (in-table inv hp) k
       (subst (λ (l : List Item). Good t p l (processAt c p) (machineAt s p)) (items (checkpoint p k) refl rest oldest) (inv .good p hp))))
 
-module _ {t : Table} (ok : Accepted t) {c : Cabinet} {s : Reference} (inv : Invariant t c s) (roomy : Roomy t c) where
-  follow-item : (b : ℕ) (item : Item) (rest : List Item) → outboxAt c b ≡ item ∷ rest
-      → Yields (λ d a. Follows t d s (traced1 a) []) (transmitItem t (withOutbox b rest c) item)
-  unfolding transmitItem numbers traceOf
-  follow-item b (message mail) rest oldest =
+module _ {t : Table} (ok : Accepted t) {c : Cabinet} {s : Reference} (inv : Invariant t c s) where
+  pub follow-transmit : Roomy t c → (b : ℕ) (mail : Mail) (rest : List Item) → outboxAt c b ≡ message mail ∷ rest
+      → Follows t (deliver t mail (withProcess (senderOf t mail) (counts (processAt c (senderOf t mail))) (withOutbox b rest c))) s (mail ∷ []) []
+  follow-transmit roomy b mail rest oldest =
       let o = owner t c s b (message mail) rest inv oldest in
-      leaves (transmits-word ok inv (senderOf t mail) (o .there) b mail rest (o .runs) refl oldest (roomy .for-oldest b mail rest oldest))
-  follow-item b (checkpoint p k) rest oldest =
-      let o = owner t c s b (checkpoint p k) rest inv oldest in
-      kept-or-lost (protected (processAt c p)) (droppedFrom k (processAt c p .standby)) (transmits-checkpoint ok inv p (o .there) b k rest (o .runs) oldest)
-    where
-      kept-or-lost : {d : Cabinet} (y : Bool) (dropped : ℕ) → Follows t d s [] []
-          → Yields (λ d a. Follows t d s (traced1 a) []) (accept d (cond y (syncKept p dropped) (syncLost p)))
-      kept-or-lost true dropped f = leaves f
-      kept-or-lost false dropped f = leaves f
+      transmits-word ok inv (senderOf t mail) (o .there) b mail rest (o .runs) refl oldest (roomy .for-oldest b mail rest oldest)
 
-  pub follow-transmit : (b : ℕ) → Yields (λ d a. Follows t d s (traced1 a) []) (transmit t c b)
-  unfolding transmit transmitOldest
-  follow-transmit b = after-guard _ _ _ λ _. go (outboxAt c b) refl
-    where
-      go : (q : List Item) → outboxAt c b ≡ q → Yields (λ d a. Follows t d s (traced1 a) []) (transmitOldest t c b q)
-      go [] e = unmoved
-      go (item ∷ rest) e = follow-item b item rest e
+  pub follow-sync : (b p : ℕ) (k : Checkpoint) (rest : List Item) → outboxAt c b ≡ checkpoint p k ∷ rest
+      → Follows t (withProcess p (keeps k (processAt c p)) (withOutbox b rest c)) s [] []
+  follow-sync b p k rest oldest =
+      let o = owner t c s b (checkpoint p k) rest inv oldest in
+      transmits-checkpoint ok inv p (o .there) b k rest (o .runs) oldest
 
   -- ---- feed
 
-  pub follow-inject : (mail : Mail) → mail .channel < length (t .channels) → Yields (λ d a. Follows t d s (traced1 a) (fed1 mail a)) (inject t c mail)
-  unfolding inject numbers traceOf act posted injections
-  follow-inject mail h =
-      after-guard _ _ _ λ outside. after-guard _ _ _ λ free.
-      let from-outside : channelAt t (mail .channel) .sender ≡ environment = eqb-true _ _ (not-false _ outside) in
-      leaves (record {
+  pub follow-inject : Roomy t c → (mail : Mail) → mail .channel < length (t .channels) → senderOf t mail ≡ environment → full t c (mail .channel) ≡ false
+      → Follows t (deliver t mail c) s (mail ∷ []) (mail ∷ [])
+  unfolding act posted injections
+  follow-inject roomy mail h outside free =
+      record {
         actions = Action.inject mail ∷ [];
         end = posted t mail s;
-        ran = run-one t s (Action.inject mail) (posted t mail s)
-            (rw (lt-ltb (mail .channel) (length (t .channels)) h, not-false (eqb (senderOf t mail) environment) outside));
-        invariant = deliver-keeps mail ok inv (roomy .for-feed (mail .channel) from-outside free);
+        ran = run-one t s (Action.inject mail) (posted t mail s) (rw (lt-ltb (mail .channel) (length (t .channels)) h, eq-eqb (senderOf t mail) environment outside));
+        invariant = deliver-keeps mail ok inv (roomy .for-feed (mail .channel) outside free);
         traced = refl;
         injected = refl;
-      })
+      }

@@ -2,20 +2,21 @@
 use mathlib.Core.Path.{_≡_, refl, sym, subst₂}
 use mathlib.Core.Bool.{Bool, true, false, cond, _&&_}
 use mathlib.Core.List.{List, [], _∷_, _++_, map}
-use Prim.Native.Nat.{ℕ}
+use Prim.Native.Nat.{ℕ, _<_}
 use lib.Dec.{eqb}
+use lib.ListN.{length}
 use Rattle.rules.specs.Table.{Table}
 use Rattle.rules.specs.Machine.{Mail}
 use Rattle.rules.specs.Reference.{Reference}
-use Rattle.rules.specs.Cabinet.{Cabinet}
-use Rattle.rules.specs.Moves.{Command, Move, moveOf, Refusal, Answer, refused, Numbers, numbers, turn, runFrom}
+use Rattle.rules.specs.Cabinet.{Cabinet, processAt, protected}
+use Rattle.rules.specs.Moves.{Command, Move, transmitMove, moveOf, Refusal, Answer, syncKept, syncLost, droppedFrom, refused, Numbers, numbers, turn, runFrom}
 use Rattle.rules.specs.Judge.{Accepted}
 use Rattle.rules.specs.Transparent.{traceOf, fedOf}
 use Rattle.rules.proofs.Invariant.{Invariant, Roomy}
 use Rattle.rules.proofs.Decoded.{isFeed, moveOf-feed, refusalNumber-not-4}
-use Rattle.rules.proofs.Guards.{yields-turn}
-use Rattle.rules.proofs.Follow.{Follows, traced1, stay, follows-then, follow-step, follow-issue}
-use Rattle.rules.proofs.Transmission.{follow-transmit, follow-inject}
+use Rattle.rules.proofs.Guards.{fedMail, Done, yields-turn}
+use Rattle.rules.proofs.Follow.{Follows, traced1, stay, follows-then, follow-computing, follow-taking, follow-suppressing, follow-sending, follow-issue}
+use Rattle.rules.proofs.Transmission.{follow-transmit, follow-sync, follow-inject}
 use Rattle.rules.proofs.CrashKeeps.{follow-crash}
 use Rattle.rules.proofs.Room.{Room}
 use Rattle.rules.proofs.Sizes.{roomy}
@@ -39,16 +40,38 @@ refused-feed m r why = rw (refusalNumber-not-4 why) (go (isFeed m))
     go true = refl
     go false = refl
 
-turn-follows : {t : Table} → Accepted t → {c : Cabinet} {s : Reference} → Invariant t c s → Roomy t c → (r : Command)
-    → Follows t (turn t c r .cabinet) s (traced1 (turn t c r .answer)) (fedBy (moveOf (r .move)) r (turn t c r .answer))
-turn-follows {t} ok {c} {s} inv room r =
-    yields-turn t c r (λ m d a. Follows t d s (traced1 a) (fedBy m r a))
-    (λ m why. subst₂ (Follows t c s) (sym (refused-trace why (r .a))) (sym (refused-feed m r why)) (stay inv))
-    (λ h. follow-step ok inv (r .a) (rw (inv .all-processes) h))
-    (λ h. follow-issue ok inv (r .a) (rw (inv .all-processes) h))
-    (λ _. follow-transmit ok inv room (r .a))
-    (λ h. follow-inject ok inv room (record { channel = r .a; word = r .word }) h)
-    (λ h. follow-crash ok inv (r .a) h)
+-- what a command does is followed by actions with its trace, if it carries a word, and its feed, if it is one
+module _ {t : Table} (ok : Accepted t) {c : Cabinet} {s : Reference} (inv : Invariant t c s) (room : Roomy t c) (r : Command) where
+  abbrev Followed : Move → Cabinet → Answer → Type 0
+  Followed m d a = Follows t d s (traced1 a) (fedBy m r a)
+
+  -- a carried sync has no word on the bus, whether a backup kept it or none is left
+  landed-silent : (p dropped : ℕ) (y : Bool) {d : Cabinet} → Follows t d s [] [] → Followed transmitMove d (cond y (syncKept p dropped) (syncLost p))
+  unfolding numbers traceOf
+  landed-silent p dropped true f = f
+  landed-silent p dropped false f = f
+
+  there : r .a < length (t .processes) → r .a < length (c .processes)
+  there h = rw (inv .all-processes) h
+
+  done-follows : Done t c r Followed
+  unfolding numbers traceOf
+  done-follows = record {
+    computes = λ h m e long. follow-computing ok inv (r .a) (there h) m e long;
+    takes = λ h m mail e limit. follow-taking ok inv (r .a) (there h) m mail e limit;
+    suppresses = λ h m mail e n z. follow-suppressing ok inv (r .a) (there h) m mail e n z;
+    sends = λ h m mail e z limit _ _. follow-sending ok inv (r .a) (there h) m mail e z limit;
+    issues = λ h safe none-waits _. follow-issue ok inv (r .a) (there h) safe none-waits;
+    transmits = λ _ _ mail rest e. follow-transmit ok inv room (r .a) mail rest e;
+    syncs = λ _ _ p k rest e. landed-silent p (droppedFrom k (processAt c p .standby)) (protected (processAt c p)) (follow-sync ok inv (r .a) p k rest e);
+    injects = λ h outside free. follow-inject ok inv room (fedMail r) h outside free;
+    crashes = λ h alive none-dead. follow-crash ok inv (r .a) h alive none-dead;
+  }
+
+  turn-follows : Follows t (turn t c r .cabinet) s (traced1 (turn t c r .answer)) (fedBy (moveOf (r .move)) r (turn t c r .answer))
+  turn-follows =
+      yields-turn t c r Followed done-follows
+      (λ m why. subst₂ (Follows t c s) (sym (refused-trace why (r .a))) (sym (refused-feed m r why)) (stay inv))
 
 -- ---- any list of commands
 

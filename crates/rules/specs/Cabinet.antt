@@ -7,26 +7,9 @@ use lib.Dec.{eqb, ltb, leb}
 use lib.ListN.{length, getD, set, replicate}
 use Rattle.facts.specs.Tests.{allOf, allBelow}
 use Rattle.backup.specs.Replica.{Replica, Checkpoint, initial}
+pub use Rattle.rules.specs.Sizes.{outboxMost, eventsMost, instructionsMost, occupancyMost}
 use Rattle.rules.specs.Table.{Table, Placement, environment, channelAt, codeOf}
 use Rattle.rules.specs.Machine.{Mail, Machine, booted, Outcome, halted, noMail, moved, localStep}
-
--- ---- sizes, each named once
-
--- "each board has one queue, at most 32 entries"
-abbrev pub outboxMost : ℕ
-outboxMost = 32
-
--- "37 if backed and acts are 8"
-abbrev pub eventsMost : ℕ
-eventsMost = 8
-
--- W-204: "A backed process now also owes a sync after 64 instructions done since its last sync was issued."
-abbrev pub instructionsMost : ℕ
-instructionsMost = 64
-
--- "A channel is held when its unread words and those in the queues are 8 or more together."
-abbrev pub occupancyMost : ℕ
-occupancyMost = 8
 
 -- ---- the state
 

@@ -6,29 +6,11 @@ use Prim.Native.Nat.{ℕ, zero, suc, _+_, _*_}
 use lib.Dec.{eqb, leb}
 use lib.ListN.{length, drop}
 use Rattle.backup.specs.Limits.{pcMost}
+pub use Rattle.rules.specs.Sizes.{tableMost, boardsLeast, boardsMost, processesMost, channelsMost, recordHead}
 use Rattle.rules.specs.Table.{Channel, Instruction, SET, ADD, TAKE, FIRST, SEND, JUMP, NONE, Placement, Table}
 use Rattle.rules.specs.Cabinet.{isEmpty}
 use Rattle.rules.specs.Judge.{endsOk, inputsOk, boardsOk, instructionsOk}
 use Rattle.rules.specs.Bytes.{byteAt, number16, sixes}
-
--- ---- sizes, each named once; the largest n is the backup record's `pcMost`
-
--- "Bytes 0 and 1: the length of all that follows them, at most 6,260."
-abbrev pub tableMost : ℕ
-tableMost = 6260
-
--- "boards B, 2 to 16", "processes P, 1 to 16", "channels C, 1 to 32"
-abbrev pub boardsLeast : ℕ
-boardsLeast = 2
-
-abbrev pub boardsMost : ℕ
-boardsMost = 16
-
-abbrev pub processesMost : ℕ
-processesMost = 16
-
-abbrev pub channelsMost : ℕ
-channelsMost = 32
 
 -- ---- where things stand
 
@@ -66,7 +48,7 @@ abbrev pub programLength : List ℕ → ℕ
 programLength rest = byteAt rest 2
 
 abbrev pub recordLength : List ℕ → ℕ
-recordLength rest = 3 + 6 * programLength rest
+recordLength rest = recordHead + 6 * programLength rest
 
 -- the table's rest from each record's start, for n records
 abbrev pub rests : ℕ → List ℕ → List (List ℕ)
@@ -89,7 +71,7 @@ instruction (suc (suc (suc (suc (suc (suc (suc n))))))) a operand = NONE
 -- the placement of the record that begins a list
 abbrev pub placementIn : List ℕ → Placement
 placementIn rest =
-    record { primary = byteAt rest 0; standby = byteAt rest 1; code = sixes instruction (programLength rest) (drop 3 rest) }
+    record { primary = byteAt rest 0; standby = byteAt rest 1; code = sixes instruction (programLength rest) (drop recordHead rest) }
 
 unfoldable pub decodeTable : List ℕ → Table
 decodeTable bytes = record {
@@ -119,7 +101,7 @@ unfoldable pub countsOk : List ℕ → Bool
 countsOk bytes = countsFit (boardsIn bytes) (processesIn bytes) (channelsIn bytes)
 
 -- n records have at most 64 instructions each and end exactly where the list ends
--- (past the list's end a byte is 0, so a record that lacks its n is 3 bytes long and isn't within it)
+-- (past the list's end a byte is 0, so a record that lacks its n is a head alone and isn't within it)
 abbrev pub recordsOk : ℕ → List ℕ → Bool
 recordsOk zero rest = isEmpty rest
 recordsOk (suc n) rest =

@@ -8,6 +8,7 @@ use lib.Dec.{eqb, ltb, leb}
 use lib.ListN.{length}
 use Rattle.facts.specs.Tests.{allOf, allBelow}
 use Rattle.backup.specs.Limits.{ports, pcMost}
+use Rattle.rules.specs.Sizes.{boardsLeast, boardsMost, processesMost, channelsMost}
 use Rattle.rules.specs.Table.{environment, Channel, Instruction, SET, ADD, TAKE, FIRST, SEND, JUMP, NONE, Placement, Table, channelAt, codeOf, placementAt, inputs}
 use Rattle.rules.specs.Machine.{bit}
 
@@ -67,12 +68,12 @@ instructionsOk t = allBelow (λ p. allOf (instructionOk t p (length (codeOf t p)
 
 -- What is true of every table that is accepted: the counts of number 3, n of number 4, and the tests of 5 to 8.
 pub record Accepted (t : Table) : Type 0 where
-  pub boards-low : 2 ≤ t .boards
-  pub boards-high : t .boards ≤ 16
+  pub boards-low : boardsLeast ≤ t .boards
+  pub boards-high : t .boards ≤ boardsMost
   pub processes-low : 1 ≤ length (t .processes)
-  pub processes-high : length (t .processes) ≤ 16
+  pub processes-high : length (t .processes) ≤ processesMost
   pub channels-low : 1 ≤ length (t .channels)
-  pub channels-high : length (t .channels) ≤ 32
+  pub channels-high : length (t .channels) ≤ channelsMost
   pub short : (p : ℕ) → p < length (t .processes) → length (codeOf t p) ≤ pcMost
   pub ends : endsOk t ≡ true
   pub few-inputs : inputsOk t ≡ true

@@ -1,5 +1,6 @@
--- Document 01 as definitions: read Table, Machine, Reference, Cabinet and Moves in this order, then Transparent; for the bytes
+-- Document 01 as definitions: read Sizes, Table, Machine, Reference, Cabinet and Moves in this order, then Transparent; for the bytes
 -- Bytes, Format, Schedule, Run and Transparency, and Page.
+pub mod Sizes
 pub mod Table
 pub mod Machine
 pub mod Reference

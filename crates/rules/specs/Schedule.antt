@@ -4,31 +4,28 @@ use mathlib.Core.List.{List}
 use Prim.Native.Nat.{ℕ, _+_, _-_, _*_, _/_}
 use lib.Dec.{eqb, leb}
 use lib.ListN.{length, drop}
+pub use Rattle.rules.specs.Sizes.{commandsMost, scheduleHead}
 use Rattle.rules.specs.Bytes.{sixes}
 use Rattle.rules.specs.Format.{lengthField, versionIn, orNumber}
 use Rattle.rules.specs.Moves.{Command}
 
--- "0 to 10,000 records"
-abbrev pub commandsMost : ℕ
-commandsMost = 10000
-
 -- "A schedule has the same two length bytes, version 1, then 0 to 10,000 records of six bytes": the whole records behind the version
 abbrev pub commandsIn : List ℕ → ℕ
-commandsIn bytes = (length bytes - 3) / 6
+commandsIn bytes = (length bytes - scheduleHead) / 6
 
 -- "records of six bytes: move, a, word"
 abbrev pub command : ℕ → ℕ → ℕ → Command
 command move a word = record { move = move; a = a; word = word }
 
 unfoldable pub decodeSchedule : List ℕ → List Command
-decodeSchedule bytes = sixes command (commandsIn bytes) (drop 3 bytes)
+decodeSchedule bytes = sixes command (commandsIn bytes) (drop scheduleHead bytes)
 
 -- 9: "schedule under 3 bytes, wrong length field, broken record or over 10,000"
 unfoldable pub scheduleOk : List ℕ → Bool
 scheduleOk bytes =
-    leb 3 (length bytes)
+    leb scheduleHead (length bytes)
     && (eqb (2 + lengthField bytes) (length bytes)
-    && (eqb (3 + 6 * commandsIn bytes) (length bytes)
+    && (eqb (scheduleHead + 6 * commandsIn bytes) (length bytes)
     && leb (commandsIn bytes) commandsMost))
 
 -- 0, or the number that refuses the schedule; 10 is "its version"

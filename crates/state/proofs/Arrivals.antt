@@ -11,7 +11,7 @@ use Rattle.backup.specs.Limits.{logMost}
 use Rattle.rules.specs.Table.{Table, environment, channelAt}
 use Rattle.rules.specs.Machine.{Mail, delivered}
 use Rattle.rules.specs.Judge.{Accepted}
-use Rattle.rules.specs.Cabinet.{Process, Item, message, Cabinet, nobody, processAt, outboxAt, protected, unreadOn, inFlight, full}
+use Rattle.rules.specs.Cabinet.{Process, Item, message, Cabinet, nobody, processAt, outboxAt, limited, unreadOn, inFlight, full}
 use Rattle.rules.proofs.Counting.{unread-append, flight-leave}
 use Rattle.rules.proofs.Room.{Roomed, admit}
 use Rattle.rules.proofs.Sizes.{mailbox-short}
@@ -45,7 +45,7 @@ module _ (t : Table) (ok : Accepted t) (pending : List ℕ) (c : Cabinet) (p : �
   roomed = record {
     again = r .again;
     few = r .few;
-    none-yet = λ g. r .none-yet (ap protected (sym here) ∙ g);
+    none-yet = λ g. r .none-yet (ap limited (sym here) ∙ g);
     room = λ k e. let a = more k in let b = r .room k e in let d = on-the-way k in omega arith;
     own = λ k n. let a = more k in let b = r .own k n in let d = same-no k (mail .channel) (λ e. n (ap (λ (j : ℕ). channelAt t j .reader) e ∙ reads)) in omega arith;
   }

@@ -16,26 +16,26 @@ use Rattle.rules.specs.Cabinet as rules
 use Rattle.rules.specs.Cabinet.{Cabinet, Process, nobody, processAt, outboxAt, unreadOn, waiting}
 use Rattle.rules.specs.Moves.{withProcess}
 use Rattle.state.specs.declared.entry.Entry.{Entry}
-use Rattle.state.specs.Store.{Store, storeOf, Holds, processIn, outboxIn, flag}
+use Rattle.state.specs.Store.{Store, storeOf, Totalled, Holds, processIn, flag}
 use Rattle.state.proofs.Reading.{at-process, how-many}
+use Rattle.state.proofs.Totals.{occupancy-mailbox, totalled-same}
 
--- the lists with those of process p replaced, and the unread totals with them
+-- the lists with those of process p replaced, and the totals
 abbrev pub putProcess : Store → ℕ → List ℕ → List ℕ → List ℕ → List ℕ → List ℕ → Store
-putProcess s p row mail log head unread = record {
+putProcess s p row mail log head totals = record {
   rows = set (s .rows) p row;
   mails = set (s .mails) p mail;
   logs = set (s .logs) p log;
   heads = set (s .heads) p head;
   boards = s .boards;
-  unread = unread;
-  queued = s .queued;
+  totals = totals;
   waits = s .waits;
 }
 
 module _ {t : Table} {s : Store} {entries : List Entry} {c : Cabinet} (h : Holds t s entries c) (small : length (t .processes) ≤ 16)
-    (p : ℕ) (hp : p < length (t .processes)) (row mail log head unread : List ℕ) where
+    (p : ℕ) (hp : p < length (t .processes)) (row mail log head totals : List ℕ) where
   abbrev after : Store
-  after = putProcess s p row mail log head unread
+  after = putProcess s p row mail log head totals
 
   row-here : getD (set (s .rows) p row) p [] ≡ row
   row-here = getD-set-same (s .rows) p row [] (let l = h .rows-length in omega arith)
@@ -81,13 +81,8 @@ module _ {t : Table} {s : Store} {entries : List Entry} {c : Cabinet} (h : Holds
       (λ f. rw f (ap (λ (x : Process). x .board) at-p ∙ e))
       (λ n. ap (λ (x : Process). x .board) (getD-set-other (c .processes) p q (processOf row mail log head) nobody n))
 
-  -- the unread totals: those of p's channels are what its mailbox has, and the others are as they were
-  pub record UnreadThen : Type 0 where
-    pub its : (k : ℕ) → k < length (t .channels) → channelAt t k .reader ≡ p → getD unread k 0 ≡ unreadOn k (processOf row mail log head .machine .mailbox)
-    pub others : (k : ℕ) → k < length (t .channels) → channelAt t k .reader ≢ p → getD unread k 0 ≡ getD (s .unread) k 0
-    pub long : length unread ≡ 32
-
-  pub changed : Kept row mail log head → processOf row mail log head .board ≡ processAt c p .board → UnreadThen → Holds t after entries (withProcess p (processOf row mail log head) c)
+  pub changed : Kept row mail log head → processOf row mail log head .board ≡ processAt c p .board → Totalled t totals (withProcess p (processOf row mail log head) c)
+      → Holds t after entries (withProcess p (processOf row mail log head) c)
   changed k e u = record {
     processes = processes-then;
     outboxes = h .outboxes;
@@ -96,18 +91,13 @@ module _ {t : Table} {s : Store} {entries : List Entry} {c : Cabinet} (h : Holds
     first-small = h .first-small;
     count-small = h .count-small;
     board-length = h .board-length;
-    unread-is = λ i l r. by-eq (channelAt t i .reader) p
-        (λ f. u .its i l f ∙ ap (λ (x : Process). unreadOn i (x .machine .mailbox)) (sym (ap (λ (q : ℕ). getD (set (c .processes) p (processOf row mail log head)) q nobody) f ∙ at-p)))
-        (λ n. u .others i l n ∙ h .unread-is i l r ∙ ap (λ (x : Process). unreadOn i (x .machine .mailbox)) (sym (getD-set-other (c .processes) p (channelAt t i .reader) (processOf row mail log head) nobody n)));
-    queued-is = h .queued-is;
+    totalled = u;
     waits-is = λ q l. h .waits-is q l ∙ ap (λ (b : ℕ). flag (waiting q (outboxAt c b))) (sym (board-stays e q));
     rows-length = length-set (s .rows) p row ∙ h .rows-length;
     mails-length = length-set (s .mails) p mail ∙ h .mails-length;
     logs-length = length-set (s .logs) p log ∙ h .logs-length;
     heads-length = length-set (s .heads) p head ∙ h .heads-length;
     boards-length = h .boards-length;
-    unread-length = u .long;
-    queued-length = h .queued-length;
     waits-length = h .waits-length;
     entries-length = h .entries-length;
   }
@@ -117,22 +107,17 @@ pub row-changed : {t : Table} {s : Store} {entries : List Entry} {c : Cabinet} (
     (p : ℕ) (hp : p < length (t .processes)) (row : List ℕ) (change : Process → Process)
     → Became (getD (s .rows) p []) (getD (s .mails) p []) (getD (s .logs) p []) (getD (s .heads) p []) row (getD (s .mails) p []) (getD (s .logs) p []) (getD (s .heads) p []) change
     → change (processAt c p) .board ≡ processAt c p .board → change (processAt c p) .machine .mailbox ≡ processAt c p .machine .mailbox
-    → Holds t (storeOf (set (s .rows) p row) (s .mails) (s .logs) (s .heads) (s .boards) (s .unread) (s .queued) (s .waits)) entries (withProcess p (change (processAt c p)) c)
+    → Holds t (storeOf (set (s .rows) p row) (s .mails) (s .logs) (s .heads) (s .boards) (s .totals) (s .waits)) entries (withProcess p (change (processAt c p)) c)
 row-changed {t} {s} {entries} {c} h small p hp row change b same-board same-mailbox =
     let mail = getD (s .mails) p [] in
     let log = getD (s .logs) p [] in
     let head = getD (s .heads) p [] in
     let is : processOf row mail log head ≡ change (processAt c p) = b .process-is ∙ ap change (sym (at-process h p hp)) in
-    let u : UnreadThen h small p hp row mail log head (s .unread) = record {
-      its = λ k l r.
-          h .unread-is k l (rw r hp) ∙ ap (λ (q : ℕ). unreadOn k (processAt c q .machine .mailbox)) r
-          ∙ ap (unreadOn k) (sym (ap (λ (x : Process). x .machine .mailbox) is ∙ same-mailbox));
-      others = λ k l n. refl;
-      long = h .unread-length;
-    } in
-    let whole = changed h small p hp row mail log head (s .unread) (b .kept-again) (ap (λ (x : Process). x .board) is ∙ same-board) u in
-    subst (λ (x : Process). Holds t (storeOf (set (s .rows) p row) (s .mails) (s .logs) (s .heads) (s .boards) (s .unread) (s .queued) (s .waits)) entries (withProcess p x c)) is
-    (subst (λ (l : List (List ℕ)). Holds t (storeOf (set (s .rows) p row) l (s .logs) (s .heads) (s .boards) (s .unread) (s .queued) (s .waits)) entries (withProcess p (processOf row mail log head) c)) (set-getD (s .mails) p [])
-    (subst (λ (l : List (List ℕ)). Holds t (storeOf (set (s .rows) p row) (set (s .mails) p mail) l (s .heads) (s .boards) (s .unread) (s .queued) (s .waits)) entries (withProcess p (processOf row mail log head) c)) (set-getD (s .logs) p [])
-    (subst (λ (l : List (List ℕ)). Holds t (storeOf (set (s .rows) p row) (set (s .mails) p mail) (set (s .logs) p log) l (s .boards) (s .unread) (s .queued) (s .waits)) entries (withProcess p (processOf row mail log head) c)) (set-getD (s .heads) p [])
+    let u : Totalled t (s .totals) (withProcess p (processOf row mail log head) c) =
+    totalled-same (h .totalled) (occupancy-mailbox t c p (rw (how-many h) hp) (processOf row mail log head) (ap (λ (x : Process). x .machine .mailbox) is ∙ same-mailbox)) in
+    let whole = changed h small p hp row mail log head (s .totals) (b .kept-again) (ap (λ (x : Process). x .board) is ∙ same-board) u in
+    subst (λ (x : Process). Holds t (storeOf (set (s .rows) p row) (s .mails) (s .logs) (s .heads) (s .boards) (s .totals) (s .waits)) entries (withProcess p x c)) is
+    (subst (λ (l : List (List ℕ)). Holds t (storeOf (set (s .rows) p row) l (s .logs) (s .heads) (s .boards) (s .totals) (s .waits)) entries (withProcess p (processOf row mail log head) c)) (set-getD (s .mails) p [])
+    (subst (λ (l : List (List ℕ)). Holds t (storeOf (set (s .rows) p row) (set (s .mails) p mail) l (s .heads) (s .boards) (s .totals) (s .waits)) entries (withProcess p (processOf row mail log head) c)) (set-getD (s .logs) p [])
+    (subst (λ (l : List (List ℕ)). Holds t (storeOf (set (s .rows) p row) (set (s .mails) p mail) (set (s .logs) p log) l (s .boards) (s .totals) (s .waits)) entries (withProcess p (processOf row mail log head) c)) (set-getD (s .heads) p [])
     whole)))

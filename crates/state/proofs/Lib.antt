@@ -1,8 +1,8 @@
 -- What the moves do to the cabinet that the lists hold.
 pub mod Reading
+pub mod Totals
 pub mod Changing
 pub mod Queueing
-pub mod Totals
 pub mod Backing
 pub mod Reaching
 pub mod Refusing

@@ -17,19 +17,18 @@ use Rattle.rules.specs.Cabinet.{Cabinet, outboxMost, processAt, outboxAt, inFli
 use Rattle.rules.specs.Moves.{withOutbox, enqueue}
 use Rattle.rules.proofs.Counting.{weight, flight-joined, flight-leave}
 use Rattle.state.specs.declared.entry.Entry.{Entry}
-use Rattle.state.specs.Store.{Store, Holds, processIn, itemOf, blankEntry, outboxIn, firstIn, countIn, deadIn, flag}
+use Rattle.state.specs.Store.{Store, Totalled, Holds, processIn, itemOf, blankEntry, outboxIn, firstIn, countIn, deadIn, flag}
 use Rattle.state.proofs.Reading.{at-outbox, how-many-boards}
 
--- the lists with board b's row, the words in queues and the waiting checkpoints replaced
+-- the lists with board b's row, the totals and the waiting checkpoints replaced
 abbrev pub putBoard : Store → ℕ → List ℕ → List ℕ → List ℕ → Store
-putBoard s b board queued waits = record {
+putBoard s b board totals waits = record {
   rows = s .rows;
   mails = s .mails;
   logs = s .logs;
   heads = s .heads;
   boards = set (s .boards) b board;
-  unread = s .unread;
-  queued = queued;
+  totals = totals;
   waits = waits;
 }
 
@@ -37,18 +36,17 @@ abbrev items : List Entry → List rules.Item
 items l = map (λ (e : Entry). itemOf (e .item)) l
 
 -- What is known of a board's new row and of the totals, where its queue becomes q.
-pub record QueueThen (t : Table) (s : Store) (c : Cabinet) (b : ℕ) (board queued waits : List ℕ) (first count : ℕ) (q : List rules.Item) : Type 0 where
+pub record QueueThen (t : Table) (s : Store) (c : Cabinet) (b : ℕ) (board totals waits : List ℕ) (first count : ℕ) (q : List rules.Item) : Type 0 where
   pub is-first : getD board 0 0 ≡ first
   pub is-count : getD board 1 0 ≡ count
   pub is-dead : getD board 2 0 ≡ getD (getD (s .boards) b []) 2 0
   pub three : length board ≡ 3
-  pub in-queues : (k : ℕ) → k < length (t .channels) → getD queued k 0 ≡ inFlight k (set (c .outboxes) b q)
-  pub queued-long : length queued ≡ 32
+  pub totalled-then : Totalled t totals (withOutbox b q c)
   pub waiting-there : (p : ℕ) → p < length (t .processes) → getD waits p 0 ≡ flag (waiting p (getD (set (c .outboxes) b q) (processAt c p .board) []))
   pub waits-long : length waits ≡ 16
 
 module _ {t : Table} {s : Store} {entries : List Entry} {c : Cabinet} (h : Holds t s entries c) (small : t .boards ≤ 16) (b : ℕ) (hb : b < t .boards)
-    (board queued waits : List ℕ) (first count : ℕ) (q : List rules.Item) (entries′ : List Entry) (u : QueueThen t s c b board queued waits first count q)
+    (board totals waits : List ℕ) (first count : ℕ) (q : List rules.Item) (entries′ : List Entry) (u : QueueThen t s c b board totals waits first count q)
     (first-fits : first < outboxMost) (count-fits : count ≤ outboxMost) (long : length entries′ ≡ 512)
     (is-queue : items (ring blankEntry entries′ b first count) ≡ q)
     (others : (i : ℕ) → i ≢ b → ring blankEntry entries′ i (firstIn (s .boards) i) (countIn (s .boards) i) ≡ ring blankEntry entries i (firstIn (s .boards) i) (countIn (s .boards) i)) where
@@ -79,7 +77,7 @@ module _ {t : Table} {s : Store} {entries : List Entry} {c : Cabinet} (h : Holds
       ∙ ap (λ (k : ℕ). deadIn (set (s .boards) b board) k) (sym e))
       (λ n. ap (λ (r : List ℕ). not (eqb (getD r 2 0) 0)) (sym (there i n)))
 
-  pub requeued : Holds t (putBoard s b board queued waits) entries′ (withOutbox b q c)
+  pub requeued : Holds t (putBoard s b board totals waits) entries′ (withOutbox b q c)
   requeued = record {
     processes = h .processes;
     outboxes = outboxes-then;
@@ -88,30 +86,27 @@ module _ {t : Table} {s : Store} {entries : List Entry} {c : Cabinet} (h : Holds
     first-small = λ i l. by-eq i b (λ e. rw (e, here, u .is-first) first-fits) (λ n. rw (there i n) (h .first-small i l));
     count-small = λ i l. by-eq i b (λ e. rw (e, here, u .is-count) count-fits) (λ n. rw (there i n) (h .count-small i l));
     board-length = λ i l. by-eq i b (λ e. rw (e, here) (u .three)) (λ n. rw (there i n) (h .board-length i l));
-    unread-is = h .unread-is;
-    queued-is = u .in-queues;
+    totalled = u .totalled-then;
     waits-is = u .waiting-there;
     rows-length = h .rows-length;
     mails-length = h .mails-length;
     logs-length = h .logs-length;
     heads-length = h .heads-length;
     boards-length = length-set (s .boards) b board ∙ h .boards-length;
-    unread-length = h .unread-length;
-    queued-length = u .queued-long;
     waits-length = u .waits-long;
     entries-length = long;
   }
 
 module _ {t : Table} {s : Store} {entries : List Entry} {c : Cabinet} (h : Holds t s entries c) (small : t .boards ≤ 16) (b : ℕ) (hb : b < t .boards)
-    (board queued waits : List ℕ) where
+    (board totals waits : List ℕ) where
   -- an entry joins: at the place behind the newest
   pub joined : (x : Entry) → countIn (s .boards) b < outboxMost
-      → QueueThen t s c b board queued waits (firstIn (s .boards) b) (suc (countIn (s .boards) b)) (outboxAt c b ++ (itemOf (x .item) ∷ []))
-      → Holds t (putBoard s b board queued waits) (set entries (32 * b + (firstIn (s .boards) b + countIn (s .boards) b) % 32) x) (enqueue b (itemOf (x .item)) c)
+      → QueueThen t s c b board totals waits (firstIn (s .boards) b) (suc (countIn (s .boards) b)) (outboxAt c b ++ (itemOf (x .item) ∷ []))
+      → Holds t (putBoard s b board totals waits) (set entries (32 * b + (firstIn (s .boards) b + countIn (s .boards) b) % 32) x) (enqueue b (itemOf (x .item)) c)
   unfolding outboxIn
   joined x few u =
       let room : 32 * b + 32 ≤ length entries = (let l = h .entries-length in omega arith) in
-      requeued h small b hb board queued waits (firstIn (s .boards) b) (suc (countIn (s .boards) b)) (outboxAt c b ++ (itemOf (x .item) ∷ []))
+      requeued h small b hb board totals waits (firstIn (s .boards) b) (suc (countIn (s .boards) b)) (outboxAt c b ++ (itemOf (x .item) ∷ []))
       (set entries (32 * b + (firstIn (s .boards) b + countIn (s .boards) b) % 32) x) u (h .first-small b hb) few (length-set entries _ x ∙ h .entries-length)
       (ap items (ring-push blankEntry entries b (firstIn (s .boards) b) (countIn (s .boards) b) x few room)
       ∙ map-append (λ (e : Entry). itemOf (e .item)) (ring blankEntry entries b (firstIn (s .boards) b) (countIn (s .boards) b)) (x ∷ [])
@@ -121,11 +116,11 @@ module _ {t : Table} {s : Store} {entries : List Entry} {c : Cabinet} (h : Holds
   -- the oldest leaves
   pub left : (count : ℕ) (rest : List rules.Item) → countIn (s .boards) b ≡ suc count
       → outboxAt c b ≡ itemOf (getD entries (32 * b + firstIn (s .boards) b % 32) blankEntry .item) ∷ rest
-      → QueueThen t s c b board queued waits ((firstIn (s .boards) b + 1) % 32) count rest
-      → Holds t (putBoard s b board queued waits) entries (withOutbox b rest c)
+      → QueueThen t s c b board totals waits ((firstIn (s .boards) b + 1) % 32) count rest
+      → Holds t (putBoard s b board totals waits) entries (withOutbox b rest c)
   unfolding outboxIn
   left count rest e o u =
-      requeued h small b hb board queued waits ((firstIn (s .boards) b + 1) % 32) count rest entries u (omega arith) (let l = h .count-small b hb in omega arith) (h .entries-length)
+      requeued h small b hb board totals waits ((firstIn (s .boards) b + 1) % 32) count rest entries u (omega arith) (let l = h .count-small b hb in omega arith) (h .entries-length)
       (let a : items (ring blankEntry entries b (firstIn (s .boards) b) (suc count)) ≡ itemOf (getD entries (32 * b + firstIn (s .boards) b % 32) blankEntry .item) ∷ rest =
       ap (λ (n : ℕ). items (ring blankEntry entries b (firstIn (s .boards) b) n)) (sym e) ∙ sym (at-outbox h b hb) ∙ o in
       let d = ap items (ring-pop blankEntry entries b (firstIn (s .boards) b) count) in

@@ -12,11 +12,11 @@ use Rattle.facts.specs.Tests.{by-eq, by-lt, or-left, or-right}
 use Rattle.facts.specs.Counts.{total, total-append}
 use Rattle.facts.specs.Indexing.{getD-replicate-any}
 use Rattle.backup.specs.Replica.{Checkpoint}
-use Rattle.rules.specs.Table.{Table, codeOf}
-use Rattle.rules.specs.Machine.{Mail, Machine, internal, took, sent, Outcome, halted, noMail, moved, localStep}
+use Rattle.rules.specs.Table.{Table}
+use Rattle.rules.specs.Machine.{Mail}
 use Rattle.rules.specs.Cabinet.{Item, message, checkpoint, Cabinet, processAt, outboxAt, isCheckpointOf, waiting, started}
-use Rattle.rules.specs.Moves.{Command, withOutbox, snapshot, send, stepFrom, step, issue, transmitItem, transmitOldest, transmit, deliver, inject, crash, turn, runFrom}
-use Rattle.rules.proofs.Guards.{Leaves, unmoved, leaves, after-guard, after-turn}
+use Rattle.rules.specs.Moves.{Command, snapshot, deliver}
+use Rattle.rules.proofs.Guards.{Leaves, after-run}
 use Rattle.state.specs.Moved.{Reachable}
 
 -- ---- how many checkpoints of a process wait in a queue
@@ -80,66 +80,26 @@ oldest-leaves item rest h p = let a = h p in omega arith
 -- ---- each command
 
 module _ (t : Table) (c : Cabinet) (h : OneWaits c) where
-  send-one : (p : ℕ) (m : Machine) (mail : Mail) (n : ℕ) → Leaves OneWaits (send t c p (processAt c p) m mail n)
-  unfolding send
-  send-one p m mail (suc n) = leaves h
-  send-one p m mail zero =
-      after-guard _ _ _ λ _. after-guard _ _ _ λ _. after-guard _ _ _ λ _.
-      leaves (replaced (c .outboxes) (processAt c p .board) _ h (word-joins (outboxAt c (processAt c p .board)) mail (h (processAt c p .board))))
+  left : (b : ℕ) (item : Item) (rest : List Item) → outboxAt c b ≡ item ∷ rest → (j : ℕ) → OneEach (getD (set (c .outboxes) b rest) j [])
+  left b item rest e = replaced (c .outboxes) b rest h (oldest-leaves item rest (subst OneEach e (h b)))
 
-  outcome-one : (p : ℕ) (o : Outcome) → Leaves OneWaits (stepFrom t c p (processAt c p) o)
-  unfolding stepFrom
-  outcome-one p halted = unmoved
-  outcome-one p noMail = unmoved
-  outcome-one p (moved m internal) = after-guard _ _ _ λ _. leaves h
-  outcome-one p (moved m (took mail)) = after-guard _ _ _ λ _. leaves h
-  outcome-one p (moved m (sent mail)) = send-one p m mail (processAt c p .suppress)
-
-  issue-one : (p : ℕ) → Leaves OneWaits (issue t c p)
-  unfolding issue
-  issue-one p =
-      after-guard _ _ _ λ _. after-guard _ _ _ λ free. after-guard _ _ _ λ _.
-      leaves (replaced (c .outboxes) (processAt c p .board) _ h
-      (sync-joins (outboxAt c (processAt c p .board)) p (snapshot (processAt c p)) (h (processAt c p .board)) free))
-
-  item-one : (b : ℕ) (item : Item) (rest : List Item) → ((j : ℕ) → OneEach (getD (set (c .outboxes) b rest) j [])) → Leaves OneWaits (transmitItem t (withOutbox b rest c) item)
-  unfolding transmitItem deliver
-  item-one b (message mail) rest k = leaves k
-  item-one b (checkpoint p s) rest k = leaves k
-
-  oldest-one : (b : ℕ) (q : List Item) → outboxAt c b ≡ q → Leaves OneWaits (transmitOldest t c b q)
-  unfolding transmitOldest
-  oldest-one b [] e = unmoved
-  oldest-one b (item ∷ rest) e = item-one b item rest (replaced (c .outboxes) b rest h (oldest-leaves item rest (subst OneEach e (h b))))
-
-  transmit-one : (b : ℕ) → Leaves OneWaits (transmit t c b)
-  unfolding transmit
-  transmit-one b = after-guard _ _ _ λ _. oldest-one b (outboxAt c b) refl
-
-  inject-one : (mail : Mail) → Leaves OneWaits (inject t c mail)
-  unfolding inject deliver
-  inject-one mail = after-guard _ _ _ λ _. after-guard _ _ _ λ _. leaves h
-
-  crash-one : (b : ℕ) → Leaves OneWaits (crash t c b)
-  unfolding crash
-  crash-one b = after-guard _ _ _ λ _. after-guard _ _ _ λ _. leaves (replaced (c .outboxes) b [] h (λ p. omega arith))
-
-  turn-one : (r : Command) → OneWaits (turn t c r .cabinet)
-  unfolding step
-  turn-one =
-      after-turn {P = OneWaits} t c h
-      (λ p _. outcome-one p (localStep (codeOf t p) (processAt c p .machine)))
-      (λ p _. issue-one p)
-      (λ b _. transmit-one b)
-      (λ mail _. inject-one mail)
-      (λ b _. crash-one b)
+  keep-one : (r : Command) → Leaves t c r OneWaits
+  unfolding deliver
+  keep-one r =
+      let b : ℕ = processAt c (r .a) .board in
+      record {
+        computes = λ _ _ _ _. h;
+        takes = λ _ _ _ _ _. h;
+        suppresses = λ _ _ _ _ _ _. h;
+        sends = λ _ _ mail _ _ _ _ _. replaced (c .outboxes) b _ h (word-joins (outboxAt c b) mail (h b));
+        issues = λ _ _ free _. replaced (c .outboxes) b _ h (sync-joins (outboxAt c b) (r .a) (snapshot (processAt c (r .a))) (h b) free);
+        transmits = λ _ _ mail rest e. left (r .a) (message mail) rest e;
+        syncs = λ _ _ p k rest e. left (r .a) (checkpoint p k) rest e;
+        injects = λ _ _ _. h;
+        crashes = λ _ _ _. replaced (c .outboxes) (r .a) [] h (λ p. omega arith);
+      }
 
 -- ---- any list of them
-
-run-one : (t : Table) (c : Cabinet) (commands : List Command) → OneWaits c → OneWaits (runFrom t c commands .cabinet)
-unfolding runFrom
-run-one t c [] h = h
-run-one t c (r ∷ commands) h = run-one t (turn t c r .cabinet) commands (turn-one t c h r)
 
 start-one : (t : Table) → OneWaits (started t)
 unfolding started
@@ -148,7 +108,7 @@ start-one t b p = rw (getD-replicate-any {A = List Item} (t .boards) b []) (omeg
 -- behind a checkpoint that is the oldest entry none of the same process waits
 pub one-waits : {t : Table} {c : Cabinet} → Reachable t c → (b p : ℕ) (s : Checkpoint) (rest : List Item) → outboxAt c b ≡ checkpoint p s ∷ rest → waiting p rest ≡ false
 one-waits {t} {c} r b p s rest e =
-    let h : OneWaits c = subst OneWaits (sym (r .is-reached)) (run-one t (started t) (r .commands) (start-one t)) in
+    let h : OneWaits c = subst OneWaits (sym (r .is-reached)) (after-run t (λ d k g. keep-one t d g k) (started t) (r .commands) (start-one t)) in
     let a : syncs p (checkpoint p s ∷ rest) ≤ 1 = subst OneEach e (h b) p in
     let d : syncOf p (checkpoint p s) ≡ 1 = rw (eq-eqb p p refl) refl in
     waits-none p rest (omega arith)

@@ -9,10 +9,10 @@ use Rattle.facts.specs.Lists.{listed}
 use Rattle.facts.specs.Rings.{ring}
 use Rattle.backup.specs.Place.{checkpointOf}
 use Rattle.process.specs.Row.{processOf, Kept}
-use Rattle.rules.specs.Table.{Table, channelAt}
+use Rattle.rules.specs.Table.{Table}
 use Rattle.rules.specs.Machine.{Mail}
 use Rattle.rules.specs.Cabinet as rules
-use Rattle.rules.specs.Cabinet.{Cabinet, Process, outboxMost, unreadOn, inFlight, waiting, processAt, outboxAt}
+use Rattle.rules.specs.Cabinet.{Cabinet, Process, outboxMost, occupancy, waiting, processAt, outboxAt}
 use Rattle.state.specs.declared.entry.Entry.{Entry}
 use Rattle.state.specs.declared.entry.Item.{Item}
 use Rattle.state.specs.declared.entry.Item.the-variants.{Word, Sync}
@@ -20,20 +20,19 @@ use Rattle.state.specs.declared.entry.Item.the-variants.{Word, Sync}
 -- ---- the lists
 
 -- For each process a row, a mailbox, a log and a head; for each board a row: where its ring begins, how many entries it has, and whether the
--- board is dead; for each channel its unread words and its words in queues; for each process whether a checkpoint of it waits.
+-- board is dead; for each channel its total, its unread words and its words in queues together; for each process whether a checkpoint of it waits.
 pub record Store : Type 0 where
   pub rows : List (List ℕ)
   pub mails : List (List ℕ)
   pub logs : List (List ℕ)
   pub heads : List (List ℕ)
   pub boards : List (List ℕ)
-  pub unread : List ℕ
-  pub queued : List ℕ
+  pub totals : List ℕ
   pub waits : List ℕ
 
-abbrev pub storeOf : List (List ℕ) → List (List ℕ) → List (List ℕ) → List (List ℕ) → List (List ℕ) → List ℕ → List ℕ → List ℕ → Store
-storeOf rows mails logs heads boards unread queued waits =
-    record { rows = rows; mails = mails; logs = logs; heads = heads; boards = boards; unread = unread; queued = queued; waits = waits }
+abbrev pub storeOf : List (List ℕ) → List (List ℕ) → List (List ℕ) → List (List ℕ) → List (List ℕ) → List ℕ → List ℕ → Store
+storeOf rows mails logs heads boards totals waits =
+    record { rows = rows; mails = mails; logs = logs; heads = heads; boards = boards; totals = totals; waits = waits }
 
 -- process p as the lists have it
 abbrev pub processIn : Store → ℕ → Process
@@ -70,6 +69,12 @@ outboxIn boards entries b = map (λ (e : Entry). itemOf (e .item)) (ring blankEn
 abbrev pub flag : Bool → ℕ
 flag b = cond b 1 0
 
+-- Each total is the count made afresh: W-208, "its unread words and its words in queues together", "one for each channel"; of a channel that
+-- the outside reads, its words in queues.
+pub record Totalled (t : Table) (totals : List ℕ) (c : Cabinet) : Type 0 where
+  pub total-is : (k : ℕ) → k < length (t .channels) → getD totals k 0 ≡ occupancy t c k
+  pub totals-length : length totals ≡ 32
+
 -- The lists hold this cabinet of table t.
 pub record Holds (t : Table) (s : Store) (entries : List Entry) (c : Cabinet) : Type 0 where
   pub processes : c .processes ≡ listed (processIn s) (length (t .processes))
@@ -80,10 +85,8 @@ pub record Holds (t : Table) (s : Store) (entries : List Entry) (c : Cabinet) : 
   pub first-small : (b : ℕ) → b < t .boards → firstIn (s .boards) b < outboxMost
   pub count-small : (b : ℕ) → b < t .boards → countIn (s .boards) b ≤ outboxMost
   pub board-length : (b : ℕ) → b < t .boards → length (getD (s .boards) b []) ≡ 3
-  -- the totals are what a count made afresh gives
-  pub unread-is : (k : ℕ) → k < length (t .channels) → channelAt t k .reader < length (t .processes)
-      → getD (s .unread) k 0 ≡ unreadOn k (processAt c (channelAt t k .reader) .machine .mailbox)
-  pub queued-is : (k : ℕ) → k < length (t .channels) → getD (s .queued) k 0 ≡ inFlight k (c .outboxes)
+  -- W-208: "After every move of a run, a crash included, each total equals the count made afresh."
+  pub totalled : Totalled t (s .totals) c
   pub waits-is : (p : ℕ) → p < length (t .processes) → getD (s .waits) p 0 ≡ flag (waiting p (outboxAt c (processAt c p .board)))
   -- lengths
   pub rows-length : length (s .rows) ≡ 16
@@ -91,7 +94,5 @@ pub record Holds (t : Table) (s : Store) (entries : List Entry) (c : Cabinet) : 
   pub logs-length : length (s .logs) ≡ 16
   pub heads-length : length (s .heads) ≡ 16
   pub boards-length : length (s .boards) ≡ 16
-  pub unread-length : length (s .unread) ≡ 32
-  pub queued-length : length (s .queued) ≡ 32
   pub waits-length : length (s .waits) ≡ 16
   pub entries-length : length entries ≡ 512

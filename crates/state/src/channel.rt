@@ -7,7 +7,7 @@ use crate::board::wide;
 // Document 01: "a process number, or 255 for the outside".
 pub const ENVIRONMENT: u32 = 255;
 // Words of a channel at which it is held.
-const OCCUPANCY: usize = 8;
+const OCCUPANCY: u32 = 8;
 
 // A number below 32; 0 stands for any other.
 pub fn index32(x: u32) -> usize
@@ -16,9 +16,9 @@ pub fn index32(x: u32) -> usize
     if x < 32 { wide(x) } else { 0 }
 }
 
-// Whether a channel with this reader and these totals is held.
-pub fn held(reader: u32, unread: u32, queued: u32) -> bool
-    ensures { λ r. ⌜ r ≡ heldIn reader unread queued ⌝ }
+// Whether a channel with this reader and this total, its unread words and its words in queues together, is held.
+pub fn held(reader: u32, total: u32) -> bool
+    ensures { λ r. ⌜ r ≡ heldIn reader total ⌝ }
 {
-    reader != ENVIRONMENT && wide(unread) + wide(queued) >= OCCUPANCY
+    reader != ENVIRONMENT && total >= OCCUPANCY
 }

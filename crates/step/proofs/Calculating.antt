@@ -48,7 +48,7 @@ module _ {t : Table} {s : Store} {entries : List Entry} {c : Cabinet} (h : Holds
   calculate-accepted e = calculates-so false e
 
   calculate-holds : Reachable t c → (row′ : List ℕ) → Computes row code a operand row′
-      → Holds t (storeOf (set (s .rows) p row′) (s .mails) (s .logs) (s .heads) (s .boards) (s .unread) (s .queued) (s .waits)) entries (withProcess p (calculated (processAt c p)) c)
+      → Holds t (storeOf (set (s .rows) p row′) (s .mails) (s .logs) (s .heads) (s .boards) (s .totals) (s .waits)) entries (withProcess p (calculated (processAt c p)) c)
   unfolding advanced
   calculate-holds reach row′ became =
       let went : Steps (codeOf t p) (machineOf row mail) internal (afterInternal code a operand (machineOf row mail)) = record { is = i .outcome } in
@@ -62,17 +62,17 @@ module _ {t : Table} {s : Store} {entries : List Entry} {c : Cabinet} (h : Holds
 pub calculate-at-its-index : {rows rows′ : List (List ℕ)} {code register operand : ℕ} {r : Moved} (p a : ℕ) → (a < 16 → p ≡ a)
     → (a ≡ p → CalculateTurns rows p code register operand rows′ r) → CalculateTurns rows a code register operand rows′ r
 calculate-at-its-index {rows} {rows′} {code} {register} {operand} {r} p a is-p given = record {
-  turned = λ t mails logs heads boards unread queued waits entries c command n reach i h f ha.
+  turned = λ t mails logs heads boards totals waits entries c command n reach i h f ha.
       let e : p ≡ a = is-p (let z = reach .accepted .processes-high in omega arith) in
       subst (λ (q : ℕ). CalculateTurns rows q code register operand rows′ r) e (given (sym e))
-      .turned t mails logs heads boards unread queued waits entries c command n reach i h f ha;
+      .turned t mails logs heads boards totals waits entries c command n reach i h f ha;
 }
 
 module _ (rows : List (List ℕ)) (p code register operand : ℕ) (r : Moved) where
   pub calculate-37 : overrunIn (getD rows p []) ≡ true → r ≡ refusedWith 37 p → CalculateTurns rows p code register operand rows r
   unfolding refusalNumber
   calculate-37 e g = record {
-    turned = λ t mails logs heads boards unread queued waits entries c command n reach i h f hp.
+    turned = λ t mails logs heads boards totals waits entries c command n reach i h f hp.
         turned-down command p instructionsFull h (calculate-refused h p hp n code register operand i e) f g;
   }
 
@@ -80,7 +80,7 @@ module _ (rows : List (List ℕ)) (p code register operand : ℕ) (r : Moved) wh
       → CalculateTurns rows p code register operand (set rows p row′) r
   unfolding numbers
   calculate-done row′ e became g = record {
-    turned = λ t mails logs heads boards unread queued waits entries c command n reach i h f hp.
+    turned = λ t mails logs heads boards totals waits entries c command n reach i h f hp.
         turned-to entries command (aloneOf (answerOf 0 0 0)) _ stepDone (calculate-accepted h p hp n code register operand i e) g refl
         (calculate-holds h p hp n code register operand i reach row′ became);
   }

@@ -29,6 +29,7 @@ use Rattle.state.specs.Moved.{Reachable, Turned, refusedWith, answerOf}
 use Rattle.step.specs.Issues.{Issues}
 use Rattle.state.proofs.Reading.{at-process, at-outbox, how-many-boards}
 use Rattle.state.proofs.Queueing.{QueueThen, joined}
+use Rattle.state.proofs.Totals.{occupancy-outbox, totalled-same}
 use Rattle.state.proofs.Changing.{row-changed}
 use Rattle.state.proofs.Reaching.{bounds, protected-is, queue-length}
 use Rattle.state.proofs.Refusing.{turned-down}
@@ -116,7 +117,7 @@ module _ {t : Table} {s : Store} {entries : List Entry} {c : Cabinet} (reach : R
       let other : q ≢ p = λ f. n (ap (λ (i : ℕ). processAt c i .board) f ∙ board-is reach h p hp) in
       rw same (getD-set-other (s .waits) p q 1 0 other ∙ old))
 
-  queue-then : QueueThen t s c b (pushedIn board) (s .queued) (set (s .waits) p 1) (firstIn (s .boards) b) (suc (countIn (s .boards) b)) (outboxAt c b ++ (itemOf (x .item) ∷ []))
+  queue-then : QueueThen t s c b (pushedIn board) (s .totals) (set (s .waits) p 1) (firstIn (s .boards) b) (suc (countIn (s .boards) b)) (outboxAt c b ++ (itemOf (x .item) ∷ []))
   queue-then =
       let l = h .board-length b hb in
       record {
@@ -124,22 +125,22 @@ module _ {t : Table} {s : Store} {entries : List Entry} {c : Cabinet} (reach : R
         is-count = getD-set-same board 1 ((getD board 1 0 + 1) % 2 ^ 32) 0 (omega arith) ∙ omega arith;
         is-dead = getD-set-other board 1 2 ((getD board 1 0 + 1) % 2 ^ 32) 0 (λ e. omega arith);
         three = length-set board 1 _ ∙ l;
-        in-queues = λ i li.
+        totalled-then = totalled-same (h .totalled) (λ i.
             let a = flight-joined i (c .outboxes) b (itemOf (x .item)) (rw (how-many-boards h) hb) in
             let d : weight i (itemOf (x .item)) ≡ 0 = ap (weight i) is-item in
-            h .queued-is i li ∙ omega arith;
-        queued-long = h .queued-length;
+            let e = occupancy-outbox t c b (outboxAt c b ++ (itemOf (x .item) ∷ [])) i 0 0 (omega arith) in
+            omega arith);
         waiting-there = waits-then;
         waits-long = length-set (s .waits) p 1 ∙ h .waits-length;
       }
 
   -- the lists afterwards hold the rules' cabinet afterwards
   pub issue-holds : RowBecame (getD (s .rows) p []) row′ issued
-      → Holds t (storeOf (set (s .rows) p row′) (s .mails) (s .logs) (s .heads) (set (s .boards) b (pushedIn board)) (s .unread) (s .queued) (set (s .waits) p 1))
+      → Holds t (storeOf (set (s .rows) p row′) (s .mails) (s .logs) (s .heads) (set (s .boards) b (pushedIn board)) (s .totals) (set (s .waits) p 1))
       (set entries (placeOf board b) x) (withProcess p (issued (processAt c p)) (enqueue b (itemOf (x .item)) c))
   unfolding issued
   issue-holds became =
-      let first = joined h (reach .accepted .boards-high) b hb (pushedIn board) (s .queued) (set (s .waits) p 1) x few queue-then in
+      let first = joined h (reach .accepted .boards-high) b hb (pushedIn board) (s .totals) (set (s .waits) p 1) x few queue-then in
       row-changed first (reach .accepted .processes-high) p hp row′ issued (became _ _ _ (h .kept p hp)) refl refl
 
 -- ---- what the move promises
@@ -148,31 +149,31 @@ module _ {t : Table} {s : Store} {entries : List Entry} {c : Cabinet} (reach : R
 pub at-its-index : {rows boards rows′ boards′ : List (List ℕ)} {waits waits′ : List ℕ} {r : Moved} (p a : ℕ) → (a < 16 → p ≡ a)
     → (a ≡ p → Issues rows boards waits p rows′ boards′ waits′ r) → Issues rows boards waits a rows′ boards′ waits′ r
 at-its-index {rows} {boards} {rows′} {boards′} {waits} {waits′} {r} p a is-p given = record {
-  turned = λ t mails logs heads unread queued entries c command reach h f ha.
+  turned = λ t mails logs heads totals entries c command reach h f ha.
       let e : p ≡ a = is-p (let z = reach .accepted .processes-high in omega arith) in
-      subst (λ (i : ℕ). Issues rows boards waits i rows′ boards′ waits′ r) e (given (sym e)) .turned t mails logs heads unread queued entries c command reach h f ha;
+      subst (λ (i : ℕ). Issues rows boards waits i rows′ boards′ waits′ r) e (given (sym e)) .turned t mails logs heads totals entries c command reach h f ha;
 }
 
 module _ (rows boards : List (List ℕ)) (waits : List ℕ) (p : ℕ) (r : Moved) where
   pub issues-40 : getD (getD rows p []) 12 0 ≡ 0 → r ≡ refusedWith 40 p → Issues rows boards waits p rows boards waits r
   unfolding refusalNumber
-  issues-40 z e = record { turned = λ t mails logs heads unread queued entries c command reach h f hp. turned-down command p noBackup h (refused-40 reach h p hp z) f e }
+  issues-40 z e = record { turned = λ t mails logs heads totals entries c command reach h f hp. turned-down command p noBackup h (refused-40 reach h p hp z) f e }
 
   pub issues-41 : (getD (getD rows p []) 12 0 ≡ 0 → ⊥) → (getD waits p 0 ≡ 0 → ⊥) → r ≡ refusedWith 41 p → Issues rows boards waits p rows boards waits r
   unfolding refusalNumber
-  issues-41 n w e = record { turned = λ t mails logs heads unread queued entries c command reach h f hp. turned-down command p syncWaits h (refused-41 reach h p hp n w) f e }
+  issues-41 n w e = record { turned = λ t mails logs heads totals entries c command reach h f hp. turned-down command p syncWaits h (refused-41 reach h p hp n w) f e }
 
   module _ (b : ℕ) (is-b : getD (getD rows p []) 0 0 < 16 → b ≡ getD (getD rows p []) 0 0) where
     -- of lists that hold a cabinet the clamped board is the board
-    the-board : {t : Table} {mails logs heads : List (List ℕ)} {unread queued : List ℕ} {entries : List Entry} {c : Cabinet} → Reachable t c
-        → Holds t (storeOf rows mails logs heads boards unread queued waits) entries c → p < length (t .processes) → b ≡ getD (getD rows p []) 0 0
+    the-board : {t : Table} {mails logs heads : List (List ℕ)} {totals : List ℕ} {entries : List Entry} {c : Cabinet} → Reachable t c
+        → Holds t (storeOf rows mails logs heads boards totals waits) entries c → p < length (t .processes) → b ≡ getD (getD rows p []) 0 0
     the-board reach h hp = is-b (let a = board-there reach h p hp in let z = reach .accepted .boards-high in omega arith)
 
     pub issues-38 : (getD (getD rows p []) 12 0 ≡ 0 → ⊥) → getD waits p 0 ≡ 0 → outboxMost ≤ getD (getD boards b []) 1 0 → r ≡ refusedWith 38 p
         → Issues rows boards waits p rows boards waits r
     unfolding refusalNumber
     issues-38 n w l e = record {
-      turned = λ t mails logs heads unread queued entries c command reach h f hp.
+      turned = λ t mails logs heads totals entries c command reach h f hp.
           turned-down command p syncBlocked h (refused-38 reach h p hp n w (rw (← the-board reach h hp) l)) f e;
     }
 
@@ -182,8 +183,8 @@ module _ (rows boards : List (List ℕ)) (waits : List ℕ) (p : ℕ) (r : Moved
         → Issues rows boards waits p (set rows p row′) (set boards b (pushedIn (getD boards b []))) (set waits p 1) r
     unfolding numbers
     issues-done row′ k n w l became snap below e = record {
-      turned = λ t mails logs heads unread queued entries c command reach h f hp.
-          let s : Store = storeOf rows mails logs heads boards unread queued waits in
+      turned = λ t mails logs heads totals entries c command reach h f hp.
+          let s : Store = storeOf rows mails logs heads boards totals waits in
           let bb : b ≡ getD (getD rows p []) 0 0 = the-board reach h hp in
           let x : Entry = record { item = Sync p k } in
           let few : countIn boards (getD (getD rows p []) 0 0) < outboxMost = rw (← bb) l in
@@ -193,13 +194,13 @@ module _ (rows boards : List (List ℕ)) (waits : List ℕ) (p : ℕ) (r : Moved
           let so = accepted-so reach h p hp n w few in
           let b0 : ℕ = getD (getD rows p []) 0 0 in
           let y : Process = issued (processAt c p) in
-          let named = subst (λ (i : rules.Item). Holds t (storeOf (set rows p row′) mails logs heads (set boards b0 (pushedIn (getD boards b0 []))) unread queued (set waits p 1))
+          let named = subst (λ (i : rules.Item). Holds t (storeOf (set rows p row′) mails logs heads (set boards b0 (pushedIn (getD boards b0 []))) totals (set waits p 1))
           (set entries (placeOf (getD boards b0 []) b0) x) (withProcess p y (enqueue b0 i c))) item cab in
-          let its-board = subst (λ (i : ℕ). Holds t (storeOf (set rows p row′) mails logs heads (set boards b0 (pushedIn (getD boards b0 []))) unread queued (set waits p 1))
+          let its-board = subst (λ (i : ℕ). Holds t (storeOf (set rows p row′) mails logs heads (set boards b0 (pushedIn (getD boards b0 []))) totals (set waits p 1))
           (set entries (placeOf (getD boards b0 []) b0) x) (withProcess p y (enqueue i (rules.checkpoint p (snapshot (processAt c p))) c))) (sym (board-is reach h p hp)) named in
-          let there = subst (λ (i : ℕ). Holds t (storeOf (set rows p row′) mails logs heads (set boards i (pushedIn (getD boards i []))) unread queued (set waits p 1))
+          let there = subst (λ (i : ℕ). Holds t (storeOf (set rows p row′) mails logs heads (set boards i (pushedIn (getD boards i []))) totals (set waits p 1))
           (set entries (placeOf (getD boards i []) i) x) (withProcess p y (enqueue (processAt c p .board) (rules.checkpoint p (snapshot (processAt c p))) c))) (sym bb) its-board in
-          let after : Store = storeOf (set rows p row′) mails logs heads (set boards b (pushedIn (getD boards b []))) unread queued (set waits p 1) in
+          let after : Store = storeOf (set rows p row′) mails logs heads (set boards b (pushedIn (getD boards b []))) totals (set waits p 1) in
           subst (λ (z : Moved). Turned t after entries c command (issue t c p) z) (sym e)
           (subst (λ (z : Result). Turned t after entries c command z (record { answer = answerOf 0 0 0; at = placeOf (getD boards b []) b; entry = x })) (sym so)
           (record { answer-is = refl; holds = rw (lt-ltb (placeOf (getD boards b []) b) 512 below) there }));

@@ -9,16 +9,16 @@ use lib.ListN.{length, getD, set, length-set}
 use lib.Seq.{getD-set-same, getD-set-other}
 use borrow.Author.Tests.{eq-eqb, ne-eqb, lt-ltb, le-leb, lt-leb}
 use Rattle.facts.specs.Tests.{by-eq}
-use Rattle.facts.specs.Counts.{same-yes, same-no}
+use Rattle.facts.specs.Counts.{same}
 use Rattle.process.specs.Row.{machineOf, processOf}
 use Rattle.instruction.specs.Instruction.{Intends, Suppresses, Queues, afterSend}
 use Rattle.instruction.specs.declared.instruction.Intent.the-variants.{Send}
 use Rattle.rules.specs.Table.{Table, environment, codeOf, channelAt}
 use Rattle.rules.specs.Machine.{Mail, Machine, sent}
 use Rattle.rules.specs.Cabinet as rules
-use Rattle.rules.specs.Cabinet.{Cabinet, Process, outboxMost, isCheckpointOf, processAt, outboxAt, full, waiting, inFlight}
+use Rattle.rules.specs.Cabinet.{Cabinet, Process, outboxMost, isCheckpointOf, processAt, outboxAt, full, waiting}
 use Rattle.rules.specs.Moves as moves
-use Rattle.rules.specs.Moves.{guard, refuse, accept, owedFor, sendBlocked, sendHeld, refusalNumber, suppressed, numbers, advanced, counting, oneSent, step, stepFrom, withProcess, enqueue}
+use Rattle.rules.specs.Moves.{guard, refuse, accept, owedFor, sendBlocked, sendHeld, refusalNumber, suppressed, numbers, advanced, counting, oneSent, step, stepFrom, withProcess, withOutbox, enqueue}
 use Rattle.rules.proofs.Steps.{Steps}
 use Rattle.rules.proofs.Counting.{weight, flight-joined}
 use Rattle.rules.proofs.Decoded.{owed-number}
@@ -27,17 +27,17 @@ use Rattle.state.specs.declared.entry.Entry.{Entry}
 use Rattle.state.specs.declared.entry.Item.the-variants.{Word}
 use Rattle.state.specs.declared.moved.Moved.{Moved}
 use Rattle.state.specs.Board.{placeOf, pushedIn}
-use Rattle.state.specs.Store.{itemOf, Store, storeOf, Holds, firstIn, countIn, flag}
+use Rattle.state.specs.Store.{itemOf, Store, storeOf, Totalled, Holds, firstIn, countIn, flag}
 use Rattle.state.specs.Moved.{Reachable, answerOf, aloneOf, refusedWith}
 use Rattle.state.proofs.Reading.{at-process, how-many-boards}
 use Rattle.state.proofs.Queueing.{QueueThen, joined}
+use Rattle.state.proofs.Totals.{occupancy-outbox, totalled-more}
 use Rattle.state.proofs.Changing.{row-changed}
-use Rattle.state.proofs.Reaching.{channel-bounds}
 use Rattle.state.proofs.Ends.{sent-inside, reader-inside}
 use Rattle.state.proofs.Refusing.{turned-down}
 use Rattle.step.specs.Parts.{owingIn, SendTurns}
 use Rattle.state.specs.Channel.{heldIn}
-use Rattle.state.proofs.Held.{full-is}
+use Rattle.state.proofs.Held.{full-is, occupancy-small}
 use Rattle.step.proofs.Issuing.{board-is, board-there, queue-has}
 use Rattle.step.proofs.Stepping.{turned-to, machine-is, step-is, owing-is, instructions-room, events-room}
 
@@ -98,7 +98,7 @@ module _ {t : Table} {s : Store} {entries : List Entry} {c : Cabinet} (reach : R
   same-mailbox = ap (λ (m : Machine). m .mailbox) (sym (machine-is h p hp))
 
   pub suppress-holds : (left : ℕ) (row′ : List ℕ) → getD row 6 0 ≡ suc left → Suppresses row row′
-      → Holds t (storeOf (set (s .rows) p row′) (s .mails) (s .logs) (s .heads) (s .boards) (s .unread) (s .queued) (s .waits)) entries (withProcess p (suppressing left (processAt c p)) c)
+      → Holds t (storeOf (set (s .rows) p row′) (s .mails) (s .logs) (s .heads) (s .boards) (s .totals) (s .waits)) entries (withProcess p (suppressing left (processAt c p)) c)
   unfolding advanced
   suppress-holds left row′ e became =
       row-changed h (reach .accepted .processes-high) p hp row′ (suppressing left)
@@ -113,14 +113,14 @@ module _ {t : Table} {s : Store} {entries : List Entry} {c : Cabinet} (reach : R
   then = withProcess p (queueing (processAt c p)) (enqueue (processAt c p .board) (rules.message x) c)
 
   module _ (none : getD row 6 0 ≡ 0) (reader : ℕ) (is-reader : reader ≡ channelAt t channel .reader) where
-    queues-so : (b1 b2 b3 : Bool) → owingIn row ≡ b1 → leb outboxMost (countIn (s .boards) b) ≡ b2 → heldIn reader (getD (s .unread) channel 0) (getD (s .queued) channel 0) ≡ b3
+    queues-so : (b1 b2 b3 : Bool) → owingIn row ≡ b1 → leb outboxMost (countIn (s .boards) b) ≡ b2 → heldIn reader (getD (s .totals) channel 0) ≡ b3
         → step t c p ≡ guard b1 (owedFor (processAt c p)) (guard b2 sendBlocked (guard b3 sendHeld (accept then (moves.queued x))))
     unfolding moves.send
     queues-so b1 b2 b3 e1 e2 e3 =
         sends-so 0 none
         ∙ ap (λ (z : Bool). guard z (owedFor (processAt c p)) (guard (leb outboxMost (length (outboxAt c (processAt c p .board)))) sendBlocked (guard (full t c channel) sendHeld (accept then (moves.queued x))))) (owing-is h p hp ∙ e1)
         ∙ ap (λ (z : Bool). guard b1 (owedFor (processAt c p)) (guard z sendBlocked (guard (full t c channel) sendHeld (accept then (moves.queued x))))) (ap (leb outboxMost) (queue-has reach h p hp) ∙ e2)
-        ∙ ap (λ (z : Bool). guard b1 (owedFor (processAt c p)) (guard b2 sendBlocked (guard z sendHeld (accept then (moves.queued x))))) (full-is reach h channel channel-inside reader is-reader ∙ e3)
+        ∙ ap (λ (z : Bool). guard b1 (owedFor (processAt c p)) (guard b2 sendBlocked (guard z sendHeld (accept then (moves.queued x))))) (full-is (h .totalled) channel channel-inside reader is-reader ∙ e3)
 
     pub refused-37 : owingIn row ≡ true → step t c p ≡ refuse (owedFor (processAt c p))
     unfolding guard
@@ -130,12 +130,12 @@ module _ {t : Table} {s : Store} {entries : List Entry} {c : Cabinet} (reach : R
     unfolding guard
     refused-38 e f = queues-so false true _ e f refl
 
-    pub refused-39 : owingIn row ≡ false → leb outboxMost (countIn (s .boards) b) ≡ false → heldIn reader (getD (s .unread) channel 0) (getD (s .queued) channel 0) ≡ true
+    pub refused-39 : owingIn row ≡ false → leb outboxMost (countIn (s .boards) b) ≡ false → heldIn reader (getD (s .totals) channel 0) ≡ true
         → step t c p ≡ refuse sendHeld
     unfolding guard
     refused-39 e f g = queues-so false false true e f g
 
-    pub queued-so : owingIn row ≡ false → leb outboxMost (countIn (s .boards) b) ≡ false → heldIn reader (getD (s .unread) channel 0) (getD (s .queued) channel 0) ≡ false
+    pub queued-so : owingIn row ≡ false → leb outboxMost (countIn (s .boards) b) ≡ false → heldIn reader (getD (s .totals) channel 0) ≡ false
         → step t c p ≡ accept then (moves.queued x)
     unfolding guard
     queued-so e f g = queues-so false false false e f g
@@ -152,8 +152,8 @@ module _ {t : Table} {s : Store} {entries : List Entry} {c : Cabinet} (reach : R
     abbrev queue : List rules.Item
     queue = outboxAt c b ++ (itemOf (e .item) ∷ [])
 
-    abbrev queued′ : List ℕ
-    queued′ = set (s .queued) channel ((getD (s .queued) channel 0 + 1) % 2 ^ 32)
+    abbrev totals′ : List ℕ
+    totals′ = set (s .totals) channel ((getD (s .totals) channel 0 + 1) % 2 ^ 32)
 
     -- the flags stay
     waits-then : (q : ℕ) → q < length (t .processes) → getD (s .waits) q 0 ≡ flag (waiting q (getD (set (c .outboxes) b queue) (processAt c q .board) []))
@@ -166,20 +166,19 @@ module _ {t : Table} {s : Store} {entries : List Entry} {c : Cabinet} (reach : R
         (λ f. h .waits-is q hq ∙ ap (λ (l : List rules.Item). flag (waiting q l)) (sym (getD-set-other (c .outboxes) b (processAt c q .board) queue [] f)))
 
     -- one word more of the channel is in the queues
-    queued-then : (k : ℕ) → k < length (t .channels) → getD queued′ k 0 ≡ inFlight k (set (c .outboxes) b queue)
-    queued-then k hk =
+    totals-then : Totalled t totals′ (withOutbox b queue c)
+    totals-then =
+        totalled-more (s .totals) (reach .accepted .channels-high) channel channel-inside (h .totalled .totals-length) _
+        (λ k hk.
         let more = flight-joined k (c .outboxes) b (itemOf (e .item)) (rw (how-many-boards h) hb) in
         let w : weight k (itemOf (e .item)) ≡ weight k (rules.message x) = ap (weight k) is-item in
-        let was = h .queued-is k hk in
-        by-eq k channel
-        (λ f. let d = same-yes k channel f in
-        let fits = channel-bounds reach k .few in
-        let g : getD queued′ k 0 ≡ (getD (s .queued) k 0 + 1) % 2 ^ 32 =
-        rw f (getD-set-same (s .queued) channel ((getD (s .queued) channel 0 + 1) % 2 ^ 32) 0 (let l = h .queued-length in let m = reach .accepted .channels-high in let z = channel-inside in omega arith)) in
+        let now = occupancy-outbox t c b queue k 0 (same k channel) (omega arith) in
+        let was = h .totalled .total-is k hk in
         omega arith)
-        (λ f. let d = same-no k channel f in let g = getD-set-other (s .queued) channel k ((getD (s .queued) channel 0 + 1) % 2 ^ 32) 0 f in omega arith)
+        refl
+        (let was = h .totalled .total-is channel channel-inside in let few = occupancy-small reach channel in omega arith)
 
-    queue-then : QueueThen t s c b (pushedIn board) queued′ (s .waits) (firstIn (s .boards) b) (suc (countIn (s .boards) b)) queue
+    queue-then : QueueThen t s c b (pushedIn board) totals′ (s .waits) (firstIn (s .boards) b) (suc (countIn (s .boards) b)) queue
     queue-then =
         let l = h .board-length b hb in
         record {
@@ -187,26 +186,25 @@ module _ {t : Table} {s : Store} {entries : List Entry} {c : Cabinet} (reach : R
           is-count = getD-set-same board 1 ((getD board 1 0 + 1) % 2 ^ 32) 0 (omega arith) ∙ omega arith;
           is-dead = getD-set-other board 1 2 ((getD board 1 0 + 1) % 2 ^ 32) 0 (λ f. omega arith);
           three = length-set board 1 _ ∙ l;
-          in-queues = queued-then;
-          queued-long = length-set (s .queued) channel _ ∙ h .queued-length;
+          totalled-then = totals-then;
           waiting-there = waits-then;
           waits-long = h .waits-length;
         }
 
     -- the lists afterwards hold the rules' cabinet afterwards
     send-holds : (row′ : List ℕ) → getD row 6 0 ≡ 0 → Queues row row′
-        → Holds t (storeOf (set (s .rows) p row′) (s .mails) (s .logs) (s .heads) (set (s .boards) b (pushedIn board)) (s .unread) queued′ (s .waits)) (set entries (placeOf board b) e)
+        → Holds t (storeOf (set (s .rows) p row′) (s .mails) (s .logs) (s .heads) (set (s .boards) b (pushedIn board)) totals′ (s .waits)) (set entries (placeOf board b) e)
         (withProcess p (queueing (processAt c p)) (enqueue b (itemOf (e .item)) c))
     unfolding advanced
     send-holds row′ none became =
-        let first = joined h (reach .accepted .boards-high) b hb (pushedIn board) queued′ (s .waits) e few queue-then in
+        let first = joined h (reach .accepted .boards-high) b hb (pushedIn board) totals′ (s .waits) e few queue-then in
         row-changed first (reach .accepted .processes-high) p hp row′ queueing
         (became (codeOf t p) n code a operand channel word mail log head (h .kept p hp) i none (events-room h p hp reach) (instructions-room h p hp reach)) refl same-mailbox
 
     pub send-holds-so : (row′ : List ℕ) → getD row 6 0 ≡ 0 → Queues row row′
-        → Holds t (storeOf (set (s .rows) p row′) (s .mails) (s .logs) (s .heads) (set (s .boards) b (pushedIn board)) (s .unread) queued′ (s .waits)) (set entries (placeOf board b) e) then
+        → Holds t (storeOf (set (s .rows) p row′) (s .mails) (s .logs) (s .heads) (set (s .boards) b (pushedIn board)) totals′ (s .waits)) (set entries (placeOf board b) e) then
     send-holds-so row′ none became =
-        let after : Store = storeOf (set (s .rows) p row′) (s .mails) (s .logs) (s .heads) (set (s .boards) b (pushedIn board)) (s .unread) queued′ (s .waits) in
+        let after : Store = storeOf (set (s .rows) p row′) (s .mails) (s .logs) (s .heads) (set (s .boards) b (pushedIn board)) totals′ (s .waits) in
         subst (λ (j : ℕ). Holds t after (set entries (placeOf board b) e) (withProcess p (queueing (processAt c p)) (enqueue j (rules.message x) c))) (sym (board-is reach h p hp))
         (subst (λ (j : rules.Item). Holds t after (set entries (placeOf board b) e) (withProcess p (queueing (processAt c p)) (enqueue b j c))) is-item
         (send-holds row′ none became))
@@ -214,18 +212,18 @@ module _ {t : Table} {s : Store} {entries : List Entry} {c : Cabinet} (reach : R
 -- ---- what the part promises
 
 -- of a process of the table the clamped number is the number
-pub send-at-its-index : {reader : List ℕ} {rows boards rows′ boards′ : List (List ℕ)} {unread queued queued′ : List ℕ} {channel word : ℕ} {r : Moved} (p a : ℕ) → (a < 16 → p ≡ a)
-    → (a ≡ p → SendTurns reader rows boards unread queued p channel word rows′ boards′ queued′ r) → SendTurns reader rows boards unread queued a channel word rows′ boards′ queued′ r
-send-at-its-index {reader} {rows} {boards} {rows′} {boards′} {unread} {queued} {queued′} {channel} {word} {r} p a is-p given = record {
+pub send-at-its-index : {reader : List ℕ} {rows boards rows′ boards′ : List (List ℕ)} {totals totals′ : List ℕ} {channel word : ℕ} {r : Moved} (p a : ℕ) → (a < 16 → p ≡ a)
+    → (a ≡ p → SendTurns reader rows boards totals p channel word rows′ boards′ totals′ r) → SendTurns reader rows boards totals a channel word rows′ boards′ totals′ r
+send-at-its-index {reader} {rows} {boards} {rows′} {boards′} {totals} {totals′} {channel} {word} {r} p a is-p given = record {
   turned = λ t sender port mails logs heads waits entries c command n code register operand reach wired i h f ha.
       let e : p ≡ a = is-p (let z = reach .accepted .processes-high in omega arith) in
-      subst (λ (q : ℕ). SendTurns reader rows boards unread queued q channel word rows′ boards′ queued′ r) e (given (sym e))
+      subst (λ (q : ℕ). SendTurns reader rows boards totals q channel word rows′ boards′ totals′ r) e (given (sym e))
       .turned t sender port mails logs heads waits entries c command n code register operand reach wired i h f ha;
 }
 
-module _ (reader : List ℕ) (rows boards : List (List ℕ)) (unread queued : List ℕ) (p channel word : ℕ) (r : Moved) where
+module _ (reader : List ℕ) (rows boards : List (List ℕ)) (totals : List ℕ) (p channel word : ℕ) (r : Moved) where
   pub send-suppressed : (row′ : List ℕ) → 0 < getD (getD rows p []) 6 0 → Suppresses (getD rows p []) row′ → r ≡ aloneOf (answerOf 3 channel word)
-      → SendTurns reader rows boards unread queued p channel word (set rows p row′) boards queued r
+      → SendTurns reader rows boards totals p channel word (set rows p row′) boards totals r
   unfolding numbers
   send-suppressed row′ l became g = record {
     turned = λ t sender port mails logs heads waits entries c command n code register operand reach wired i h f hp.
@@ -237,7 +235,7 @@ module _ (reader : List ℕ) (rows boards : List (List ℕ)) (unread queued : Li
   }
 
   module _ (none : getD (getD rows p []) 6 0 ≡ 0) where
-    pub send-37 : owingIn (getD rows p []) ≡ true → r ≡ refusedWith 37 p → SendTurns reader rows boards unread queued p channel word rows boards queued r
+    pub send-37 : owingIn (getD rows p []) ≡ true → r ≡ refusedWith 37 p → SendTurns reader rows boards totals p channel word rows boards totals r
     send-37 e g = record {
       turned = λ t sender port mails logs heads waits entries c command n code register operand reach wired i h f hp.
           turned-down command p (owedFor (processAt c p)) h (refused-37 reach h p hp n code register operand channel word i none _ refl e) f
@@ -247,10 +245,10 @@ module _ (reader : List ℕ) (rows boards : List (List ℕ)) (unread queued : Li
     module _ (fresh : owingIn (getD rows p []) ≡ false) (b : ℕ) (is-b : getD (getD rows p []) 0 0 < 16 → b ≡ getD (getD rows p []) 0 0) where
       -- of lists that hold a cabinet the clamped board is the board
       the-board : {t : Table} {mails logs heads : List (List ℕ)} {waits : List ℕ} {entries : List Entry} {c : Cabinet} → Reachable t c
-          → Holds t (storeOf rows mails logs heads boards unread queued waits) entries c → p < length (t .processes) → b ≡ getD (getD rows p []) 0 0
+          → Holds t (storeOf rows mails logs heads boards totals waits) entries c → p < length (t .processes) → b ≡ getD (getD rows p []) 0 0
       the-board reach h hp = is-b (let a = board-there reach h p hp in let z = reach .accepted .boards-high in omega arith)
 
-      pub send-38 : outboxMost ≤ countIn boards b → r ≡ refusedWith 38 p → SendTurns reader rows boards unread queued p channel word rows boards queued r
+      pub send-38 : outboxMost ≤ countIn boards b → r ≡ refusedWith 38 p → SendTurns reader rows boards totals p channel word rows boards totals r
       unfolding refusalNumber
       send-38 l g = record {
         turned = λ t sender port mails logs heads waits entries c command n code register operand reach wired i h f hp.
@@ -259,23 +257,23 @@ module _ (reader : List ℕ) (rows boards : List (List ℕ)) (unread queued : Li
       }
 
       module _ (few : countIn boards b < outboxMost) (k : ℕ) (is-k : channel < 32 → k ≡ channel) where
-        pub send-39 : heldIn (getD reader k 0) (getD unread k 0) (getD queued k 0) ≡ true → r ≡ refusedWith 39 p
-            → SendTurns reader rows boards unread queued p channel word rows boards queued r
+        pub send-39 : heldIn (getD reader k 0) (getD totals k 0) ≡ true → r ≡ refusedWith 39 p
+            → SendTurns reader rows boards totals p channel word rows boards totals r
         unfolding refusalNumber
         send-39 e g = record {
           turned = λ t sender port mails logs heads waits entries c command n code register operand reach wired i h f hp.
               let l = channel-inside reach h p hp n code register operand channel word i in
               let kk : k ≡ channel = is-k (let z = reach .accepted .channels-high in omega arith) in
-              let full-so : heldIn (getD reader channel 0) (getD unread channel 0) (getD queued channel 0) ≡ true = rw (← kk) e in
+              let full-so : heldIn (getD reader channel 0) (getD totals channel 0) ≡ true = rw (← kk) e in
               turned-down command p sendHeld h
               (refused-39 reach h p hp n code register operand channel word i none (getD reader channel 0) (wired .reader-at channel l) fresh
               (lt-leb outboxMost (countIn boards (getD (getD rows p []) 0 0)) (rw (← the-board reach h hp) few)) full-so) f g;
         }
 
-        pub send-queued : (row′ : List ℕ) → heldIn (getD reader k 0) (getD unread k 0) (getD queued k 0) ≡ false → Queues (getD rows p []) row′
+        pub send-queued : (row′ : List ℕ) → heldIn (getD reader k 0) (getD totals k 0) ≡ false → Queues (getD rows p []) row′
             → placeOf (getD boards b []) b < 512
             → r ≡ record { answer = answerOf 2 channel word; at = placeOf (getD boards b []) b; entry = record { item = Word channel word } }
-            → SendTurns reader rows boards unread queued p channel word (set rows p row′) (set boards b (pushedIn (getD boards b []))) (set queued k ((getD queued k 0 + 1) % 2 ^ 32)) r
+            → SendTurns reader rows boards totals p channel word (set rows p row′) (set boards b (pushedIn (getD boards b []))) (set totals k ((getD totals k 0 + 1) % 2 ^ 32)) r
         unfolding numbers
         send-queued row′ e became below g = record {
           turned = λ t sender port mails logs heads waits entries c command n code register operand reach wired i h f hp.
@@ -284,11 +282,11 @@ module _ (reader : List ℕ) (rows boards : List (List ℕ)) (unread queued : Li
               let bb : b ≡ getD (getD rows p []) 0 0 = the-board reach h hp in
               let b0 : ℕ = getD (getD rows p []) 0 0 in
               let y : Entry = record { item = Word channel word } in
-              let open-so : heldIn (getD reader channel 0) (getD unread channel 0) (getD queued channel 0) ≡ false = rw (← kk) e in
+              let open-so : heldIn (getD reader channel 0) (getD totals channel 0) ≡ false = rw (← kk) e in
               let few0 : countIn boards b0 < outboxMost = rw (← bb) few in
               let so = queued-so reach h p hp n code register operand channel word i none (getD reader channel 0) (wired .reader-at channel l) fresh (lt-leb outboxMost _ few0) open-so in
               let there = send-holds-so reach h p hp n code register operand channel word i few0 y refl row′ none became in
-              let after : ℕ → ℕ → Store = λ q j. storeOf (set rows p row′) mails logs heads (set boards q (pushedIn (getD boards q []))) unread (set queued j ((getD queued j 0 + 1) % 2 ^ 32)) waits in
+              let after : ℕ → ℕ → Store = λ q j. storeOf (set rows p row′) mails logs heads (set boards q (pushedIn (getD boards q []))) (set totals j ((getD totals j 0 + 1) % 2 ^ 32)) waits in
               let d : Cabinet = then reach h p hp n code register operand channel word i in
               let its-board = subst (λ (q : ℕ). Holds t (after q channel) (set entries (placeOf (getD boards q []) q) y) d) (sym bb) there in
               let its-channel = subst (λ (j : ℕ). Holds t (after b j) (set entries (placeOf (getD boards b []) b) y) d) (sym kk) its-board in

@@ -98,30 +98,30 @@ module _ {t : Table} {s : Store} {entries : List Entry} {c : Cabinet} (h : Holds
 -- ---- what the move promises
 
 -- of a process of the table the clamped number is the number
-pub step-at-its-index : {table start lengths reader port : List ℕ} {rows mails boards rows′ mails′ boards′ : List (List ℕ)} {unread queued unread′ queued′ : List ℕ} {r : Moved} (p a : ℕ)
-    → (a < 16 → p ≡ a) → (a ≡ p → specs.Steps table start lengths reader port rows mails boards unread queued p rows′ mails′ boards′ unread′ queued′ r)
-    → specs.Steps table start lengths reader port rows mails boards unread queued a rows′ mails′ boards′ unread′ queued′ r
-step-at-its-index {table} {start} {lengths} {reader} {port} {rows} {mails} {boards} {rows′} {mails′} {boards′} {unread} {queued} {unread′} {queued′} {r} p a is-p given = record {
+pub step-at-its-index : {table start lengths reader port : List ℕ} {rows mails boards rows′ mails′ boards′ : List (List ℕ)} {totals totals′ : List ℕ} {r : Moved} (p a : ℕ)
+    → (a < 16 → p ≡ a) → (a ≡ p → specs.Steps table start lengths reader port rows mails boards totals p rows′ mails′ boards′ totals′ r)
+    → specs.Steps table start lengths reader port rows mails boards totals a rows′ mails′ boards′ totals′ r
+step-at-its-index {table} {start} {lengths} {reader} {port} {rows} {mails} {boards} {rows′} {mails′} {boards′} {totals} {totals′} {r} p a is-p given = record {
   turned = λ t sender logs heads waits entries c command reach wired programmed h f ha.
       let e : p ≡ a = is-p (let z = reach .accepted .processes-high in omega arith) in
-      subst (λ (q : ℕ). specs.Steps table start lengths reader port rows mails boards unread queued q rows′ mails′ boards′ unread′ queued′ r) e (given (sym e))
+      subst (λ (q : ℕ). specs.Steps table start lengths reader port rows mails boards totals q rows′ mails′ boards′ totals′ r) e (given (sym e))
       .turned t sender logs heads waits entries c command reach wired programmed h f ha;
 }
 
-module _ (table start lengths reader port : List ℕ) (rows mails boards : List (List ℕ)) (unread queued : List ℕ) (p : ℕ) (r : Moved) (j : Instruction)
+module _ (table start lengths reader port : List ℕ) (rows mails boards : List (List ℕ)) (totals : List ℕ) (p : ℕ) (r : Moved) (j : Instruction)
     (is-fetched : j ≡ fetched table (getD start p 0) (getD (getD rows p []) 1 0)) where
   module _ (intent : Intent) (examined : Examined (getD rows p []) (getD mails p []) (getD lengths p 0) (j .code) (j .a) (j .operand) intent) where
     -- the instruction fetched is the program's, so its intent is the rules'
     intends : {t : Table} {logs heads : List (List ℕ)} {waits : List ℕ} {entries : List Entry} {c : Cabinet} → Reachable t c → specs.Programmed t table start lengths
-        → Holds t (storeOf rows mails logs heads boards unread queued waits) entries c → p < length (t .processes)
+        → Holds t (storeOf rows mails logs heads boards totals waits) entries c → p < length (t .processes)
         → Intends (codeOf t p) (getD rows p []) (getD mails p []) (getD lengths p 0) (j .code) (j .a) (j .operand) intent
     intends {t} reach programmed h hp =
         let here = laws.fetched t p (reach .accepted) hp (getD rows p []) (j .code) (j .a) (j .operand)
         (λ l. sym (programmed .code-at p hp (getD (getD rows p []) 1 0) l) ∙ ap instructionOf (sym is-fetched)) in
         examined (codeOf t p) (subst (λ (n : ℕ). Fetched (codeOf t p) (getD rows p []) n (j .code) (j .a) (j .operand)) (sym (programmed .length-at p hp)) here) (h .kept p hp .unread)
 
-  abbrev Promises : List (List ℕ) → List (List ℕ) → List (List ℕ) → List ℕ → List ℕ → Type 0
-  Promises rows′ mails′ boards′ unread′ queued′ = specs.Steps table start lengths reader port rows mails boards unread queued p rows′ mails′ boards′ unread′ queued′ r
+  abbrev Promises : List (List ℕ) → List (List ℕ) → List (List ℕ) → List ℕ → Type 0
+  Promises rows′ mails′ boards′ totals′ = specs.Steps table start lengths reader port rows mails boards totals p rows′ mails′ boards′ totals′ r
 
   -- what was examined is this intent
   pub record Means (intent : Intent) : Type 0 where
@@ -132,14 +132,14 @@ module _ (table start lengths reader port : List ℕ) (rows mails boards : List 
   meant : (intent : Intent) → Means intent → Examined (getD rows p []) (getD mails p []) (getD lengths p 0) (j .code) (j .a) (j .operand) intent
   meant intent m = subst (Examined (getD rows p []) (getD mails p []) (getD lengths p 0) (j .code) (j .a) (j .operand)) (m .is) (m .examined)
 
-  pub steps-35 : Means Halted → r ≡ refusedWith 35 p → Promises rows mails boards unread queued
+  pub steps-35 : Means Halted → r ≡ refusedWith 35 p → Promises rows mails boards totals
   unfolding refusalNumber
   steps-35 m g = record {
     turned = λ t sender logs heads waits entries c command reach wired programmed h f hp.
         turned-down command p isHalted h (refused-35 h p hp _ _ _ _ (intends Halted (meant Halted m) reach programmed h hp)) f g;
   }
 
-  pub steps-36 : Means NoMail → r ≡ refusedWith 36 p → Promises rows mails boards unread queued
+  pub steps-36 : Means NoMail → r ≡ refusedWith 36 p → Promises rows mails boards totals
   unfolding refusalNumber
   steps-36 m g = record {
     turned = λ t sender logs heads waits entries c command reach wired programmed h f hp.
@@ -149,21 +149,21 @@ module _ (table start lengths reader port : List ℕ) (rows mails boards : List 
   }
 
   pub steps-calculated : {rows′ : List (List ℕ)} → Means Internal → CalculateTurns rows p (j .code) (j .a) (j .operand) rows′ r
-      → Promises rows′ mails boards unread queued
+      → Promises rows′ mails boards totals
   steps-calculated m part = record {
     turned = λ t sender logs heads waits entries c command reach wired programmed h f hp.
-        part .turned t mails logs heads boards unread queued waits entries c command _ reach (intends Internal (meant Internal m) reach programmed h hp) h f hp;
+        part .turned t mails logs heads boards totals waits entries c command _ reach (intends Internal (meant Internal m) reach programmed h hp) h f hp;
   }
 
-  pub steps-taken : (at : ℕ) {rows′ mails′ : List (List ℕ)} {unread′ : List ℕ} → Means (Take at)
-      → TakeTurns port rows mails unread p (j .code) (j .a) at rows′ mails′ unread′ r → Promises rows′ mails′ boards unread′ queued
+  pub steps-taken : (at : ℕ) {rows′ mails′ : List (List ℕ)} {totals′ : List ℕ} → Means (Take at)
+      → TakeTurns port rows mails totals p (j .code) (j .a) at rows′ mails′ totals′ r → Promises rows′ mails′ boards totals′
   steps-taken at m part = record {
     turned = λ t sender logs heads waits entries c command reach wired programmed h f hp.
-        part .turned t sender reader logs heads boards queued waits entries c command _ _ reach wired (intends (Take at) (meant (Take at) m) reach programmed h hp) h f hp;
+        part .turned t sender reader logs heads boards waits entries c command _ _ reach wired (intends (Take at) (meant (Take at) m) reach programmed h hp) h f hp;
   }
 
-  pub steps-sent : (channel word : ℕ) {rows′ boards′ : List (List ℕ)} {queued′ : List ℕ} → Means (Send channel word)
-      → SendTurns reader rows boards unread queued p channel word rows′ boards′ queued′ r → Promises rows′ mails boards′ unread queued′
+  pub steps-sent : (channel word : ℕ) {rows′ boards′ : List (List ℕ)} {totals′ : List ℕ} → Means (Send channel word)
+      → SendTurns reader rows boards totals p channel word rows′ boards′ totals′ r → Promises rows′ mails boards′ totals′
   steps-sent channel word m part = record {
     turned = λ t sender logs heads waits entries c command reach wired programmed h f hp.
         part .turned t sender port mails logs heads waits entries c command _ _ _ _ reach wired (intends (Send channel word) (meant (Send channel word) m) reach programmed h hp) h f hp;

@@ -23,11 +23,11 @@ use Rattle.rules.proofs.Decoded.{owed-number}
 use Rattle.rules.proofs.Tables.{input, few-ports}
 use Rattle.state.specs.declared.entry.Entry.{Entry}
 use Rattle.state.specs.declared.moved.Moved.{Moved}
-use Rattle.state.specs.Store.{Store, storeOf, Holds}
+use Rattle.state.specs.Store.{Store, storeOf, Totalled, Holds}
 use Rattle.state.specs.Moved.{Reachable, Turned, answerOf, aloneOf, refusedWith}
-use Rattle.state.proofs.Reading.{at-process}
-use Rattle.state.proofs.Changing.{UnreadThen, changed}
-use Rattle.state.proofs.Totals.{unread-less}
+use Rattle.state.proofs.Reading.{at-process, how-many}
+use Rattle.state.proofs.Totals.{occupancy-less, totalled-less}
+use Rattle.state.proofs.Changing.{changed}
 use Rattle.state.proofs.Ends.{read-inside}
 use Rattle.state.proofs.Owners.{unread-own}
 use Rattle.state.proofs.Counters.{takes-few}
@@ -43,9 +43,6 @@ taken-at row mail log head (suc zero) l = refl
 taken-at row mail log head (suc (suc zero)) l = refl
 taken-at row mail log head (suc (suc (suc zero))) l = refl
 taken-at row mail log head (suc (suc (suc (suc port)))) l = absurd (omega arith)
-
-one-less : (left was : ℕ) → (left + 1) % 2 ^ 32 ≡ was → left < 2 ^ 32 → 1 ≤ was → left ≡ was - 1
-one-less left was e l g = omega arith
 
 module _ {t : Table} {s : Store} {entries : List Entry} {c : Cabinet} (reach : Reachable t c) (h : Holds t s entries c) (p : ℕ) (hp : p < length (t .processes))
     (n code a operand at : ℕ) (i : Intends (codeOf t p) (getD (s .rows) p []) (getD (s .mails) p []) n code a operand (Take at)) where
@@ -88,7 +85,7 @@ module _ {t : Table} {s : Store} {entries : List Entry} {c : Cabinet} (reach : R
   unfolding guard
   take-accepted e = takes-so false e
 
-  -- the totals: one word less, on the word's channel
+  -- one word less is unread, on the word's channel
   less : (k : ℕ) → unreadOn k (processAt c p .machine .mailbox) ≡ unreadOn k (m1 .mailbox) + same k (x .channel)
   less k = ap (λ (m : Machine). unreadOn k (m .mailbox)) (machine-is h p hp) ∙ (let e = step-unread k (took x) went in omega arith)
 
@@ -115,74 +112,69 @@ module _ {t : Table} {s : Store} {entries : List Entry} {c : Cabinet} (reach : R
       omega arith
 
   -- the lists afterwards hold the rules' cabinet afterwards
-  module _ (row′ mail′ : List ℕ) (left : ℕ) (takes : Takes row mail code a at (portOf t p (x .channel)) row′ mail′) (is-left : (left + 1) % 2 ^ 32 ≡ getD (s .unread) (x .channel) 0) (left-fits : left < 2 ^ 32) where
+  module _ (row′ mail′ : List ℕ) (left : ℕ) (takes : Takes row mail code a at (portOf t p (x .channel)) row′ mail′) (is-left : (left + 1) % 2 ^ 32 ≡ getD (s .totals) (x .channel) 0) (left-fits : left < 2 ^ 32) where
     became : Became row mail log head row′ mail′ log head taking
     became = takes .became (codeOf t p) n operand log head (h .kept p hp) i port-there (events-room h p hp reach) takes-room (instructions-room h p hp reach)
 
     now-is : processOf row′ mail′ log head ≡ taking (processAt c p)
     now-is = became .process-is ∙ ap taking (sym (at-process h p hp))
 
-    unread-was : getD (s .unread) (x .channel) 0 ≡ unreadOn (x .channel) (processAt c p .machine .mailbox)
-    unread-was = h .unread-is (x .channel) channel-inside (rw reads-it hp) ∙ ap (λ (q : ℕ). unreadOn (x .channel) (processAt c q .machine .mailbox)) reads-it
-
-    left-is : left ≡ getD (s .unread) (x .channel) 0 - 1
-    left-is = one-less left (getD (s .unread) (x .channel) 0) is-left left-fits (rw unread-was one-there)
-
-    unread-then : UnreadThen h (reach .accepted .processes-high) p hp row′ mail′ log head (set (s .unread) (x .channel) (getD (s .unread) (x .channel) 0 - 1))
+    totals-then : Totalled t (set (s .totals) (x .channel) left) (withProcess p (processOf row′ mail′ log head) c)
     unfolding advanced
-    unread-then =
-        unread-less h (reach .accepted .processes-high) p hp row′ mail′ log head (x .channel) channel-inside (reach .accepted .channels-high) reads-it
-        (λ k. less k ∙ ap (λ (y : Process). unreadOn k (y .machine .mailbox) + same k (x .channel)) (sym now-is))
+    totals-then =
+        totalled-less (s .totals) (reach .accepted .channels-high) (x .channel) channel-inside (h .totalled .totals-length) left
+        (λ k l. h .totalled .total-is k l
+        ∙ occupancy-less t c p (rw (how-many h) hp) (processOf row′ mail′ log head) (x .channel) reads-it
+        (λ j. less j ∙ ap (λ (y : Process). unreadOn j (y .machine .mailbox) + same j (x .channel)) (sym now-is)) k)
+        is-left left-fits
 
-    pub take-holds : Holds t (storeOf (set (s .rows) p row′) (set (s .mails) p mail′) (s .logs) (s .heads) (s .boards) (set (s .unread) (x .channel) left) (s .queued) (s .waits)) entries (withProcess p (taking (processAt c p)) c)
+    pub take-holds : Holds t (storeOf (set (s .rows) p row′) (set (s .mails) p mail′) (s .logs) (s .heads) (s .boards) (set (s .totals) (x .channel) left) (s .waits)) entries (withProcess p (taking (processAt c p)) c)
     unfolding advanced
     take-holds =
-        let whole = changed h (reach .accepted .processes-high) p hp row′ mail′ log head (set (s .unread) (x .channel) (getD (s .unread) (x .channel) 0 - 1)) (became .kept-again)
-        (ap (λ (y : Process). y .board) now-is) unread-then in
+        let u : List ℕ = set (s .totals) (x .channel) left in
+        let whole = changed h (reach .accepted .processes-high) p hp row′ mail′ log head u (became .kept-again) (ap (λ (y : Process). y .board) now-is) totals-then in
         let rows′ : List (List ℕ) = set (s .rows) p row′ in
         let mails′ : List (List ℕ) = set (s .mails) p mail′ in
         let now : Process = processOf row′ mail′ log head in
-        let u : List ℕ = set (s .unread) (x .channel) (getD (s .unread) (x .channel) 0 - 1) in
-        subst (λ (y : Process). Holds t (storeOf rows′ mails′ (s .logs) (s .heads) (s .boards) (set (s .unread) (x .channel) left) (s .queued) (s .waits)) entries (withProcess p y c)) now-is
-        (subst (λ (y : ℕ). Holds t (storeOf rows′ mails′ (s .logs) (s .heads) (s .boards) (set (s .unread) (x .channel) y) (s .queued) (s .waits)) entries (withProcess p now c)) (sym left-is)
-        (subst (λ (l : List (List ℕ)). Holds t (storeOf rows′ mails′ l (s .heads) (s .boards) u (s .queued) (s .waits)) entries (withProcess p now c)) (set-getD (s .logs) p [])
-        (subst (λ (l : List (List ℕ)). Holds t (storeOf rows′ mails′ (set (s .logs) p log) l (s .boards) u (s .queued) (s .waits)) entries (withProcess p now c)) (set-getD (s .heads) p [])
-        whole)))
+        subst (λ (y : Process). Holds t (storeOf rows′ mails′ (s .logs) (s .heads) (s .boards) u (s .waits)) entries (withProcess p y c)) now-is
+        (subst (λ (l : List (List ℕ)). Holds t (storeOf rows′ mails′ l (s .heads) (s .boards) u (s .waits)) entries (withProcess p now c)) (set-getD (s .logs) p [])
+        (subst (λ (l : List (List ℕ)). Holds t (storeOf rows′ mails′ (set (s .logs) p log) l (s .boards) u (s .waits)) entries (withProcess p now c)) (set-getD (s .heads) p [])
+        whole))
 
 -- ---- what the part promises
 
 -- of a process of the table the clamped number is the number
-pub take-at-its-index : {port : List ℕ} {rows mails rows′ mails′ : List (List ℕ)} {unread unread′ : List ℕ} {code register at : ℕ} {r : Moved} (p a : ℕ) → (a < 16 → p ≡ a)
-    → (a ≡ p → TakeTurns port rows mails unread p code register at rows′ mails′ unread′ r) → TakeTurns port rows mails unread a code register at rows′ mails′ unread′ r
-take-at-its-index {port} {rows} {mails} {rows′} {mails′} {unread} {unread′} {code} {register} {at} {r} p a is-p given = record {
-  turned = λ t sender reader logs heads boards queued waits entries c command n operand reach wired i h f ha.
+pub take-at-its-index : {port : List ℕ} {rows mails rows′ mails′ : List (List ℕ)} {totals totals′ : List ℕ} {code register at : ℕ} {r : Moved} (p a : ℕ) → (a < 16 → p ≡ a)
+    → (a ≡ p → TakeTurns port rows mails totals p code register at rows′ mails′ totals′ r) → TakeTurns port rows mails totals a code register at rows′ mails′ totals′ r
+take-at-its-index {port} {rows} {mails} {rows′} {mails′} {totals} {totals′} {code} {register} {at} {r} p a is-p given = record {
+  turned = λ t sender reader logs heads boards waits entries c command n operand reach wired i h f ha.
       let e : p ≡ a = is-p (let z = reach .accepted .processes-high in omega arith) in
-      subst (λ (q : ℕ). TakeTurns port rows mails unread q code register at rows′ mails′ unread′ r) e (given (sym e))
-      .turned t sender reader logs heads boards queued waits entries c command n operand reach wired i h f ha;
+      subst (λ (q : ℕ). TakeTurns port rows mails totals q code register at rows′ mails′ totals′ r) e (given (sym e))
+      .turned t sender reader logs heads boards waits entries c command n operand reach wired i h f ha;
 }
 
-module _ (port : List ℕ) (rows mails : List (List ℕ)) (unread : List ℕ) (p code register at : ℕ) (r : Moved) where
-  pub take-37 : owingIn (getD rows p []) ≡ true → r ≡ refusedWith 37 p → TakeTurns port rows mails unread p code register at rows mails unread r
+module _ (port : List ℕ) (rows mails : List (List ℕ)) (totals : List ℕ) (p code register at : ℕ) (r : Moved) where
+  pub take-37 : owingIn (getD rows p []) ≡ true → r ≡ refusedWith 37 p → TakeTurns port rows mails totals p code register at rows mails totals r
   take-37 e g = record {
-    turned = λ t sender reader logs heads boards queued waits entries c command n operand reach wired i h f hp.
+    turned = λ t sender reader logs heads boards waits entries c command n operand reach wired i h f hp.
         turned-down command p (owedFor (processAt c p)) h (take-refused reach h p hp n code register operand at i e) f
         (g ∙ ap (λ (k : ℕ). refusedWith k p) (sym (owed-number (processAt c p))));
   }
 
   -- no word stands past the mailbox's end
-  pub take-none : logMost ≤ at → TakeTurns port rows mails unread p code register at rows mails unread r
+  pub take-none : logMost ≤ at → TakeTurns port rows mails totals p code register at rows mails totals r
   take-none l = record {
-    turned = λ t sender reader logs heads boards queued waits entries c command n operand reach wired i h f hp.
+    turned = λ t sender reader logs heads boards waits entries c command n operand reach wired i h f hp.
         absurd (let a = i .inside at refl in let b = h .kept p hp .unread in omega arith);
   }
 
   pub take-done : (k : ℕ) (row′ mail′ : List ℕ) (left : ℕ) → owingIn (getD rows p []) ≡ false → (mailIn (getD (getD mails p []) at 0) .channel < 32 → k ≡ mailIn (getD (getD mails p []) at 0) .channel)
-      → Takes (getD rows p []) (getD mails p []) code register at (getD port k 0) row′ mail′ → (left + 1) % 2 ^ 32 ≡ getD unread k 0 → left < 2 ^ 32
+      → Takes (getD rows p []) (getD mails p []) code register at (getD port k 0) row′ mail′ → (left + 1) % 2 ^ 32 ≡ getD totals k 0 → left < 2 ^ 32
       → r ≡ aloneOf (answerOf 1 (mailIn (getD (getD mails p []) at 0) .channel) (mailIn (getD (getD mails p []) at 0) .word))
-      → TakeTurns port rows mails unread p code register at (set rows p row′) (set mails p mail′) (set unread k left) r
+      → TakeTurns port rows mails totals p code register at (set rows p row′) (set mails p mail′) (set totals k left) r
   unfolding numbers
   take-done k row′ mail′ left e is-k takes is-left fits g = record {
-    turned = λ t sender reader logs heads boards queued waits entries c command n operand reach wired i h f hp.
+    turned = λ t sender reader logs heads boards waits entries c command n operand reach wired i h f hp.
         let x : Mail = mailIn (getD (getD mails p []) at 0) in
         let l = channel-inside reach h p hp n code register operand at i in
         let its = reads-it reach h p hp n code register operand at i in
@@ -190,8 +182,8 @@ module _ (port : List ℕ) (rows mails : List (List ℕ)) (unread : List ℕ) (p
         let is-port : getD port k 0 ≡ portOf t p (x .channel) =
         ap (λ (j : ℕ). getD port j 0) kk ∙ wired .port-at (x .channel) l (rw its hp) ∙ ap (λ (q : ℕ). portOf t q (x .channel)) its in
         let there = take-holds reach h p hp n code register operand at i row′ mail′ left
-        (subst (λ (j : ℕ). Takes (getD rows p []) (getD mails p []) code register at j row′ mail′) is-port takes) (is-left ∙ ap (λ (j : ℕ). getD unread j 0) kk) fits in
-        let after : ℕ → Store = λ j. storeOf (set rows p row′) (set mails p mail′) logs heads boards (set unread j left) queued waits in
+        (subst (λ (j : ℕ). Takes (getD rows p []) (getD mails p []) code register at j row′ mail′) is-port takes) (is-left ∙ ap (λ (j : ℕ). getD totals j 0) kk) fits in
+        let after : ℕ → Store = λ j. storeOf (set rows p row′) (set mails p mail′) logs heads boards (set totals j left) waits in
         subst (λ (j : ℕ). Turned t (after j) entries c command (step t c p) r) (sym kk)
         (turned-to entries command (aloneOf (answerOf 1 (x .channel) (x .word))) _ (received x) (take-accepted reach h p hp n code register operand at i e) g refl there);
   }

@@ -13,6 +13,6 @@ use Rattle.state.specs.Moved.{Reachable, Turned}
 
 -- whatever the lists are that it isn't lent
 pub record Issues (rows boards : List (List ℕ)) (waits : List ℕ) (a : ℕ) (rows′ boards′ : List (List ℕ)) (waits′ : List ℕ) (r : Moved) : Type 0 where
-  pub turned : (t : Table) (mails logs heads : List (List ℕ)) (unread queued : List ℕ) (entries : List Entry) (c : Cabinet) (command : Command)
-      → Reachable t c → Holds t (storeOf rows mails logs heads boards unread queued waits) entries c → command .a ≡ a → a < length (t .processes)
-      → Turned t (storeOf rows′ mails logs heads boards′ unread queued waits′) entries c command (issue t c a) r
+  pub turned : (t : Table) (mails logs heads : List (List ℕ)) (totals : List ℕ) (entries : List Entry) (c : Cabinet) (command : Command)
+      → Reachable t c → Holds t (storeOf rows mails logs heads boards totals waits) entries c → command .a ≡ a → a < length (t .processes)
+      → Turned t (storeOf rows′ mails logs heads boards′ totals waits′) entries c command (issue t c a) r

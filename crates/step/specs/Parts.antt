@@ -32,24 +32,24 @@ owingIn row = spentIn row || overrunIn row
 
 -- Process a's instruction computes. Whatever the lists are that it isn't lent.
 pub record CalculateTurns (rows : List (List ℕ)) (a code register operand : ℕ) (rows′ : List (List ℕ)) (r : Moved) : Type 0 where
-  pub turned : (t : Table) (mails logs heads boards : List (List ℕ)) (unread queued waits : List ℕ) (entries : List Entry) (c : Cabinet) (command : Command)
+  pub turned : (t : Table) (mails logs heads boards : List (List ℕ)) (totals waits : List ℕ) (entries : List Entry) (c : Cabinet) (command : Command)
       (n : ℕ) → Reachable t c → Intends (codeOf t a) (getD rows a []) (getD mails a []) n code register operand Internal
-      → Holds t (storeOf rows mails logs heads boards unread queued waits) entries c → command .a ≡ a → a < length (t .processes)
-      → Turned t (storeOf rows′ mails logs heads boards unread queued waits) entries c command (step t c a) r
+      → Holds t (storeOf rows mails logs heads boards totals waits) entries c → command .a ≡ a → a < length (t .processes)
+      → Turned t (storeOf rows′ mails logs heads boards totals waits) entries c command (step t c a) r
 
 -- Process a's instruction takes the word at an index of its mailbox.
-pub record TakeTurns (port : List ℕ) (rows mails : List (List ℕ)) (unread : List ℕ) (a code register at : ℕ)
-    (rows′ mails′ : List (List ℕ)) (unread′ : List ℕ) (r : Moved) : Type 0 where
-  pub turned : (t : Table) (sender reader : List ℕ) (logs heads boards : List (List ℕ)) (queued waits : List ℕ) (entries : List Entry) (c : Cabinet) (command : Command)
+pub record TakeTurns (port : List ℕ) (rows mails : List (List ℕ)) (totals : List ℕ) (a code register at : ℕ)
+    (rows′ mails′ : List (List ℕ)) (totals′ : List ℕ) (r : Moved) : Type 0 where
+  pub turned : (t : Table) (sender reader : List ℕ) (logs heads boards : List (List ℕ)) (waits : List ℕ) (entries : List Entry) (c : Cabinet) (command : Command)
       (n operand : ℕ) → Reachable t c → Wired t sender reader port → Intends (codeOf t a) (getD rows a []) (getD mails a []) n code register operand (Take at)
-      → Holds t (storeOf rows mails logs heads boards unread queued waits) entries c → command .a ≡ a → a < length (t .processes)
-      → Turned t (storeOf rows′ mails′ logs heads boards unread′ queued waits) entries c command (step t c a) r
+      → Holds t (storeOf rows mails logs heads boards totals waits) entries c → command .a ≡ a → a < length (t .processes)
+      → Turned t (storeOf rows′ mails′ logs heads boards totals′ waits) entries c command (step t c a) r
 
 -- Process a's instruction sends a word to a channel.
-pub record SendTurns (reader : List ℕ) (rows boards : List (List ℕ)) (unread queued : List ℕ) (a channel word : ℕ)
-    (rows′ boards′ : List (List ℕ)) (queued′ : List ℕ) (r : Moved) : Type 0 where
+pub record SendTurns (reader : List ℕ) (rows boards : List (List ℕ)) (totals : List ℕ) (a channel word : ℕ)
+    (rows′ boards′ : List (List ℕ)) (totals′ : List ℕ) (r : Moved) : Type 0 where
   pub turned : (t : Table) (sender port : List ℕ) (mails logs heads : List (List ℕ)) (waits : List ℕ) (entries : List Entry) (c : Cabinet) (command : Command)
       (n code register operand : ℕ) → Reachable t c → Wired t sender reader port
       → Intends (codeOf t a) (getD rows a []) (getD mails a []) n code register operand (Send channel word)
-      → Holds t (storeOf rows mails logs heads boards unread queued waits) entries c → command .a ≡ a → a < length (t .processes)
-      → Turned t (storeOf rows′ mails logs heads boards′ unread queued′ waits) entries c command (step t c a) r
+      → Holds t (storeOf rows mails logs heads boards totals waits) entries c → command .a ≡ a → a < length (t .processes)
+      → Turned t (storeOf rows′ mails logs heads boards′ totals′ waits) entries c command (step t c a) r

@@ -20,9 +20,9 @@ pub record Programmed (t : Table) (table start lengths : List ℕ) : Type 0 wher
       → instructionOf (fetched table (getD start p 0) k) ≡ getD (codeOf t p) k (SET 0 0)
 
 -- whatever the lists are that it isn't lent
-pub record Steps (table start lengths reader port : List ℕ) (rows mails boards : List (List ℕ)) (unread queued : List ℕ) (a : ℕ)
-    (rows′ mails′ boards′ : List (List ℕ)) (unread′ queued′ : List ℕ) (r : Moved) : Type 0 where
+pub record Steps (table start lengths reader port : List ℕ) (rows mails boards : List (List ℕ)) (totals : List ℕ) (a : ℕ)
+    (rows′ mails′ boards′ : List (List ℕ)) (totals′ : List ℕ) (r : Moved) : Type 0 where
   pub turned : (t : Table) (sender : List ℕ) (logs heads : List (List ℕ)) (waits : List ℕ) (entries : List Entry) (c : Cabinet) (command : Command)
       → Reachable t c → Wired t sender reader port → Programmed t table start lengths
-      → Holds t (storeOf rows mails logs heads boards unread queued waits) entries c → command .a ≡ a → a < length (t .processes)
-      → Turned t (storeOf rows′ mails′ logs heads boards′ unread′ queued′ waits) entries c command (step t c a) r
+      → Holds t (storeOf rows mails logs heads boards totals waits) entries c → command .a ≡ a → a < length (t .processes)
+      → Turned t (storeOf rows′ mails′ logs heads boards′ totals′ waits) entries c command (step t c a) r

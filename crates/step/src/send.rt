@@ -27,13 +27,12 @@ pub fn send(
     reader: &[u32; 32],
     rows: &mut [[u32; ROW]; 16],
     boards: &mut [[u32; BOARD_ROW]; 16],
-    unread: &[u32; 32],
-    queued: &mut [u32; 32],
+    totals: &mut [u32; 32],
     a: u32,
     channel: u32,
     word: u32,
 ) -> Moved
-    ensures { λ r. ⌜ SendTurns (now (reader .entry)) (now (rows .entry)) (now (boards .entry)) (now (unread .entry)) (now (queued .entry)) a channel word (now (rows .exit)) (now (boards .exit)) (now (queued .exit)) r ⌝ }
+    ensures { λ r. ⌜ SendTurns (now (reader .entry)) (now (rows .entry)) (now (boards .entry)) (now (totals .entry)) a channel word (now (rows .exit)) (now (boards .exit)) (now (totals .exit)) r ⌝ }
 {
     let p = index16(a);
     if rows[p][SUPPRESS] > 0 {
@@ -52,13 +51,13 @@ pub fn send(
         return refused(38, a);
     }
     let k = index32(channel);
-    if held(reader[k], unread[k], queued[k]) {
+    if held(reader[k], totals[k]) {
         return refused(39, a);
     }
     let at = place(&boards[b], b);
     queue_send(&mut rows[p]);
     push(&mut boards[b]);
-    queued[k] = std::num::wrapping_add_u32(queued[k], 1);
+    totals[k] = std::num::wrapping_add_u32(totals[k], 1);
     Moved {
         answer: Answer {
             code: 2,

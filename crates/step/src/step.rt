@@ -24,11 +24,10 @@ pub fn step(
     rows: &mut [[u32; ROW]; 16],
     mails: &mut [[u64; MAIL]; 16],
     boards: &mut [[u32; BOARD_ROW]; 16],
-    unread: &mut [u32; 32],
-    queued: &mut [u32; 32],
+    totals: &mut [u32; 32],
     a: u32,
 ) -> Moved
-    ensures { λ r. ⌜ Steps (now (table .entry)) (now (start .entry)) (now (lengths .entry)) (now (reader .entry)) (now (port .entry)) (now (rows .entry)) (now (mails .entry)) (now (boards .entry)) (now (unread .entry)) (now (queued .entry)) a (now (rows .exit)) (now (mails .exit)) (now (boards .exit)) (now (unread .exit)) (now (queued .exit)) r ⌝ }
+    ensures { λ r. ⌜ Steps (now (table .entry)) (now (start .entry)) (now (lengths .entry)) (now (reader .entry)) (now (port .entry)) (now (rows .entry)) (now (mails .entry)) (now (boards .entry)) (now (totals .entry)) a (now (rows .exit)) (now (mails .exit)) (now (boards .exit)) (now (totals .exit)) r ⌝ }
 {
     let p = index16(a);
     let i = fetch(table, wide(start[p]), wide(rows[p][PC]));
@@ -36,16 +35,7 @@ pub fn step(
         Intent::Halted => refused(35, a),
         Intent::NoMail => refused(36, a),
         Intent::Internal => calculate(rows, a, i.code, i.a, i.operand),
-        Intent::Take { at } => take(port, rows, mails, unread, a, i.code, i.a, at),
-        Intent::Send { channel, word } => send(
-            reader,
-            rows,
-            boards,
-            unread,
-            queued,
-            a,
-            channel,
-            word,
-        ),
+        Intent::Take { at } => take(port, rows, mails, totals, a, i.code, i.a, at),
+        Intent::Send { channel, word } => send(reader, rows, boards, totals, a, channel, word),
     }
 }

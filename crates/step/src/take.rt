@@ -1,5 +1,5 @@
-// A step that takes a word: "For TAKE and FIRST: [..] 37 if backed and acts are 8", or 64 instructions (W-204). The word leaves the mailbox, and its channel's unread
-// words are one less.
+// A step that takes a word: "For TAKE and FIRST: [..] 37 if backed and acts are 8", or 64 instructions (W-204). The word leaves the
+// mailbox, and its channel's total is one less.
 ghost use Rattle.step.specs.Parts.{TakeTurns};
 use crate::guards::owing;
 use instruction::instruction::take_word;
@@ -19,13 +19,13 @@ pub fn take(
     port: &[u32; 32],
     rows: &mut [[u32; ROW]; 16],
     mails: &mut [[u64; MAIL]; 16],
-    unread: &mut [u32; 32],
+    totals: &mut [u32; 32],
     a: u32,
     code: u8,
     register: u32,
     at: usize,
 ) -> Moved
-    ensures { λ r. ⌜ TakeTurns (now (port .entry)) (now (rows .entry)) (now (mails .entry)) (now (unread .entry)) a code register at (now (rows .exit)) (now (mails .exit)) (now (unread .exit)) r ⌝ }
+    ensures { λ r. ⌜ TakeTurns (now (port .entry)) (now (rows .entry)) (now (mails .entry)) (now (totals .entry)) a code register at (now (rows .exit)) (now (mails .exit)) (now (totals .exit)) r ⌝ }
 {
     let p = index16(a);
     if owing(&rows[p]) {
@@ -38,7 +38,7 @@ pub fn take(
     let channel = channel_of(x);
     let k = index32(channel);
     take_word(&mut rows[p], &mut mails[p], code, register, at, port[k]);
-    unread[k] = std::num::wrapping_sub_u32(unread[k], 1);
+    totals[k] = std::num::wrapping_sub_u32(totals[k], 1);
     alone(Answer {
         code: 1,
         a: channel,

@@ -8,7 +8,7 @@ use Rattle.facts.specs.Tests.{allBelow}
 use Rattle.rules.specs.Table.{Table}
 use Rattle.rules.specs.Machine.{bit}
 use Rattle.rules.specs.Bytes.{byteAt}
-use Rattle.rules.specs.Format.{channelsIn, programLength}
+use Rattle.rules.specs.Format.{recordHead, channelsIn, programLength}
 use Rattle.rules.specs.Judge.{reads, bits, instructionOk}
 use Rattle.records.specs.Fetch.{fetched, instructionOf}
 use Rattle.records.specs.declared.fetch.Instruction.{Instruction}
@@ -39,4 +39,4 @@ programOk t p n program = allBelow (λ k. passes t p n (fetched program 0 k)) n
 -- the program of the record that begins the table's rest
 unfoldable pub recordOk : Table → ℕ → List ℕ → Bool
 unfolding programOk
-recordOk t p rest = programOk t p (programLength rest) (drop 3 rest)
+recordOk t p rest = programOk t p (programLength rest) (drop recordHead rest)

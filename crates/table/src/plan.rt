@@ -33,7 +33,7 @@ pub struct Plan {
 }
 
 // The plan of no table.
-pub fn no_plan() -> Plan
+pub(crate) fn no_plan() -> Plan
     ensures { λ r. ⌜ r ≡ noPlan ⌝ }
 {
     Plan {
@@ -53,7 +53,7 @@ pub fn no_plan() -> Plan
 }
 
 // The plan of a table, from what numbers 5 to 7 found.
-pub fn plan_of(table: &[u8], e: Ends, w: Ports, b: Placements) -> Plan
+pub(crate) fn plan_of(table: &[u8], e: Ends, w: Ports, b: Placements) -> Plan
     ensures { λ r. ⌜ r ≡ planFrom (now (table .entry)) e w b ⌝ }
 {
     let start = b.start;

@@ -1,4 +1,4 @@
-use Rattle.bus.proofs.Delivering.{delivers-outside, delivers-inside}
+use Rattle.bus.proofs.Delivering.{delivers}
 use native.Mathlib.Omega.{arith}
 use borrow.Author.Needs.{needs}
 use Rattle.bus.proofs.delivery.deliver.Statement.{statement}
@@ -7,24 +7,10 @@ use Rattle.bus.proofs.delivery.deliver.Reads as reads
 use Rattle.bus.proofs.delivery.deliver.Lts as lts
 use Rattle.state.proofs.channel.index32.Reads as index32-reads
 use Rattle.process.proofs.delivery.receive.Reads as receive-reads
-use Rattle.std.proofs.num.wrapping_add_u32.Reads as wrapping-add-u32-reads
 use Rattle.state.proofs.board.index16.Reads as index16-reads
 
 index32-requires : tie.Need-index32-requires
 index32-requires c κs = search needs
-
-mul-if1 : tie.Need-mul-if1
-mul-if1 c = search needs
-
-element-copy-out-if1 : tie.Need-element-copy-out-if1
-element-copy-out-if1 c = search needs
-
-returns : tie.Need-returns
-returns c =
-    let s = c .before .before .before in
-    let k = c .before .before .index32 in
-    delivers-outside (s .args .reader .now) (s .args .port .now) (s .args .rows .now) (s .args .mails .now) (s .args .logs .now) (s .args .heads .now) (s .args .unread .now)
-    (s .args .channel) (s .args .word) (k .result) (k .ensures .1) (c .if1 .taken)
 
 mul-index16 : tie.Need-mul-index16
 mul-index16 c = search needs
@@ -68,39 +54,20 @@ element-copy-out-receive c = search needs
 receive-requires : tie.Need-receive-requires
 receive-requires c κs = search needs
 
-mul-wrapping-add-u32 : tie.Need-mul-wrapping-add-u32
-mul-wrapping-add-u32 c = search needs
-
-element-copy-out-wrapping-add-u32 : tie.Need-element-copy-out-wrapping-add-u32
-element-copy-out-wrapping-add-u32 c = search needs
-
-wrapping-add-u32-requires : tie.Need-wrapping-add-u32-requires
-wrapping-add-u32-requires c κs = search needs
-
-mul-unread : tie.Need-mul-unread
-mul-unread c = search needs
-
-element-write-unread : tie.Need-element-write-unread
-element-write-unread c = search needs
-
-returns-2 : tie.Need-returns-2
-returns-2 c =
-    let s = c .before .before .before .before .before .before .before .before .before .before .before .before .before in
-    let k = c .before .before .before .before .before .before .before .before .before .before .before .before .index32 in
-    let p = c .before .before .before .before .before .before .before .before .index16 in
-    let got = c .before .before .receive in
-    delivers-inside (s .args .reader .now) (s .args .port .now) (s .args .rows .now) (s .args .mails .now) (s .args .logs .now) (s .args .heads .now) (s .args .unread .now)
-    (s .args .channel) (s .args .word) (k .result) (p .result) (k .ensures .1) (c .before .before .before .before .before .before .before .before .before .before .if1 .left) (p .ensures .1)
-    (got .last .0) (got .last .1 .0) (got .last .1 .1 .0) (got .last .1 .1 .1 .0) (c .wrapping-add-u32 .result) (c .wrapping-add-u32 .ensures) (got .ensures)
+returns : tie.Need-returns
+returns c =
+    let s = c .before .before .before .before .before .before .before .before .before in
+    let k = c .before .before .before .before .before .before .before .before .index32 in
+    let p = c .before .before .before .before .before .before .index16 in
+    let got = c .receive in
+    delivers (s .args .reader .now) (s .args .port .now) (s .args .rows .now) (s .args .mails .now) (s .args .logs .now) (s .args .heads .now)
+    (s .args .channel) (s .args .word) (k .result) (p .result) (k .ensures .1) (p .ensures .1) (got .last .0) (got .last .1 .0) (got .last .1 .1 .0) (got .last .1 .1 .1 .0) (got .ensures)
 
 pub deliver-spec : {M : Type 1} → statement M
 deliver-spec =
     tie.close
     (tie.spec
     index32-requires
-    mul-if1
-    element-copy-out-if1
-    returns
     mul-index16
     element-copy-out-index16
     index16-requires
@@ -115,9 +82,4 @@ deliver-spec =
     mul-receive-5
     element-copy-out-receive
     receive-requires
-    mul-wrapping-add-u32
-    element-copy-out-wrapping-add-u32
-    wrapping-add-u32-requires
-    mul-unread
-    element-write-unread
-    returns-2)
+    returns)

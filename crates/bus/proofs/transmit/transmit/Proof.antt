@@ -33,7 +33,7 @@ returns c =
     let s = c .before .before .before .before in
     let b = c .before .before .before .index16 in
     at-its-board (b .result) (s .args .a) (b .ensures .1)
-    (λ e. transmits-34 (s .args .sender .now) (s .args .reader .now) (s .args .port .now) (s .args .rows .now) (s .args .mails .now) (s .args .logs .now) (s .args .heads .now) (s .args .boards .now) (s .args .unread .now) (s .args .queued .now) (s .args .waits .now) (b .result) (s .args .oldest) _ (c .before .if1 .taken) (rw (← e) (c .refusal .ensures)))
+    (λ e. transmits-34 (s .args .sender .now) (s .args .reader .now) (s .args .port .now) (s .args .rows .now) (s .args .mails .now) (s .args .logs .now) (s .args .heads .now) (s .args .boards .now) (s .args .totals .now) (s .args .waits .now) (b .result) (s .args .oldest) _ (c .before .if1 .taken) (rw (← e) (c .refusal .ensures)))
 
 mul-peek : tie.Need-mul-peek
 mul-peek c = search needs
@@ -58,7 +58,7 @@ returns-2 c =
     let s = c .before .before .before .before .before .before .before .before in
     let b = c .before .before .before .before .before .before .before .index16 in
     at-its-board (b .result) (s .args .a) (b .ensures .1)
-    (λ e. transmits-42 (s .args .sender .now) (s .args .reader .now) (s .args .port .now) (s .args .rows .now) (s .args .mails .now) (s .args .logs .now) (s .args .heads .now) (s .args .boards .now) (s .args .unread .now) (s .args .queued .now) (s .args .waits .now) (b .result) (s .args .oldest) _ (c .before .before .before .before .before .if1 .left) (sym (c .before .before .before .peek .ensures) ∙ c .before .enum-told .given .1) (rw (← e) (c .refusal2 .ensures)))
+    (λ e. transmits-42 (s .args .sender .now) (s .args .reader .now) (s .args .port .now) (s .args .rows .now) (s .args .mails .now) (s .args .logs .now) (s .args .heads .now) (s .args .boards .now) (s .args .totals .now) (s .args .waits .now) (b .result) (s .args .oldest) _ (c .before .before .before .before .before .if1 .left) (sym (c .before .before .before .peek .ensures) ∙ c .before .enum-told .given .1) (rw (← e) (c .refusal2 .ensures)))
 
 mul-pop : tie.Need-mul-pop
 mul-pop c = search needs
@@ -77,14 +77,14 @@ transmit-word-requires c κs = search needs
 
 returns-3 : tie.Need-returns-3
 returns-3 c =
-    let s = c .before .before .before .before .before .before .before .before .before .before .before .before .before .before .before .before .before .before .before .before in
-    let b = c .before .before .before .before .before .before .before .before .before .before .before .before .before .before .before .before .before .before .before .index16 in
-    let i = c .before .before .before .before .before .before .before .before .before .before .before .before .before .item .given in
-    let x = c .before .before .before .before .before .before .before .before .item2 .given in
+    let s = c .before .before .before .before .before .before .before .before .before .before .before .before .before .before .before .before .before .before .before in
+    let b = c .before .before .before .before .before .before .before .before .before .before .before .before .before .before .before .before .before .before .index16 in
+    let i = c .before .before .before .before .before .before .before .before .before .before .before .before .item .given in
+    let x = c .before .before .before .before .before .before .before .item2 .given in
     let w = c .transmit-word in
     at-its-board (b .result) (s .args .a) (b .ensures .1)
-    (λ e. transmits-word (s .args .sender .now) (s .args .reader .now) (s .args .port .now) (s .args .rows .now) (s .args .mails .now) (s .args .logs .now) (s .args .heads .now) (s .args .boards .now) (s .args .unread .now) (s .args .queued .now) (s .args .waits .now) (b .result) (s .args .oldest) _ (c .before .before .before .before .before .before .before .before .before .before .before .before .before .before .before .before .before .if1 .left) (i .0 .0) (sym (c .before .before .before .before .before .before .before .before .before .before .before .before .before .before .before .peek .ensures) ∙ i .1) (c .before .before .before .before .before .before .before .before .before .before .pop .last .0) (c .before .before .before .before .before .before .before .before .before .before .pop .ensures)
-    (x .0 .0) (x .0 .1 .0) (x .1) (w .last .1 .1 .1 .0) (w .last .1 .1 .1 .1 .0) (w .last .1 .1 .1 .1 .1 .0) (w .last .1 .1 .1 .1 .1 .1 .0) (w .last .1 .1 .1 .1 .1 .1 .1 .0) (w .last .1 .1 .1 .1 .1 .1 .1 .1 .0) (w .ensures))
+    (λ e. transmits-word (s .args .sender .now) (s .args .reader .now) (s .args .port .now) (s .args .rows .now) (s .args .mails .now) (s .args .logs .now) (s .args .heads .now) (s .args .boards .now) (s .args .totals .now) (s .args .waits .now) (b .result) (s .args .oldest) _ (c .before .before .before .before .before .before .before .before .before .before .before .before .before .before .before .before .if1 .left) (i .0 .0) (sym (c .before .before .before .before .before .before .before .before .before .before .before .before .before .before .peek .ensures) ∙ i .1) (c .before .before .before .before .before .before .before .before .before .pop .last .0) (c .before .before .before .before .before .before .before .before .before .pop .ensures)
+    (x .0 .0) (x .0 .1 .0) (x .1) (w .last .1 .1 .1 .0) (w .last .1 .1 .1 .1 .0) (w .last .1 .1 .1 .1 .1 .0) (w .last .1 .1 .1 .1 .1 .1 .0) (w .last .1 .1 .1 .1 .1 .1 .1 .0) (w .ensures))
 
 enum-told-2 : tie.Need-enum-told-2
 enum-told-2 c = search needs
@@ -115,7 +115,7 @@ returns-5 c =
     let x = c .before .before .before .before .before .before .item3 .given in
     let y = c .transmit-sync in
     at-its-board (b .result) (s .args .a) (b .ensures .1)
-    (λ e. transmits-sync (s .args .sender .now) (s .args .reader .now) (s .args .port .now) (s .args .rows .now) (s .args .mails .now) (s .args .logs .now) (s .args .heads .now) (s .args .boards .now) (s .args .unread .now) (s .args .queued .now) (s .args .waits .now) (b .result) (s .args .oldest) _ (c .before .before .before .before .before .before .before .before .before .before .before .before .before .before .before .before .before .if1 .left) (i .0 .0) (sym (c .before .before .before .before .before .before .before .before .before .before .before .before .before .before .before .peek .ensures) ∙ i .1) (c .before .before .before .before .before .before .before .before .before .before .pop .last .0) (c .before .before .before .before .before .before .before .before .before .before .pop .ensures)
+    (λ e. transmits-sync (s .args .sender .now) (s .args .reader .now) (s .args .port .now) (s .args .rows .now) (s .args .mails .now) (s .args .logs .now) (s .args .heads .now) (s .args .boards .now) (s .args .totals .now) (s .args .waits .now) (b .result) (s .args .oldest) _ (c .before .before .before .before .before .before .before .before .before .before .before .before .before .before .before .before .before .if1 .left) (i .0 .0) (sym (c .before .before .before .before .before .before .before .before .before .before .before .before .before .before .before .peek .ensures) ∙ i .1) (c .before .before .before .before .before .before .before .before .before .before .pop .last .0) (c .before .before .before .before .before .before .before .before .before .before .pop .ensures)
     (x .0 .0) (x .0 .1 .0) (x .1) (y .last .1 .0) (y .last .1 .1 .0) (y .last .1 .1 .1 .0) (y .ensures))
 
 pub transmit-spec : {M : Type 1} → statement M

@@ -1,5 +1,5 @@
 use mathlib.Core.Path.{refl}
-use Rattle.bus.proofs.Carrying.{carries}
+use Rattle.bus.proofs.Carrying.{carries-inside, carries-outside}
 use native.Mathlib.Omega.{arith}
 use borrow.Author.Needs.{needs}
 use Rattle.bus.proofs.word.transmit_word.Statement.{statement}
@@ -14,21 +14,6 @@ use Rattle.state.proofs.board.index16.Reads as index16-reads
 
 index32-requires : tie.Need-index32-requires
 index32-requires c κs = search needs
-
-mul-wrapping-sub-u32 : tie.Need-mul-wrapping-sub-u32
-mul-wrapping-sub-u32 c = search needs
-
-element-copy-out-wrapping-sub-u32 : tie.Need-element-copy-out-wrapping-sub-u32
-element-copy-out-wrapping-sub-u32 c = search needs
-
-wrapping-sub-u32-requires : tie.Need-wrapping-sub-u32-requires
-wrapping-sub-u32-requires c κs = search needs
-
-mul-queued : tie.Need-mul-queued
-mul-queued c = search needs
-
-element-write-queued : tie.Need-element-write-queued
-element-write-queued c = search needs
 
 mul-index16 : tie.Need-mul-index16
 mul-index16 c = search needs
@@ -54,30 +39,57 @@ index-1-counts-2 c = search needs
 counts-requires : tie.Need-counts-requires
 counts-requires c κs = search needs
 
-deliver-requires : tie.Need-deliver-requires
-deliver-requires c κs = search needs
+mul-if1 : tie.Need-mul-if1
+mul-if1 c = search needs
+
+element-copy-out-if1 : tie.Need-element-copy-out-if1
+element-copy-out-if1 c = search needs
+
+mul-wrapping-sub-u32 : tie.Need-mul-wrapping-sub-u32
+mul-wrapping-sub-u32 c = search needs
+
+element-copy-out-wrapping-sub-u32 : tie.Need-element-copy-out-wrapping-sub-u32
+element-copy-out-wrapping-sub-u32 c = search needs
+
+wrapping-sub-u32-requires : tie.Need-wrapping-sub-u32-requires
+wrapping-sub-u32-requires c κs = search needs
+
+mul-totals : tie.Need-mul-totals
+mul-totals c = search needs
+
+element-write-totals : tie.Need-element-write-totals
+element-write-totals c = search needs
 
 returns : tie.Need-returns
 returns c =
-    let s = c .before .before .before .before .before .before .before .before .before .before .before .before .before .before in
-    let k = c .before .before .before .before .before .before .before .before .before .before .before .before .before .index32 in
-    let less = c .before .before .before .before .before .before .before .before .before .before .before .wrapping-sub-u32 in
-    let p = c .before .before .before .before .before .before .before .before .before .index16 in
-    let n = c .before .before .before .before .before .before .counts in
+    let s = c .before .before .before .before .before .before .before .before .before .before in
+    let k = c .before .before .before .before .before .before .before .before .before .index32 in
+    let p = c .before .before .before .before .before .before .before .index16 in
+    let n = c .before .before .before .before .counts in
+    let less = c .wrapping-sub-u32 in
+    carries-outside (s .args .sender .now) (s .args .reader .now) (s .args .port .now) (s .args .rows .now) (s .args .mails .now) (s .args .logs .now) (s .args .heads .now) (s .args .totals .now)
+    (s .args .channel) (s .args .word) (k .result) (p .result) (n .last .1 .0) _ (k .ensures .1) (p .ensures .1) (n .ensures) refl
+    (less .result) (c .before .before .if1 .taken) (less .ensures) (less .ok)
+
+deliver-requires : tie.Need-deliver-requires
+deliver-requires c κs = search needs
+
+returns-2 : tie.Need-returns-2
+returns-2 c =
+    let s = c .before .before .before .before .before .before .before .before .before .before .before .before .before in
+    let k = c .before .before .before .before .before .before .before .before .before .before .before .before .index32 in
+    let p = c .before .before .before .before .before .before .before .before .before .before .index16 in
+    let n = c .before .before .before .before .before .before .before .counts in
     let d = c .deliver in
-    carries (s .args .sender .now) (s .args .reader .now) (s .args .port .now) (s .args .rows .now) (s .args .mails .now) (s .args .logs .now) (s .args .heads .now) (s .args .unread .now) (s .args .queued .now)
-    (s .args .channel) (s .args .word) (k .result) (p .result) (less .result) (n .last .1 .0) (d .last .1 .1 .0) (d .last .1 .1 .1 .0) (d .last .1 .1 .1 .1 .0) (d .last .1 .1 .1 .1 .1 .0) (d .last .1 .1 .1 .1 .1 .1 .0) _ (k .ensures .1) (p .ensures .1) (less .ensures) (less .ok) (n .ensures) (d .ensures) refl
+    carries-inside (s .args .sender .now) (s .args .reader .now) (s .args .port .now) (s .args .rows .now) (s .args .mails .now) (s .args .logs .now) (s .args .heads .now) (s .args .totals .now)
+    (s .args .channel) (s .args .word) (k .result) (p .result) (n .last .1 .0) _ (k .ensures .1) (p .ensures .1) (n .ensures) refl
+    (d .last .1 .1 .0) (d .last .1 .1 .1 .0) (d .last .1 .1 .1 .1 .0) (d .last .1 .1 .1 .1 .1 .0) (c .before .before .before .before .before .if1 .left) (d .ensures)
 
 pub transmit-word-spec : {M : Type 1} → statement M
 transmit-word-spec =
     tie.close
     (tie.spec
     index32-requires
-    mul-wrapping-sub-u32
-    element-copy-out-wrapping-sub-u32
-    wrapping-sub-u32-requires
-    mul-queued
-    element-write-queued
     mul-index16
     element-copy-out-index16
     index16-requires
@@ -86,5 +98,13 @@ transmit-word-spec =
     mul-counts-2
     index-1-counts-2
     counts-requires
+    mul-if1
+    element-copy-out-if1
+    mul-wrapping-sub-u32
+    element-copy-out-wrapping-sub-u32
+    wrapping-sub-u32-requires
+    mul-totals
+    element-write-totals
+    returns
     deliver-requires
-    returns)
+    returns-2)

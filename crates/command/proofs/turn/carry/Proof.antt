@@ -17,13 +17,13 @@ refusal-requires : tie.Need-refusal-requires
 refusal-requires c κs = search needs
 
 returns : tie.Need-returns
-returns c = let s = c .before .before .before .args in let j = c .before .before .judge in carry-refused (s .boards-many) (s .processes) (s .channels) (s .sender .now) (s .reader .now) (s .port .now) (storeOf (s .rows .now) (s .mails .now) (s .logs .now) (s .heads .now) (s .boards .now) (s .unread .now) (s .queued .now) (s .waits .now)) (s .a) (s .word) (s .oldest) (j .result) (j .ensures) _ (c .before .if1 .taken) (c .refusal .ensures)
+returns c = let s = c .before .before .before .args in let j = c .before .before .judge in carry-refused (s .boards-many) (s .processes) (s .channels) (s .sender .now) (s .reader .now) (s .port .now) (storeOf (s .rows .now) (s .mails .now) (s .logs .now) (s .heads .now) (s .boards .now) (s .totals .now) (s .waits .now)) (s .a) (s .word) (s .oldest) (j .result) (j .ensures) _ (c .before .if1 .taken) (c .refusal .ensures)
 
 transmit-requires : tie.Need-transmit-requires
 transmit-requires c κs = search needs
 
 returns-2 : tie.Need-returns-2
-returns-2 c = let s = c .before .before .before .before .before .before .before .before .before .before .before .args in let j = c .before .before .before .before .before .before .before .before .before .before .judge in carry-made (s .boards-many) (s .processes) (s .channels) (s .sender .now) (s .reader .now) (s .port .now) (storeOf (s .rows .now) (s .mails .now) (s .logs .now) (s .heads .now) (s .boards .now) (s .unread .now) (s .queued .now) (s .waits .now)) (s .a) (s .word) (s .oldest) (j .result) (j .ensures) _ _ (c .before .before .before .before .before .before .before .before .before .if1 .left) (c .transmit .ensures)
+returns-2 c = let s = c .before .before .before .before .before .before .before .before .before .before .args in let j = c .before .before .before .before .before .before .before .before .before .judge in carry-made (s .boards-many) (s .processes) (s .channels) (s .sender .now) (s .reader .now) (s .port .now) (storeOf (s .rows .now) (s .mails .now) (s .logs .now) (s .heads .now) (s .boards .now) (s .totals .now) (s .waits .now)) (s .a) (s .word) (s .oldest) (j .result) (j .ensures) _ _ (c .before .before .before .before .before .before .before .before .if1 .left) (c .transmit .ensures)
 
 pub carry-spec : {M : Type 1} → statement M
 carry-spec =

@@ -13,7 +13,8 @@ use Rattle.crash.proofs.losses.lose_flags.Reads as lose-flags-reads
 use Rattle.crash.proofs.losses.lose_words.Reads as lose-words-reads
 use Rattle.crash.proofs.losses.other_dead.Reads as other-dead-reads
 use Rattle.crash.proofs.processes.crash_all.Reads as crash-all-reads
-use Rattle.crash.proofs.recount.recount.Reads as recount-reads
+use Rattle.crash.proofs.recount.add_unread.Reads as add-unread-reads
+use Rattle.crash.proofs.recount.drop_unread.Reads as drop-unread-reads
 use Rattle.state.proofs.board.index16.Reads as index16-reads
 use Rattle.state.proofs.moved.refusal.Reads as refusal-reads
 
@@ -37,7 +38,7 @@ returns c =
     let s = c .before .before .before .before in
     let a = s .args in
     let b = c .before .before .before .index16 in
-    crashes-34 (a .boards-many) (a .processes) (a .channels) (a .sender .now) (a .reader .now) (a .ins .now) (a .arity .now) (a .rows .now) (a .mails .now) (a .logs .now) (a .heads .now) (a .boards .now) (a .unread .now) (a .queued .now) (a .waits .now) (a .a) (b .result) (b .ensures .1) _
+    crashes-34 (a .boards-many) (a .processes) (a .channels) (a .sender .now) (a .reader .now) (a .ins .now) (a .arity .now) (a .rows .now) (a .mails .now) (a .logs .now) (a .heads .now) (a .boards .now) (a .totals .now) (a .waits .now) (a .a) (b .result) (b .ensures .1) _
     (c .before .if1 .taken) (c .refusal .ensures)
 
 most16-requires : tie.Need-most16-requires
@@ -55,7 +56,7 @@ returns-2 c =
     let a = s .args in
     let b = c .before .before .before .before .before .before .before .index16 in
     let n = c .before .before .before .before .most16 in
-    crashes-44 (a .boards-many) (a .processes) (a .channels) (a .sender .now) (a .reader .now) (a .ins .now) (a .arity .now) (a .rows .now) (a .mails .now) (a .logs .now) (a .heads .now) (a .boards .now) (a .unread .now) (a .queued .now) (a .waits .now) (a .a) (b .result) (b .ensures .1) _
+    crashes-44 (a .boards-many) (a .processes) (a .channels) (a .sender .now) (a .reader .now) (a .ins .now) (a .arity .now) (a .rows .now) (a .mails .now) (a .logs .now) (a .heads .now) (a .boards .now) (a .totals .now) (a .waits .now) (a .a) (b .result) (b .ensures .1) _
     (n .result) (n .ensures .1) (c .before .before .before .before .before .if1 .left) (c .before .before .other-dead .result) (c .before .before .other-dead .ensures) (c .before .if2 .taken) (c .refusal2 .ensures)
 
 most16-requires-2 : tie.Need-most16-requires-2
@@ -63,6 +64,9 @@ most16-requires-2 c κs = search needs
 
 most32-requires : tie.Need-most32-requires
 most32-requires c κs = search needs
+
+drop-unread-requires : tie.Need-drop-unread-requires
+drop-unread-requires c κs = search needs
 
 lose-words-requires : tie.Need-lose-words-requires
 lose-words-requires c κs = search needs
@@ -73,30 +77,30 @@ lose-flags-requires c κs = search needs
 crash-all-requires : tie.Need-crash-all-requires
 crash-all-requires c κs = search needs
 
-recount-requires : tie.Need-recount-requires
-recount-requires c κs = search needs
+add-unread-requires : tie.Need-add-unread-requires
+add-unread-requires c κs = search needs
 
 mul-die : tie.Need-mul-die
-mul-die c = let l = c .before .before .before .before .before .before .before .before .before .before .before .before .before .before .before .before .before .before .before .before .before .index16 .ensures .0 in search needs
+mul-die c = let l = c .before .before .before .before .before .before .before .before .before .before .before .before .before .before .before .before .before .before .before .before .before .before .before .before .before .index16 .ensures .0 in search needs
 
 index-1-die : tie.Need-index-1-die
-index-1-die c = let l = c .before .before .before .before .before .before .before .before .before .before .before .before .before .before .before .before .before .before .before .before .before .index16 .ensures .0 in search needs
+index-1-die c = let l = c .before .before .before .before .before .before .before .before .before .before .before .before .before .before .before .before .before .before .before .before .before .before .before .before .before .index16 .ensures .0 in search needs
 
 die-requires : tie.Need-die-requires
 die-requires c κs = search needs
 
 returns-3 : tie.Need-returns-3
 returns-3 c =
-    let s = c .before .before .before .before .before .before .before .before .before .before .before .before .before .before .before .before .before .before .before .before .before .before .before .before in
+    let s = c .before .before .before .before .before .before .before .before .before .before .before .before .before .before .before .before .before .before .before .before .before .before .before .before .before .before .before .before in
     let a = s .args in
-    let b = c .before .before .before .before .before .before .before .before .before .before .before .before .before .before .before .before .before .before .before .before .before .before .before .index16 in
-    let n = c .before .before .before .before .before .before .before .before .before .before .before .before .before .before .before .before .before .before .before .before .most16 in
-    let p = c .before .before .before .before .before .before .before .before .before .before .before .before .before .before .before .before .most162 in
-    let k = c .before .before .before .before .before .before .before .before .before .before .before .before .before .before .before .most32 in
+    let b = c .before .before .before .before .before .before .before .before .before .before .before .before .before .before .before .before .before .before .before .before .before .before .before .before .before .before .before .index16 in
+    let n = c .before .before .before .before .before .before .before .before .before .before .before .before .before .before .before .before .before .before .before .before .before .before .before .before .most16 in
+    let p = c .before .before .before .before .before .before .before .before .before .before .before .before .before .before .before .before .before .before .before .before .most162 in
+    let k = c .before .before .before .before .before .before .before .before .before .before .before .before .before .before .before .before .before .before .before .most32 in
     let all = c .before .before .before .before .before .before .crash-all in
-    crashes-done (a .boards-many) (a .processes) (a .channels) (a .sender .now) (a .reader .now) (a .ins .now) (a .arity .now) (a .rows .now) (a .mails .now) (a .logs .now) (a .heads .now) (a .boards .now) (a .unread .now) (a .queued .now) (a .waits .now) (a .a) (b .result) (b .ensures .1) _
-    (n .result) (n .ensures .1) (c .before .before .before .before .before .before .before .before .before .before .before .before .before .before .before .before .before .before .before .before .before .if1 .left) (p .result) (k .result) (p .ensures .1) (k .ensures .1) (c .before .before .before .before .before .before .before .before .before .before .before .before .before .before .before .before .before .before .other-dead .result) (c .before .before .before .before .before .before .before .before .before .before .before .before .before .before .before .before .before .before .other-dead .ensures) (c .before .before .before .before .before .before .before .before .before .before .before .before .before .before .before .before .before .if2 .left)
-    _ _ _ _ _ _ (c .before .before .before .before .before .before .before .before .before .before .before .before .lose-words .ensures) (c .before .before .before .before .before .before .before .before .before .lose-flags .ensures) (all .ensures) (c .before .before .recount .ensures) (c .die .ensures) refl
+    crashes-done (a .boards-many) (a .processes) (a .channels) (a .sender .now) (a .reader .now) (a .ins .now) (a .arity .now) (a .rows .now) (a .mails .now) (a .logs .now) (a .heads .now) (a .boards .now) (a .totals .now) (a .waits .now) (a .a) (b .result) (b .ensures .1) _
+    (n .result) (n .ensures .1) (c .before .before .before .before .before .before .before .before .before .before .before .before .before .before .before .before .before .before .before .before .before .before .before .before .before .if1 .left) (p .result) (k .result) (p .ensures .1) (k .ensures .1) (c .before .before .before .before .before .before .before .before .before .before .before .before .before .before .before .before .before .before .before .before .before .before .other-dead .result) (c .before .before .before .before .before .before .before .before .before .before .before .before .before .before .before .before .before .before .before .before .before .before .other-dead .ensures) (c .before .before .before .before .before .before .before .before .before .before .before .before .before .before .before .before .before .before .before .before .before .if2 .left)
+    _ _ _ _ _ _ _ (c .before .before .before .before .before .before .before .before .before .before .before .before .before .before .before .drop-unread .ensures) (c .before .before .before .before .before .before .before .before .before .before .before .before .lose-words .ensures) (c .before .before .before .before .before .before .before .before .before .lose-flags .ensures) (all .ensures) (c .before .before .add-unread .ensures) (c .die .ensures) refl
 
 pub crash-spec : {M : Type 1} → statement M
 crash-spec =
@@ -114,10 +118,11 @@ crash-spec =
     returns-2
     most16-requires-2
     most32-requires
+    drop-unread-requires
     lose-words-requires
     lose-flags-requires
     crash-all-requires
-    recount-requires
+    add-unread-requires
     mul-die
     index-1-die
     die-requires

@@ -18,7 +18,7 @@ abbrev μ-loop : tie.MeasureT-loop
 μ-loop n rows a waits₀ p₀ waits p = n - p
 
 loop-holds : tie.Need-loop-holds Inv-loop μ-loop
-loop-holds c = zeroing-start _ _ _
+loop-holds c = let a = c .args in zeroing-start (runsOn (a .rows .now) (a .a)) _ _
 
 runs-on-requires : tie.Need-runs-on-requires Inv-loop μ-loop
 runs-on-requires c κs = search needs

@@ -13,13 +13,13 @@ use Rattle.crash.proofs.losses.runs_on.Reads as runs-on-reads
 use Rattle.state.proofs.board.wide.Reads as wide-reads
 
 abbrev Inv-loop : tie.InvT-loop
-Inv-loop n sender rows a queued₀ k₀ queued k = Zeroing (lostWords sender rows a) n queued₀ queued k
+Inv-loop n sender rows a totals₀ k₀ totals k = Zeroing (lostWords sender rows a) n totals₀ totals k
 
 abbrev μ-loop : tie.MeasureT-loop
-μ-loop n sender rows a queued₀ k₀ queued k = n - k
+μ-loop n sender rows a totals₀ k₀ totals k = n - k
 
 loop-holds : tie.Need-loop-holds Inv-loop μ-loop
-loop-holds c = zeroing-start _ _ _
+loop-holds c = let a = c .args in zeroing-start (lostWords (a .sender .now) (a .rows .now) (a .a)) _ _
 
 mul-wide : tie.Need-mul-wide Inv-loop μ-loop
 mul-wide c = search needs
@@ -33,11 +33,11 @@ wide-requires c κs = search needs
 runs-on-requires : tie.Need-runs-on-requires Inv-loop μ-loop
 runs-on-requires c κs = search needs
 
-mul-queued : tie.Need-mul-queued Inv-loop μ-loop
-mul-queued c = search needs
+mul-totals : tie.Need-mul-totals Inv-loop μ-loop
+mul-totals c = search needs
 
-element-write-queued : tie.Need-element-write-queued Inv-loop μ-loop
-element-write-queued c = search needs
+element-write-totals : tie.Need-element-write-totals Inv-loop μ-loop
+element-write-totals c = search needs
 
 add-k : tie.Need-add-k Inv-loop μ-loop
 add-k c = search needs
@@ -52,12 +52,12 @@ loop-again c =
     let t = c .before .before .before .before .loop-test .taken in
     let d = c .before .runs-on .ensures ∙ ap (runsOn (a .rows .now) (a .a)) (c .before .before .wide .ensures .0) in
     ⊎-elim
-    (λ w. rw (w .1) (zeroing-hit (lostWords (a .sender .now) (a .rows .now) (a .a)) (a .n) (a .queued .now) (l .queued) (l .k) (l .inv) t (sym d ∙ w .0 .taken)))
-    (λ w. rw (w .1) (zeroing-miss (lostWords (a .sender .now) (a .rows .now) (a .a)) (a .n) (a .queued .now) (l .queued) (l .k) (l .inv) t (sym d ∙ w .0 .left)))
+    (λ w. rw (w .1) (zeroing-hit (lostWords (a .sender .now) (a .rows .now) (a .a)) (a .n) (a .totals .now) (l .totals) (l .k) (l .inv) t (sym d ∙ w .0 .taken)))
+    (λ w. rw (w .1) (zeroing-miss (lostWords (a .sender .now) (a .rows .now) (a .a)) (a .n) (a .totals .now) (l .totals) (l .k) (l .inv) t (sym d ∙ w .0 .left)))
     (c .if1 .came)
 
 returns : tie.Need-returns Inv-loop μ-loop
-returns c = let a = c .before .before .args in let l = c .before .loop in zeroing-end (lostWords (a .sender .now) (a .rows .now) (a .a)) (a .n) (a .queued .now) (l .queued) (l .k) (l .inv) (c .loop-test .left)
+returns c = let a = c .before .before .args in let l = c .before .loop in zeroing-end (lostWords (a .sender .now) (a .rows .now) (a .a)) (a .n) (a .totals .now) (l .totals) (l .k) (l .inv) (c .loop-test .left)
 
 pub lose-words-spec : {M : Type 1} → statement M
 lose-words-spec =
@@ -70,8 +70,8 @@ lose-words-spec =
     element-copy-out-wide
     wide-requires
     runs-on-requires
-    mul-queued
-    element-write-queued
+    mul-totals
+    element-write-totals
     add-k
     loop-less
     loop-again

@@ -1,5 +1,5 @@
 use mathlib.Core.Path.{ap, _∙_}
-use Prim.Native.Nat.{ℕ}
+use Prim.Native.Nat.{ℕ, min}
 use Rattle.rules.specs.Cabinet.{unreadOn}
 use Rattle.process.specs.Row.{mailsIn}
 use native.Mathlib.Omega.{arith}
@@ -25,7 +25,9 @@ count-on-requires : tie.Need-count-on-requires
 count-on-requires c κs = search needs
 
 returns : tie.Need-returns
-returns c = λ l. let w = c .before .before .wide .ensures .0 in let m = c .before .most48 .ensures .1 (rw w l) in c .count-on .ensures ∙ ap (λ (n : ℕ). unreadOn (c .before .before .before .before .args .k) (mailsIn n (c .before .before .before .before .args .mail .now))) (m ∙ w)
+returns c =
+    let a = c .before .before .before .before .args in
+    c .count-on .ensures ∙ ap (λ (n : ℕ). unreadOn (a .k) (mailsIn n (a .mail .now))) (c .before .most48 .ensures ∙ ap (λ (n : ℕ). min n 48) (c .before .before .wide .ensures .0))
 
 pub unread-of-spec : {M : Type 1} → statement M
 unread-of-spec =

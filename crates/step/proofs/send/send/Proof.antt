@@ -48,7 +48,7 @@ returns c =
     let s = c .before .before .before .before .before .before in
     let p = c .before .before .before .before .before .index16 in
     send-at-its-index (p .result) (s .args .a) (p .ensures .1)
-    (λ e. send-suppressed (s .args .reader .now) (s .args .rows .now) (s .args .boards .now) (s .args .unread .now) (s .args .queued .now) (p .result) (s .args .channel) (s .args .word) _ (c .before .suppress-send .last .0) (c .before .before .before .if1 .taken) (c .before .suppress-send .ensures) (c .alone .ensures))
+    (λ e. send-suppressed (s .args .reader .now) (s .args .rows .now) (s .args .boards .now) (s .args .totals .now) (p .result) (s .args .channel) (s .args .word) _ (c .before .suppress-send .last .0) (c .before .before .before .if1 .taken) (c .before .suppress-send .ensures) (c .alone .ensures))
 
 mul-owing : tie.Need-mul-owing
 mul-owing c = search needs
@@ -68,7 +68,7 @@ returns-2 c =
     let p = c .before .before .before .before .before .before .index16 in
     let none = c .before .before .before .before .if1 .left in
     send-at-its-index (p .result) (s .args .a) (p .ensures .1)
-    (λ e. send-37 (s .args .reader .now) (s .args .rows .now) (s .args .boards .now) (s .args .unread .now) (s .args .queued .now) (p .result) (s .args .channel) (s .args .word) _ (omega arith) (sym (c .before .before .owing .ensures) ∙ c .before .if2 .taken) (rw (← e) (c .refused .ensures)))
+    (λ e. send-37 (s .args .reader .now) (s .args .rows .now) (s .args .boards .now) (s .args .totals .now) (p .result) (s .args .channel) (s .args .word) _ (omega arith) (sym (c .before .before .owing .ensures) ∙ c .before .if2 .taken) (rw (← e) (c .refused .ensures)))
 
 mul-index16 : tie.Need-mul-index16
 mul-index16 c = search needs
@@ -101,7 +101,7 @@ returns-3 c =
     let b = c .before .before .before .index162 in
     let none = c .before .before .before .before .before .before .before .before .if1 .left in
     send-at-its-index (p .result) (s .args .a) (p .ensures .1)
-    (λ e. send-38 (s .args .reader .now) (s .args .rows .now) (s .args .boards .now) (s .args .unread .now) (s .args .queued .now) (p .result) (s .args .channel) (s .args .word) _ (omega arith) (sym (c .before .before .before .before .before .before .owing .ensures) ∙ c .before .before .before .before .before .if2 .left) (b .result) (b .ensures .1) (c .before .if3 .taken) (rw (← e) (c .refused2 .ensures)))
+    (λ e. send-38 (s .args .reader .now) (s .args .rows .now) (s .args .boards .now) (s .args .totals .now) (p .result) (s .args .channel) (s .args .word) _ (omega arith) (sym (c .before .before .before .before .before .before .owing .ensures) ∙ c .before .before .before .before .before .if2 .left) (b .result) (b .ensures .1) (c .before .if3 .taken) (rw (← e) (c .refused2 .ensures)))
 
 index32-requires : tie.Need-index32-requires
 index32-requires c κs = search needs
@@ -118,12 +118,6 @@ mul-held-2 c = search needs
 element-copy-out-held-2 : tie.Need-element-copy-out-held-2
 element-copy-out-held-2 c = search needs
 
-mul-held-3 : tie.Need-mul-held-3
-mul-held-3 c = search needs
-
-element-copy-out-held-3 : tie.Need-element-copy-out-held-3
-element-copy-out-held-3 c = search needs
-
 held-requires : tie.Need-held-requires
 held-requires c κs = search needs
 
@@ -132,13 +126,13 @@ refused-requires-3 c κs = search needs
 
 returns-4 : tie.Need-returns-4
 returns-4 c =
-    let s = c .before .before .before .before .before .before .before .before .before .before .before .before .before .before .before .before .before in
-    let p = c .before .before .before .before .before .before .before .before .before .before .before .before .before .before .before .before .index16 in
-    let b = c .before .before .before .before .before .before .before .before .before .index162 in
-    let k = c .before .before .before .before .before .before .index32 in
-    let none = c .before .before .before .before .before .before .before .before .before .before .before .before .before .before .if1 .left in
+    let s = c .before .before .before .before .before .before .before .before .before .before .before .before .before .before .before .before in
+    let p = c .before .before .before .before .before .before .before .before .before .before .before .before .before .before .before .index16 in
+    let b = c .before .before .before .before .before .before .before .before .index162 in
+    let k = c .before .before .before .before .before .index32 in
+    let none = c .before .before .before .before .before .before .before .before .before .before .before .before .before .if1 .left in
     send-at-its-index (p .result) (s .args .a) (p .ensures .1)
-    (λ e. send-39 (s .args .reader .now) (s .args .rows .now) (s .args .boards .now) (s .args .unread .now) (s .args .queued .now) (p .result) (s .args .channel) (s .args .word) _ (omega arith) (sym (c .before .before .before .before .before .before .before .before .before .before .before .before .owing .ensures) ∙ c .before .before .before .before .before .before .before .before .before .before .before .if2 .left) (b .result) (b .ensures .1) (c .before .before .before .before .before .before .before .if3 .left) (k .result) (k .ensures .1) (sym (c .before .before .held .ensures) ∙ c .before .if4 .taken) (rw (← e) (c .refused3 .ensures)))
+    (λ e. send-39 (s .args .reader .now) (s .args .rows .now) (s .args .boards .now) (s .args .totals .now) (p .result) (s .args .channel) (s .args .word) _ (omega arith) (sym (c .before .before .before .before .before .before .before .before .before .before .before .owing .ensures) ∙ c .before .before .before .before .before .before .before .before .before .before .if2 .left) (b .result) (b .ensures .1) (c .before .before .before .before .before .before .if3 .left) (k .result) (k .ensures .1) (sym (c .before .before .held .ensures) ∙ c .before .if4 .taken) (rw (← e) (c .refused3 .ensures)))
 
 mul-place : tie.Need-mul-place
 mul-place c = search needs
@@ -176,23 +170,23 @@ element-copy-out-wrapping-add-u32 c = search needs
 wrapping-add-u32-requires : tie.Need-wrapping-add-u32-requires
 wrapping-add-u32-requires c κs = search needs
 
-mul-queued : tie.Need-mul-queued
-mul-queued c = search needs
+mul-totals : tie.Need-mul-totals
+mul-totals c = search needs
 
-element-write-queued : tie.Need-element-write-queued
-element-write-queued c = search needs
+element-write-totals : tie.Need-element-write-totals
+element-write-totals c = search needs
 
 returns-5 : tie.Need-returns-5
 returns-5 c =
-    let s = c .before .before .before .before .before .before .before .before .before .before .before .before .before .before .before .before .before .before .before .before .before .before .before .before in
-    let p = c .before .before .before .before .before .before .before .before .before .before .before .before .before .before .before .before .before .before .before .before .before .before .before .index16 in
-    let b = c .before .before .before .before .before .before .before .before .before .before .before .before .before .before .before .before .index162 in
-    let k = c .before .before .before .before .before .before .before .before .before .before .before .before .before .index32 in
+    let s = c .before .before .before .before .before .before .before .before .before .before .before .before .before .before .before .before .before .before .before .before .before .before .before in
+    let p = c .before .before .before .before .before .before .before .before .before .before .before .before .before .before .before .before .before .before .before .before .before .before .index16 in
+    let b = c .before .before .before .before .before .before .before .before .before .before .before .before .before .before .before .index162 in
+    let k = c .before .before .before .before .before .before .before .before .before .before .before .before .index32 in
     let at = c .before .before .before .before .before .before .place in
-    let none = c .before .before .before .before .before .before .before .before .before .before .before .before .before .before .before .before .before .before .before .before .before .if1 .left in
+    let none = c .before .before .before .before .before .before .before .before .before .before .before .before .before .before .before .before .before .before .before .before .if1 .left in
     send-at-its-index (p .result) (s .args .a) (p .ensures .1)
     (λ e. rw (c .before .before .push .ensures, c .wrapping-add-u32 .ensures)
-    (send-queued (s .args .reader .now) (s .args .rows .now) (s .args .boards .now) (s .args .unread .now) (s .args .queued .now) (p .result) (s .args .channel) (s .args .word) _ (omega arith) (sym (c .before .before .before .before .before .before .before .before .before .before .before .before .before .before .before .before .before .before .before .owing .ensures) ∙ c .before .before .before .before .before .before .before .before .before .before .before .before .before .before .before .before .before .before .if2 .left) (b .result) (b .ensures .1) (c .before .before .before .before .before .before .before .before .before .before .before .before .before .before .if3 .left) (k .result) (k .ensures .1) (c .before .before .before .before .queue-send .last .0) (sym (c .before .before .before .before .before .before .before .before .before .held .ensures) ∙ c .before .before .before .before .before .before .before .before .if4 .left) (c .before .before .before .before .queue-send .ensures)
+    (send-queued (s .args .reader .now) (s .args .rows .now) (s .args .boards .now) (s .args .totals .now) (p .result) (s .args .channel) (s .args .word) _ (omega arith) (sym (c .before .before .before .before .before .before .before .before .before .before .before .before .before .before .before .before .before .before .owing .ensures) ∙ c .before .before .before .before .before .before .before .before .before .before .before .before .before .before .before .before .before .if2 .left) (b .result) (b .ensures .1) (c .before .before .before .before .before .before .before .before .before .before .before .before .before .if3 .left) (k .result) (k .ensures .1) (c .before .before .before .before .queue-send .last .0) (sym (c .before .before .before .before .before .before .before .before .before .held .ensures) ∙ c .before .before .before .before .before .before .before .before .if4 .left) (c .before .before .before .before .queue-send .ensures)
     (rw (← at .ensures .1 (b .ensures .0)) (at .ensures .0))
     (λ i. record { answer = record { code = 2; a = s .args .channel; word = s .args .word }; at = at .ensures .1 (b .ensures .0) i; entry = record { item = Word (s .args .channel) (s .args .word) } })))
 
@@ -228,8 +222,6 @@ send-spec =
     element-copy-out-held
     mul-held-2
     element-copy-out-held-2
-    mul-held-3
-    element-copy-out-held-3
     held-requires
     refused-requires-3
     returns-4
@@ -245,6 +237,6 @@ send-spec =
     mul-wrapping-add-u32
     element-copy-out-wrapping-add-u32
     wrapping-add-u32-requires
-    mul-queued
-    element-write-queued
+    mul-totals
+    element-write-totals
     returns-5)

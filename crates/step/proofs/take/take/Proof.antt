@@ -36,7 +36,7 @@ returns c =
     let s = c .before .before .before .before .before in
     let p = c .before .before .before .before .index16 in
     take-at-its-index (p .result) (s .args .a) (p .ensures .1)
-    (λ e. take-37 (s .args .port .now) (s .args .rows .now) (s .args .mails .now) (s .args .unread .now) (p .result) (s .args .code) (s .args .register) (s .args .at) _ (sym (c .before .before .owing .ensures) ∙ c .before .if1 .taken) (rw (← e) (c .refused .ensures)))
+    (λ e. take-37 (s .args .port .now) (s .args .rows .now) (s .args .mails .now) (s .args .totals .now) (p .result) (s .args .code) (s .args .register) (s .args .at) _ (sym (c .before .before .owing .ensures) ∙ c .before .if1 .taken) (rw (← e) (c .refused .ensures)))
 
 refused-requires-2 : tie.Need-refused-requires-2
 refused-requires-2 c κs = search needs
@@ -46,7 +46,7 @@ returns-2 c =
     let s = c .before .before .before .before .before .before in
     let p = c .before .before .before .before .before .index16 in
     take-at-its-index (p .result) (s .args .a) (p .ensures .1)
-    (λ e. take-none (s .args .port .now) (s .args .rows .now) (s .args .mails .now) (s .args .unread .now) (p .result) (s .args .code) (s .args .register) (s .args .at) _ (c .before .if2 .taken))
+    (λ e. take-none (s .args .port .now) (s .args .rows .now) (s .args .mails .now) (s .args .totals .now) (p .result) (s .args .code) (s .args .register) (s .args .at) _ (c .before .if2 .taken))
 
 mul-x : tie.Need-mul-x
 mul-x c = search needs
@@ -96,11 +96,11 @@ element-copy-out-wrapping-sub-u32 c = search needs
 wrapping-sub-u32-requires : tie.Need-wrapping-sub-u32-requires
 wrapping-sub-u32-requires c κs = search needs
 
-mul-unread : tie.Need-mul-unread
-mul-unread c = search needs
+mul-totals : tie.Need-mul-totals
+mul-totals c = search needs
 
-element-write-unread : tie.Need-element-write-unread
-element-write-unread c = search needs
+element-write-totals : tie.Need-element-write-totals
+element-write-totals c = search needs
 
 word-of-requires : tie.Need-word-of-requires
 word-of-requires c κs = search needs
@@ -118,7 +118,7 @@ returns-3 c =
     let u = c .before .before .wrapping-sub-u32 in
     let p = c .before .before .before .before .before .before .before .before .before .before .before .before .before .before .before .index16 in
     take-at-its-index (p .result) (s .args .a) (p .ensures .1)
-    (λ e. take-done (s .args .port .now) (s .args .rows .now) (s .args .mails .now) (s .args .unread .now) (p .result) (s .args .code) (s .args .register) (s .args .at) _ (k .result) (t .last .0) (t .last .1 .0) (u .result) (sym (c .before .before .before .before .before .before .before .before .before .before .before .before .before .owing .ensures) ∙ c .before .before .before .before .before .before .before .before .before .before .before .before .if1 .left) (rw (w .ensures) at (k .ensures .1)) (t .ensures) (u .ensures) (u .ok)
+    (λ e. take-done (s .args .port .now) (s .args .rows .now) (s .args .mails .now) (s .args .totals .now) (p .result) (s .args .code) (s .args .register) (s .args .at) _ (k .result) (t .last .0) (t .last .1 .0) (u .result) (sym (c .before .before .before .before .before .before .before .before .before .before .before .before .before .owing .ensures) ∙ c .before .before .before .before .before .before .before .before .before .before .before .before .if1 .left) (rw (w .ensures) at (k .ensures .1)) (t .ensures) (u .ensures) (u .ok)
     (rw (← w .ensures, ← v .ensures) (c .alone .ensures)))
 
 pub take-spec : {M : Type 1} → statement M
@@ -149,8 +149,8 @@ take-spec =
     mul-wrapping-sub-u32
     element-copy-out-wrapping-sub-u32
     wrapping-sub-u32-requires
-    mul-unread
-    element-write-unread
+    mul-totals
+    element-write-totals
     word-of-requires
     alone-requires
     returns-3)

@@ -1,0 +1,95 @@
+use mathlib.Core.Path.{ap, _∙_}
+use Prim.Native.Nat.{ℕ, _-_}
+use lib.ListN.{getD}
+use Rattle.crash.specs.Recount.{unreadIn, lessBy}
+use Rattle.crash.proofs.Passing.{Passing, passing-start, passing-on, passing-end}
+use Rattle.crash.proofs.Recounting.{less-by}
+use borrow.Author.Needs.{needs}
+use native.Mathlib.Omega.{arith}
+use Rattle.crash.proofs.recount.drop_unread.Statement.{statement}
+use Rattle.crash.proofs.recount.drop_unread.Tie as tie
+use Rattle.crash.proofs.recount.drop_unread.Reads as reads
+use Rattle.crash.proofs.recount.drop_unread.Lts as lts
+use Rattle.crash.proofs.recount.unread_at.Reads as unread-at-reads
+use Rattle.state.proofs.board.wide.Reads as wide-reads
+use Rattle.std.proofs.num.wrapping_sub_u32.Reads as wrapping-sub-u32-reads
+
+abbrev Inv-loop : tie.InvT-loop
+Inv-loop n reader rows mails totals₀ k₀ totals k = Passing (λ i x. lessBy x (unreadIn rows mails (getD reader i 0) i)) n totals₀ totals k
+
+abbrev μ-loop : tie.MeasureT-loop
+μ-loop n reader rows mails totals₀ k₀ totals k = n - k
+
+loop-holds : tie.Need-loop-holds Inv-loop μ-loop
+loop-holds c = passing-start _ _ _
+
+mul-wide : tie.Need-mul-wide Inv-loop μ-loop
+mul-wide c = search needs
+
+element-copy-out-wide : tie.Need-element-copy-out-wide Inv-loop μ-loop
+element-copy-out-wide c = search needs
+
+wide-requires : tie.Need-wide-requires Inv-loop μ-loop
+wide-requires c κs = search needs
+
+unread-at-requires : tie.Need-unread-at-requires Inv-loop μ-loop
+unread-at-requires c κs = search needs
+
+mul-wrapping-sub-u32 : tie.Need-mul-wrapping-sub-u32 Inv-loop μ-loop
+mul-wrapping-sub-u32 c = search needs
+
+element-copy-out-wrapping-sub-u32 : tie.Need-element-copy-out-wrapping-sub-u32 Inv-loop μ-loop
+element-copy-out-wrapping-sub-u32 c = search needs
+
+wrapping-sub-u32-requires : tie.Need-wrapping-sub-u32-requires Inv-loop μ-loop
+wrapping-sub-u32-requires c κs = search needs
+
+mul-totals : tie.Need-mul-totals Inv-loop μ-loop
+mul-totals c = search needs
+
+element-write-totals : tie.Need-element-write-totals Inv-loop μ-loop
+element-write-totals c = search needs
+
+add-k : tie.Need-add-k Inv-loop μ-loop
+add-k c = search needs
+
+loop-less : tie.Need-loop-less Inv-loop μ-loop
+loop-less c = search needs
+
+loop-again : tie.Need-loop-again Inv-loop μ-loop
+loop-again c =
+    let a = c .before .before .before .before .before .before .before .args in
+    let l = c .before .before .before .before .before .before .loop in
+    let t = c .before .before .before .before .before .loop-test .taken in
+    let r = c .before .before .before .wide in
+    let u = c .before .before .unread-at in
+    let w = c .wrapping-sub-u32 in
+    passing-on (λ k x. lessBy x (unreadIn (a .rows .now) (a .mails .now) (getD (a .reader .now) k 0) k)) (a .n) (a .totals .now) (l .totals) (l .k) (l .inv) t (w .result)
+    (less-by _ (u .result) (w .result) (w .ensures) (w .ok) (u .ok) ∙ ap (lessBy _) (u .ensures ∙ ap (λ (p : ℕ). unreadIn (a .rows .now) (a .mails .now) p (l .k)) (r .ensures .0)))
+
+returns : tie.Need-returns Inv-loop μ-loop
+returns c =
+    let a = c .before .before .args in
+    let l = c .before .loop in
+    passing-end (λ k x. lessBy x (unreadIn (a .rows .now) (a .mails .now) (getD (a .reader .now) k 0) k)) (a .n) (a .totals .now) (l .totals) (l .k) (l .inv) (c .loop-test .left)
+
+pub drop-unread-spec : {M : Type 1} → statement M
+drop-unread-spec =
+    tie.close
+    (tie.spec
+    Inv-loop
+    μ-loop
+    loop-holds
+    mul-wide
+    element-copy-out-wide
+    wide-requires
+    unread-at-requires
+    mul-wrapping-sub-u32
+    element-copy-out-wrapping-sub-u32
+    wrapping-sub-u32-requires
+    mul-totals
+    element-write-totals
+    add-k
+    loop-less
+    loop-again
+    returns)

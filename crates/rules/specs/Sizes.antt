@@ -1,0 +1,58 @@
+-- The sizes that document 01 gives the cabinet, its table and its schedule, each named once; those of the backup record, the largest program
+-- among them, are its `Limits`. What stands above passes them on. The code names the same numbers in table/src/format.rt, state/src/board.rt,
+-- state/src/channel.rt and step/src/guards.rt.
+use Prim.Native.Nat.{ℕ, _*_}
+
+-- ---- the table
+
+-- "Bytes 0 and 1: the length of all that follows them, at most 6,260."
+abbrev pub tableMost : ℕ
+tableMost = 6260
+
+-- "boards B, 2 to 16", "processes P, 1 to 16", "channels C, 1 to 32"
+abbrev pub boardsLeast : ℕ
+boardsLeast = 2
+
+abbrev pub boardsMost : ℕ
+boardsMost = 16
+
+abbrev pub processesMost : ℕ
+processesMost = 16
+
+abbrev pub channelsMost : ℕ
+channelsMost = 32
+
+-- "one record for each process: primary board, backup board, n [..], and n instructions": the bytes before the instructions
+abbrev pub recordHead : ℕ
+recordHead = 3
+
+-- ---- the schedule
+
+-- "two length bytes, version 1, then 0 to 10,000 records of six bytes"
+abbrev pub scheduleHead : ℕ
+scheduleHead = 3
+
+abbrev pub commandsMost : ℕ
+commandsMost = 10000
+
+-- ---- the cabinet
+
+-- "each board has one queue, at most 32 entries"
+abbrev pub outboxMost : ℕ
+outboxMost = 32
+
+-- of all queues together
+abbrev pub entriesMost : ℕ
+entriesMost = boardsMost * outboxMost
+
+-- "37 if backed and acts are 8"
+abbrev pub eventsMost : ℕ
+eventsMost = 8
+
+-- W-204: "A backed process now also owes a sync after 64 instructions done since its last sync was issued."
+abbrev pub instructionsMost : ℕ
+instructionsMost = 64
+
+-- "A channel is held when its unread words and those in the queues are 8 or more together."
+abbrev pub occupancyMost : ℕ
+occupancyMost = 8
