@@ -94,9 +94,13 @@ returns-5 c =
     let w = c .before .before .before .before .before .before .before .before .before .before .wide .ensures in
     let k = sync-done (a .log .now) (a .head .now) (a .c) (p .result .kept) (p .last .0) (c .before .before .before .before .before .before .before .before .before .before .before .before .before .before .before .if1 .left) (sym (c .before .before .before .before .before .before .before .before .before .before .before .before .before .lacks .ensures) ∙ c .before .before .before .before .before .before .before .before .before .before .before .before .if2 .left)
     (subst (λ (n : ℕ). Compacted (a .log .now) n (takenOf (a .c)) (p .result .kept) (p .last .0)) w (p .ensures .0)) in
-    rw (c .report2 .ensures, c .before .before .restate2 .ensures)
-    (k, (reports-done (a .log .now) (a .head .now) (a .c) _ _ (p .result .rounds) k,
-    rounds-all (a .log .now) (a .head .now) (a .c) _ (λ z. c .before .before .before .before .before .before .before .if4 .left (c .before .before .before .before .before .before .before .before .all-taken .ensures ∙ z)) (p .ensures .1 ∙ w)))
+    rw (c .report2 .ensures, c .before .before .restate2 .ensures) (
+      k,
+      (
+        reports-done (a .log .now) (a .head .now) (a .c) _ _ (p .result .rounds) k,
+        rounds-all (a .log .now) (a .head .now) (a .c) _ (λ z. c .before .before .before .before .before .before .before .if4 .left (c .before .before .before .before .before .before .before .before .all-taken .ensures ∙ z)) (p .ensures .1 ∙ w),
+      ),
+    )
 
 pub metered-sync-in-spec : {M : Type 1} → statement M
 metered-sync-in-spec =

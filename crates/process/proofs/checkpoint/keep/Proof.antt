@@ -22,17 +22,19 @@ returns : tie.Need-returns
 returns c =
     let a = c .before .before .before .before .before .before .args in
     let k = c .before .sync-in in
-    let y = c .before .before .before .before .if1 .taken in
-    (keeps-became (a .row .now) (a .log .now) (a .head .now) (k .last .0) (k .last .1 .0) (checkpointOf (a .c))
-    (backed-call (a .row .now) (a .log .now) (a .head .now) (λ v. sync v (checkpointOf (a .c))) (k .last .0) (k .last .1 .0) (k .result .number) y (k .ensures .0)),
-    drops-so (a .row .now) (a .log .now) (a .head .now) (a .c) (k .result) _ y (k .ensures .1) (c .total-dropped .ensures))
+    let y = c .before .before .before .before .if1 .taken in (
+      keeps-became (a .row .now) (a .log .now) (a .head .now) (k .last .0) (k .last .1 .0) (checkpointOf (a .c))
+          (backed-call (a .row .now) (a .log .now) (a .head .now) (λ v. sync v (checkpointOf (a .c))) (k .last .0) (k .last .1 .0) (k .result .number) y (k .ensures .0)),
+      drops-so (a .row .now) (a .log .now) (a .head .now) (a .c) (k .result) _ y (k .ensures .1) (c .total-dropped .ensures),
+    )
 
 returns-2 : tie.Need-returns-2
 returns-2 c =
-    let a = c .before .before .args in
-    (keeps-became (a .row .now) (a .log .now) (a .head .now) (a .log .now) (a .head .now) (checkpointOf (a .c))
-    (backed-none (a .row .now) (a .log .now) (a .head .now) (λ v. sync v (checkpointOf (a .c))) (c .if1 .left)),
-    drops-none (a .row .now) (a .log .now) (a .head .now) (checkpointOf (a .c)) (c .if1 .left))
+    let a = c .before .before .args in (
+      keeps-became (a .row .now) (a .log .now) (a .head .now) (a .log .now) (a .head .now) (checkpointOf (a .c))
+          (backed-none (a .row .now) (a .log .now) (a .head .now) (λ v. sync v (checkpointOf (a .c))) (c .if1 .left)),
+      drops-none (a .row .now) (a .log .now) (a .head .now) (checkpointOf (a .c)) (c .if1 .left),
+    )
 
 pub keep-spec : {M : Type 1} → statement M
 keep-spec = tie.close (tie.spec element-copy-out-if1 sync-in-requires total-dropped-requires returns returns-2)
