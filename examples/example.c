@@ -93,7 +93,8 @@ static void board_programmer(void) {
     for (size_t i = 0; i < sizeof calls / sizeof calls[0]; i++) {
         printf(" %u", ks_backup_call(state, KS_STATE, calls[i], KS_CALL, reply, KS_STATE));
     }
-    printf("\n");
+    printf("\nthe sync dropped %u %u %u %u, and", reply[0], reply[1], reply[2], reply[3]);
+    printf(" %u %u %u %u remain\n", reply[4], reply[5], reply[6], reply[7]);
     show_record("saved", state);
     static const uint32_t take_over[KS_CALL] = {KS_TAKE_OVER};
     printf("reply %u\n", ks_backup_call(state, KS_STATE, take_over, KS_CALL, reply, KS_STATE));

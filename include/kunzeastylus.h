@@ -74,7 +74,7 @@ enum ks_answer {
     KS_QUEUED = 2,
     KS_HELD_BACK = 3,
     KS_ON_THE_BUS = 4,
-    KS_SYNC_CARRIED = 5,      /* (process, 0) */
+    KS_SYNC_CARRIED = 5,      /* (process, how many saved words it dropped) */
     KS_SYNC_UNBACKED = 6,     /* (process, 0): no backup left */
     /* refusals: the record's a, and word 0 */
     KS_BAD_RECORD = 32,       /* unknown move, or a word that should be 0 */
@@ -124,8 +124,10 @@ uint32_t ks_judge(const uint8_t *table, size_t table_len, const uint8_t *schedul
  *     KS_ARRIVE       slot, word
  *     KS_COUNT
  *     KS_BACKUP_SYNC  place, four registers, four numbers taken (a slot each)
+ *                                                               reply's first eight numbers become the words dropped on each slot, and then
+ *                                                               those that remain on each; all 0 when refused
  *     KS_TAKE_OVER                                              state stays, reply (KS_STATE numbers) becomes what is handed over
- * A refused call leaves state as it was; but for KS_TAKE_OVER, reply is left as it was. */
+ * A refused call leaves state as it was; but for KS_BACKUP_SYNC and KS_TAKE_OVER, reply is left as it was. */
 uint32_t ks_backup_call(uint32_t *state, size_t state_len, const uint32_t *call, size_t call_len, uint32_t *reply, size_t reply_len);
 
 /* The table that lists of numbers say, to the front of out: ends has sender and reader of each channel, placements primary board, backup board

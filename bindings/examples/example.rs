@@ -1,6 +1,6 @@
 //! The proved calls from Rust, as board programmers, the driver bench, the service desk and the label line use them. examples/example.c is
 //! the same in C; both print examples/example.out.
-use kunzeastylus::{judge, label_run, label_table, labels, run, Backup, BackupRefusal, Code, Record, Refusal, Snapshot, SCANNER};
+use kunzeastylus::{judge, label_run, label_table, labels, run, Backup, BackupRefusal, Code, Record, Refusal, Snapshot, Synced, SCANNER};
 
 /// Document 01's sample table.
 const TABLE: [u8; 37] = [
@@ -34,6 +34,7 @@ fn show_record(name: &str, backup: &Backup) {
 fn board_programmer() {
     let snapshot = |taken| Snapshot { place: 5, registers: [1, 2, 3, 4], taken };
     let mut backup = Backup::new();
+    let mut synced = Synced::default();
     let replies = [
         Ok(()),
         backup.arrive(0, 10),
@@ -41,13 +42,16 @@ fn board_programmer() {
         backup.arrive(0, 12),
         backup.count_one(),
         backup.arrive(4, 13),
-        backup.sync(&snapshot([0, 0, 1, 0])),
-        backup.sync(&snapshot([1, 0, 0, 0])),
+        backup.sync(&snapshot([0, 0, 1, 0])).map(|_| ()),
+        backup.sync(&snapshot([1, 0, 0, 0])).map(|told| synced = told),
         backup.arrive(3, 14),
     ];
     print!("board programmer\nreplies");
     replies.iter().for_each(|reply| print!(" {}", reply.map_or_else(BackupRefusal::number, |()| 0)));
     println!();
+    let [d0, d1, d2, d3] = synced.dropped;
+    let [r0, r1, r2, r3] = synced.remain;
+    println!("the sync dropped {d0} {d1} {d2} {d3}, and {r0} {r1} {r2} {r3} remain");
     show_record("saved", &backup);
     let taken_over = backup.take_over();
     println!("reply {}", taken_over.map_or_else(BackupRefusal::number, |_| 0));

@@ -33,6 +33,13 @@ pub struct Snapshot {
     pub taken: [u32; 4],
 }
 
+/// What a sync did to the saved words, for each slot: how many were dropped, and how many remain.
+#[derive(Clone, Copy, Debug, Default, PartialEq, Eq, Hash)]
+pub struct Synced {
+    pub dropped: [u32; 4],
+    pub remain: [u32; 4],
+}
+
 /// A backup record. It may be unfit when made from any numbers; every call then says so.
 #[derive(Clone, Copy, Debug, PartialEq, Eq, Hash)]
 pub struct Backup {
@@ -90,9 +97,11 @@ impl Backup {
     }
 
     /// A sync is carried.
-    pub fn sync(&mut self, snapshot: &Snapshot) -> Result<(), BackupRefusal> {
+    pub fn sync(&mut self, snapshot: &Snapshot) -> Result<Synced, BackupRefusal> {
         let Snapshot { place, registers: [r0, r1, r2, r3], taken: [t0, t1, t2, t3] } = *snapshot;
-        self.call([3, place, r0, r1, r2, r3, t0, t1, t2, t3], &mut [0; STATE])
+        let mut reply = [0; STATE];
+        self.call([3, place, r0, r1, r2, r3, t0, t1, t2, t3], &mut reply)?;
+        Ok(Synced { dropped: [0, 1, 2, 3].map(|slot| reply[slot]), remain: [4, 5, 6, 7].map(|slot| reply[slot]) })
     }
 
     /// Takes over: words, place, registers and count, as a record. This one stays as it is.

@@ -15,7 +15,7 @@ mod run;
 mod table;
 
 pub use answer::{Answer, Code};
-pub use backup::{Backup, BackupRefusal, Snapshot, STATE};
+pub use backup::{Backup, BackupRefusal, Snapshot, Synced, STATE};
 pub use label::{label_run, label_table, labels, Label, LABEL_TABLE, OUTLET, SCANNER};
 pub use record::{Instruction, Move, Record, OUTSIDE};
 pub use run::{judge, run, ProcessEnd, Refusal, Run};

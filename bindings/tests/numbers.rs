@@ -2,7 +2,7 @@
 //! the calls hand them on.
 use kunzeastylus::{
     judge, run, take_apart, write_table, Backup, BackupRefusal, Code, End, Instruction, Move, Operation, Record, Refusal,
-    Snapshot, Table, TableRefusal, STATE,
+    Snapshot, Synced, Table, TableRefusal, STATE,
 };
 
 const HEADER: &str = include_str!("../../include/kunzeastylus.h");
@@ -106,7 +106,7 @@ fn the_record() {
     assert_eq!(backup.sync(&snapshot(64, [13, 0, 0, 0])), Err(BackupRefusal::Taken));
     assert_eq!(backup, before);
     assert_eq!(backup.take_over().map(|taken| (taken.count(), taken.words().count())), Ok((16, 48)));
-    assert_eq!(backup.sync(&snapshot(64, [12, 12, 12, 11])), Ok(()));
+    assert_eq!(backup.sync(&snapshot(64, [12, 12, 12, 11])), Ok(Synced { dropped: [12, 12, 12, 11], remain: [0, 0, 0, 1] }));
     assert_eq!((backup.words().collect::<Vec<_>>(), backup.count(), backup.place()), (vec![(3, 47)], 0, 64));
     let mut unfit = *backup.numbers();
     unfit[0] = u32::MAX;

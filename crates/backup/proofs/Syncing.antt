@@ -8,12 +8,14 @@ use lib.Dec.{ltb}
 use lib.ListN.{length, getD, set, length-set}
 use borrow.Author.Tests.{lt-ltb, le-ltb}
 use Rattle.facts.specs.Tests.{any-same}
-use Rattle.facts.specs.Lists.{listed, written-out}
+use Rattle.facts.specs.Lists.{listed, listed-same, written-out}
 use Rattle.backup.specs.Limits.{logMost, ports, pcMost}
 use Rattle.backup.specs.Replica.{Message, Replica, savedOn, takenOn, lacking, sync, syncNumber, synced}
 use Rattle.backup.specs.Laws.{saved-remaining}
-use Rattle.backup.specs.Accepts.{fit-parts, enough, sync-accepted, synced-fit}
-use Rattle.backup.specs.Place.{messages, viewIn, tallyIn, headLength, Sound, Called, takenOf, checkpointOf, lacksIn, Compacted, restatedIn}
+use Rattle.backup.specs.Accepts.{fit-parts, enough, answer-number, answer-done, sync-accepted, synced-fit}
+use Rattle.backup.specs.Place.{messages, viewIn, tallyIn, headLength, Sound, Called, takenOf, checkpointOf, lacksIn, Compacted, restatedIn, reportOf, refusedOf, landedIn, Reports}
+use Rattle.backup.specs.Report.{syncReport}
+use Rattle.backup.specs.ReportLaws.{syncReport-accepted, syncReport-refused, gone-taken}
 use Rattle.backup.specs.Rounds.{allTaken, syncRounds, syncRounds-none, syncRounds-some, OnePass, onePass-by}
 use Rattle.backup.specs.declared.place.Checkpoint.{Checkpoint}
 use Rattle.backup.proofs.InPlace.{refused-so, accepted-so, same-replica, view-length}
@@ -105,3 +107,36 @@ module _ (log head : List ℕ) (c : Checkpoint) where
   pub rounds-all : (rounds : ℕ) → (allTaken (takenOf c) ≡ 0 → ⊥) → rounds ≡ getD head 0 0 → OnePass (viewIn log head) (checkpointOf c) 0 rounds
   rounds-all rounds n e =
       onePass-by (viewIn log head) (checkpointOf c) 0 rounds (e ∙ sym (view-length log head) ∙ sym (syncRounds-some (viewIn log head) (checkpointOf c) n))
+
+-- ---- the report
+
+module _ (log head : List ℕ) (c : Checkpoint) where
+  -- refused: all 0, by the definition too, since it gives the same number
+  pub reports-refused : (n : ℕ) (log′ head′ : List ℕ) → Called log head log′ head′ (suc n) (λ v. sync v (checkpointOf c)) → Reports log head c (refusedOf (suc n) .landed)
+  unfolding sync
+  reports-refused n log′ head′ k = record {
+    refused-none = λ _. refl;
+    report-is = λ s. sym (syncReport-refused (viewIn log head) (checkpointOf c) (λ z. let a = k .number-is s ∙ number-of (viewIn log head) in omega arith));
+  }
+    where
+      number-of : (v : Replica) → sync v (checkpointOf c) .number ≡ syncNumber v (checkpointOf c)
+      number-of v = answer-number (syncNumber v (checkpointOf c)) v (synced v (checkpointOf c))
+
+  -- done: what was taken has gone, and the tallies are what remains
+  pub reports-done : (log′ head′ : List ℕ) (rounds : ℕ) → Called log head log′ head′ 0 (λ v. sync v (checkpointOf c)) → Reports log head c (landedIn head′ c rounds .landed)
+  unfolding sync
+  reports-done log′ head′ rounds k = record { refused-none = λ z. absurd (z refl); report-is = by-port }
+    where
+      by-port : Sound log head → reportOf (landedIn head′ c rounds .landed) ≡ syncReport (viewIn log head) (checkpointOf c)
+      by-port s =
+          let v : Replica = viewIn log head in
+          let z : syncNumber v (checkpointOf c) ≡ 0 = sym (answer-number (syncNumber v (checkpointOf c)) v (synced v (checkpointOf c))) ∙ sym (k .number-is s) in
+          let e : sync v (checkpointOf c) .replica ≡ synced v (checkpointOf c) = answer-done (syncNumber v (checkpointOf c)) v (synced v (checkpointOf c)) z in
+          let gone : (p : ℕ) → p < ports → takenOn (takenOf c) p ≡ savedOn p (v .log) - savedOn p (synced v (checkpointOf c) .log) = λ p l. sym (gone-taken v (checkpointOf c) z p l) in
+          let there : (p : ℕ) → p < ports → tallyIn head′ p ≡ savedOn p (synced v (checkpointOf c) .log) =
+          λ p l. k .sound-again s .tallies p l ∙ ap (λ (x : Replica). savedOn p (x .log)) (k .value-is s ∙ e) in
+          (λ i. record {
+            dropped = listed-same (takenOn (takenOf c)) (λ p. savedOn p (v .log) - savedOn p (synced v (checkpointOf c) .log)) ports gone i;
+            remained = listed-same (tallyIn head′) (λ p. savedOn p (synced v (checkpointOf c) .log)) ports there i;
+          })
+          ∙ sym (syncReport-accepted v (checkpointOf c) z)

@@ -41,6 +41,16 @@ unfolding fit
 parts-fit r h =
     rw (le-leb (length (r .log)) logMost (h .few), h .on-ports, le-leb (r .sent) sentMost (h .sent-small), le-leb (r .pc) pcMost (h .pc-small))
 
+-- ---- an answer's parts
+
+pub answer-number : (n : ℕ) (old new : Replica) → answer n old new .number ≡ n
+answer-number zero old new = refl
+answer-number (suc n) old new = refl
+
+pub answer-done : (n : ℕ) (old new : Replica) → n ≡ 0 → answer n old new .replica ≡ new
+answer-done zero old new h = refl
+answer-done (suc n) old new h = absurd (omega arith)
+
 -- ---- unfit: 20, whatever the call
 
 pub arrive-unfit : (r : Replica) (port word : ℕ) → fit r ≡ false → arrive r port word ≡ record { number = 20; replica = r }
@@ -105,6 +115,17 @@ pub sync-number : (r : Replica) (c : Checkpoint) → fit r ≡ true → c .pc �
     → syncNumber r c ≡ 0
 unfolding syncNumber
 sync-number r c f p h = rw (f, le-ltb pcMost (c .pc) p, not-lacking (c .taken) (r .log) h)
+
+-- and one that is accepted had a fit value, with enough on each port
+pub sync-parts : (r : Replica) (c : Checkpoint) → syncNumber r c ≡ 0 → (fit r ≡ true) × (lacking (c .taken) (r .log) ≡ false)
+unfolding syncNumber
+sync-parts r c h = go (fit r) (ltb pcMost (c .pc)) (lacking (c .taken) (r .log)) h
+  where
+    go : (f p l : Bool) → _≡_ {A = ℕ} (cond (not f) 20 (cond p 21 (cond l 23 0))) 0 → (f ≡ true) × (l ≡ false)
+    go false p l e = absurd (omega arith)
+    go true true l e = absurd (omega arith)
+    go true false true e = absurd (omega arith)
+    go true false false e = (refl, refl)
 
 pub sync-accepted : (r : Replica) (c : Checkpoint) → fit r ≡ true → c .pc ≤ pcMost → ((p : ℕ) → p < ports → takenOn (c .taken) p ≤ savedOn p (r .log))
     → sync r c ≡ record { number = 0; replica = synced r c }

@@ -3,5 +3,7 @@ pub mod Limits
 pub mod Replica
 pub mod Laws
 pub mod Accepts
-pub mod Place
+pub mod Report
 pub mod Rounds
+pub mod ReportLaws
+pub mod Place

@@ -11,8 +11,11 @@ use Rattle.facts.specs.Lists.{prefix}
 use Rattle.backup.specs.Limits.{logMost, ports}
 use Rattle.backup.specs.Replica.{Message, Replica, Reply, FailOver, fit, onPorts, savedOn, takenOn, remaining}
 use Rattle.backup.specs.Replica as value
+use Rattle.backup.specs.Report.{Report, noneByPort, noReport, syncReport}
 use Rattle.backup.specs.declared.place.Checkpoint.{Checkpoint}
 use Rattle.backup.specs.declared.place.Promotion.{Promotion}
+use Rattle.backup.specs.declared.place.Landed.{Landed}
+use Rattle.backup.specs.declared.place.Metered.{Metered}
 
 -- a message as one number: port times 2^32, plus word
 abbrev pub pack : ℕ → ℕ → ℕ
@@ -98,6 +101,25 @@ restatedIn head len c =
     let b = set a 8 (getD a 8 0 - c .t1) in
     let d = set b 9 (getD b 9 0 - c .t2) in
     set d 10 (getD d 10 0 - c .t3)
+
+-- what a sync's reply reports
+abbrev pub reportOf : Landed → Report
+reportOf r = record { dropped = r .dropped; remained = r .remained }
+
+-- a refused sync's reply, and one that was done, from the head afterwards
+abbrev pub refusedOf : ℕ → Metered
+refusedOf number = record { landed = record { number = number; dropped = noneByPort; remained = noneByPort }; rounds = 0 }
+
+abbrev pub landedIn : List ℕ → Checkpoint → ℕ → Metered
+landedIn head c rounds = record {
+  landed = record { number = 0; dropped = takenOf c; remained = tallyIn head 0 ∷ tallyIn head 1 ∷ tallyIn head 2 ∷ tallyIn head 3 ∷ [] };
+  rounds = rounds;
+}
+
+-- what a sync in place reports: refused, all 0, whatever the arrays are; of a sound backup what the definition says
+pub record Reports (log head : List ℕ) (c : Checkpoint) (r : Landed) : Type 0 where
+  pub refused-none : (r .number ≡ 0 → ⊥) → reportOf r ≡ noReport
+  pub report-is : Sound log head → reportOf r ≡ syncReport (viewIn log head) (checkpointOf c)
 
 -- ---- take over in place
 

@@ -7,7 +7,8 @@ ghost use Prim.Native.Nat.{ℕ, _+_, _-_, _%_, _^_, _≤_, _<_};
 ghost use lib.ListN.{length, getD, set};
 ghost use Rattle.backup.specs.Limits.{logMost};
 ghost use Rattle.backup.specs.Replica.{arrive, count, sync};
-ghost use Rattle.backup.specs.Place.{Called, headLength, portIn, wordIn, checkpointOf, takenOf, lacksIn, restatedIn, Compacted, promotionIn, viewIn};
+ghost use Rattle.backup.specs.Place.{Called, headLength, portIn, wordIn, checkpointOf, takenOf, lacksIn, restatedIn, Compacted, promotionIn, viewIn, Reports, reportOf, refusedOf, landedIn};
+ghost use Rattle.backup.specs.Report.{totalDropped};
 ghost use Rattle.backup.specs.Rounds.{allTaken, OnePass};
 use crate::limits::LOG;
 use crate::limits::PC_MOST;
@@ -67,9 +68,17 @@ pub struct Promotion {
     pub r3: u32,
 }
 
-// A sync's number, and the rounds of all its loops together.
-pub struct Metered {
+// What a sync replies: 0 or the refusal's number, and for each port how many messages were dropped and how many remain, all 0 where it
+// was refused.
+pub struct Landed {
     pub number: u8,
+    pub dropped: [u32; 4],
+    pub remained: [u32; 4],
+}
+
+// A sync's reply, and the rounds of all its loops together.
+pub struct Metered {
+    pub landed: Landed,
     pub rounds: usize,
 }
 
@@ -151,11 +160,18 @@ fn lane(x: u64) -> usize
     wide(port_of(x) % 4)
 }
 
+// Four numbers, one of each port, together.
+fn together(n0: u32, n1: u32, n2: u32, n3: u32) -> usize
+    ensures { λ r. ⌜ r ≡ allTaken (n0 ∷ n1 ∷ n2 ∷ n3 ∷ []) ⌝ }
+{
+    wide(n0) + wide(n1) + wide(n2) + wide(n3)
+}
+
 // How many messages were taken, on all ports together.
 fn all_taken(c: Checkpoint) -> usize
     ensures { λ r. ⌜ r ≡ allTaken (takenOf c) ⌝ }
 {
-    wide(c.t0) + wide(c.t1) + wide(c.t2) + wide(c.t3)
+    together(c.t0, c.t1, c.t2, c.t3)
 }
 
 // Drops the oldest messages of each port, as many as were taken on it, in one pass over the first len, and counts its rounds: the first
@@ -214,52 +230,75 @@ fn restate(head: &mut [u32; HEAD], len: u32, c: Checkpoint)
     head[SAVED3] = minus(head[SAVED3], c.t3);
 }
 
+// A sync that is refused drops nothing, and says so.
+fn refusal(number: u8) -> Metered
+    ensures { λ r. ⌜ r ≡ refusedOf number ⌝ }
+{
+    Metered {
+        landed: Landed {
+            number: number,
+            dropped: [0; 4],
+            remained: [0; 4],
+        },
+        rounds: 0,
+    }
+}
+
+// What a sync that was done says: from each port what was taken is gone, and the tallies are what remains.
+fn report(head: &[u32; HEAD], c: Checkpoint, rounds: usize) -> Metered
+    ensures { λ r. ⌜ r ≡ landedIn (now (head .entry)) c rounds ⌝ }
+{
+    Metered {
+        landed: Landed {
+            number: 0,
+            dropped: [c.t0, c.t1, c.t2, c.t3],
+            remained: [head[SAVED0], head[SAVED1], head[SAVED2], head[SAVED3]],
+        },
+        rounds: rounds,
+    }
+}
+
 // A checkpoint lands, with its rounds counted: 0, or 21 or 23. Where nothing was taken nothing moves, and there is no round.
 pub fn metered_sync_in(log: &mut [u64; LOG], head: &mut [u32; HEAD], c: Checkpoint) -> Metered
-    ensures { λ r. ⌜ Called (now (log .entry)) (now (head .entry)) (now (log .exit)) (now (head .exit)) (r .number) (λ v. sync v (checkpointOf c)) ⌝ }
-    ensures { λ r. ⌜ OnePass (viewIn (now (log .entry)) (now (head .entry))) (checkpointOf c) (r .number) (r .rounds) ⌝ }
+    ensures { λ r. ⌜ Called (now (log .entry)) (now (head .entry)) (now (log .exit)) (now (head .exit)) (r .landed .number) (λ v. sync v (checkpointOf c)) ⌝ }
+    ensures { λ r. ⌜ Reports (now (log .entry)) (now (head .entry)) c (r .landed) ⌝ }
+    ensures { λ r. ⌜ OnePass (viewIn (now (log .entry)) (now (head .entry))) (checkpointOf c) (r .landed .number) (r .rounds) ⌝ }
 {
     if c.pc > PC_MOST {
-        return Metered {
-            number: 21,
-            rounds: 0,
-        };
+        return refusal(21);
     }
     if lacks(head, c) {
-        return Metered {
-            number: 23,
-            rounds: 0,
-        };
+        return refusal(23);
     }
     let len = wide(head[LEN]);
     if len > LOG {
-        return Metered {
-            number: 20,
-            rounds: 0,
-        };
+        return refusal(20);
     }
     let all = all_taken(c);
     if all == 0 {
         restate(head, len as u32, c);
-        return Metered {
-            number: 0,
-            rounds: 0,
-        };
+        return report(head, c, 0);
     }
     let p = compact(log, len, [c.t0, c.t1, c.t2, c.t3], all);
     restate(head, p.kept as u32, c);
-    Metered {
-        number: 0,
-        rounds: p.rounds,
-    }
+    report(head, c, p.rounds)
 }
 
-// A checkpoint lands: 0, or 21 or 23.
-pub fn sync_in(log: &mut [u64; LOG], head: &mut [u32; HEAD], c: Checkpoint) -> u8
-    ensures { λ r. ⌜ Called (now (log .entry)) (now (head .entry)) (now (log .exit)) (now (head .exit)) r (λ v. sync v (checkpointOf c)) ⌝ }
+// A checkpoint lands: 0, or 21 or 23, and what it dropped and left.
+pub fn sync_in(log: &mut [u64; LOG], head: &mut [u32; HEAD], c: Checkpoint) -> Landed
+    ensures { λ r. ⌜ Called (now (log .entry)) (now (head .entry)) (now (log .exit)) (now (head .exit)) (r .number) (λ v. sync v (checkpointOf c)) ⌝ }
+    ensures { λ r. ⌜ Reports (now (log .entry)) (now (head .entry)) c r ⌝ }
 {
     let m = metered_sync_in(log, head, c);
-    m.number
+    m.landed
+}
+
+// How many messages a sync dropped, on all ports together, in 32 bits.
+pub fn total_dropped(r: Landed) -> u32
+    ensures { λ n. ⌜ n ≡ totalDropped (reportOf r) % 2 ^ 32 ⌝ }
+{
+    let d = r.dropped;
+    (together(d[0], d[1], d[2], d[3]) % 4294967296) as u32
 }
 
 // The backup takes over: what its process goes on from. The log holds the messages.

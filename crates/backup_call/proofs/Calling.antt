@@ -5,19 +5,20 @@ use mathlib.Core.List.{List}
 use Prim.Native.Nat.{ℕ, zero, suc}
 use native.Mathlib.Omega.{arith}
 use lib.Dec.{eqb}
-use lib.ListN.{length, getD}
+use lib.ListN.{length, getD, length-set}
 use borrow.Author.Tests.{eq-eqb, eqb-true}
 use Rattle.facts.specs.Tests.{and-left, and-right, no-way}
 use Rattle.backup.specs.Replica as value
 use Rattle.backup.specs.Replica.{Replica, initial, failOver, fit}
 use Rattle.backup.specs.Place.{checkpointOf}
 use Rattle.backup.specs.Rounds.{OnePass}
+use Rattle.backup.specs.Report.{Report, syncReport}
 use Rattle.backup_value.specs.Value.{view, promotedBy, Answered}
 use Rattle.backup_value.specs.declared.Backup.{Backup}
 use Rattle.backup_value.specs.declared.Reply.{Reply}
 use Rattle.backup_value.specs.declared.FailOver.{FailOver}
 use Rattle.backup_call.specs.Layout.{stateLength, callLength, stateView, checkpointAt}
-use Rattle.backup_call.specs.Exported.{Asked, start, promotion, unknown, missized, byNumber, Sized, lengthsMatch, asked, answered, handedBy, Exported, Settled, HandedOver}
+use Rattle.backup_call.specs.Exported.{Asked, start, checkpoint, promotion, unknown, missized, byNumber, Sized, lengthsMatch, asked, answered, handedBy, toldIn, repliedIn, Exported, Settled, HandedOver}
 use Rattle.backup_call.specs.Rounds.{callRounds, CallPass}
 
 -- ---- what is asked
@@ -89,55 +90,68 @@ module _ (state call reply : List ℕ) (a : Asked) (e : asked state call reply �
 
   -- nothing is done: a number alone
   exported-none : (n : ℕ) → (a ≡ promotion → ⊥) → answered a (stateView state) ≡ record { number = n; replica = stateView state }
-      → Exported state call reply n state reply
-  exported-none n p h = record {
+      → repliedIn a (stateView state) reply ≡ reply → Exported state call reply n state reply
+  exported-none n p h w = record {
     number-is = rw (e, h);
     value-is = rw (e, h);
     fit-again = λ f. f;
     refused = λ _. refl;
     promoted = λ _. refl;
     reply-is = λ z. absurd (no-promotion p z);
-    reply-same = λ _. refl;
+    reply-else = λ _. sym (ap (λ (x : Asked). repliedIn x (stateView state) reply) e ∙ w);
     state-length = refl;
     reply-length = refl;
   }
 
   -- a reply is stored, unless it was refused
-  exported-settled : (r : Reply) (n : ℕ) (state′ : List ℕ) → (a ≡ promotion → ⊥) → length state ≡ stateLength
-      → Replied (stateView state) r (answered a) → Settled state r n state′ → Exported state call reply n state′ reply
-  exported-settled r n state′ p l q s = go n refl
+  exported-settled : (r : Reply) (n : ℕ) (state′ reply′ : List ℕ) → (a ≡ promotion → ⊥) → length state ≡ stateLength
+      → Replied (stateView state) r (answered a) → Settled state r n state′ → reply′ ≡ repliedIn a (stateView state) reply → length reply′ ≡ length reply
+      → Exported state call reply n state′ reply′
+  exported-settled r n state′ reply′ p l q s w k = go n refl
     where
+      reply-so : reply′ ≡ repliedIn (asked state call reply) (stateView state) reply
+      reply-so = w ∙ sym (ap (λ (x : Asked). repliedIn x (stateView state) reply) e)
+
       number-so : n ≡ answered (asked state call reply) (stateView state) .number
       number-so = s .number-is ∙ rw e (q .number-is)
 
-      go : (m : ℕ) → n ≡ m → Exported state call reply n state′ reply
+      go : (m : ℕ) → n ≡ m → Exported state call reply n state′ reply′
       go zero z =
           let v : stateView state′ ≡ view (r .backup) = s .accepted z in
           record {
             number-is = number-so;
             value-is = v ∙ rw e (q .value-is);
             fit-again = λ f. ap fit v ∙ q .fit-again f;
-            refused = λ k. absurd (k z);
-            promoted = λ k. absurd (no-promotion p k);
-            reply-is = λ k. absurd (no-promotion p k);
-            reply-same = λ _. refl;
+            refused = λ y. absurd (y z);
+            promoted = λ y. absurd (no-promotion p y);
+            reply-is = λ y. absurd (no-promotion p y);
+            reply-else = λ _. reply-so;
             state-length = s .length-is ∙ sym l;
-            reply-length = refl;
+            reply-length = k;
           }
       go (suc m) z =
-          let k : n ≡ 0 → ⊥ = λ y. (let x = z in omega arith) in
-          let u : state′ ≡ state = s .refused k in
+          let some : n ≡ 0 → ⊥ = λ y. (let x = z in omega arith) in
+          let u : state′ ≡ state = s .refused some in
           record {
             number-is = number-so;
-            value-is = ap stateView u ∙ rw e (sym (q .refused (λ y. k (s .number-is ∙ y))));
+            value-is = ap stateView u ∙ rw e (sym (q .refused (λ y. some (s .number-is ∙ y))));
             fit-again = λ f. ap (λ (x : List ℕ). fit (stateView x)) u ∙ f;
             refused = λ _. u;
             promoted = λ _. u;
             reply-is = λ y. absurd (no-promotion p y);
-            reply-same = λ _. refl;
+            reply-else = λ _. reply-so;
             state-length = ap length u;
-            reply-length = refl;
+            reply-length = k;
           }
+
+-- a sync's reply: what the record reports, written into the lent numbers
+pub told-so : (reply reply′ : List ℕ) (r : Report) (v w : Replica) (c : value.Checkpoint) → reply′ ≡ toldIn reply r → r ≡ syncReport v c → v ≡ w
+    → reply′ ≡ repliedIn (checkpoint c) w reply
+unfolding repliedIn
+told-so reply reply′ r v w c a b e = a ∙ ap (toldIn reply) (b ∙ ap (λ (x : Replica). syncReport x c) e)
+
+pub length-toldIn : (reply : List ℕ) (r : Report) → length (toldIn reply r) ≡ length reply
+length-toldIn reply r = simp length-set
 
 -- ---- the rounds
 
@@ -170,23 +184,24 @@ module _ {state call reply : List ℕ} (s : Sized state call reply) (number : �
 
 -- a slice of another length
 pub exported-missized : (state call reply : List ℕ) → (Sized state call reply → ⊥) → Exported state call reply 25 state reply
-unfolding answered
-exported-missized state call reply h = exported-none state call reply missized (asked-missized state call reply h) 25 (λ z. no-way (cc)) refl
+unfolding answered repliedIn
+exported-missized state call reply h = exported-none state call reply missized (asked-missized state call reply h) 25 (λ z. no-way (cc)) refl refl
 
 module _ {state call reply : List ℕ} (s : Sized state call reply) where
   -- a call that changes the state
-  pub exported-change : (n : ℕ) → getD call 0 0 ≡ n → (byNumber n call ≡ promotion → ⊥) → {r : Reply} {number : ℕ} {state′ : List ℕ}
-      → Replied (stateView state) r (answered (byNumber n call)) → Settled state r number state′ → Exported state call reply number state′ reply
-  exported-change n e p {r} {number} {state′} q t =
-      exported-settled state call reply (byNumber n call) (asked-by state call reply n s e) r number state′ p (s .state-is) q t
+  pub exported-change : (n : ℕ) → getD call 0 0 ≡ n → (byNumber n call ≡ promotion → ⊥) → {r : Reply} {number : ℕ} {state′ reply′ : List ℕ}
+      → Replied (stateView state) r (answered (byNumber n call)) → Settled state r number state′
+      → reply′ ≡ repliedIn (byNumber n call) (stateView state) reply → length reply′ ≡ length reply → Exported state call reply number state′ reply′
+  exported-change n e p {r} {number} {state′} {reply′} q t w k =
+      exported-settled state call reply (byNumber n call) (asked-by state call reply n s e) r number state′ reply′ p (s .state-is) q t w k
 
   -- a number that stands for no call
   pub exported-unknown : (getD call 0 0 ≡ 0 → ⊥) → (getD call 0 0 ≡ 1 → ⊥) → (getD call 0 0 ≡ 2 → ⊥) → (getD call 0 0 ≡ 3 → ⊥) → (getD call 0 0 ≡ 4 → ⊥)
       → Exported state call reply 26 state reply
-  unfolding answered
+  unfolding answered repliedIn
   exported-unknown h₀ h₁ h₂ h₃ h₄ =
       exported-none state call reply unknown (asked-by state call reply (getD call 0 0) s refl ∙ no-call (getD call 0 0) call h₀ h₁ h₂ h₃ h₄)
-      26 (λ z. no-way (cc)) refl
+      26 (λ z. no-way (cc)) refl refl
 
   -- a promotion is handed over
   pub exported-promoted : getD call 0 0 ≡ 4 → (b : Backup) {f : FailOver} {number : ℕ} {reply′ : List ℕ} → view b ≡ stateView state
@@ -204,7 +219,7 @@ module _ {state call reply : List ℕ} (s : Sized state call reply) where
         refused = λ _. refl;
         promoted = λ _. refl;
         reply-is = λ _. whole;
-        reply-same = λ k. absurd (k a);
+        reply-else = λ k. absurd (k a);
         state-length = refl;
         reply-length = h .length-is ∙ sym (s .reply-is);
       }

@@ -5,9 +5,10 @@ use mathlib.Core.Bool.{Bool, true, cond, _&&_}
 use mathlib.Core.List.{List}
 use Prim.Native.Nat.{ℕ, zero, suc}
 use lib.Dec.{eqb}
-use lib.ListN.{length, getD}
+use lib.ListN.{length, getD, set}
 use Rattle.backup.specs.Replica as value
 use Rattle.backup.specs.Replica.{Replica, initial, arrive, count, sync, failOver, fit}
+use Rattle.backup.specs.Report.{Report, syncReport}
 use Rattle.backup.specs.Place.{checkpointOf}
 use Rattle.backup_value.specs.Value.{view}
 use Rattle.backup_value.specs.declared.Backup.{Backup}
@@ -69,6 +70,22 @@ handedBy number reply =
     let v = stateView reply in
     record { number = number; log = v .log; pc = v .pc; registers = v .registers; sent = v .sent }
 
+-- a sync's report in a reply: for each of four slots the words dropped, and then for each the words that remain
+abbrev pub toldIn : List ℕ → Report → List ℕ
+toldIn reply r =
+    let d = set (set (set (set reply 0 (getD (r .dropped) 0 0)) 1 (getD (r .dropped) 1 0)) 2 (getD (r .dropped) 2 0)) 3 (getD (r .dropped) 3 0) in
+    set (set (set (set d 4 (getD (r .remained) 0 0)) 5 (getD (r .remained) 1 0)) 6 (getD (r .remained) 2 0)) 7 (getD (r .remained) 3 0)
+
+-- the reply of a call that is no promotion: a sync's report, refused or not, and else as it was
+unfoldable pub repliedIn : Asked → Replica → List ℕ → List ℕ
+repliedIn (checkpoint c) v reply = toldIn reply (syncReport v c)
+repliedIn start v reply = reply
+repliedIn (arrival port word) v reply = reply
+repliedIn transmission v reply = reply
+repliedIn promotion v reply = reply
+repliedIn unknown v reply = reply
+repliedIn missized v reply = reply
+
 pub record Exported (state call reply : List ℕ) (number : ℕ) (state′ reply′ : List ℕ) : Type 0 where
   pub number-is : number ≡ answered (asked state call reply) (stateView state) .number
   pub value-is : stateView state′ ≡ answered (asked state call reply) (stateView state) .replica
@@ -76,9 +93,9 @@ pub record Exported (state call reply : List ℕ) (number : ℕ) (state′ reply
   -- refused, or a promotion: every number of the state is as it was
   pub refused : (number ≡ 0 → ⊥) → state′ ≡ state
   pub promoted : asked state call reply ≡ promotion → state′ ≡ state
-  -- a promotion alone writes the reply
+  -- a promotion writes the reply, a sync eight numbers of it, and no other call any
   pub reply-is : asked state call reply ≡ promotion → handedBy number reply′ ≡ failOver (stateView state)
-  pub reply-same : (asked state call reply ≡ promotion → ⊥) → reply′ ≡ reply
+  pub reply-else : (asked state call reply ≡ promotion → ⊥) → reply′ ≡ repliedIn (asked state call reply) (stateView state) reply
   pub state-length : length state′ ≡ length state
   pub reply-length : length reply′ ≡ length reply
 

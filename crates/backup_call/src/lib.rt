@@ -2,9 +2,9 @@
 // `Backup`, the call is made by value, and what it leaves is stored back.
 ghost use mathlib.Core.Path.{_≡_};
 ghost use lib.ListN.{length};
-ghost use Rattle.backup_value.specs.Value.{view};
+ghost use Rattle.backup_value.specs.Value.{view, repliedOf, reportedOf};
 ghost use Rattle.backup_call.specs.Layout.{stateLength, callLength, stateView, checkpointAt};
-ghost use Rattle.backup_call.specs.Exported.{Sized, Exported, Stored, Settled, HandedOver};
+ghost use Rattle.backup_call.specs.Exported.{Sized, Exported, Stored, Settled, HandedOver, toldIn};
 ghost use Rattle.backup_call.specs.Rounds.{CallPass, roundlessOf};
 use backup::pack::packed;
 use backup::pack::port_of;
@@ -155,15 +155,42 @@ fn roundless(number: u32) -> MeteredCall
     }
 }
 
-// Stores what a sync left, unless it was refused, and hands on its number and rounds.
-fn land(state: &mut [u32], m: MeteredReply) -> MeteredCall
+// Writes what a sync dropped and left, slot by slot, into a reply's first numbers.
+fn tell(reply: &mut [u32], dropped: [u32; 4], remained: [u32; 4])
+    requires { ⌜ length (now reply) ≡ stateLength ⌝ }
+    ensures { λ _. ⌜ now (reply .exit) ≡ toldIn (now (reply .entry)) (record { dropped = dropped; remained = remained }) ⌝ }
+{
+    reply[0] = dropped[0];
+    reply[1] = dropped[1];
+    reply[2] = dropped[2];
+    reply[3] = dropped[3];
+    reply[4] = remained[0];
+    reply[5] = remained[1];
+    reply[6] = remained[2];
+    reply[7] = remained[3];
+}
+
+// Stores what a sync left, unless it was refused, writes what it reports, and hands on its number and rounds.
+fn land(state: &mut [u32], reply: &mut [u32], m: MeteredReply) -> MeteredCall
     requires { ⌜ length (now state) ≡ stateLength ⌝ }
-    ensures { λ r. ⌜ Settled (now (state .entry)) (m .reply) (r .number) (now (state .exit)) ⌝ }
+    requires { ⌜ length (now reply) ≡ stateLength ⌝ }
+    ensures { λ r. ⌜ Settled (now (state .entry)) (repliedOf (m .reply)) (r .number) (now (state .exit)) ⌝ }
+    ensures { λ _. ⌜ now (reply .exit) ≡ toldIn (now (reply .entry)) (reportedOf (m .reply)) ⌝ }
     ensures { λ r. ⌜ r .rounds ≡ m .rounds ⌝ }
 {
-    let reply = m.reply;
+    let r = m.reply;
+    let dropped = r.dropped;
+    let remained = r.remained;
+    let backup = r.backup;
+    tell(reply, dropped, remained);
     MeteredCall {
-        number: settle(state, reply),
+        number: settle(
+            state,
+            Reply {
+                number: r.number,
+                backup: backup,
+            },
+        ),
         rounds: m.rounds,
     }
 }
@@ -185,7 +212,7 @@ fn perform(state: &mut [u32], call: &[u32], reply: &mut [u32]) -> MeteredCall
         )),
         1 => roundless(settle(state, arrive(load(state), call[1], call[2]))),
         2 => roundless(settle(state, count(load(state)))),
-        3 => land(state, metered_sync(load(state), checkpoint(call))),
+        3 => land(state, reply, metered_sync(load(state), checkpoint(call))),
         4 => roundless(hand_over(reply, fail_over(load(state)))),
         _ => roundless(UNKNOWN),
     }
@@ -209,8 +236,8 @@ pub fn metered_call(state: &mut [u32], call: &[u32], reply: &mut [u32]) -> Meter
 }
 
 // The call. `state` is a backup in 103 numbers, `call` a number and its arguments: 0 new; 1 arrive: port, word; 2 count;
-// 3 sync: place, four registers, four takes; 4 take over, which writes into `reply` what it hands over, laid out as a state. The
-// result is document 01's number, or 25 for a slice of another length, or 26 for a call of another number.
+// 3 sync: place, four registers, four takes, which writes into `reply` how many words it dropped on each slot, and then how many remain on
+// each; 4 take over, which writes into `reply` what it hands over, laid out as a state. The result is document 01's number, or 25 for a slice of another length, or 26 for a call of another number.
 pub fn backup_call(state: &mut [u32], call: &[u32], reply: &mut [u32]) -> u32
     ensures { λ n. ⌜ Exported (now (state .entry)) (now (call .entry)) (now (reply .entry)) n (now (state .exit)) (now (reply .exit)) ⌝ }
 {

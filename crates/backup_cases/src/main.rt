@@ -1,9 +1,11 @@
 // Cases of the backup record, run and compared with stdout: M12 of document 01, the forty-ninth arrival, every refusal of every call
-// and its place in the order, take over of a full and of an empty record, and syncs that take everything, nothing, or one slot's oldest.
+// and its place in the order, take over of a full and of an empty record, and syncs that take everything, nothing, or one slot's oldest, with what
+// they report.
 use backup::place::Checkpoint;
 use backup_value::Backup;
 use backup_value::FailOver;
 use backup_value::Reply;
+use backup_value::SyncReply;
 use libc::STDOUT_FILENO;
 
 fn text(s: &[u8]) {
@@ -46,6 +48,28 @@ fn reply(case: &[u8], r: Reply) -> Backup {
     number(r.number as u64);
     show(r.backup);
     r.backup
+}
+
+fn word(n: u32) {
+    number(n as u64);
+}
+
+// A number for each slot.
+fn by_slot(n: [u32; 4]) {
+    word(n[0]);
+    word(n[1]);
+    word(n[2]);
+    word(n[3]);
+}
+
+fn synced(case: &[u8], r: SyncReply) {
+    text(case);
+    number(r.number as u64);
+    text(b" dropped");
+    by_slot(r.dropped);
+    text(b" remain");
+    by_slot(r.remained);
+    show(r.backup);
 }
 
 fn promoted(case: &[u8], f: FailOver) {
@@ -127,51 +151,51 @@ fn counts() {
 }
 
 fn syncs() {
-    reply(
+    synced(
         b"M12",
         backup_value::sync(three(), checkpoint(5, 1, 0, 0, 0)),
     );
-    reply(
+    synced(
         b"nothing taken",
         backup_value::sync(three(), checkpoint(64, 0, 0, 0, 0)),
     );
-    reply(
+    synced(
         b"everything taken",
         backup_value::sync(three(), checkpoint(0, 2, 1, 0, 0)),
     );
-    reply(
+    synced(
         b"everything of a full record",
         backup_value::sync(filled(48).backup, checkpoint(7, 12, 12, 12, 12)),
     );
-    reply(
+    synced(
         b"slot by slot",
         backup_value::sync(filled(9).backup, checkpoint(7, 1, 2, 0, 1)),
     );
-    reply(
+    synced(
         b"the count goes to 0",
         backup_value::sync(counted(16).backup, checkpoint(1, 0, 0, 0, 0)),
     );
-    reply(
+    synced(
         b"place 65",
         backup_value::sync(three(), checkpoint(65, 0, 0, 0, 0)),
     );
-    reply(
+    synced(
         b"place 65 and too many taken",
         backup_value::sync(three(), checkpoint(65, 9, 9, 9, 9)),
     );
-    reply(
+    synced(
         b"three taken on slot 0",
         backup_value::sync(three(), checkpoint(1, 3, 0, 0, 0)),
     );
-    reply(
+    synced(
         b"two taken on slot 1",
         backup_value::sync(three(), checkpoint(1, 0, 2, 0, 0)),
     );
-    reply(
+    synced(
         b"one taken on slot 2",
         backup_value::sync(three(), checkpoint(1, 0, 0, 1, 0)),
     );
-    reply(
+    synced(
         b"one taken on slot 3",
         backup_value::sync(three(), checkpoint(1, 0, 0, 0, 1)),
     );

@@ -11,9 +11,13 @@ use Rattle.facts.specs.Tests.{no-way}
 use Rattle.backup.specs.Limits.{logMost, ports, sentMost, pcMost}
 use Rattle.backup.specs.Replica as value
 use Rattle.backup.specs.Replica.{Message, Replica, fit, onPorts, savedOn}
-use Rattle.backup.specs.Accepts.{Fit, fit-parts, parts-fit}
-use Rattle.backup.specs.Place.{messages, viewIn, tallyIn, headLength, Sound, Called}
+use Rattle.backup.specs.Accepts.{Fit, fit-parts, parts-fit, sync-parts}
+use Rattle.backup.specs.Place.{messages, viewIn, tallyIn, headLength, Sound, Called, checkpointOf, reportOf, Reports}
 use Rattle.backup.specs.Rounds.{syncRounds, OnePass, onePass-by}
+use Rattle.backup.specs.Report.{noReport, syncReport}
+use Rattle.backup.specs.ReportLaws.{syncReport-refused}
+use Rattle.backup.specs.declared.place.Checkpoint.{Checkpoint}
+use Rattle.backup.specs.declared.place.Landed.{Landed}
 use Rattle.backup_value.specs.Value.{view, promotedBy, Answered, Census, Opened, Settled}
 use Rattle.backup_value.specs.declared.Backup.{Backup}
 use Rattle.backup_value.specs.declared.Reply.{Reply}
@@ -130,6 +134,17 @@ module _ (b : Backup) (h : Head) (o : Opened b h) (r : Reply) (call : Replica �
             untouched = λ _. s .refused k;
             fit-again = λ f. ap (λ (x : Backup). fit (view x)) (s .refused k) ∙ f;
           }
+
+-- ---- what a sync reports
+
+-- unfit: all 0, as for every refusal
+pub report-20 : (v : Replica) (c : value.Checkpoint) → fit v ≡ false → noReport ≡ syncReport v c
+report-20 v c z = sym (syncReport-refused v c (λ e. let a = sync-parts v c e .0 in no-way (cc)))
+
+-- fit: what the call in place reports
+pub report-so : (b : Backup) (h : Head) → Opened b h → h .fits ≡ true → (c : Checkpoint) (l : Landed) → Reports (b .log) (h .head) c l
+    → reportOf l ≡ syncReport (view b) (checkpointOf c)
+report-so b h o y c l r = r .report-is (o .sound y) ∙ ap (λ (v : Replica). syncReport v (checkpointOf c)) (o .same y)
 
 -- ---- the rounds of a sync
 

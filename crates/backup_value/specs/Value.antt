@@ -7,9 +7,11 @@ use lib.ListN.{getD}
 use Rattle.backup.specs.Limits.{ports}
 use Rattle.backup.specs.Replica as value
 use Rattle.backup.specs.Replica.{Replica, fit, onPorts, savedOn}
+use Rattle.backup.specs.Report.{Report}
 use Rattle.backup.specs.Place.{messages, viewIn, Sound}
 use Rattle.backup_value.specs.declared.Backup.{Backup}
 use Rattle.backup_value.specs.declared.Reply.{Reply}
+use Rattle.backup_value.specs.declared.SyncReply.{SyncReply}
 use Rattle.backup_value.specs.declared.FailOver.{FailOver}
 use Rattle.backup_value.specs.declared.Tallies.{Tallies}
 use Rattle.backup_value.specs.declared.Head.{Head}
@@ -34,6 +36,13 @@ promotedBy r = record {
   sent = r .promoted .sent;
 }
 
+-- a sync's reply: as that of any call, and what it reports
+abbrev pub repliedOf : SyncReply → Reply
+repliedOf r = record { number = r .number; backup = r .backup }
+
+abbrev pub reportedOf : SyncReply → Report
+reportedOf r = record { dropped = r .dropped; remained = r .remained }
+
 -- What a call by value promises of any backup, fit or not, against the definition that it follows.
 pub record Answered (b : Backup) (r : Reply) (call : Replica → value.Reply) : Type 0 where
   pub number-is : r .number ≡ call (view b) .number
@@ -54,6 +63,11 @@ pub record Opened (b : Backup) (r : Head) : Type 0 where
   pub says : r .fits ≡ fit (view b)
   pub sound : r .fits ≡ true → Sound (b .log) (r .head)
   pub same : r .fits ≡ true → viewIn (b .log) (r .head) ≡ view b
+
+-- a sync's reply put together
+pub record Told (r : Reply) (dropped remained : List ℕ) (t : SyncReply) : Type 0 where
+  pub reply-is : repliedOf t ≡ r
+  pub report-is : reportedOf t ≡ record { dropped = dropped; remained = remained }
 
 -- the reply made of what a call in place left
 pub record Settled (b : Backup) (number : ℕ) (log head : List ℕ) (r : Reply) : Type 0 where

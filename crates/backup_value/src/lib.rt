@@ -6,7 +6,8 @@ ghost use Rattle.backup.specs.Limits.{logMost};
 ghost use Rattle.backup.specs.Replica.{initial, arrive as arriveOf, count as countOf, sync as syncOf, failOver};
 ghost use Rattle.backup.specs.Place.{viewIn, checkpointOf};
 ghost use Rattle.backup.specs.Rounds.{OnePass};
-ghost use Rattle.backup_value.specs.Value.{view, promotedBy, Answered, Census, Opened, Settled};
+ghost use Rattle.backup.specs.Report.{syncReport};
+ghost use Rattle.backup_value.specs.Value.{view, promotedBy, repliedOf, reportedOf, Answered, Census, Opened, Settled, Told};
 use backup::limits::LOG;
 use backup::limits::PC_MOST;
 use backup::limits::PORTS;
@@ -44,9 +45,17 @@ pub struct Reply {
     pub backup: Backup,
 }
 
+// What a sync replies: a reply, and for each port how many messages were dropped and how many remain, all 0 where it was refused.
+pub struct SyncReply {
+    pub number: u8,
+    pub backup: Backup,
+    pub dropped: [u32; 4],
+    pub remained: [u32; 4],
+}
+
 // A sync's reply, and the rounds of all its loops but the check for 20.
 pub struct MeteredReply {
-    pub reply: Reply,
+    pub reply: SyncReply,
     pub rounds: usize,
 }
 
@@ -237,31 +246,49 @@ pub fn count(b: Backup) -> Reply
     unfit(b)
 }
 
+// A sync's reply, from that of any call and what it dropped and left.
+fn told(r: Reply, dropped: [u32; 4], remained: [u32; 4]) -> SyncReply
+    ensures { λ t. ⌜ Told r dropped remained t ⌝ }
+{
+    let b = r.backup;
+    SyncReply {
+        number: r.number,
+        backup: b,
+        dropped: dropped,
+        remained: remained,
+    }
+}
+
 // A checkpoint lands, with its rounds counted: 20, 21, 23. The look through the messages that tells 20 is not among them.
 pub fn metered_sync(b: Backup, c: Checkpoint) -> MeteredReply
-    ensures { λ r. ⌜ Answered b (r .reply) (λ v. syncOf v (checkpointOf c)) ⌝ }
+    ensures { λ r. ⌜ Answered b (repliedOf (r .reply)) (λ v. syncOf v (checkpointOf c)) ⌝ }
+    ensures { λ r. ⌜ reportedOf (r .reply) ≡ syncReport (view b) (checkpointOf c) ⌝ }
     ensures { λ r. ⌜ OnePass (view b) (checkpointOf c) (r .reply .number) (r .rounds) ⌝ }
 {
     let h = opened(b);
     if h.fits {
         let mut log = b.log;
         let mut head = h.head;
-        let landed = backup::place::metered_sync_in(&mut log, &mut head, c);
-        let reply = settled(b, landed.number, log, head);
+        let m = backup::place::metered_sync_in(&mut log, &mut head, c);
+        let l = m.landed;
+        let dropped = l.dropped;
+        let remained = l.remained;
+        let reply = settled(b, l.number, log, head);
         return MeteredReply {
-            reply: reply,
-            rounds: landed.rounds,
+            reply: told(reply, dropped, remained),
+            rounds: m.rounds,
         };
     }
     MeteredReply {
-        reply: unfit(b),
+        reply: told(unfit(b), [0; 4], [0; 4]),
         rounds: 0,
     }
 }
 
-// A checkpoint lands: 20, 21, 23.
-pub fn sync(b: Backup, c: Checkpoint) -> Reply
-    ensures { λ r. ⌜ Answered b r (λ v. syncOf v (checkpointOf c)) ⌝ }
+// A checkpoint lands: 20, 21, 23, and what it dropped and left.
+pub fn sync(b: Backup, c: Checkpoint) -> SyncReply
+    ensures { λ r. ⌜ Answered b (repliedOf r) (λ v. syncOf v (checkpointOf c)) ⌝ }
+    ensures { λ r. ⌜ reportedOf r ≡ syncReport (view b) (checkpointOf c) ⌝ }
 {
     let m = metered_sync(b, c);
     m.reply

@@ -13,11 +13,12 @@ use Rattle.facts.specs.Rings.{ring, ring-pop}
 use Rattle.backup.specs.Replica.{Checkpoint}
 use Rattle.backup.specs.declared.place.Checkpoint as code
 use Rattle.backup.specs.Place.{checkpointOf}
-use Rattle.process.specs.Change.{BackupBecame}
+use Rattle.process.specs.Row.{processOf}
+use Rattle.process.specs.Change.{BackupBecame, Drops}
 use Rattle.rules.specs.Table.{Table}
 use Rattle.rules.specs.Cabinet as rules
-use Rattle.rules.specs.Cabinet.{Cabinet, processAt, outboxAt, protected, waiting}
-use Rattle.rules.specs.Moves.{Command, syncKept, syncLost, numbers, numbered, withProcess, withOutbox, keeps, transmitItem}
+use Rattle.rules.specs.Cabinet.{Process, Cabinet, processAt, outboxAt, protected, waiting}
+use Rattle.rules.specs.Moves.{Command, syncKept, syncLost, landed, numbers, numbered, withProcess, withOutbox, keeps, transmitItem}
 use Rattle.rules.proofs.Counting.{flight-leave}
 use Rattle.state.specs.declared.entry.Entry.{Entry}
 use Rattle.state.specs.Store.{Store, storeOf, Holds, itemOf, blankEntry, outboxIn, firstIn, countIn, flag}
@@ -96,44 +97,54 @@ module _ {t : Table} {s : Store} {entries : List Entry} {c : Cabinet} (reach : R
       (oldest-is h b hb (getD board′ 1 0) (rules.checkpoint p k) rest count-is oldest) queue-then in
       backup-changed first (reach .accepted .processes-high) p its-process log′ head′ (keeps k) (became _ (h .kept p its-process)) (λ y. refl) (λ y. refl)
 
-  -- and so the move: 5 where the process is protected, 6 where not
+  -- and so the move: 5 with what was dropped where the process is protected, 6 where not
   pub sync-answered : (log′ head′ : List ℕ) → BackupBecame (getD (s .rows) p []) (getD (s .logs) p []) (getD (s .heads) p []) log′ head′ (keeps k)
-      → (command : Command) (number : ℕ) → cond (eqb (getD (getD (s .rows) p []) 12 0) 0) 6 5 ≡ number
+      → (dropped : ℕ) → Drops (getD (s .rows) p []) (getD (s .logs) p []) (getD (s .heads) p []) k dropped
+      → (command : Command) (number word : ℕ) → cond (eqb (getD (getD (s .rows) p []) 12 0) 0) 6 5 ≡ number → cond (eqb (getD (getD (s .rows) p []) 12 0) 0) 0 dropped ≡ word
       → Answered t (storeOf (s .rows) (s .mails) (set (s .logs) p log′) (set (s .heads) p head′) (set (s .boards) b board′) (s .totals) (set (s .waits) p 0)) entries c command
-      (transmitItem t (withOutbox b rest c) (rules.checkpoint p k)) (answerOf number p 0)
+      (transmitItem t (withOutbox b rest c) (rules.checkpoint p k)) (answerOf number p word)
   unfolding transmitItem numbers
-  sync-answered log′ head′ became command number e = record {
+  sync-answered log′ head′ became dropped drops command number word e w = record {
     answer-is =
-        ap (λ (y : Bool). numbers (cond y (syncKept p) (syncLost p))) (ap protected (at-process h p its-process) ∙ protected-is _ _ _ _)
+        ap (λ (x : Process). numbers (landed p k x)) (at-process h p its-process)
+        ∙ ap (λ (n : ℕ). numbers (cond (protected (processOf (getD (s .rows) p []) (getD (s .mails) p []) (getD (s .logs) p []) (getD (s .heads) p []))) (syncKept p n) (syncLost p)))
+        (sym (drops (getD (s .mails) p []) (h .kept p its-process)))
+        ∙ ap (λ (y : Bool). numbers (cond y (syncKept p dropped) (syncLost p))) (protected-is _ _ _ _)
         ∙ by-flag (eqb (getD (getD (s .rows) p []) 12 0) 0)
-        ∙ ap (λ (n : ℕ). numbered n p 0) e;
+        ∙ (λ i. numbered (e i) p (w i));
     holds = sync-holds log′ head′ became;
   }
     where
-      by-flag : (z : Bool) → numbers (cond (not z) (syncKept p) (syncLost p)) ≡ numbered (cond z 6 5) p 0
+      by-flag : (z : Bool) → numbers (cond (not z) (syncKept p dropped) (syncLost p)) ≡ numbered (cond z 6 5) p (cond z 0 dropped)
       by-flag true = refl
       by-flag false = refl
 
 -- ---- what the call promises
 
 module _ (rows logs heads : List (List ℕ)) (waits : List ℕ) (process : ℕ) (checkpoint : code.Checkpoint) (p : ℕ) (is-p : process < 16 → p ≡ process)
-    (log′ head′ : List ℕ) (became : BackupBecame (getD rows p []) (getD logs p []) (getD heads p []) log′ head′ (keeps (checkpointOf checkpoint))) where
-  pub syncs-so : (number : ℕ) → cond (eqb (getD (getD rows p []) 12 0) 0) 6 5 ≡ number
-      → Syncs rows logs heads waits process checkpoint (set logs p log′) (set heads p head′) (set waits p 0) (answerOf number process 0)
-  syncs-so number e = record {
+    (log′ head′ : List ℕ) (became : BackupBecame (getD rows p []) (getD logs p []) (getD heads p []) log′ head′ (keeps (checkpointOf checkpoint)))
+    (dropped : ℕ) (drops : Drops (getD rows p []) (getD logs p []) (getD heads p []) (checkpointOf checkpoint) dropped) where
+  pub syncs-so : (number word : ℕ) → cond (eqb (getD (getD rows p []) 12 0) 0) 6 5 ≡ number → cond (eqb (getD (getD rows p []) 12 0) 0) 0 dropped ≡ word
+      → Syncs rows logs heads waits process checkpoint (set logs p log′) (set heads p head′) (set waits p 0) (answerOf number process word)
+  syncs-so number word e w = record {
     answered = λ t mails boards totals entries c command b board′ rest reach h hb popped oldest.
         let s : Store = storeOf rows mails logs heads boards totals waits in
         let hq : process < length (t .processes) = its-process reach h b hb process (checkpointOf checkpoint) rest oldest board′ popped in
         let same : p ≡ process = is-p (let z = reach .accepted .processes-high in omega arith) in
         subst (λ (i : ℕ). Answered t (storeOf rows mails (set logs i log′) (set heads i head′) (set boards b board′) totals (set waits i 0)) entries c command
-        (transmitItem t (withOutbox b rest c) (rules.checkpoint process (checkpointOf checkpoint))) (answerOf number process 0)) (sym same)
+        (transmitItem t (withOutbox b rest c) (rules.checkpoint process (checkpointOf checkpoint))) (answerOf number process word)) (sym same)
         (sync-answered reach h b hb process (checkpointOf checkpoint) rest oldest board′ popped log′ head′
-        (subst (λ (i : ℕ). BackupBecame (getD rows i []) (getD logs i []) (getD heads i []) log′ head′ (keeps (checkpointOf checkpoint))) same became) command number
-        (subst (λ (i : ℕ). cond (eqb (getD (getD rows i []) 12 0) 0) 6 5 ≡ number) same e));
+        (subst (λ (i : ℕ). BackupBecame (getD rows i []) (getD logs i []) (getD heads i []) log′ head′ (keeps (checkpointOf checkpoint))) same became) dropped
+        (subst (λ (i : ℕ). Drops (getD rows i []) (getD logs i []) (getD heads i []) (checkpointOf checkpoint) dropped) same drops) command number word
+        (subst (λ (i : ℕ). cond (eqb (getD (getD rows i []) 12 0) 0) 6 5 ≡ number) same e)
+        (subst (λ (i : ℕ). cond (eqb (getD (getD rows i []) 12 0) 0) 0 dropped ≡ word) same w));
   }
 
   pub syncs-lost : getD (getD rows p []) 12 0 ≡ 0 → Syncs rows logs heads waits process checkpoint (set logs p log′) (set heads p head′) (set waits p 0) (answerOf 6 process 0)
-  syncs-lost z = syncs-so 6 (ap (λ (y : Bool). cond y 6 5) (eq-eqb (getD (getD rows p []) 12 0) 0 z))
+  syncs-lost z =
+      let f = eq-eqb (getD (getD rows p []) 12 0) 0 z in syncs-so 6 0 (ap (λ (y : Bool). cond y 6 5) f) (ap (λ (y : Bool). cond y 0 dropped) f)
 
-  pub syncs-kept : (getD (getD rows p []) 12 0 ≡ 0 → ⊥) → Syncs rows logs heads waits process checkpoint (set logs p log′) (set heads p head′) (set waits p 0) (answerOf 5 process 0)
-  syncs-kept n = syncs-so 5 (ap (λ (y : Bool). cond y 6 5) (ne-eqb (getD (getD rows p []) 12 0) 0 n))
+  pub syncs-kept : (getD (getD rows p []) 12 0 ≡ 0 → ⊥)
+      → Syncs rows logs heads waits process checkpoint (set logs p log′) (set heads p head′) (set waits p 0) (answerOf 5 process dropped)
+  syncs-kept n =
+      let f = ne-eqb (getD (getD rows p []) 12 0) 0 n in syncs-so 5 dropped (ap (λ (y : Bool). cond y 6 5) f) (ap (λ (y : Bool). cond y 0 dropped) f)

@@ -1,5 +1,5 @@
 // A checkpoint is carried: its process's backup keeps it, if there is one, and it waits no more.
-// "5 sync carried, 6 sync with no backup left (process, 0)".
+// "5 sync carried, 6 sync with no backup left (process, 0)"; W-202: "A carried sync then answers 5 with the total dropped as its word".
 ghost use Rattle.bus.specs.Syncs.{Syncs};
 use backup::place::Checkpoint;
 use backup::place::HEAD;
@@ -21,7 +21,7 @@ pub fn transmit_sync(
     ensures { λ r. ⌜ Syncs (now (rows .entry)) (now (logs .entry)) (now (heads .entry)) (now (waits .entry)) process checkpoint (now (logs .exit)) (now (heads .exit)) (now (waits .exit)) r ⌝ }
 {
     let p = index16(process);
-    keep(&rows[p], &mut logs[p], &mut heads[p], checkpoint);
+    let dropped = keep(&rows[p], &mut logs[p], &mut heads[p], checkpoint);
     waits[p] = 0;
     if rows[p][PROTECTED] == 0 {
         return Answer {
@@ -33,6 +33,6 @@ pub fn transmit_sync(
     Answer {
         code: 5,
         a: process,
-        word: 0,
+        word: dropped,
     }
 }

@@ -10,7 +10,7 @@ use Rattle.facts.specs.Counts.{same-yes}
 use Rattle.rules.specs.Table.{Table, codeOf, channelAt}
 use Rattle.rules.specs.Machine.{Mail, Machine, took, sent}
 use Rattle.rules.specs.Cabinet.{Cabinet, processAt, protected}
-use Rattle.rules.specs.Moves.{Command, Move, Refusal, refusalNumber, Answer, stepDone, issueDone, crashDone, received, queued, suppressed, transmitted, injected, syncKept, syncLost, refused, numbers, turn}
+use Rattle.rules.specs.Moves.{Command, Move, Refusal, refusalNumber, Answer, stepDone, issueDone, crashDone, received, queued, suppressed, transmitted, injected, syncKept, syncLost, droppedFrom, refused, numbers, turn}
 use Rattle.rules.proofs.Decoded.{refusalNumber-listed}
 use Rattle.rules.proofs.Steps.{Steps}
 use Rattle.rules.proofs.Tables.{step-own}
@@ -67,10 +67,10 @@ unfolding numbers
 fits-injected x h = record { code-small = omega arith; a-small = h }
 
 -- and those that name a process
-fits-sync : (p : ℕ) (b : Bool) → p < 256 → Fits (cond b (syncKept p) (syncLost p))
+fits-sync : (p dropped : ℕ) (b : Bool) → p < 256 → Fits (cond b (syncKept p dropped) (syncLost p))
 unfolding numbers
-fits-sync p true h = record { code-small = omega arith; a-small = h }
-fits-sync p false h = record { code-small = omega arith; a-small = h }
+fits-sync p dropped true h = record { code-small = omega arith; a-small = h }
+fits-sync p dropped false h = record { code-small = omega arith; a-small = h }
 
 module _ {t : Table} {c : Cabinet} (reach : Reachable t c) where
   -- a channel's number, and a process's
@@ -105,7 +105,7 @@ module _ {t : Table} {c : Cabinet} (reach : Reachable t c) where
     sends = λ hp m x e _ _ _ _. fits-queued x (sent-small (r .a) hp m x (record { is = e }));
     issues = λ _ _ _ _. fits-issued;
     transmits = λ _ _ x rest e. fits-transmitted x (channel-small (x .channel) (sent-inside (reach .accepted) (x .channel) (word-owner reach (r .a) x rest e .0)));
-    syncs = λ _ _ p s rest e. fits-sync p (protected (processAt c p)) (process-small p (checkpoint-owner reach (r .a) p s rest e .0));
+    syncs = λ _ _ p s rest e. fits-sync p (droppedFrom s (processAt c p .standby)) (protected (processAt c p)) (process-small p (checkpoint-owner reach (r .a) p s rest e .0));
     injects = λ h _ _. fits-injected (fedMail r) (channel-small (r .a) h);
     crashes = λ _ _ _. fits-crashed;
   }

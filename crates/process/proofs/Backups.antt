@@ -3,7 +3,7 @@ use mathlib.Core.Path.{_≡_, refl, ap, sym, _∙_}
 use mathlib.Core.Bool.{Bool, true, false, cond}
 use mathlib.Core.Option.{Option, none, some}
 use mathlib.Core.List.{List, [], _∷_, _++_}
-use Prim.Native.Nat.{ℕ, zero, suc, _+_, _≤_, _<_, _^_}
+use Prim.Native.Nat.{ℕ, zero, suc, _+_, _%_, _≤_, _<_, _^_}
 use native.Mathlib.Omega.{arith}
 use native.Mathlib.Numerals.{add-one}
 use lib.Dec.{eqb}
@@ -11,14 +11,18 @@ use lib.ListN.{length, getD, set, length-set}
 use borrow.Author.Tests.{eq-eqb, ne-eqb}
 use Rattle.backup.specs.Limits.{logMost}
 use Rattle.backup.specs.Replica.{Replica, Reply, Checkpoint, arrive, count, sync}
-use Rattle.backup.specs.Place.{viewIn, Sound, Called}
+use Rattle.backup.specs.declared.place.Checkpoint as code
+use Rattle.backup.specs.declared.place.Landed.{Landed}
+use Rattle.backup.specs.Report.{totalDropped, syncReport}
+use Rattle.backup.specs.ReportLaws.{totalDropped-small}
+use Rattle.backup.specs.Place.{viewIn, Sound, Called, checkpointOf, reportOf, Reports}
 use Rattle.rules.specs.Table.{Table, portOf}
 use Rattle.rules.specs.Machine.{Mail, delivered}
 use Rattle.rules.specs.Cabinet.{Process, Standby}
 use Rattle.rules.specs.Moves.{withStandby, onReplica, receive, counts, keeps}
 use Rattle.process.specs.Row.{machineOf, standbyOf, processOf, mailsIn, Kept}
 use Rattle.process.specs.Mailbox.{Appended}
-use Rattle.process.specs.Change.{Became, BackupBecame, Backed, Received}
+use Rattle.process.specs.Change.{Became, BackupBecame, Backed, Drops, Received}
 use Rattle.process.proofs.Rows.{Words, stored, spelled}
 
 module _ (row log head : List ℕ) (call : Replica → Reply) where
@@ -61,6 +65,22 @@ pub keeps-became : (row log head log′ head′ : List ℕ) (c : Checkpoint) →
     → BackupBecame row log head log′ head′ (keeps c)
 unfolding keeps
 keeps-became row log head log′ head′ c = backed-became row log head log′ head′ (λ v. sync v c)
+
+-- ---- what a landing checkpoint drops
+
+module _ (row log head : List ℕ) where
+  pub drops-none : (c : Checkpoint) → getD row 12 0 ≡ 0 → Drops row log head c 0
+  unfolding processOf standbyOf
+  drops-none c z mail k = rw (eq-eqb (getD row 12 0) 0 z)
+
+  -- at most what a log holds, so that 32 bits are enough
+  pub drops-so : (c : code.Checkpoint) (l : Landed) (n : ℕ) → (getD row 12 0 ≡ 0 → ⊥) → Reports log head c l → n ≡ totalDropped (reportOf l) % 2 ^ 32
+      → Drops row log head (checkpointOf c) n
+  unfolding processOf standbyOf
+  drops-so c l n y r e mail k =
+      let a : totalDropped (reportOf l) ≡ totalDropped (syncReport (viewIn log head) (checkpointOf c)) = ap totalDropped (r .report-is (k .sound)) in
+      let b = totalDropped-small (viewIn log head) (checkpointOf c) in
+      rw (ne-eqb (getD row 12 0) 0 y) (omega arith)
 
 -- ---- a delivery
 

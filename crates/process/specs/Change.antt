@@ -4,11 +4,11 @@ use mathlib.Core.List.{List}
 use Prim.Native.Nat.{ℕ, _≤_, _<_}
 use lib.ListN.{getD}
 use Rattle.backup.specs.Limits.{logMost}
-use Rattle.backup.specs.Replica.{Replica, Reply}
+use Rattle.backup.specs.Replica.{Replica, Reply, Checkpoint}
 use Rattle.backup.specs.Place.{Sound}
 use Rattle.rules.specs.Table.{Table, portOf}
 use Rattle.rules.specs.Cabinet.{Process}
-use Rattle.rules.specs.Moves.{onReplica, receive}
+use Rattle.rules.specs.Moves.{onReplica, receive, droppedFrom}
 use Rattle.process.specs.Row.{standbyOf, processOf, Kept}
 
 -- from the four lists at entry and at exit, and the rules' function
@@ -28,6 +28,10 @@ BackupBecame row log head log′ head′ change = (mail : List ℕ) → Kept row
 pub record Backed (row log head log′ head′ : List ℕ) (call : Replica → Reply) : Type 0 where
   pub standby-is : Sound log head → standbyOf row log′ head′ ≡ onReplica call (standbyOf row log head)
   pub sound-again : Sound log head → Sound log′ head′
+
+-- how many messages a landing checkpoint drops from the backup, by the rules
+abbrev pub Drops : List ℕ → List ℕ → List ℕ → Checkpoint → ℕ → Type 0
+Drops row log head c dropped = (mail : List ℕ) → Kept row mail log head → dropped ≡ droppedFrom c (processOf row mail log head .standby)
 
 -- a word was received on a port; a full mailbox takes none, and nothing changes
 pub record Received (row mail log head row′ mail′ log′ head′ : List ℕ) (port channel word : ℕ) : Type 0 where

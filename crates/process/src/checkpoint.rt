@@ -7,7 +7,7 @@ ghost use Prim.Native.Nat.{ℕ};
 ghost use Rattle.backup.specs.Place.{checkpointOf};
 ghost use Rattle.rules.specs.Moves.{snapshot as snapshotOf, issued, keeps};
 ghost use Rattle.process.specs.Row.{processOf};
-ghost use Rattle.process.specs.Change.{RowBecame, BackupBecame};
+ghost use Rattle.process.specs.Change.{RowBecame, BackupBecame, Drops};
 use crate::mail::MAIL;
 use crate::row::EVENTS;
 use crate::row::INSTRUCTIONS;
@@ -25,6 +25,7 @@ use crate::row::T3;
 use backup::place::Checkpoint;
 use backup::place::HEAD;
 use backup::place::sync_in;
+use backup::place::total_dropped;
 
 // The process as a checkpoint.
 pub fn snapshot(row: &[u32; ROW]) -> Checkpoint
@@ -55,11 +56,14 @@ pub fn issue(row: &mut [u32; ROW])
     row[INSTRUCTIONS] = 0;
 }
 
-// A checkpoint lands: the backup keeps it, if the process is protected.
-pub fn keep(row: &[u32; ROW], log: &mut [u64; MAIL], head: &mut [u32; HEAD], c: Checkpoint)
+// A checkpoint lands: the backup keeps it, if the process is protected. How many messages that dropped.
+pub fn keep(row: &[u32; ROW], log: &mut [u64; MAIL], head: &mut [u32; HEAD], c: Checkpoint) -> u32
     ensures { λ _. ⌜ BackupBecame (now (row .entry)) (now (log .entry)) (now (head .entry)) (now (log .exit)) (now (head .exit)) (keeps (checkpointOf c)) ⌝ }
+    ensures { λ r. ⌜ Drops (now (row .entry)) (now (log .entry)) (now (head .entry)) (checkpointOf c) r ⌝ }
 {
     if row[PROTECTED] != 0 {
-        sync_in(log, head, c);
+        let landed = sync_in(log, head, c);
+        return total_dropped(landed);
     }
+    0
 }

@@ -54,5 +54,7 @@ pub mod LongCases
 pub mod FormatCases
 pub mod PageCases
 pub mod ReferenceCases
+-- W-202 leaves the bus order alone.
+pub mod BusOrder
 -- Demand 3 of every accepted run.
 pub mod Theorem

@@ -9,7 +9,7 @@ use Rattle.rules.specs.Table.{Table}
 use Rattle.rules.specs.Machine.{Mail}
 use Rattle.rules.specs.Reference.{Reference}
 use Rattle.rules.specs.Cabinet.{Cabinet, processAt, protected}
-use Rattle.rules.specs.Moves.{Command, Move, transmitMove, moveOf, Refusal, Answer, syncKept, syncLost, refused, Numbers, numbers, turn, runFrom}
+use Rattle.rules.specs.Moves.{Command, Move, transmitMove, moveOf, Refusal, Answer, syncKept, syncLost, droppedFrom, refused, Numbers, numbers, turn, runFrom}
 use Rattle.rules.specs.Judge.{Accepted}
 use Rattle.rules.specs.Transparent.{traceOf, fedOf}
 use Rattle.rules.proofs.Invariant.{Invariant, Roomy}
@@ -46,10 +46,10 @@ module _ {t : Table} (ok : Accepted t) {c : Cabinet} {s : Reference} (inv : Inva
   Followed m d a = Follows t d s (traced1 a) (fedBy m r a)
 
   -- a carried sync has no word on the bus, whether a backup kept it or none is left
-  landed-silent : (p : ℕ) (y : Bool) {d : Cabinet} → Follows t d s [] [] → Followed transmitMove d (cond y (syncKept p) (syncLost p))
+  landed-silent : (p dropped : ℕ) (y : Bool) {d : Cabinet} → Follows t d s [] [] → Followed transmitMove d (cond y (syncKept p dropped) (syncLost p))
   unfolding numbers traceOf
-  landed-silent p true f = f
-  landed-silent p false f = f
+  landed-silent p dropped true f = f
+  landed-silent p dropped false f = f
 
   there : r .a < length (t .processes) → r .a < length (c .processes)
   there h = rw (inv .all-processes) h
@@ -63,7 +63,7 @@ module _ {t : Table} (ok : Accepted t) {c : Cabinet} {s : Reference} (inv : Inva
     sends = λ h m mail e z limit _ _. follow-sending ok inv (r .a) (there h) m mail e z limit;
     issues = λ h safe none-waits _. follow-issue ok inv (r .a) (there h) safe none-waits;
     transmits = λ _ _ mail rest e. follow-transmit ok inv room (r .a) mail rest e;
-    syncs = λ _ _ p k rest e. landed-silent p (protected (processAt c p)) (follow-sync ok inv (r .a) p k rest e);
+    syncs = λ _ _ p k rest e. landed-silent p (droppedFrom k (processAt c p .standby)) (protected (processAt c p)) (follow-sync ok inv (r .a) p k rest e);
     injects = λ h outside free. follow-inject ok inv room (fedMail r) h outside free;
     crashes = λ h alive none-dead. follow-crash ok inv (r .a) h alive none-dead;
   }

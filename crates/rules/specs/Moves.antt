@@ -6,6 +6,7 @@ use Prim.Native.Nat.{ℕ, zero, suc, _+_}
 use lib.Dec.{eqb, ltb, leb}
 use lib.ListN.{length, getD, set}
 use Rattle.facts.specs.Tests.{anyBelow}
+use Rattle.backup.specs.Report.{totalDropped, syncReport}
 use Rattle.backup.specs.Replica.{Message, Replica, Checkpoint, Reply, FailOver, arrive, count, sync, failOver}
 use Rattle.rules.specs.Table.{Table, Instruction, SET, ADD, TAKE, FIRST, SEND, JUMP, NONE, environment, channelAt, codeOf, portOf, channelOn}
 use Rattle.rules.specs.Machine.{Mail, Machine, Act, internal, took, sent, Outcome, halted, noMail, moved, instructionAt, localStep, delivered}
@@ -67,7 +68,9 @@ pub data Answer : Type 0 where
   received queued suppressed : Mail → Answer
   -- on the bus: a word that was carried, and one that was fed
   transmitted injected : Mail → Answer
-  syncKept syncLost : ℕ → Answer
+  -- of a process: a sync that its backup kept, with how many words that dropped, and one with no backup left
+  syncKept : ℕ → ℕ → Answer
+  syncLost : ℕ → Answer
   refused : Refusal → ℕ → Answer
 
 -- "One six-byte answer a record: code, a, word."
@@ -80,7 +83,7 @@ abbrev pub numbered : ℕ → ℕ → ℕ → Numbers
 numbered code a word = record { code = code; a = a; word = word }
 
 -- "0 done (0, 0). 1 took, 2 queued, 3 held back, 4 word on the bus (channel, word); a feed answers 4. 5 sync carried, 6 sync with no
--- backup left (process, 0). Refusals repeat a with word 0"
+-- backup left (process, 0). Refusals repeat a with word 0". W-202: "A carried sync then answers 5 with the total dropped as its word".
 unfoldable pub numbers : Answer → Numbers
 unfolding refusalNumber
 numbers stepDone = numbered 0 0 0
@@ -91,7 +94,7 @@ numbers (queued x) = numbered 2 (x .channel) (x .word)
 numbers (suppressed x) = numbered 3 (x .channel) (x .word)
 numbers (transmitted x) = numbered 4 (x .channel) (x .word)
 numbers (injected x) = numbered 4 (x .channel) (x .word)
-numbers (syncKept p) = numbered 5 p 0
+numbers (syncKept p dropped) = numbered 5 p dropped
 numbers (syncLost p) = numbered 6 p 0
 numbers (refused why a) = numbered (refusalNumber why) a 0
 
@@ -244,9 +247,14 @@ unfoldable pub keeps : Checkpoint → Process → Process
 unfolding sync
 keeps s x = withStandby (onReplica (λ r. sync r s) (x .standby)) x
 
+-- "the total dropped": of the words saved in the backup, by the report of the record's sync
+abbrev pub droppedFrom : Checkpoint → Option Standby → ℕ
+droppedFrom s none = 0
+droppedFrom s (some b) = totalDropped (syncReport (b .replica) s)
+
 -- "5 sync carried, 6 sync with no backup left", of the sync of process p, which is x
 abbrev pub landed : ℕ → Checkpoint → Process → Answer
-landed p s x = cond (protected x) (syncKept p) (syncLost p)
+landed p s x = cond (protected x) (syncKept p (droppedFrom s (x .standby))) (syncLost p)
 
 -- "A word goes, in one move, to the reader's inbox, the reader's backup record, and the sender's backup record."
 unfoldable pub transmitItem : Table → Cabinet → Item → Result

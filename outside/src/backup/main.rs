@@ -35,21 +35,32 @@ struct Seen {
     unfit: [u32; 16],
 }
 
-/// What the model says: the number, and what a promotion hands over.
-fn expected(record: &mut Record, c: &[u32]) -> (u32, Option<Record>) {
+/// What a call leaves in its reply.
+enum Reply {
+    Untouched,
+    /// A sync's: the words dropped on each slot, then those that remain.
+    Told([u32; 4], [u32; 4]),
+    Promoted(Record),
+}
+
+/// What the model says: the number and the reply.
+fn expected(record: &mut Record, c: &[u32]) -> (u32, Reply) {
     match c[0] {
         0 => {
             *record = Record::new();
-            (0, None)
+            (0, Reply::Untouched)
         }
-        1 => (record.arrive(c[1], c[2]), None),
-        2 => (record.count(), None),
-        3 => (record.sync(c[1], [c[2], c[3], c[4], c[5]], [c[6], c[7], c[8], c[9]]), None),
+        1 => (record.arrive(c[1], c[2]), Reply::Untouched),
+        2 => (record.count(), Reply::Untouched),
+        3 => {
+            let (number, dropped, remain) = record.sync(c[1], [c[2], c[3], c[4], c[5]], [c[6], c[7], c[8], c[9]]);
+            (number, Reply::Told(dropped, remain))
+        }
         4 => {
             let (number, promoted) = record.take_over();
-            (number, Some(promoted))
+            (number, Reply::Promoted(promoted))
         }
-        _ => (26, None),
+        _ => (26, Reply::Untouched),
     }
 }
 
@@ -80,7 +91,7 @@ fn compared(random: &mut Random, state: &mut Vec<u32>, record: &mut Record, seen
     let mut reply = reply_before.clone();
 
     let number = ks_backup_call(state, &call, &mut reply);
-    let (wanted, promoted) = expected(record, &call);
+    let (wanted, left) = expected(record, &call);
 
     let told = || format!("call {call:?} of {before:?}");
     assert_eq!(number, wanted, "the number of {}", told());
@@ -88,9 +99,13 @@ fn compared(random: &mut Random, state: &mut Vec<u32>, record: &mut Record, seen
     if number != 0 || call[0] == 4 {
         assert_eq!(*state, before, "the state after {}", told());
     }
-    match promoted {
-        Some(promoted) => assert_eq!(view(&reply), promoted, "the reply to {}", told()),
-        None => assert_eq!(reply, reply_before, "the reply to {}", told()),
+    match left {
+        Reply::Promoted(promoted) => assert_eq!(view(&reply), promoted, "the reply to {}", told()),
+        Reply::Told(dropped, remain) => {
+            assert_eq!((&reply[..4], &reply[4..8]), (&dropped[..], &remain[..]), "what was dropped and remains by {}", told());
+            assert_eq!(reply[8..], reply_before[8..], "the rest of the reply to {}", told());
+        }
+        Reply::Untouched => assert_eq!(reply, reply_before, "the reply to {}", told()),
     }
     seen.answers[(call[0] as usize).min(UNKNOWN)][number as usize] += 1;
 }

@@ -54,17 +54,19 @@ impl Record {
     }
 
     /// "Sync: 21 place over 64, 23 more taken on a slot than saved." It "replaces the state in the process's backup record, drops the
-    /// oldest saved words slot by slot as taken, and zeroes the count".
-    pub fn sync(&mut self, place: u32, registers: [u32; 4], taken: [u32; 4]) -> u32 {
+    /// oldest saved words slot by slot as taken, and zeroes the count". W-202: it shall "also return, for each slot, how many words were
+    /// dropped and how many remain, all 0 when refused".
+    pub fn sync(&mut self, place: u32, registers: [u32; 4], taken: [u32; 4]) -> (u32, [u32; 4], [u32; 4]) {
         if self.unfit() {
-            return 20;
+            return (20, [0; 4], [0; 4]);
         }
         if place > 64 {
-            return 21;
+            return (21, [0; 4], [0; 4]);
         }
         if (0..4).any(|slot| taken[slot] > self.saved(slot as u32)) {
-            return 23;
+            return (23, [0; 4], [0; 4]);
         }
+        let before = [0, 1, 2, 3].map(|slot| self.saved(slot));
         for (slot, times) in taken.into_iter().enumerate() {
             for _ in 0..times {
                 let oldest = self.words.iter().position(|&(s, _)| s == slot as u32).unwrap();
@@ -74,7 +76,9 @@ impl Record {
         self.count = 0;
         self.place = place;
         self.registers = registers;
-        0
+        let remain = [0, 1, 2, 3].map(|slot| self.saved(slot));
+        let dropped = [0, 1, 2, 3].map(|slot| before[slot] - remain[slot]);
+        (0, dropped, remain)
     }
 
     /// "Take over: only 20; it returns words, place, registers, count, and when refused no words and the rest 0."

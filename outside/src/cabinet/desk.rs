@@ -140,7 +140,7 @@ pub fn cases() -> Vec<Case> {
         "unread words on several channels",
         reader(),
         &fed,
-        &["5 1 1 20", "6 0 0 0", "7 5 0 0", "8 1 0 10", "9 1 2 30", "10 0 0 0", "process 0 1 1 3 0 20 0 0 0", "quiet 0"],
+        &["5 1 1 20", "6 0 0 0", "7 5 0 1", "8 1 0 10", "9 1 2 30", "10 0 0 0", "process 0 1 1 3 0 20 0 0 0", "quiet 0"],
     );
     let taken = [&fed[..], &[step(0), step(0), step(0)]].concat();
     case(

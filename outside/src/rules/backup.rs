@@ -33,8 +33,9 @@ impl Backup {
     }
 
     /// "A sync replaces the state in the process's backup record, drops the oldest saved words slot by slot as taken, and zeroes the
-    /// count."
-    pub fn sync(&mut self, mut snapshot: Snapshot) {
+    /// count." How many words it drops (W-202: "the total dropped").
+    pub fn sync(&mut self, mut snapshot: Snapshot) -> u32 {
+        let before = self.saved.len();
         self.saved.retain(|message| {
             let left = &mut snapshot.taken[message.slot as usize];
             let drops = *left > 0;
@@ -45,5 +46,6 @@ impl Backup {
         self.place = snapshot.place;
         self.registers = snapshot.registers;
         self.count = 0;
+        (before - self.saved.len()) as u32
     }
 }

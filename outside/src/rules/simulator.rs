@@ -291,14 +291,12 @@ impl<'t> Cabinet<'t> {
             Some(Entry::Sync { process, snapshot }) => {
                 let of = &mut self.processes[process as usize];
                 of.waiting = false;
-                let code = match &mut of.backup {
-                    Some(backup) => {
-                        backup.sync(snapshot);
-                        5
-                    }
-                    None => 6,
+                // W-202: "A carried sync then answers 5 with the total dropped as its word".
+                let (code, word) = match &mut of.backup {
+                    Some(backup) => (5, backup.sync(snapshot)),
+                    None => (6, 0),
                 };
-                Answer { code, a: process, word: 0 }
+                Answer { code, a: process, word }
             }
         }
     }

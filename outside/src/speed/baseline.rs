@@ -37,9 +37,11 @@ struct Backup {
 }
 
 impl Backup {
-    fn sync(&mut self, snapshot: &Snapshot) {
+    /// How many words it drops.
+    fn sync(&mut self, snapshot: &Snapshot) -> u32 {
         let mut left = snapshot.taken;
         let mut all: usize = left.iter().map(|&n| n as usize).sum();
+        let dropped = all as u32;
         // Only as far as the last word to be dropped; what stays before it moves up to it.
         let (mut at, mut kept) = (0, 0);
         while all > 0 {
@@ -58,6 +60,7 @@ impl Backup {
         self.registers = snapshot.registers;
         self.place = snapshot.place;
         self.count = 0;
+        dropped
     }
 }
 
@@ -301,8 +304,7 @@ impl<'t> Cabinet<'t> {
                 let process = &mut self.processes[p as usize];
                 process.waiting = false;
                 let Some(backup) = &mut process.backup else { return Ok((6, p, 0)) };
-                backup.sync(&snapshot);
-                Ok((5, p, 0))
+                Ok((5, p, backup.sync(&snapshot)))
             }
         }
     }

@@ -1,9 +1,11 @@
 -- `perform`: one answer for each call, from the contract of the backup's own call.
-use mathlib.Core.Path.{refl}
+use mathlib.Core.Path.{refl, ap, _∙_}
+use lib.ListN.{length}
 use Rattle.facts.specs.Tests.{no-way}
-use Rattle.backup_call.specs.Exported.{answered}
+use Rattle.backup_value.specs.Value.{reportedOf}
+use Rattle.backup_call.specs.Exported.{answered, repliedIn}
 use Rattle.backup_call.specs.Rounds.{callRounds}
-use Rattle.backup_call.proofs.Calling.{replied-by, replied-start, exported-change, exported-unknown, exported-promoted, pass-roundless, pass-unknown, pass-landed}
+use Rattle.backup_call.proofs.Calling.{replied-by, replied-start, exported-change, exported-unknown, exported-promoted, told-so, length-toldIn, pass-roundless, pass-unknown, pass-landed}
 use native.Mathlib.Omega.{arith}
 use borrow.Author.Needs.{needs}
 use Rattle.backup_call.proofs.perform.Statement.{statement}
@@ -95,58 +97,68 @@ same-length : tie.Need-same-length
 same-length c = search needs
 
 returns : tie.Need-returns
-unfolding answered callRounds
+unfolding answered callRounds repliedIn
 returns c =
     let p = c .before .before .before .before .before .before .before .before .before .before .before .pre in
     let k = c .before .before .before .before .before .before .match .keys1 in
     rw (c .roundless .ensures)
-    (exported-change p 0 k (λ z. no-way (cc)) (replied-start _ _ refl (c .before .before .before .before .new .ensures)) (c .before .before .before .settle .ensures), pass-roundless p _ 0 k refl)
+    (exported-change p 0 k (λ z. no-way (cc)) (replied-start _ _ refl (c .before .before .before .before .new .ensures)) (c .before .before .before .settle .ensures) refl refl, pass-roundless p _ 0 k refl)
 
 same-length-2 : tie.Need-same-length-2
 same-length-2 c = search needs
 
 returns-2 : tie.Need-returns-2
-unfolding answered callRounds
+unfolding answered callRounds repliedIn
 returns-2 c =
     let p = c .before .before .before .before .before .before .before .before .before .before .before .before .before .before .before .pre in
     let k = c .before .before .before .before .before .before .before .before .before .before .match .keys2 in
-    rw (c .roundless2 .ensures)
-    (exported-change p 1 k (λ z. no-way (cc)) (replied-by _ _ _ _ (c .before .before .before .before .before .before .before .load .ensures) (c .before .before .before .before .arrive .ensures)) (c .before .before .before .settle2 .ensures), pass-roundless p _ 1 k refl)
+    rw (c .roundless2 .ensures) (
+      exported-change p 1 k (λ z. no-way (cc)) (replied-by _ _ _ _ (c .before .before .before .before .before .before .before .load .ensures) (c .before .before .before .before .arrive .ensures)) (c .before .before .before .settle2 .ensures) refl refl,
+      pass-roundless p _ 1 k refl,
+    )
 
 same-length-3 : tie.Need-same-length-3
 same-length-3 c = search needs
 
 returns-3 : tie.Need-returns-3
-unfolding answered callRounds
+unfolding answered callRounds repliedIn
 returns-3 c =
     let p = c .before .before .before .before .before .before .before .before .before .before .before .before .before .pre in
     let k = c .before .before .before .before .before .before .before .before .match .keys3 in
-    rw (c .roundless3 .ensures)
-    (exported-change p 2 k (λ z. no-way (cc)) (replied-by _ _ _ _ (c .before .before .before .before .before .load2 .ensures) (c .before .before .before .before .count .ensures)) (c .before .before .before .settle3 .ensures), pass-roundless p _ 2 k refl)
+    rw (c .roundless3 .ensures) (
+      exported-change p 2 k (λ z. no-way (cc)) (replied-by _ _ _ _ (c .before .before .before .before .before .load2 .ensures) (c .before .before .before .before .count .ensures)) (c .before .before .before .settle3 .ensures) refl refl,
+      pass-roundless p _ 2 k refl,
+    )
 
 same-length-4 : tie.Need-same-length-4
 same-length-4 c = search needs
 
-returns-4 : tie.Need-returns-4
-unfolding answered callRounds
-returns-4 c =
-    let p = c .before .before .before .before .before .before .before .before .before .before .before .before .before .pre in
-    let k = c .before .before .before .before .before .before .before .before .match .keys4 in
-    let m = c .before .before .before .metered-sync in
-    let l = c .before .before .land in
-    let e = c .before .before .before .before .checkpoint .ensures in (
-      exported-change p 3 k (λ z. no-way (cc)) (replied-by _ _ _ _ (c .before .before .before .before .before .load3 .ensures) (rw e at (m .ensures .0))) (l .ensures .0),
-      pass-landed p _ k _ _ _ _ (c .before .before .before .before .before .load3 .ensures) (rw e at (m .ensures .1)) (l .ensures .0 .number-is) (l .ensures .1),
-    )
-
 same-length-5 : tie.Need-same-length-5
 same-length-5 c = search needs
+
+returns-4 : tie.Need-returns-4
+unfolding answered callRounds repliedIn
+returns-4 c =
+    let p = c .before .before .before .before .before .before .before .before .before .before .before .before .before .before .before .before .pre in
+    let k = c .before .before .before .before .before .before .before .before .before .before .before .match .keys4 in
+    let m = c .before .before .before .before .before .metered-sync in
+    let l = c .before .before .before .before .land in
+    let e = c .before .before .before .before .before .before .checkpoint .ensures in
+    let v = c .before .before .before .before .before .before .before .load3 .ensures in
+    let r = c .before .before .before .before .before .before .before .before .before .before .before .before .before .before .before .before .args .reply .now in (
+      exported-change p 3 k (λ z. no-way (cc)) (replied-by _ _ _ _ v (rw e at (m .ensures .0))) (l .ensures .0)
+          (told-so r _ _ _ _ _ (l .ensures .1 .0) (rw e at (m .ensures .1 .0)) v) (ap length (l .ensures .1 .0) ∙ length-toldIn r (reportedOf (m .result .reply))),
+      pass-landed p _ k _ _ _ _ v (rw e at (m .ensures .1 .1)) (l .ensures .0 .number-is) (l .ensures .1 .1),
+    )
 
 same-length-6 : tie.Need-same-length-6
 same-length-6 c = search needs
 
+same-length-7 : tie.Need-same-length-7
+same-length-7 c = search needs
+
 returns-5 : tie.Need-returns-5
-unfolding answered callRounds
+unfolding answered callRounds repliedIn
 returns-5 c =
     let p = c .before .before .before .before .before .before .before .before .before .before .before .before .before .pre in
     let k = c .before .before .before .before .before .before .before .before .match .keys5 in
@@ -194,8 +206,9 @@ perform-spec =
     same-length-3
     returns-3
     same-length-4
-    returns-4
     same-length-5
+    returns-4
     same-length-6
+    same-length-7
     returns-5
     returns-6)

@@ -52,7 +52,7 @@ returns c =
     let s = c .before .before .before .before .before .before .before in
     let p = c .before .before .before .before .before .before .index16 in
     let k = c .before .before .keep in
-    syncs-lost (s .args .rows .now) (s .args .logs .now) (s .args .heads .now) (s .args .waits .now) (s .args .process) (s .args .checkpoint) (p .result) (p .ensures .1) (k .last .1 .0) (k .last .1 .1 .0) (k .ensures)
+    syncs-lost (s .args .rows .now) (s .args .logs .now) (s .args .heads .now) (s .args .waits .now) (s .args .process) (s .args .checkpoint) (p .result) (p .ensures .1) (k .last .1 .0) (k .last .1 .1 .0) (k .ensures .0) (k .result) (k .ensures .1)
     (c .if1 .taken)
 
 returns-2 : tie.Need-returns-2
@@ -60,7 +60,7 @@ returns-2 c =
     let s = c .before .before .before .before .before .before .before in
     let p = c .before .before .before .before .before .before .index16 in
     let k = c .before .before .keep in
-    syncs-kept (s .args .rows .now) (s .args .logs .now) (s .args .heads .now) (s .args .waits .now) (s .args .process) (s .args .checkpoint) (p .result) (p .ensures .1) (k .last .1 .0) (k .last .1 .1 .0) (k .ensures)
+    syncs-kept (s .args .rows .now) (s .args .logs .now) (s .args .heads .now) (s .args .waits .now) (s .args .process) (s .args .checkpoint) (p .result) (p .ensures .1) (k .last .1 .0) (k .last .1 .1 .0) (k .ensures .0) (k .result) (k .ensures .1)
     (c .if1 .left)
 
 pub transmit-sync-spec : {M : Type 1} → statement M

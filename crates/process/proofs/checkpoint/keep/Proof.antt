@@ -1,6 +1,6 @@
 use Rattle.backup.specs.Replica.{sync}
 use Rattle.backup.specs.Place.{checkpointOf}
-use Rattle.process.proofs.Backups.{backed-none, backed-call, keeps-became}
+use Rattle.process.proofs.Backups.{backed-none, backed-call, keeps-became, drops-none, drops-so}
 use native.Mathlib.Omega.{arith}
 use borrow.Author.Needs.{needs}
 use Rattle.process.proofs.checkpoint.keep.Statement.{statement}
@@ -15,18 +15,26 @@ element-copy-out-if1 c = search needs
 sync-in-requires : tie.Need-sync-in-requires
 sync-in-requires c κs = search needs
 
+total-dropped-requires : tie.Need-total-dropped-requires
+total-dropped-requires c κs = search needs
+
 returns : tie.Need-returns
 returns c =
-    let a = c .before .before .before .before .before .args in
-    let k = c .sync-in in
-    keeps-became (a .row .now) (a .log .now) (a .head .now) (k .last .0) (k .last .1 .0) (checkpointOf (a .c))
-    (backed-call (a .row .now) (a .log .now) (a .head .now) (λ v. sync v (checkpointOf (a .c))) (k .last .0) (k .last .1 .0) (k .result) (c .before .before .before .if1 .taken) (k .ensures))
+    let a = c .before .before .before .before .before .before .args in
+    let k = c .before .sync-in in
+    let y = c .before .before .before .before .if1 .taken in (
+      keeps-became (a .row .now) (a .log .now) (a .head .now) (k .last .0) (k .last .1 .0) (checkpointOf (a .c))
+          (backed-call (a .row .now) (a .log .now) (a .head .now) (λ v. sync v (checkpointOf (a .c))) (k .last .0) (k .last .1 .0) (k .result .number) y (k .ensures .0)),
+      drops-so (a .row .now) (a .log .now) (a .head .now) (a .c) (k .result) _ y (k .ensures .1) (c .total-dropped .ensures),
+    )
 
 returns-2 : tie.Need-returns-2
 returns-2 c =
-    let a = c .before .before .args in
-    keeps-became (a .row .now) (a .log .now) (a .head .now) (a .log .now) (a .head .now) (checkpointOf (a .c))
-    (backed-none (a .row .now) (a .log .now) (a .head .now) (λ v. sync v (checkpointOf (a .c))) (c .if1 .left))
+    let a = c .before .before .args in (
+      keeps-became (a .row .now) (a .log .now) (a .head .now) (a .log .now) (a .head .now) (checkpointOf (a .c))
+          (backed-none (a .row .now) (a .log .now) (a .head .now) (λ v. sync v (checkpointOf (a .c))) (c .if1 .left)),
+      drops-none (a .row .now) (a .log .now) (a .head .now) (checkpointOf (a .c)) (c .if1 .left),
+    )
 
 pub keep-spec : {M : Type 1} → statement M
-keep-spec = tie.close (tie.spec element-copy-out-if1 sync-in-requires returns returns-2)
+keep-spec = tie.close (tie.spec element-copy-out-if1 sync-in-requires total-dropped-requires returns returns-2)

@@ -1,0 +1,70 @@
+-- W-202: "The bus order is unaffected." A carried sync answers 5 with how many words it dropped, where document 01 has 0; the bus order is the
+-- answers 4, so it is the same by both numberings, and so are the feeds that answered 4.
+use mathlib.Core.Path.{_≡_, refl, ap}
+use mathlib.Core.Bool.{cond, _&&_}
+use mathlib.Core.List.{List, [], _∷_, map}
+use Prim.Native.Nat.{ℕ}
+use lib.Dec.{eqb}
+use Rattle.rules.specs.Machine.{Mail}
+use Rattle.rules.specs.Moves.{Command, Answer, stepDone, issueDone, crashDone, received, queued, suppressed, transmitted, injected, syncKept, syncLost, refused, Numbers, numbered, numbers}
+use Rattle.rules.specs.Transparent.{traceOf, fedOf}
+
+-- document 01's own numbers: "5 sync carried [..] (process, 0)"
+abbrev pub numbersBefore : Answer → Numbers
+numbersBefore (syncKept p dropped) = numbered 5 p 0
+numbersBefore stepDone = numbers stepDone
+numbersBefore issueDone = numbers issueDone
+numbersBefore crashDone = numbers crashDone
+numbersBefore (received x) = numbers (received x)
+numbersBefore (queued x) = numbers (queued x)
+numbersBefore (suppressed x) = numbers (suppressed x)
+numbersBefore (transmitted x) = numbers (transmitted x)
+numbersBefore (injected x) = numbers (injected x)
+numbersBefore (syncLost p) = numbers (syncLost p)
+numbersBefore (refused why a) = numbers (refused why a)
+
+-- the two differ in the word of an answer 5 alone
+same-code : (a : Answer) → numbers a .code ≡ numbersBefore a .code
+unfolding numbers
+same-code (syncKept p dropped) = refl
+same-code stepDone = refl
+same-code issueDone = refl
+same-code crashDone = refl
+same-code (received x) = refl
+same-code (queued x) = refl
+same-code (suppressed x) = refl
+same-code (transmitted x) = refl
+same-code (injected x) = refl
+same-code (syncLost p) = refl
+same-code (refused why a) = refl
+
+-- what an answer adds to the bus order
+added : Numbers → List Mail → List Mail
+added n others = cond (eqb (n .code) 4) (record { channel = n .a; word = n .word } ∷ others) others
+
+same-added : (a : Answer) (others : List Mail) → added (numbers a) others ≡ added (numbersBefore a) others
+unfolding numbers added
+same-added (syncKept p dropped) others = refl
+same-added stepDone others = refl
+same-added issueDone others = refl
+same-added crashDone others = refl
+same-added (received x) others = refl
+same-added (queued x) others = refl
+same-added (suppressed x) others = refl
+same-added (transmitted x) others = refl
+same-added (injected x) others = refl
+same-added (syncLost p) others = refl
+same-added (refused why a) others = refl
+
+-- "The bus order is unaffected."
+pub traceOf-unaffected : (l : List Answer) → traceOf (map numbers l) ≡ traceOf (map numbersBefore l)
+unfolding traceOf added
+traceOf-unaffected [] = refl
+traceOf-unaffected (a ∷ l) = rw (traceOf-unaffected l) (same-added a (traceOf (map numbersBefore l)))
+
+pub fedOf-unaffected : (rs : List Command) (l : List Answer) → fedOf rs (map numbers l) ≡ fedOf rs (map numbersBefore l)
+unfolding fedOf
+fedOf-unaffected [] l = refl
+fedOf-unaffected (r ∷ rs) [] = refl
+fedOf-unaffected (r ∷ rs) (a ∷ l) =
+    rw (fedOf-unaffected rs l, same-code a)
