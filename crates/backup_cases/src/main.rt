@@ -65,10 +65,12 @@ fn by_slot(n: [u32; 4]) {
 fn synced(case: &[u8], r: SyncReply) {
     text(case);
     number(r.number as u64);
+    let dropped = r.dropped;
     text(b" dropped");
-    by_slot(r.dropped);
+    by_slot(dropped);
+    let remained = r.remained;
     text(b" remain");
-    by_slot(r.remained);
+    by_slot(remained);
     show(r.backup);
 }
 
