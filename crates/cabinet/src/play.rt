@@ -34,6 +34,7 @@ pub fn play(
     channels: usize,
     start: &[u32; 16],
     lengths: &[u32; 16],
+    limits: &[u32; 16],
     sender: &[u32; 32],
     reader: &[u32; 32],
     port: &[u32; 32],
@@ -48,7 +49,7 @@ pub fn play(
     waits: &mut [u32; 16],
     answers: &mut [u8],
 )
-    ensures { λ _. ⌜ Plays (lentOf (now (table .entry)) «boards_many» processes channels (now (start .entry)) (now (lengths .entry)) (now (sender .entry)) (now (reader .entry)) (now (port .entry)) (now (ins .entry)) (now (arity .entry))) (now (schedule .entry)) records (storeOf (now (rows .entry)) (now (mails .entry)) (now (logs .entry)) (now (heads .entry)) (now (boards .entry)) (now (totals .entry)) (now (waits .entry))) (now (answers .entry)) (storeOf (now (rows .exit)) (now (mails .exit)) (now (logs .exit)) (now (heads .exit)) (now (boards .exit)) (now (totals .exit)) (now (waits .exit))) (now (answers .exit)) ⌝ }
+    ensures { λ _. ⌜ Plays (lentOf (now (table .entry)) «boards_many» processes channels (now (start .entry)) (now (lengths .entry)) (now (limits .entry)) (now (sender .entry)) (now (reader .entry)) (now (port .entry)) (now (ins .entry)) (now (arity .entry))) (now (schedule .entry)) records (storeOf (now (rows .entry)) (now (mails .entry)) (now (logs .entry)) (now (heads .entry)) (now (boards .entry)) (now (totals .entry)) (now (waits .entry))) (now (answers .entry)) (storeOf (now (rows .exit)) (now (mails .exit)) (now (logs .exit)) (now (heads .exit)) (now (boards .exit)) (now (totals .exit)) (now (waits .exit))) (now (answers .exit)) ⌝ }
 {
     let none = blank();
     let mut entries = [none; ENTRIES];
@@ -91,6 +92,7 @@ pub fn play(
             channels,
             start,
             lengths,
+            limits,
             sender,
             reader,
             port,

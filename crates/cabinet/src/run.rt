@@ -41,6 +41,7 @@ fn conduct(
     let channels = plan.channels;
     let start = plan.start;
     let lengths = plan.length;
+    let limits = plan.limit;
     let primary = plan.primary;
     let standby = plan.standby;
     let sender = plan.sender;
@@ -65,6 +66,7 @@ fn conduct(
         channels,
         &start,
         &lengths,
+        &limits,
         &sender,
         &reader,
         &port,

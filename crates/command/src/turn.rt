@@ -68,6 +68,7 @@ pub fn turn(
     channels: usize,
     start: &[u32; 16],
     lengths: &[u32; 16],
+    limits: &[u32; 16],
     sender: &[u32; 32],
     reader: &[u32; 32],
     port: &[u32; 32],
@@ -84,7 +85,7 @@ pub fn turn(
     a: u32,
     word: u32,
 ) -> Moved
-    ensures { λ r. ⌜ Turns (lentOf (now (table .entry)) «boards_many» processes channels (now (start .entry)) (now (lengths .entry)) (now (sender .entry)) (now (reader .entry)) (now (port .entry)) (now (ins .entry)) (now (arity .entry))) (storeOf (now (rows .entry)) (now (mails .entry)) (now (logs .entry)) (now (heads .entry)) (now (boards .entry)) (now (totals .entry)) (now (waits .entry))) mv a word (storeOf (now (rows .exit)) (now (mails .exit)) (now (logs .exit)) (now (heads .exit)) (now (boards .exit)) (now (totals .exit)) (now (waits .exit))) r ⌝ }
+    ensures { λ r. ⌜ Turns (lentOf (now (table .entry)) «boards_many» processes channels (now (start .entry)) (now (lengths .entry)) (now (limits .entry)) (now (sender .entry)) (now (reader .entry)) (now (port .entry)) (now (ins .entry)) (now (arity .entry))) (storeOf (now (rows .entry)) (now (mails .entry)) (now (logs .entry)) (now (heads .entry)) (now (boards .entry)) (now (totals .entry)) (now (waits .entry))) mv a word (storeOf (now (rows .exit)) (now (mails .exit)) (now (logs .exit)) (now (heads .exit)) (now (boards .exit)) (now (totals .exit)) (now (waits .exit))) r ⌝ }
 {
     let number = judge(boards_many, processes, channels, mv, a, word);
     if number != 0 {
@@ -95,6 +96,7 @@ pub fn turn(
             table,
             start,
             lengths,
+            limits,
             reader,
             port,
             rows,

@@ -22,18 +22,18 @@ use Rattle.state.proofs.moved.blank.Reads as blank-reads
 use Rattle.records.proofs.schedule.command_at.Reads as command-at-reads
 
 abbrev Inv-loop : tie.InvT-loop
-Inv-loop table schedule records boards-many processes channels start lengths sender reader port ins arity rows₀ mails₀ logs₀ heads₀ boards₀ totals₀ waits₀ answers₀ entries₀ i₀ rows mails logs heads boards totals waits answers entries i =
-    Playing (lentOf table boards-many processes channels start lengths sender reader port ins arity) schedule records (storeOf rows₀ mails₀ logs₀ heads₀ boards₀ totals₀ waits₀) entries₀ answers₀ i (storeOf rows mails logs heads boards totals waits) entries answers × (length answers ≡ length answers₀)
+Inv-loop table schedule records boards-many processes channels start lengths limits sender reader port ins arity rows₀ mails₀ logs₀ heads₀ boards₀ totals₀ waits₀ answers₀ entries₀ i₀ rows mails logs heads boards totals waits answers entries i =
+    Playing (lentOf table boards-many processes channels start lengths limits sender reader port ins arity) schedule records (storeOf rows₀ mails₀ logs₀ heads₀ boards₀ totals₀ waits₀) entries₀ answers₀ i (storeOf rows mails logs heads boards totals waits) entries answers × (length answers ≡ length answers₀)
 
 abbrev μ-loop : tie.MeasureT-loop
-μ-loop table schedule records boards-many processes channels start lengths sender reader port ins arity rows₀ mails₀ logs₀ heads₀ boards₀ totals₀ waits₀ answers₀ entries₀ i₀ rows mails logs heads boards totals waits answers entries i =
+μ-loop table schedule records boards-many processes channels start lengths limits sender reader port ins arity rows₀ mails₀ logs₀ heads₀ boards₀ totals₀ waits₀ answers₀ entries₀ i₀ rows mails logs heads boards totals waits answers entries i =
     records - i
 
 blank-requires : tie.Need-blank-requires Inv-loop μ-loop
 blank-requires c κs = search needs
 
 loop-holds : tie.Need-loop-holds Inv-loop μ-loop
-loop-holds c = let s = c .before .before .before .before .args in (at-first (lentOf (s .table .now) (s .boards-many) (s .processes) (s .channels) (s .start .now) (s .lengths .now) (s .sender .now) (s .reader .now) (s .port .now) (s .ins .now) (s .arity .now)) (s .schedule .now) (s .records) (storeOf (s .rows .now) (s .mails .now) (s .logs .now) (s .heads .now) (s .boards .now) (s .totals .now) (s .waits .now)) _ (s .answers .now), refl)
+loop-holds c = let s = c .before .before .before .before .args in (at-first (lentOf (s .table .now) (s .boards-many) (s .processes) (s .channels) (s .start .now) (s .lengths .now) (s .limits .now) (s .sender .now) (s .reader .now) (s .port .now) (s .ins .now) (s .arity .now)) (s .schedule .now) (s .records) (storeOf (s .rows .now) (s .mails .now) (s .logs .now) (s .heads .now) (s .boards .now) (s .totals .now) (s .waits .now)) _ (s .answers .now), refl)
 
 add-i : tie.Need-add-i Inv-loop μ-loop
 add-i c = search needs
@@ -73,7 +73,7 @@ loop-less c = search needs
 
 loop-again : tie.Need-loop-again Inv-loop μ-loop
 loop-again c = let s = c .before .before .before .before .before .before .before .before .before .before .before .before .before .before .before .before .before .before .before .before .before .before .before .before .before .args in let p = c .before .before .before .before .before .before .before .before .before .before .before .before .before .before .before .before .before .before .before .before .loop in let x = c .before .before .before .before .before .before .before .before .before .before .before .before .before .before .before .before .before .before .command-at in let g = c .before .before .before .before .before .before .before .before .before .before .before .before .before .before .before .before .before .grown in let r = c .before .before .before .before .carry in let w = c .before .before .put in let o = c .before .before .before .before .before .before .before .before .before .before .before .before .before .oldest in let b = c .before .before .before .before .before .before .before .before .before .before .before .before .before .before .before .index16 in (
-  on-by-carry (lentOf (s .table .now) (s .boards-many) (s .processes) (s .channels) (s .start .now) (s .lengths .now) (s .sender .now) (s .reader .now) (s .port .now) (s .ins .now) (s .arity .now)) (s .schedule .now) (s .records) (storeOf (s .rows .now) (s .mails .now) (s .logs .now) (s .heads .now) (s .boards .now) (s .totals .now) (s .waits .now)) _ (s .answers .now) (p .i) (storeOf (p .rows) (p .mails) (p .logs) (p .heads) (p .boards) (p .totals) (p .waits)) _ (p .entries) (p .entries) (p .answers) _ (p .inv .0) (c .before .before .before .before .before .before .before .before .before .before .before .before .before .before .before .before .before .before .before .loop-test .taken) (x .result) (x .ensures) (g .result) (g .ensures .0) (g .ensures .1) (r .result) (w .ensures)
+  on-by-carry (lentOf (s .table .now) (s .boards-many) (s .processes) (s .channels) (s .start .now) (s .lengths .now) (s .limits .now) (s .sender .now) (s .reader .now) (s .port .now) (s .ins .now) (s .arity .now)) (s .schedule .now) (s .records) (storeOf (s .rows .now) (s .mails .now) (s .logs .now) (s .heads .now) (s .boards .now) (s .totals .now) (s .waits .now)) _ (s .answers .now) (p .i) (storeOf (p .rows) (p .mails) (p .logs) (p .heads) (p .boards) (p .totals) (p .waits)) _ (p .entries) (p .entries) (p .answers) _ (p .inv .0) (c .before .before .before .before .before .before .before .before .before .before .before .before .before .before .before .before .before .before .before .loop-test .taken) (x .result) (x .ensures) (g .result) (g .ensures .0) (g .ensures .1) (r .result) (w .ensures)
       (s .boards-many) (s .processes) (s .channels) (s .sender .now) (s .reader .now) (s .port .now) _ _ (o .result) refl refl refl refl (c .before .before .before .before .before .before .before .before .before .before .before .before .before .before .before .before .if1 .taken) refl (o .ensures .0) (λ h. o .ensures .1 (b .ensures .0) ∙ ap (λ (k : ℕ). 32 * k + getD (getD (p .boards) k []) 0 0 % 32) (b .ensures .1 h)) refl (r .ensures),
   w .ensures .same-length ∙ p .inv .1,
 )
@@ -89,7 +89,7 @@ loop-less-2 c = search needs
 
 loop-again-2 : tie.Need-loop-again-2 Inv-loop μ-loop
 loop-again-2 c = let s = c .before .before .before .before .before .before .before .before .before .before .before .before .before .before .before .before .before .before .before .before .before .before .before .args in let p = c .before .before .before .before .before .before .before .before .before .before .before .before .before .before .before .before .before .before .loop in let x = c .before .before .before .before .before .before .before .before .before .before .before .before .before .before .before .before .command-at in let g = c .before .before .before .before .before .before .before .before .before .before .before .before .before .before .before .grown in let m = c .before .before .before .before .before .before .turn in let w = c .before .before .before .put2 in (
-  on-by-turn (lentOf (s .table .now) (s .boards-many) (s .processes) (s .channels) (s .start .now) (s .lengths .now) (s .sender .now) (s .reader .now) (s .port .now) (s .ins .now) (s .arity .now)) (s .schedule .now) (s .records) (storeOf (s .rows .now) (s .mails .now) (s .logs .now) (s .heads .now) (s .boards .now) (s .totals .now) (s .waits .now)) _ (s .answers .now) (p .i) (storeOf (p .rows) (p .mails) (p .logs) (p .heads) (p .boards) (p .totals) (p .waits)) _ (p .entries) _ (p .answers) _ (p .inv .0) (c .before .before .before .before .before .before .before .before .before .before .before .before .before .before .before .before .before .loop-test .taken) (x .result) (x .ensures) (g .result) (g .ensures .0) (g .ensures .1) _ (w .ensures)
+  on-by-turn (lentOf (s .table .now) (s .boards-many) (s .processes) (s .channels) (s .start .now) (s .lengths .now) (s .limits .now) (s .sender .now) (s .reader .now) (s .port .now) (s .ins .now) (s .arity .now)) (s .schedule .now) (s .records) (storeOf (s .rows .now) (s .mails .now) (s .logs .now) (s .heads .now) (s .boards .now) (s .totals .now) (s .waits .now)) _ (s .answers .now) (p .i) (storeOf (p .rows) (p .mails) (p .logs) (p .heads) (p .boards) (p .totals) (p .waits)) _ (p .entries) _ (p .answers) _ (p .inv .0) (c .before .before .before .before .before .before .before .before .before .before .before .before .before .before .before .before .before .loop-test .taken) (x .result) (x .ensures) (g .result) (g .ensures .0) (g .ensures .1) _ (w .ensures)
       (m .result) (c .before .before .before .before .before .before .before .before .before .before .before .before .before .before .if1 .left) refl (stored-none (p .entries) (m .result) (c .if2 .taken)) (m .ensures),
   w .ensures .same-length ∙ p .inv .1,
 )
@@ -105,7 +105,7 @@ loop-less-3 c = search needs
 
 loop-again-3 : tie.Need-loop-again-3 Inv-loop μ-loop
 loop-again-3 c = let s = c .before .before .before .before .before .before .before .before .before .before .before .before .before .before .before .before .before .before .before .before .before .before .before .args in let p = c .before .before .before .before .before .before .before .before .before .before .before .before .before .before .before .before .before .before .loop in let x = c .before .before .before .before .before .before .before .before .before .before .before .before .before .before .before .before .command-at in let g = c .before .before .before .before .before .before .before .before .before .before .before .before .before .before .before .grown in let m = c .before .before .before .before .before .before .turn in let w = c .before .before .before .put2 in (
-  on-by-turn (lentOf (s .table .now) (s .boards-many) (s .processes) (s .channels) (s .start .now) (s .lengths .now) (s .sender .now) (s .reader .now) (s .port .now) (s .ins .now) (s .arity .now)) (s .schedule .now) (s .records) (storeOf (s .rows .now) (s .mails .now) (s .logs .now) (s .heads .now) (s .boards .now) (s .totals .now) (s .waits .now)) _ (s .answers .now) (p .i) (storeOf (p .rows) (p .mails) (p .logs) (p .heads) (p .boards) (p .totals) (p .waits)) _ (p .entries) _ (p .answers) _ (p .inv .0) (c .before .before .before .before .before .before .before .before .before .before .before .before .before .before .before .before .before .loop-test .taken) (x .result) (x .ensures) (g .result) (g .ensures .0) (g .ensures .1) _ (w .ensures)
+  on-by-turn (lentOf (s .table .now) (s .boards-many) (s .processes) (s .channels) (s .start .now) (s .lengths .now) (s .limits .now) (s .sender .now) (s .reader .now) (s .port .now) (s .ins .now) (s .arity .now)) (s .schedule .now) (s .records) (storeOf (s .rows .now) (s .mails .now) (s .logs .now) (s .heads .now) (s .boards .now) (s .totals .now) (s .waits .now)) _ (s .answers .now) (p .i) (storeOf (p .rows) (p .mails) (p .logs) (p .heads) (p .boards) (p .totals) (p .waits)) _ (p .entries) _ (p .answers) _ (p .inv .0) (c .before .before .before .before .before .before .before .before .before .before .before .before .before .before .before .before .before .loop-test .taken) (x .result) (x .ensures) (g .result) (g .ensures .0) (g .ensures .1) _ (w .ensures)
       (m .result) (c .before .before .before .before .before .before .before .before .before .before .before .before .before .before .if1 .left) refl (stored-one (p .entries) (m .result) (c .if2 .left)) (m .ensures),
   w .ensures .same-length ∙ p .inv .1,
 )
@@ -114,7 +114,7 @@ same-length : tie.Need-same-length Inv-loop μ-loop
 same-length c = c .before .loop .inv .1
 
 returns : tie.Need-returns Inv-loop μ-loop
-returns c = let s = c .before .before .before .before .before .before .args in let p = c .before .loop in at-last (lentOf (s .table .now) (s .boards-many) (s .processes) (s .channels) (s .start .now) (s .lengths .now) (s .sender .now) (s .reader .now) (s .port .now) (s .ins .now) (s .arity .now)) (s .schedule .now) (s .records) (storeOf (s .rows .now) (s .mails .now) (s .logs .now) (s .heads .now) (s .boards .now) (s .totals .now) (s .waits .now)) _ (s .answers .now) (p .i) (storeOf (p .rows) (p .mails) (p .logs) (p .heads) (p .boards) (p .totals) (p .waits)) (p .entries) (p .answers) (ap (replicate 512) (c .before .before .blank .ensures)) (p .inv .0) (c .loop-test .left)
+returns c = let s = c .before .before .before .before .before .before .args in let p = c .before .loop in at-last (lentOf (s .table .now) (s .boards-many) (s .processes) (s .channels) (s .start .now) (s .lengths .now) (s .limits .now) (s .sender .now) (s .reader .now) (s .port .now) (s .ins .now) (s .arity .now)) (s .schedule .now) (s .records) (storeOf (s .rows .now) (s .mails .now) (s .logs .now) (s .heads .now) (s .boards .now) (s .totals .now) (s .waits .now)) _ (s .answers .now) (p .i) (storeOf (p .rows) (p .mails) (p .logs) (p .heads) (p .boards) (p .totals) (p .waits)) (p .entries) (p .answers) (ap (replicate 512) (c .before .before .blank .ensures)) (p .inv .0) (c .loop-test .left)
 
 pub play-spec : {M : Type 1} → statement M
 play-spec =
