@@ -52,6 +52,7 @@ pub mod Cases
 pub mod Marked
 pub mod MoveCases
 pub mod LongCases
+pub mod LimitCases
 pub mod ReasonCases
 pub mod FormatCases
 pub mod PageCases
