@@ -453,7 +453,13 @@ fn buffers() {
     run_case(b"buffers just long enough", &s, 12, 2, 20);
     run_case(b"11 bytes for two answers", &s, 11, 2, 20);
     run_case(b"1 byte for two reasons", &s, 12, 1, 20);
-    run_case(b"1 byte for two reasons and 19 for a process", &s, 12, 1, 19);
+    run_case(
+        b"1 byte for two reasons and 19 for a process",
+        &s,
+        12,
+        1,
+        19,
+    );
     run_case(b"19 bytes for one process", &s, 12, 2, 19);
     run_case(b"no bytes in any buffer", &s, 0, 0, 0);
     let mut empty = [0, 1, 1];
