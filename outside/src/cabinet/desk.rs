@@ -2,6 +2,7 @@
 //! proved call's bytes give. The simulator has no part in this.
 use crate::call::ks_run;
 use outside::rules::generate::{encode_schedule, encode_table};
+use outside::rules::lent::Lent;
 use outside::rules::page::lines;
 use outside::rules::reader::Instruction::{Add, First, Jump, Send, Set, Take};
 use outside::rules::reader::{Channel, Instruction, Process, Record, Table, OUTSIDE};
@@ -281,14 +282,10 @@ pub fn cases() -> Vec<Case> {
 /// The page that the proved call's bytes give.
 fn page(case: &Case) -> String {
     let processes = case.table[4] as usize;
-    let mut run = Run {
-        outcome: Outcome { number: 0, records: 0, quiet: false },
-        answers: vec![0xEE; 6 * case.records.len()],
-        report: vec![0xEE; 20 * processes],
-    };
-    let number = ks_run(&case.table, &encode_schedule(&case.records), &mut run.answers, &mut run.report);
-    run.outcome = Outcome { number: number as u8, records: (number >> 32) as usize, quiet: number >> 8 & 1 == 1 };
-    lines(&run, processes)
+    let mut lent = Lent::needed(case.records.len(), processes).filled(0xEE);
+    let number = ks_run(&case.table, &encode_schedule(&case.records), lent.lend());
+    let outcome = Outcome { number: number as u8, records: (number >> 32) as usize, quiet: number >> 8 & 1 == 1 };
+    lines(&Run { outcome, lent }, processes)
 }
 
 /// Runs every case and shows the lines compared; false if one differs.

@@ -11,6 +11,7 @@ mod seen;
 use compare::Comparison;
 use outside::random::Random;
 use outside::rules::generate::encode_schedule;
+use outside::rules::lent::Lent;
 use outside::rules::reader::Record;
 use outside::rules::sample::{crash, sample_schedule, SAMPLE};
 
@@ -19,12 +20,12 @@ const RUNS: u64 = 60_000;
 
 /// A schedule and each of its beginnings, and the same with a crash of each board put at each place.
 fn pulled(comparison: &mut Comparison, kind: &'static str, table: &[u8], records: &[Record]) {
-    let buffers = (6 * records.len() + 6, 20 * table[4] as usize);
+    let buffers = Lent::needed(records.len() + 1, table[4] as usize);
     for place in 0..=records.len() {
-        comparison.run(kind, table, &encode_schedule(&records[..place]), buffers.0, buffers.1);
+        comparison.run(kind, table, &encode_schedule(&records[..place]), buffers);
         for board in 0..table[3] {
             let crashed = [&records[..place], &[crash(board)], &records[place..]].concat();
-            comparison.run(kind, table, &encode_schedule(&crashed), buffers.0, buffers.1);
+            comparison.run(kind, table, &encode_schedule(&crashed), buffers);
         }
     }
 }
