@@ -60,6 +60,15 @@ fn samples() {
     }
 }
 
+/// What README.md shows.
+#[test]
+fn shown() {
+    let readme = include_str!("../../README.md");
+    let (command, after) = readme.split_once("$ ./explain ").and_then(|(_, after)| after.split_once('\n')).expect("an example");
+    let lines: Vec<&str> = after.lines().map_while(|line| line.strip_prefix("    ")).collect();
+    assert_eq!(printed(&command.split(' ').collect::<Vec<_>>(), &[]).lines().collect::<Vec<_>>(), lines);
+}
+
 /// The lines, parted by white space alone.
 fn lines(text: &str) -> Vec<String> {
     text.lines().map(|line| line.split_whitespace().collect::<Vec<_>>().join(" ")).collect()
