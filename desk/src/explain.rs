@@ -40,7 +40,7 @@ impl Input {
         Input { table: bytes, schedule }
     }
 
-    /// How many records the schedule has, if the run isn't refused.
+    /// How many records an accepted schedule has, or why the run is refused.
     pub fn records(&self) -> Result<usize, Refusal> {
         kunzeastylus::judge(&self.table, &self.schedule, usize::MAX, usize::MAX, usize::MAX).map(|()| self.schedule.len() / 6)
     }
@@ -53,7 +53,7 @@ impl Input {
         self.schedule.splice(..2, schedule_length(self.schedule.len()));
     }
 
-    /// The run of the first records, handed over; the buffers are as long as needed.
+    /// The run of the first records of an accepted schedule, handed over; the buffers are as long as needed.
     fn run<T>(&self, records: usize, use_of: impl FnOnce(Run) -> T) -> Result<T, Refusal> {
         let mut schedule = self.schedule.clone();
         if records < schedule.len() / 6 {
@@ -72,14 +72,11 @@ fn schedule_length(bytes: usize) -> [u8; 2] {
 
 /// The run in words, or why it is refused.
 pub fn explain(input: &Input, asked: Asked) -> Result<String, Refusal> {
-    let records = input.schedule.len().saturating_sub(3) / 6;
+    let records = input.records()?;
     input.run(records, |run| {
         let table = Table::of(&input.table).expect("the table of an accepted run");
         let mut text = String::new();
-        let (processes, channels) =
-            (many(table.processes.len(), "process", "processes"), many(table.channels.len(), "channel", "channels"));
-        writeln!(text, "{} on {} boards with {processes} and {channels}", many(records, "record", "records"), table.boards)
-            .unwrap();
+        writeln!(text, "{}", heading(records, &table)).unwrap();
         let followed = lines(input, &table, &run, asked, &mut text);
         let ends: Vec<Standing> = run.processes().map(Standing::from).collect();
         assert_eq!(followed.standing(), ends, "a fault of this program: it followed the run to another end");
@@ -93,6 +90,12 @@ pub fn explain(input: &Input, asked: Asked) -> Result<String, Refusal> {
         writeln!(text, "{quiet}").unwrap();
         text
     })
+}
+
+fn heading(records: usize, table: &Table) -> String {
+    let processes = many(table.processes.len(), "process", "processes");
+    let channels = many(table.channels.len(), "channel", "channels");
+    format!("{} on {} boards with {processes} and {channels}", many(records, "record", "records"), table.boards)
 }
 
 /// A line for each record that is asked for; all of them are followed.
@@ -115,9 +118,9 @@ fn lines<'t>(input: &Input, table: &'t Table, run: &Run, asked: Asked, text: &mu
 /// The records with their numbers in the schedule as it was given.
 fn numbered(records: &[u8], pull: Option<Pull>) -> impl Iterator<Item = Line<'_>> {
     let before = pull.map_or(usize::MAX, |pull| pull.before);
-    records.chunks_exact(6).zip(1..).map(move |(record, i)| match i {
-        i if i == before => Line { number: None, with: before, record },
-        i => Line { number: Some(i - usize::from(i > before)), with: i - usize::from(i > before), record },
+    records.chunks_exact(6).zip(1..).map(move |(record, i)| {
+        let with = i - usize::from(i > before);
+        Line { number: (i != before).then_some(with), with, record }
     })
 }
 
