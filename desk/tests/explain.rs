@@ -6,6 +6,7 @@ use desk::hex;
 use kunzeastylus::{run, Move, Table};
 use outside::random::Random;
 use outside::rules::generate::{encode_schedule, encode_table, schedule, table};
+use outside::rules::lent::Lent;
 use outside::rules::loops::loops;
 use std::io::Write;
 use std::process::{Command, Output, Stdio};
@@ -157,6 +158,8 @@ fn follows(table: &[u8], schedule: &[u8]) {
     let records = schedule.len() / 6;
     let (mut answers, mut reasons, mut ends) = (vec![0; 6 * records], vec![0; records], [0; 320]);
     let whole = run(table, schedule, &mut answers, &mut reasons, &mut ends).expect("a sound run");
+    let simulated = outside::rules::run::run(table, schedule, Lent::needed(records, 16)).lent.reasons;
+    assert_eq!(whole.answers().map(|answer| answer.cause.number()).collect::<Vec<_>>(), simulated);
     for (i, (record, answer)) in schedule[3..].chunks_exact(6).zip(whole.answers()).enumerate() {
         followed.record(Move::of(record[0]), record[1], answer, || report(i + 1));
         assert_eq!(followed.standing(), report(i + 1), "after record {}: {table:02X?} {schedule:02X?}", i + 1);
