@@ -174,7 +174,11 @@ fn short(name: &[u8], version: u32, given: usize, limit: u32, code: u32) {
     let mut out = [238u8; 36];
     show(
         name,
-        write_sample(limited(version, given, limit), changed(2, 0, 1, 4, code), &mut out),
+        write_sample(
+            limited(version, given, limit),
+            changed(2, 0, 1, 4, code),
+            &mut out,
+        ),
     );
     byte(out[1]);
     byte(out[12]);
