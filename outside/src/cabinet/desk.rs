@@ -17,14 +17,13 @@ pub struct Case {
 }
 
 fn table(boards: u8, channels: &[(u8, u8)], processes: &[(u8, u8, &[Instruction])]) -> Vec<u8> {
-    encode_table(&Table {
-        boards,
-        channels: channels.iter().map(|&(sender, reader)| Channel { sender, reader }).collect(),
-        processes: processes
-            .iter()
-            .map(|&(primary, backup, program)| Process { primary, backup, program: program.to_vec() })
-            .collect(),
-    })
+    encode_table(&said(boards, channels, processes))
+}
+
+fn said(boards: u8, channels: &[(u8, u8)], processes: &[(u8, u8, &[Instruction])]) -> Table {
+    let mut table = Table::new(boards, channels.iter().map(|&(sender, reader)| Channel { sender, reader }).collect());
+    table.processes = processes.iter().map(|&(primary, backup, program)| Process::new(primary, backup, program.to_vec())).collect();
+    table
 }
 
 /// One process that sends a word again and again to the outside.

@@ -22,10 +22,12 @@ fn large_table() -> Vec<u8> {
                     _ => Instruction::Set { a: 3, word: j },
                 })
                 .collect();
-            Process { primary: p, backup: (p + 1) % 16, program }
+            Process::new(p, (p + 1) % 16, program)
         })
         .collect();
-    encode_table(&Table { boards: 16, channels: fed.chain(next).collect(), processes })
+    let mut table = Table::new(16, fed.chain(next).collect());
+    table.processes = processes;
+    encode_table(&table)
 }
 
 /// Records without end, as the cases have them.

@@ -1,10 +1,11 @@
-//! Document 01 in Rust, written from its text and from nothing else: no line here was taken from the proved code or its definitions.
-//! Names are the document's own, so that each line can be held against its sentence.
+//! Document 01, as document 02 amends it, in Rust, written from their text and from nothing else: no line here was taken from the proved code or its definitions.
+//! Names are the documents' own, so that each line can be held against its sentence.
 
 pub mod backup;
 pub mod busy;
 pub mod damage;
 pub mod generate;
+pub mod limits;
 pub mod loops;
 pub mod page;
 pub mod plain;

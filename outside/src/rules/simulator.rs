@@ -38,6 +38,7 @@ enum Entry {
 #[derive(Clone, Debug)]
 pub struct Process<'t> {
     program: &'t [Instruction],
+    limit: u8,
     pub board: u8,
     pub place: u8,
     pub registers: [u32; 4],
@@ -58,6 +59,7 @@ impl<'t> Process<'t> {
     fn new(given: &'t reader::Process) -> Process<'t> {
         Process {
             program: &given.program,
+            limit: given.limit,
             board: given.primary,
             place: 0,
             registers: [0; 4],
@@ -81,7 +83,8 @@ impl<'t> Process<'t> {
         self.inbox.push_back(message);
         if let Some(backup) = &mut self.backup {
             backup.saved.push(message);
-            debug_assert!(backup.saved.len() <= 48, "over 48 saved words");
+            // W-207: "at most 32 plus twice the limit saved words"
+            debug_assert!(backup.saved.len() <= 32 + 2 * self.limit as usize, "more saved words than the limit allows");
         }
     }
 
@@ -95,9 +98,9 @@ impl<'t> Process<'t> {
         self.backup.is_some() && self.instructions >= 64
     }
 
-    /// "37 if backed and acts are 8", or for its instructions
+    /// "37 if backed and acts are 8", in W-207 the process's limit; or for its instructions
     fn must_sync(&self) -> bool {
-        self.ran_long() || self.backup.is_some() && self.acts >= 8
+        self.ran_long() || self.backup.is_some() && self.acts >= self.limit as u32
     }
 
     /// Removes an unread word.
@@ -282,9 +285,11 @@ impl<'t> Cabinet<'t> {
                     Some(reader) => reader.arrive(Message { channel, slot: wire.slot, word }),
                     None => self.totals[channel as usize] -= 1,
                 }
-                if let Some(backup) = &mut self.processes[wire.sender as usize].backup {
+                let sender = &mut self.processes[wire.sender as usize];
+                if let Some(backup) = &mut sender.backup {
                     backup.count += 1;
-                    debug_assert!(backup.count <= 16, "a count over 16");
+                    // W-207: "a count of at most twice the limit"; it never passes the limit itself.
+                    debug_assert!(backup.count <= sender.limit, "a count over the limit");
                 }
                 Answer { code: 4, a: channel, word }
             }
@@ -342,6 +347,7 @@ impl<'t> Cabinet<'t> {
             }
             *process = Process {
                 program: process.program,
+                limit: process.limit,
                 board: backup.board,
                 place: backup.place,
                 registers: backup.registers,

@@ -3,10 +3,9 @@
 use outside::rules::reader::{judge_run, Instruction, Table, OUTSIDE};
 use std::collections::VecDeque;
 
-/// "at most 32 entries", "8 or more together", "acts are 8", "64 instructions done"
+/// "at most 32 entries", "8 or more together", "64 instructions done"
 const QUEUE: usize = 32;
 const HELD: u8 = 8;
-const ACTS: u8 = 8;
 const INSTRUCTIONS: u32 = 64;
 
 #[derive(Clone, Copy)]
@@ -72,6 +71,8 @@ struct Process<'t> {
     board: u8,
     place: u8,
     hold_back: u8,
+    /// How many acts ask for a sync.
+    limit: u8,
     acts: u8,
     /// Those done since the last sync was issued, as the acts are.
     instructions: u32,
@@ -88,7 +89,7 @@ impl Process<'_> {
     }
 
     fn must_sync(&self) -> bool {
-        (self.acts >= ACTS || self.instructions >= INSTRUCTIONS) && self.backup.is_some()
+        (self.acts >= self.limit || self.instructions >= INSTRUCTIONS) && self.backup.is_some()
     }
 
     /// What a SET, an ADD or a JUMP asks.
@@ -173,6 +174,7 @@ impl<'t> Cabinet<'t> {
             board: given.primary,
             place: 0,
             hold_back: 0,
+            limit: given.limit,
             acts: 0,
             instructions: 0,
             waiting: false,
