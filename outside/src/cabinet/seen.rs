@@ -6,6 +6,9 @@ use std::collections::BTreeMap;
 /// The answers of document 01: 0 to 6, and the refusals of a record.
 const ANSWERS: [u8; 20] = [0, 1, 2, 3, 4, 5, 6, 32, 33, 34, 35, 36, 37, 38, 39, 40, 41, 42, 43, 44];
 
+/// The numbers by which a run is refused, in their order, and 0.
+const NUMBERS: [u8; 14] = [0, 1, 2, 3, 4, 5, 6, 7, 8, 47, 9, 10, 11, 12];
+
 /// The kinds whose schedules are written so that most records are accepted.
 pub const SOUND: [&str; 3] = ["sound", "crash at every place", "10,000 records"];
 
@@ -29,7 +32,13 @@ struct Kind {
 /// What a table may have, as a test of it.
 type Trait = (&'static str, fn(&Table) -> bool);
 
-const TRAITS: [Trait; 10] = [
+const TRAITS: [Trait; 16] = [
+    ("version 1", |t| t.version == 1),
+    ("version 2", |t| t.version == 2),
+    ("limit 1", |t| t.processes.iter().any(|p| p.limit == 1)),
+    ("limit 2", |t| t.processes.iter().any(|p| p.limit == 2)),
+    ("limit 8 in version 2", |t| t.version == 2 && t.processes.iter().any(|p| p.limit == 8)),
+    ("limit 16", |t| t.processes.iter().any(|p| p.limit == 16)),
     ("one process", |t| t.processes.len() == 1),
     ("16 processes", |t| t.processes.len() == 16),
     ("2 boards", |t| t.boards == 2),
@@ -56,7 +65,7 @@ fn calculates(instruction: &Instruction) -> bool {
 pub struct Seen {
     pub runs: u64,
     answers: BTreeMap<u8, u64>,
-    numbers: [u64; 13],
+    numbers: BTreeMap<u8, u64>,
     kinds: Vec<Kind>,
     traits: [u64; TRAITS.len()],
     /// The table that was looked at last, so that a sweep looks once.
@@ -78,7 +87,7 @@ impl Seen {
         });
         let kind = &mut self.kinds[at];
         kind.runs += 1;
-        self.numbers[run.outcome.number as usize] += 1;
+        *self.numbers.entry(run.outcome.number).or_default() += 1;
         if run.outcome.number != 0 {
             kind.refused += 1;
             return;
@@ -135,11 +144,11 @@ impl Seen {
         println!("tables with: {}", tables.join(", "));
         let answers: Vec<String> = self.answers.iter().map(|(code, times)| format!("{code}: {times}")).collect();
         println!("answers {}", answers.join(", "));
-        let numbers: Vec<String> = self.numbers.iter().enumerate().map(|(n, times)| format!("{n}: {times}")).collect();
+        let numbers: Vec<String> = self.numbers.iter().map(|(n, times)| format!("{n}: {times}")).collect();
         println!("numbers {}", numbers.join(", "));
         let mut missing: Vec<String> = Vec::new();
         missing.extend(ANSWERS.iter().filter(|code| !self.answers.contains_key(code)).map(|code| format!("answer {code}")));
-        missing.extend((0..13).filter(|&n| self.numbers[n] == 0).map(|n| format!("number {n}")));
+        missing.extend(NUMBERS.iter().filter(|n| !self.numbers.contains_key(n)).map(|n| format!("number {n}")));
         missing.extend(
             TRAITS.iter().zip(&self.traits).filter(|(_, &n)| n == 0).map(|((name, _), _)| format!("a table with {name}")),
         );
