@@ -2,6 +2,7 @@
 //! proved call's bytes give. The simulator has no part in this.
 use crate::call::ks_run;
 use outside::rules::generate::{encode_schedule, encode_table};
+use outside::rules::lent::Lent;
 use outside::rules::limits;
 use outside::rules::page::lines;
 use outside::rules::reader::Instruction::{Add, First, Jump, Send, Set, Take};
@@ -23,7 +24,8 @@ fn table(boards: u8, channels: &[(u8, u8)], processes: &[(u8, u8, &[Instruction]
 
 fn said(boards: u8, channels: &[(u8, u8)], processes: &[(u8, u8, &[Instruction])]) -> Table {
     let mut table = Table::new(boards, channels.iter().map(|&(sender, reader)| Channel { sender, reader }).collect());
-    table.processes = processes.iter().map(|&(primary, backup, program)| Process::new(primary, backup, program.to_vec())).collect();
+    table.processes =
+        processes.iter().map(|&(primary, backup, program)| Process::new(primary, backup, program.to_vec())).collect();
     table
 }
 
@@ -309,7 +311,12 @@ pub fn cases() -> Vec<Case> {
         &on,
         &["132 39 3 0", "133 0 0 0", "134 1 0 100", "process 0 1 2 63 0 100 0 0 1", "quiet 0"],
     );
-    case("limit 1: 34 unread words", four_limited(1), &limits::fullest(1), &["41 0 0 0", "process 0 1 0 34 0 0 0 0 0", "quiet 0"]);
+    case(
+        "limit 1: 34 unread words",
+        four_limited(1),
+        &limits::fullest(1),
+        &["41 0 0 0", "process 0 1 0 34 0 0 0 0 0", "quiet 0"],
+    );
     let mut two = vec![feed(0, 5), feed(0, 5)];
     two.extend([feed(1, 6); 4]);
     two.extend([step(0); 3]);
@@ -340,14 +347,10 @@ pub fn cases() -> Vec<Case> {
 /// The page that the proved call's bytes give.
 fn page(case: &Case) -> String {
     let processes = case.table[4] as usize;
-    let mut run = Run {
-        outcome: Outcome { number: 0, records: 0, quiet: false },
-        answers: vec![0xEE; 6 * case.records.len()],
-        report: vec![0xEE; 20 * processes],
-    };
-    let number = ks_run(&case.table, &encode_schedule(&case.records), &mut run.answers, &mut run.report);
-    run.outcome = Outcome { number: number as u8, records: (number >> 32) as usize, quiet: number >> 8 & 1 == 1 };
-    lines(&run, processes)
+    let mut lent = Lent::needed(case.records.len(), processes).filled(0xEE);
+    let number = ks_run(&case.table, &encode_schedule(&case.records), lent.lend());
+    let outcome = Outcome { number: number as u8, records: (number >> 32) as usize, quiet: number >> 8 & 1 == 1 };
+    lines(&Run { outcome, lent }, processes)
 }
 
 /// Runs every case and shows the lines compared; false if one differs.

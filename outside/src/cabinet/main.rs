@@ -11,6 +11,7 @@ mod seen;
 use compare::Comparison;
 use outside::random::Random;
 use outside::rules::generate::{encode_schedule, encode_table};
+use outside::rules::lent::Lent;
 use outside::rules::limits;
 use outside::rules::reader::Record;
 use outside::rules::sample::{crash, sample_schedule, SAMPLE};
@@ -20,12 +21,12 @@ const RUNS: u64 = 60_000;
 
 /// A schedule and each of its beginnings, and the same with a crash of each board put at each place.
 fn pulled(comparison: &mut Comparison, kind: &'static str, table: &[u8], records: &[Record]) {
-    let buffers = (6 * records.len() + 6, 20 * table[4] as usize);
+    let buffers = Lent::needed(records.len() + 1, table[4] as usize);
     for place in 0..=records.len() {
-        comparison.run(kind, table, &encode_schedule(&records[..place]), buffers.0, buffers.1);
+        comparison.run(kind, table, &encode_schedule(&records[..place]), buffers);
         for board in 0..table[3] {
             let crashed = [&records[..place], &[crash(board)], &records[place..]].concat();
-            comparison.run(kind, table, &encode_schedule(&crashed), buffers.0, buffers.1);
+            comparison.run(kind, table, &encode_schedule(&crashed), buffers);
         }
     }
 }
@@ -35,8 +36,8 @@ fn pulled(comparison: &mut Comparison, kind: &'static str, table: &[u8], records
 fn fullest(comparison: &mut Comparison, limit: u8) {
     let table = encode_table(&limits::four_channels(limit));
     let records = limits::fullest(limit);
-    let end = comparison.run("fullest", &table, &encode_schedule(&records), 6 * records.len(), 20);
-    assert_eq!(end.report[..4], [1, 0, limits::most_saved(limit), 0], "limit {limit}: board, place, unread and hold-back");
+    let end = comparison.run("fullest", &table, &encode_schedule(&records), Lent::needed(records.len(), 1));
+    assert_eq!(end.lent.report[..4], [1, 0, limits::most_saved(limit), 0], "limit {limit}: board, place, unread and hold-back");
     if [1, 2, 8, 16].contains(&limit) {
         let lead = &records[..records.len() - 1];
         pulled(comparison, "fullest", &table, lead);

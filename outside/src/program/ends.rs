@@ -23,17 +23,8 @@ pub fn endless(comparison: &mut Comparison) {
     let sample = [&SAMPLE[..], &encode_schedule(&sample_schedule())].concat();
     // The longest table there is, of zeros and of ones.
     let (zeros, ones) = ([0x18, 0x84], [0x18, 0x84, 2]);
-    let starts: [(&[u8], u8); 9] = [
-        (&[], 0),
-        (&[], 1),
-        (&[], 255),
-        (&zeros, 0),
-        (&ones, 1),
-        (&SAMPLE, 0),
-        (&SAMPLE, 1),
-        (&version, 1),
-        (&sample, 0),
-    ];
+    let starts: [(&[u8], u8); 9] =
+        [(&[], 0), (&[], 1), (&[], 255), (&zeros, 0), (&ones, 1), (&SAMPLE, 0), (&SAMPLE, 1), (&version, 1), (&sample, 0)];
     for (start, byte) in starts {
         let mut beginning = start.to_vec();
         beginning.resize(ENOUGH, byte);

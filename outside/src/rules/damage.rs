@@ -84,7 +84,18 @@ fn change_bytes(random: &mut Random, bytes: &mut [u8]) {
 fn change_field(random: &mut Random, bytes: &mut [u8]) {
     let length = (bytes.len() - 2) as u16;
     let any = random.below(65_536) as u16;
-    let other = [length.wrapping_add(1), length.wrapping_sub(1), length.swap_bytes(), length.wrapping_add(2), 0, 6260, 6261, 6276, 6277, any];
+    let other = [
+        length.wrapping_add(1),
+        length.wrapping_sub(1),
+        length.swap_bytes(),
+        length.wrapping_add(2),
+        0,
+        6260,
+        6261,
+        6276,
+        6277,
+        any,
+    ];
     bytes[..2].copy_from_slice(&random.pick(&other).to_be_bytes());
 }
 
