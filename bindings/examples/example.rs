@@ -1,6 +1,8 @@
 //! The proved calls from Rust, as board programmers, the driver bench, the service desk and the label line use them. examples/example.c is
 //! the same in C; both print examples/example.out.
-use kunzeastylus::{judge, label_run, label_table, labels, run, Backup, BackupRefusal, Code, Record, Refusal, Snapshot, Synced, SCANNER};
+use kunzeastylus::{
+    judge, label_run, label_table, labels, run, Backup, BackupRefusal, Code, Record, Refusal, Snapshot, Synced, SCANNER,
+};
 
 /// Document 01's sample table.
 const TABLE: [u8; 37] = [

@@ -25,7 +25,7 @@ numbers! {
         Halted = 35,
         /// No such word.
         NoWord = 36,
-        /// Backed, and acts are 8 or instructions 64.
+        /// Backed, and acts are at the process's limit (8 in a table of version 1) or instructions 64.
         OwesSync = 37,
         QueueFull = 38,
         ChannelHeld = 39,

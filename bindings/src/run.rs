@@ -4,10 +4,11 @@ use crate::calls;
 use crate::numbers::numbers;
 
 numbers! {
-    /// Why a run is refused, the lowest number first.
+    /// Why a run is refused, the lowest number first; 47 comes between 8 and 9.
     Refusal {
-        /// The table is under 6 bytes, or its length field over 6,260 or not the true one.
+        /// The table is under 6 bytes, or its length field over 6,276 or not the true one.
         TableLength = 1,
+        /// A version other than 1 or 2.
         TableVersion = 2,
         /// Boards, processes or channels.
         TableCounts = 3,
@@ -28,6 +29,8 @@ numbers! {
         ReportShort = 12,
         /// Of the label line: a first serial above 4,294,957,295.
         FirstSerial = 46,
+        /// A process's limit is outside 1 to 16.
+        Limit = 47,
     }
 }
 
