@@ -118,7 +118,7 @@ enum ks_cause {
     KS_CAUSE_HALTED = 140,              /* halted */
     KS_CAUSE_NO_WORD_FOR_TAKE = 144,    /* no such word: for TAKE */
     KS_CAUSE_NO_WORD_FOR_FIRST = 145,   /* no such word: for FIRST */
-    KS_CAUSE_OWES_FOR_ACTS = 148,       /* owes a sync: 8 acts */
+    KS_CAUSE_OWES_FOR_ACTS = 148,       /* owes a sync: acts at its limit */
     KS_CAUSE_OWES_FOR_INSTRUCTIONS = 149, /* owes a sync: 64 instructions */
     KS_CAUSE_QUEUE_FULL_FOR_SEND = 152, /* queue full: for SEND */
     KS_CAUSE_QUEUE_FULL_FOR_SYNC = 153, /* queue full: for a sync */

@@ -70,7 +70,7 @@ worded! {
         Halted = 140 => "halted",
         NoWordForTake = 144 => "no such word: for TAKE",
         NoWordForFirst = 145 => "no such word: for FIRST",
-        OwesForActs = 148 => "owes a sync: 8 acts",
+        OwesForActs = 148 => "owes a sync: acts at its limit",
         OwesForInstructions = 149 => "owes a sync: 64 instructions",
         QueueFullForSend = 152 => "queue full: for SEND",
         QueueFullForSync = 153 => "queue full: for a sync",
