@@ -41,6 +41,7 @@ pub mod Reached
 pub mod RollForward
 -- Tables and runs in bytes.
 pub mod Valid
+pub mod FirstVersion
 pub mod ReadBack
 pub mod Encoding
 pub mod Apart
@@ -51,6 +52,7 @@ pub mod Cases
 pub mod Marked
 pub mod MoveCases
 pub mod LongCases
+pub mod LimitCases
 pub mod ReasonCases
 pub mod FormatCases
 pub mod PageCases
