@@ -10,13 +10,13 @@ use borrow.Author.Tests.{lt-ltb, le-ltb}
 use Rattle.facts.specs.Tests.{any-same}
 use Rattle.facts.specs.Lists.{listed, listed-same, written-out}
 use Rattle.backup.specs.Limits.{logMost, ports, pcMost}
-use Rattle.backup.specs.Replica.{Message, Replica, savedOn, takenOn, lacking, sync, syncNumber, synced}
-use Rattle.backup.specs.Laws.{saved-remaining}
+use Rattle.backup.specs.Replica.{Message, Replica, savedOn, takenOn, remaining, lacking, sync, syncNumber, synced}
+use Rattle.backup.specs.Laws.{saved-remaining, length-remaining}
 use Rattle.backup.specs.Accepts.{fit-parts, enough, answer-number, answer-done, sync-accepted, synced-fit}
 use Rattle.backup.specs.Place.{messages, viewIn, tallyIn, headLength, Sound, Called, takenOf, checkpointOf, lacksIn, Compacted, restatedIn, reportOf, refusedOf, landedIn, Reports}
 use Rattle.backup.specs.Report.{syncReport}
 use Rattle.backup.specs.ReportLaws.{syncReport-accepted, syncReport-refused, gone-taken}
-use Rattle.backup.specs.Rounds.{allTaken, syncRounds, syncRounds-none, syncRounds-some, OnePass, onePass-by}
+use Rattle.backup.specs.Rounds.{allTaken, syncRounds, syncRounds-none, syncRounds-all, syncRounds-some, OnePass, onePass-by}
 use Rattle.backup.specs.declared.place.Checkpoint.{Checkpoint}
 use Rattle.backup.proofs.InPlace.{refused-so, accepted-so, same-replica, view-length}
 
@@ -73,23 +73,44 @@ module _ (log head : List ℕ) (c : Checkpoint) where
   sync-20 h = refused-so log head 20 (λ v. sync v (checkpointOf c))
       (λ s. absurd (let f = fit-parts (viewIn log head) (s .is-fit) .few in let l = view-length log head in omega arith))
 
-  pub sync-done : (kept : ℕ) (log′ : List ℕ) → c .pc ≤ pcMost → lacksIn head (takenOf c) ≡ false → Compacted log (getD head 0 0) (takenOf c) kept log′
+  -- done: of a sound backup the log's first numbers are what a drop as taken leaves
+  sync-left : (kept : ℕ) (log′ : List ℕ) → c .pc ≤ pcMost → lacksIn head (takenOf c) ≡ false → length log′ ≡ length log
+      → (Sound log head → messages kept log′ ≡ remaining (takenOf c) (viewIn log head .log))
       → Called log head log′ (restatedIn head kept c) 0 (λ v. sync v (checkpointOf c))
-  unfolding viewIn
-  sync-done kept log′ h k m =
+  sync-left kept log′ h k same r =
       accepted-so log head log′ (restatedIn head kept c) (λ v. sync v (checkpointOf c)) (synced (viewIn log head) (checkpointOf c))
       (λ s. sync-accepted (viewIn log head) (checkpointOf c) (s .is-fit) h (enough (takenOf c) (viewIn log head .log) (lacks-same log head (takenOf c) s ∙ k)))
-      (λ s.
-      let r = m .rest (s .log-length) (fit-parts (viewIn log head) (s .is-fit) .on-ports) in
-      record {
-        log-length = m .same-length ∙ s .log-length;
+      (λ s. record {
+        log-length = same ∙ s .log-length;
         head-length = length-restated head kept c ∙ s .head-length;
-        view = view-restated log′ head kept c (s .head-length) ∙ same-replica r refl refl refl;
+        view = view-restated log′ head kept c (s .head-length) ∙ same-replica (r s) refl refl refl;
         is-fit = synced-fit (viewIn log head) (checkpointOf c) (s .is-fit) h;
         tallies = λ p l.
             tally-restated head kept c (s .head-length) p l ∙ ap (λ (n : ℕ). n - takenOn (takenOf c) p) (s .tallies p l)
             ∙ sym (saved-remaining p (takenOf c) (viewIn log head .log));
       })
+
+  -- by a pass over the log
+  pub sync-done : (kept : ℕ) (log′ : List ℕ) → c .pc ≤ pcMost → lacksIn head (takenOf c) ≡ false → Compacted log (getD head 0 0) (takenOf c) kept log′
+      → Called log head log′ (restatedIn head kept c) 0 (λ v. sync v (checkpointOf c))
+  unfolding viewIn
+  sync-done kept log′ h k m =
+      sync-left kept log′ h k (m .same-length) (λ s. m .rest (s .log-length) (fit-parts (viewIn log head) (s .is-fit) .on-ports))
+
+  -- where no less was taken than is saved, nothing stays
+  pub sync-emptied : c .pc ≤ pcMost → lacksIn head (takenOf c) ≡ false → getD head 0 0 ≤ allTaken (takenOf c)
+      → Called log head log (restatedIn head 0 c) 0 (λ v. sync v (checkpointOf c))
+  sync-emptied h k a =
+      sync-left 0 log h k refl
+      (λ s.
+      let f = fit-parts (viewIn log head) (s .is-fit) in
+      let n = length-remaining (takenOf c) (viewIn log head .log) (f .on-ports) (enough (takenOf c) (viewIn log head .log) (lacks-same log head (takenOf c) s ∙ k)) in
+      let l = view-length log head in
+      sym (none-left (remaining (takenOf c) (viewIn log head .log)) (omega arith)))
+    where
+      none-left : (l : List Message) → length l ≡ 0 → l ≡ []
+      none-left [] z = refl
+      none-left (m ∷ l) z = absurd (omega arith)
 
 -- ---- the rounds
 
@@ -103,10 +124,17 @@ module _ (log head : List ℕ) (c : Checkpoint) where
   pub rounds-none : allTaken (takenOf c) ≡ 0 → OnePass (viewIn log head) (checkpointOf c) 0 0
   rounds-none z = onePass-by (viewIn log head) (checkpointOf c) 0 0 (sym (syncRounds-none (viewIn log head) (checkpointOf c) z))
 
+  -- no less taken than saved: none
+  pub rounds-emptied : (allTaken (takenOf c) ≡ 0 → ⊥) → getD head 0 0 ≤ allTaken (takenOf c) → OnePass (viewIn log head) (checkpointOf c) 0 0
+  rounds-emptied n a =
+      onePass-by (viewIn log head) (checkpointOf c) 0 0 (sym (syncRounds-all (viewIn log head) (checkpointOf c) n (let l = view-length log head in omega arith)))
+
   -- one for each message that the head says there are
-  pub rounds-all : (rounds : ℕ) → (allTaken (takenOf c) ≡ 0 → ⊥) → rounds ≡ getD head 0 0 → OnePass (viewIn log head) (checkpointOf c) 0 rounds
-  rounds-all rounds n e =
-      onePass-by (viewIn log head) (checkpointOf c) 0 rounds (e ∙ sym (view-length log head) ∙ sym (syncRounds-some (viewIn log head) (checkpointOf c) n))
+  pub rounds-all : (rounds : ℕ) → (allTaken (takenOf c) ≡ 0 → ⊥) → allTaken (takenOf c) < getD head 0 0 → rounds ≡ getD head 0 0
+      → OnePass (viewIn log head) (checkpointOf c) 0 rounds
+  rounds-all rounds n a e =
+      onePass-by (viewIn log head) (checkpointOf c) 0 rounds
+      (e ∙ sym (view-length log head) ∙ sym (syncRounds-some (viewIn log head) (checkpointOf c) n (let l = view-length log head in omega arith)))
 
 -- ---- the report
 

@@ -174,8 +174,9 @@ fn all_taken(c: Checkpoint) -> usize
     together(c.t0, c.t1, c.t2, c.t3)
 }
 
-// Drops the oldest messages of each port, as many as were taken on it, in one pass over the first len, and counts its rounds: the first
-// loop looks for the `due` messages that go, the second moves up what stands behind the last of them.
+// Drops the oldest messages of each port, as many as were taken on it, in one pass over the first len, and counts its rounds. The first loop
+// goes as far as the first message that stays; the second to the last that goes, and takes no branch by what a message does; the third moves
+// up what stands behind.
 fn compact(log: &mut [u64; LOG], len: usize, taken: [u32; 4], all: usize) -> Pass
     requires { ⌜ len ≤ logMost ⌝ }
     requires { ⌜ all ≡ allTaken taken ⌝ }
@@ -187,7 +188,7 @@ fn compact(log: &mut [u64; LOG], len: usize, taken: [u32; 4], all: usize) -> Pas
     let mut i = 0;
     let mut kept = 0;
     let mut rounds = 0;
-    while i < len && due > 0 {
+    while i < len && kept == 0 {
         let x = log[i];
         let s = lane(x);
         let n = left[s];
@@ -198,6 +199,19 @@ fn compact(log: &mut [u64; LOG], len: usize, taken: [u32; 4], all: usize) -> Pas
             log[kept] = x;
             kept += 1;
         }
+        i += 1;
+        rounds += 1;
+    }
+    while i < len && due > 0 {
+        let x = log[i];
+        let s = lane(x);
+        let n = left[s];
+        let m = minus(n, 1);
+        let goes = wide(n - m);
+        left[s] = m;
+        log[kept] = x;
+        due -= goes;
+        kept += 1 - goes;
         i += 1;
         rounds += 1;
     }
@@ -258,7 +272,8 @@ fn report(head: &[u32; HEAD], c: Checkpoint, rounds: usize) -> Metered
     }
 }
 
-// A checkpoint lands, with its rounds counted: 0, or 21 or 23. Where nothing was taken nothing moves, and there is no round.
+// A checkpoint lands, with its rounds counted: 0, or 21 or 23. Where nothing was taken, or all that was saved, nothing moves, and there is no
+// round.
 pub fn metered_sync_in(log: &mut [u64; LOG], head: &mut [u32; HEAD], c: Checkpoint) -> Metered
     ensures { λ r. ⌜ Called (now (log .entry)) (now (head .entry)) (now (log .exit)) (now (head .exit)) (r .landed .number) (λ v. sync v (checkpointOf c)) ⌝ }
     ensures { λ r. ⌜ Reports (now (log .entry)) (now (head .entry)) c (r .landed) ⌝ }
@@ -277,6 +292,10 @@ pub fn metered_sync_in(log: &mut [u64; LOG], head: &mut [u32; HEAD], c: Checkpoi
     let all = all_taken(c);
     if all == 0 {
         restate(head, len as u32, c);
+        return report(head, c, 0);
+    }
+    if all >= len {
+        restate(head, 0, c);
         return report(head, c, 0);
     }
     let p = compact(log, len, [c.t0, c.t1, c.t2, c.t3], all);

@@ -1,8 +1,10 @@
 use mathlib.Core.Path.{refl, sym, _∙_, subst}
-use Prim.Native.Nat.{ℕ}
+use Prim.Native.Nat.{ℕ, _≤_}
+use lib.ListN.{getD}
+use Rattle.backup.specs.Rounds.{allTaken}
 use Rattle.backup.specs.Place.{takenOf, Compacted}
 use Rattle.backup.proofs.Compacting.{compacted-none}
-use Rattle.backup.proofs.Syncing.{sync-20, sync-21, sync-23, sync-done, reports-refused, reports-done, rounds-refused, rounds-none, rounds-all}
+use Rattle.backup.proofs.Syncing.{sync-20, sync-21, sync-23, sync-done, sync-emptied, reports-refused, reports-done, rounds-refused, rounds-none, rounds-emptied, rounds-all}
 use native.Mathlib.Omega.{arith}
 use borrow.Author.Needs.{needs}
 use Rattle.backup.proofs.place.metered_sync_in.Statement.{statement}
@@ -75,12 +77,6 @@ returns-4 c =
     rw (c .report .ensures, c .before .before .restate .ensures, w)
     (k, (reports-done (a .log .now) (a .head .now) (a .c) _ _ 0 k, rounds-none (a .log .now) (a .head .now) (a .c) z))
 
-compact-requires : tie.Need-compact-requires
-compact-requires c κs = search needs
-
-cast-restate-2 : tie.Need-cast-restate-2
-cast-restate-2 c = search needs
-
 restate-requires-2 : tie.Need-restate-requires-2
 restate-requires-2 c κs = search needs
 
@@ -89,16 +85,41 @@ report-requires-2 c κs = search needs
 
 returns-5 : tie.Need-returns-5
 returns-5 c =
-    let a = c .before .before .before .before .before .before .before .before .before .before .before .before .before .before .before .before .before .args in
+    let a = c .before .before .before .before .before .before .before .before .before .before .before .before .before .before .before .args in
+    let z = c .before .before .before .before .before .before .all-taken .ensures in
+    let w = c .before .before .before .before .before .before .before .before .wide .ensures in
+    let t = c .before .before .before .before .if5 .taken in
+    let few = (let e : getD (a .head .now) 0 0 ≤ allTaken (takenOf (a .c)) = omega arith in e) in
+    let k = sync-emptied (a .log .now) (a .head .now) (a .c) (c .before .before .before .before .before .before .before .before .before .before .before .before .before .if1 .left) (sym (c .before .before .before .before .before .before .before .before .before .before .before .lacks .ensures) ∙ c .before .before .before .before .before .before .before .before .before .before .if2 .left) few in
+    rw (c .report2 .ensures, c .before .before .restate2 .ensures)
+    (k, (reports-done (a .log .now) (a .head .now) (a .c) _ _ 0 k, rounds-emptied (a .log .now) (a .head .now) (a .c) (λ e. c .before .before .before .before .before .if4 .left (z ∙ e)) few))
+
+compact-requires : tie.Need-compact-requires
+compact-requires c κs = search needs
+
+cast-restate-2 : tie.Need-cast-restate-2
+cast-restate-2 c = search needs
+
+restate-requires-3 : tie.Need-restate-requires-3
+restate-requires-3 c κs = search needs
+
+report-requires-3 : tie.Need-report-requires-3
+report-requires-3 c κs = search needs
+
+returns-6 : tie.Need-returns-6
+returns-6 c =
+    let a = c .before .before .before .before .before .before .before .before .before .before .before .before .before .before .before .before .before .before .args in
     let p = c .before .before .before .before .before .compact in
-    let w = c .before .before .before .before .before .before .before .before .before .before .wide .ensures in
-    let k = sync-done (a .log .now) (a .head .now) (a .c) (p .result .kept) (p .last .0) (c .before .before .before .before .before .before .before .before .before .before .before .before .before .before .before .if1 .left) (sym (c .before .before .before .before .before .before .before .before .before .before .before .before .before .lacks .ensures) ∙ c .before .before .before .before .before .before .before .before .before .before .before .before .if2 .left)
+    let w = c .before .before .before .before .before .before .before .before .before .before .before .wide .ensures in
+    let z = c .before .before .before .before .before .before .before .before .before .all-taken .ensures in
+    let t = c .before .before .before .before .before .before .before .if5 .left in
+    let k = sync-done (a .log .now) (a .head .now) (a .c) (p .result .kept) (p .last .0) (c .before .before .before .before .before .before .before .before .before .before .before .before .before .before .before .before .if1 .left) (sym (c .before .before .before .before .before .before .before .before .before .before .before .before .before .before .lacks .ensures) ∙ c .before .before .before .before .before .before .before .before .before .before .before .before .before .if2 .left)
     (subst (λ (n : ℕ). Compacted (a .log .now) n (takenOf (a .c)) (p .result .kept) (p .last .0)) w (p .ensures .0)) in
-    rw (c .report2 .ensures, c .before .before .restate2 .ensures) (
+    rw (c .report3 .ensures, c .before .before .restate3 .ensures) (
       k,
       (
         reports-done (a .log .now) (a .head .now) (a .c) _ _ (p .result .rounds) k,
-        rounds-all (a .log .now) (a .head .now) (a .c) _ (λ z. c .before .before .before .before .before .before .before .if4 .left (c .before .before .before .before .before .before .before .before .all-taken .ensures ∙ z)) (p .ensures .1 ∙ w),
+        rounds-all (a .log .now) (a .head .now) (a .c) _ (λ e. c .before .before .before .before .before .before .before .before .if4 .left (z ∙ e)) (omega arith) (p .ensures .1 ∙ w),
       ),
     )
 
@@ -120,8 +141,11 @@ metered-sync-in-spec =
     restate-requires
     report-requires
     returns-4
-    compact-requires
-    cast-restate-2
     restate-requires-2
     report-requires-2
-    returns-5)
+    returns-5
+    compact-requires
+    cast-restate-2
+    restate-requires-3
+    report-requires-3
+    returns-6)
