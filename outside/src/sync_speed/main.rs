@@ -20,10 +20,14 @@ const SHORT: usize = 7;
 
 type Reply = [u32; 9];
 
-#[link(name = "sync_speed", kind = "static")]
+#[link(name = "sync_in_place", kind = "static")]
 extern "C" {
     fn sync_log() -> usize;
     fn sync_in_place(log: &mut [u64; LOG], head: &mut [u32; HEAD], checkpoint: &[u32; 9], reply: &mut Reply);
+}
+
+#[link(name = "sync_by_value", kind = "static")]
+extern "C" {
     fn sync_by_value(log: &mut [u64; LOG], head: &mut [u32; SHORT], checkpoint: &[u32; 9], reply: &mut Reply);
 }
 
@@ -69,76 +73,110 @@ impl Row {
     }
 }
 
-/// One record three times, and the checkpoint that lands on it.
-struct Sample {
+/// A record and the checkpoint that lands on it: in place, plain and by value.
+struct InPlace {
     log: [u64; LOG],
     head: [u32; HEAD],
-    value_log: [u64; LOG],
-    value_head: [u32; SHORT],
-    plain: Record,
-    numbers: [u32; 9],
-    checkpoint: Checkpoint,
-    replies: [Reply; 3],
+    checkpoint: [u32; 9],
+    reply: Reply,
 }
 
-impl Sample {
-    fn new() -> Sample {
-        Sample {
-            log: [0; LOG],
-            head: [0; HEAD],
-            value_log: [0; LOG],
-            value_head: [0; SHORT],
-            plain: Record { saved: Vec::with_capacity(LOG), ..Record::default() },
-            numbers: [0; 9],
-            checkpoint: Checkpoint { place: 0, registers: [0; 4], taken: [0; 4] },
-            replies: [[0; 9]; 3],
-        }
-    }
+struct Plain {
+    record: Record,
+    checkpoint: Checkpoint,
+    reply: Reply,
+}
 
-    fn fill(&mut self, random: &mut Random, row: &Row) {
-        let slots: Vec<u8> = (0..row.saved).map(|_| random.below(4) as u8).collect();
-        let on = |slots: &[u8]| [0, 1, 2, 3].map(|slot| slots.iter().filter(|&&s| s == slot).count() as u32);
-        self.plain.saved.clear();
-        for (i, &slot) in slots.iter().enumerate() {
-            let word = random.word();
-            self.log[i] = (slot as u64) << 32 | word as u64;
-            self.plain.saved.push(Saved { word, slot });
+struct ByValue {
+    log: [u64; LOG],
+    head: [u32; SHORT],
+    checkpoint: [u32; 9],
+    reply: Reply,
+}
+
+/// The same records three times, each kind by itself.
+struct Samples {
+    in_place: Vec<InPlace>,
+    plain: Vec<Plain>,
+    by_value: Vec<ByValue>,
+}
+
+/// How many of these slots are 0, 1, 2 and 3.
+fn on(slots: &[u8]) -> [u32; 4] {
+    [0, 1, 2, 3].map(|slot| slots.iter().filter(|&&other| other == slot).count() as u32)
+}
+
+fn one(random: &mut Random, row: &Row) -> (InPlace, Plain, ByValue) {
+    let slots: Vec<u8> = (0..row.saved).map(|_| random.below(4) as u8).collect();
+    let saved: Vec<Saved> = slots.iter().map(|&slot| Saved { word: random.word(), slot }).collect();
+    let mut chosen = slots.clone();
+    let n = match row.taken {
+        Taken::Oldest(n) => n,
+        Taken::Anywhere(n) => {
+            (0..n).for_each(|i| chosen.swap(i, i + random.below((row.saved - i) as u32) as usize));
+            n
         }
-        let all = on(&slots);
-        let taken = match row.taken {
-            Taken::Oldest(n) => on(&slots[..n]),
-            Taken::Anywhere(n) => {
-                let mut chosen = slots.clone();
-                for i in 0..n {
-                    let other = i + random.below((row.saved - i) as u32) as usize;
-                    chosen.swap(i, other);
-                }
-                on(&chosen[..n])
-            }
-        };
-        let some = [0; 6].map(|_| random.below(17));
-        let [count, place, registers @ ..] = some;
-        self.head[..SHORT].copy_from_slice(&[row.saved as u32, count, place, 1, 2, 3, 4]);
-        self.head[SHORT..].copy_from_slice(&all);
-        self.value_log = self.log;
-        self.value_head.copy_from_slice(&self.head[..SHORT]);
-        (self.plain.on, self.plain.registers, self.plain.place, self.plain.count) = (all, [1, 2, 3, 4], place, count);
-        self.numbers[0] = place;
-        self.numbers[1..5].copy_from_slice(&registers);
-        self.numbers[5..].copy_from_slice(&taken);
-        self.checkpoint = Checkpoint { place, registers, taken };
+    };
+    let taken = on(&chosen[..n]);
+    let [count, place, registers @ ..] = [0; 6].map(|_| random.below(17));
+    let mut log = [0; LOG];
+    log.iter_mut().zip(&saved).for_each(|(number, saved)| *number = packed(saved));
+    let mut head = [0; HEAD];
+    head[..SHORT].copy_from_slice(&[row.saved as u32, count, place, 1, 2, 3, 4]);
+    head[SHORT..].copy_from_slice(&on(&slots));
+    let mut checkpoint = [0; 9];
+    checkpoint[0] = place;
+    checkpoint[1..5].copy_from_slice(&registers);
+    checkpoint[5..].copy_from_slice(&taken);
+    let reply = [0; 9];
+    let short = [row.saved as u32, count, place, 1, 2, 3, 4];
+    let record = Record { saved, on: on(&slots), registers: [1, 2, 3, 4], place, count };
+    (
+        InPlace { log, head, checkpoint, reply },
+        Plain { record, checkpoint: Checkpoint { place, registers, taken }, reply },
+        ByValue { log, head: short, checkpoint, reply },
+    )
+}
+
+/// A saved word as one number.
+fn packed(saved: &Saved) -> u64 {
+    (saved.slot as u64) << 32 | saved.word as u64
+}
+
+impl Samples {
+    fn new(random: &mut Random, row: &Row) -> Samples {
+        let mut samples = Samples { in_place: Vec::new(), plain: Vec::new(), by_value: Vec::new() };
+        for _ in 0..RECORDS {
+            let (in_place, plain, by_value) = one(random, row);
+            samples.in_place.push(in_place);
+            samples.plain.push(plain);
+            samples.by_value.push(by_value);
+        }
+        samples
     }
 
     fn check(&self) {
-        let saved = self.plain.saved.iter().map(|saved| (saved.slot as u64) << 32 | saved.word as u64);
-        let mut head = vec![self.plain.saved.len() as u32, self.plain.count, self.plain.place];
-        head.extend(self.plain.registers);
-        let kept = saved.len();
-        let saved: Vec<u64> = saved.collect();
-        assert!(self.log[..kept] == saved[..] && self.value_log[..kept] == saved[..], "the saved words differ");
-        assert!(self.head[..SHORT] == head[..] && self.value_head[..] == head[..], "the heads differ");
-        assert!(self.head[SHORT..] == self.plain.on, "the words on each slot differ");
-        assert!(self.replies[0] == self.replies[1] && self.replies[1] == self.replies[2], "the replies differ");
+        for ((ours, plain), value) in self.in_place.iter().zip(&self.plain).zip(&self.by_value) {
+            let record = &plain.record;
+            let saved: Vec<u64> = record.saved.iter().map(packed).collect();
+            let mut head = vec![saved.len() as u32, record.count, record.place];
+            head.extend(record.registers);
+            assert!(ours.log[..saved.len()] == saved[..] && value.log[..saved.len()] == saved[..], "the saved words differ");
+            assert!(ours.head[..SHORT] == head[..] && value.head[..] == head[..], "the heads differ");
+            assert!(ours.head[SHORT..] == record.on, "the words on each slot differ");
+            assert!(ours.reply == plain.reply && value.reply == plain.reply, "the replies differ");
+        }
+    }
+
+    /// All records once, by one of the three, in nanoseconds.
+    fn turn(&mut self, who: usize) -> u64 {
+        let start = Instant::now();
+        match who {
+            0 => self.in_place.iter_mut().for_each(|s| unsafe { sync_in_place(&mut s.log, &mut s.head, &s.checkpoint, &mut s.reply) }),
+            1 => self.plain.iter_mut().for_each(|s| sync_plain(&mut s.record, &s.checkpoint, &mut s.reply)),
+            _ => self.by_value.iter_mut().for_each(|s| unsafe { sync_by_value(&mut s.log, &mut s.head, &s.checkpoint, &mut s.reply) }),
+        }
+        start.elapsed().as_nanos() as u64
     }
 }
 
@@ -154,31 +192,19 @@ fn sync_plain(record: &mut Record, checkpoint: &Checkpoint, reply: &mut Reply) {
     }
 }
 
-/// All records once, by one of the three, in nanoseconds.
-fn turn(samples: &mut [Sample], who: usize) -> u64 {
-    let start = Instant::now();
-    match who {
-        0 => samples.iter_mut().for_each(|s| unsafe { sync_in_place(&mut s.log, &mut s.head, &s.numbers, &mut s.replies[0]) }),
-        1 => samples.iter_mut().for_each(|s| sync_plain(&mut s.plain, &s.checkpoint, &mut s.replies[1])),
-        _ => samples.iter_mut().for_each(|s| unsafe { sync_by_value(&mut s.value_log, &mut s.value_head, &s.numbers, &mut s.replies[2]) }),
-    }
-    start.elapsed().as_nanos() as u64
-}
-
 /// The least time and the median of each of the three; the first repetitions are not counted.
 fn time(random: &mut Random, row: &Row, repetitions: u64) -> [[f64; 2]; 3] {
-    let mut samples: Vec<Sample> = (0..RECORDS).map(|_| Sample::new()).collect();
     let mut times: [Vec<u64>; 3] = Default::default();
     for i in 0..repetitions + 10 {
-        samples.iter_mut().for_each(|sample| sample.fill(random, row));
+        let mut samples = Samples::new(random, row);
         for k in 0..3 {
             let who = (k + i as usize) % 3;
-            let took = turn(&mut samples, who);
+            let took = samples.turn(who);
             if i >= 10 {
                 times[who].push(took);
             }
         }
-        samples.iter().for_each(Sample::check);
+        samples.check();
     }
     times.map(|mut times| {
         times.sort_unstable();

@@ -30,6 +30,8 @@ pub struct Record {
 }
 
 impl Record {
+    /// In its one caller, as the proved one stands in the exported call.
+    #[inline(always)]
     pub fn sync(&mut self, checkpoint: &Checkpoint) -> Result<Report, u8> {
         if checkpoint.place > 64 {
             return Err(21);
@@ -54,12 +56,11 @@ impl Record {
             at += 1;
         }
         self.saved.drain(kept..at);
-        for (on, taken) in self.on.iter_mut().zip(&checkpoint.taken) {
-            *on -= taken;
-        }
+        let remaining = [0, 1, 2, 3].map(|slot| self.on[slot] - checkpoint.taken[slot]);
+        self.on = remaining;
         self.registers = checkpoint.registers;
         self.place = checkpoint.place;
         self.count = 0;
-        Ok(Report { dropped: checkpoint.taken, remaining: self.on })
+        Ok(Report { dropped: checkpoint.taken, remaining })
     }
 }
