@@ -19,6 +19,7 @@ use Rattle.backup.specs.ReportLaws.{syncReport-accepted, syncReport-refu
 use Rattle.backup.specs.Rounds.{allTaken, syncRounds, syncRounds-none, syncRounds-all, syncRounds-some, OnePass, onePass-by}
 use Rattle.backup.specs.declared.place.Checkpoint.{Checkpoint}
 use Rattle.backup.proofs.InPlace.{refused-so, accepted-so, same-replica, view-length}
+use Rattle.backup.proofs.Compacting.{messages-length}
 
 -- of a sound backup the tallies tell what the definition asks of the log
 lacks-same : (log head taken : List ℕ) → Sound log head → lacking taken (viewIn log head .log) ≡ lacksIn head taken
@@ -74,39 +75,50 @@ module _ (log head : List ℕ) (c : Checkpoint) where
       (λ s. absurd (let f = fit-parts (viewIn log head) (s .is-fit) .few in let l = view-length log head in omega arith))
 
   -- done: of a sound backup the log's first numbers are what a drop as taken leaves
-  sync-left : (kept : ℕ) (log′ : List ℕ) → c .pc ≤ pcMost → lacksIn head (takenOf c) ≡ false → length log′ ≡ length log
-      → (Sound log head → messages kept log′ ≡ remaining (takenOf c) (viewIn log head .log))
-      → Called log head log′ (restatedIn head kept c) 0 (λ v. sync v (checkpointOf c))
-  sync-left kept log′ h k same r =
-      accepted-so log head log′ (restatedIn head kept c) (λ v. sync v (checkpointOf c)) (synced (viewIn log head) (checkpointOf c))
+  sync-left : (log′ : List ℕ) → c .pc ≤ pcMost → lacksIn head (takenOf c) ≡ false → length log′ ≡ length log
+      → (Sound log head → messages (getD head 0 0 - allTaken (takenOf c)) log′ ≡ remaining (takenOf c) (viewIn log head .log))
+      → Called log head log′ (restatedIn head (getD head 0 0 - allTaken (takenOf c)) c) 0 (λ v. sync v (checkpointOf c))
+  sync-left log′ h k same r =
+      accepted-so log head log′ (restatedIn head (getD head 0 0 - allTaken (takenOf c)) c) (λ v. sync v (checkpointOf c)) (synced (viewIn log head) (checkpointOf c))
       (λ s. sync-accepted (viewIn log head) (checkpointOf c) (s .is-fit) h (enough (takenOf c) (viewIn log head .log) (lacks-same log head (takenOf c) s ∙ k)))
       (λ s. record {
         log-length = same ∙ s .log-length;
-        head-length = length-restated head kept c ∙ s .head-length;
-        view = view-restated log′ head kept c (s .head-length) ∙ same-replica (r s) refl refl refl;
+        head-length = length-restated head (getD head 0 0 - allTaken (takenOf c)) c ∙ s .head-length;
+        view = view-restated log′ head (getD head 0 0 - allTaken (takenOf c)) c (s .head-length) ∙ same-replica (r s) refl refl refl;
         is-fit = synced-fit (viewIn log head) (checkpointOf c) (s .is-fit) h;
         tallies = λ p l.
-            tally-restated head kept c (s .head-length) p l ∙ ap (λ (n : ℕ). n - takenOn (takenOf c) p) (s .tallies p l)
+            tally-restated head (getD head 0 0 - allTaken (takenOf c)) c (s .head-length) p l ∙ ap (λ (n : ℕ). n - takenOn (takenOf c) p) (s .tallies p l)
             ∙ sym (saved-remaining p (takenOf c) (viewIn log head .log));
       })
 
+  -- what stays and what was taken make the log
+  stays-of : lacksIn head (takenOf c) ≡ false → Sound log head → length (remaining (takenOf c) (viewIn log head .log)) + allTaken (takenOf c) ≡ getD head 0 0
+  stays-of k s =
+      length-remaining (takenOf c) (viewIn log head .log) (fit-parts (viewIn log head) (s .is-fit) .on-ports)
+      (enough (takenOf c) (viewIn log head .log) (lacks-same log head (takenOf c) s ∙ k))
+      ∙ view-length log head
+
   -- by a pass over the log
   pub sync-done : (kept : ℕ) (log′ : List ℕ) → c .pc ≤ pcMost → lacksIn head (takenOf c) ≡ false → Compacted log (getD head 0 0) (takenOf c) kept log′
-      → Called log head log′ (restatedIn head kept c) 0 (λ v. sync v (checkpointOf c))
+      → Called log head log′ (restatedIn head (getD head 0 0 - allTaken (takenOf c)) c) 0 (λ v. sync v (checkpointOf c))
   unfolding viewIn
   sync-done kept log′ h k m =
-      sync-left kept log′ h k (m .same-length) (λ s. m .rest (s .log-length) (fit-parts (viewIn log head) (s .is-fit) .on-ports))
+      sync-left log′ h k (m .same-length)
+      (λ s.
+      let r : messages kept log′ ≡ remaining (takenOf c) (viewIn log head .log) = m .rest (s .log-length) (fit-parts (viewIn log head) (s .is-fit) .on-ports) in
+      let n : kept ≡ length (remaining (takenOf c) (viewIn log head .log)) = sym (messages-length kept log′) ∙ ap length r in
+      let e : getD head 0 0 - allTaken (takenOf c) ≡ kept = (let a = stays-of k s in omega arith) in
+      ap (λ (x : ℕ). messages x log′) e ∙ r)
 
   -- where no less was taken than is saved, nothing stays
   pub sync-emptied : c .pc ≤ pcMost → lacksIn head (takenOf c) ≡ false → getD head 0 0 ≤ allTaken (takenOf c)
-      → Called log head log (restatedIn head 0 c) 0 (λ v. sync v (checkpointOf c))
+      → Called log head log (restatedIn head (getD head 0 0 - allTaken (takenOf c)) c) 0 (λ v. sync v (checkpointOf c))
   sync-emptied h k a =
-      sync-left 0 log h k refl
+      sync-left log h k refl
       (λ s.
-      let f = fit-parts (viewIn log head) (s .is-fit) in
-      let n = length-remaining (takenOf c) (viewIn log head .log) (f .on-ports) (enough (takenOf c) (viewIn log head .log) (lacks-same log head (takenOf c) s ∙ k)) in
-      let l = view-length log head in
-      sym (none-left (remaining (takenOf c) (viewIn log head .log)) (omega arith)))
+      let e : getD head 0 0 - allTaken (takenOf c) ≡ 0 = omega arith in
+      ap (λ (x : ℕ). messages x log) e
+      ∙ sym (none-left (remaining (takenOf c) (viewIn log head .log)) (let n = stays-of k s in omega arith)))
     where
       none-left : (l : List Message) → length l ≡ 0 → l ≡ []
       none-left [] z = refl

@@ -102,8 +102,14 @@ fn bump(head: &mut [u32; HEAD], i: usize)
     head[i] = std::num::wrapping_add_u32(head[i], 1);
 }
 
-// x less n, or 0 where n is more.
+// x less n, or 0 where n is more, in both widths.
 fn minus(x: u32, n: u32) -> u32
+    ensures { λ r. ⌜ r ≡ x - n ⌝ }
+{
+    if n <= x { x - n } else { 0 }
+}
+
+fn less(x: usize, n: usize) -> usize
     ensures { λ r. ⌜ r ≡ x - n ⌝ }
 {
     if n <= x { x - n } else { 0 }
@@ -290,16 +296,14 @@ pub fn metered_sync_in(log: &mut [u64; LOG], head: &mut [u32; HEAD], c: Checkpoi
         return refusal(20);
     }
     let all = all_taken(c);
+    restate(head, less(len, all) as u32, c);
     if all == 0 {
-        restate(head, len as u32, c);
         return report(head, c, 0);
     }
     if all >= len {
-        restate(head, 0, c);
         return report(head, c, 0);
     }
     let p = compact(log, len, [c.t0, c.t1, c.t2, c.t3], all);
-    restate(head, p.kept as u32, c);
     report(head, c, p.rounds)
 }
 
