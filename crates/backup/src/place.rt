@@ -285,15 +285,15 @@ pub fn metered_sync_in(log: &mut [u64; LOG], head: &mut [u32; HEAD], c: Checkpoi
     ensures { λ r. ⌜ Reports (now (log .entry)) (now (head .entry)) c (r .landed) ⌝ }
     ensures { λ r. ⌜ OnePass (viewIn (now (log .entry)) (now (head .entry))) (checkpointOf c) (r .landed .number) (r .rounds) ⌝ }
 {
+    let len = wide(head[LEN]);
+    if len > LOG {
+        return refusal(20);
+    }
     if c.pc > PC_MOST {
         return refusal(21);
     }
     if lacks(head, c) {
         return refusal(23);
-    }
-    let len = wide(head[LEN]);
-    if len > LOG {
-        return refusal(20);
     }
     let all = all_taken(c);
     restate(head, less(len, all) as u32, c);

@@ -262,4 +262,3 @@ compact-spec =
     loop3-less
     loop3-again
     returns)
-

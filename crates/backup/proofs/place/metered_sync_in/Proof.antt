@@ -20,17 +20,20 @@ use Rattle.backup.proofs.place.report.Reads as report-reads
 use Rattle.backup.proofs.place.restate.Reads as restate-reads
 use Rattle.backup.proofs.place.wide.Reads as wide-reads
 
+element-copy-out-wide : tie.Need-element-copy-out-wide
+element-copy-out-wide c = search needs
+
+wide-requires : tie.Need-wide-requires
+wide-requires c κs = search needs
+
 refusal-requires : tie.Need-refusal-requires
 refusal-requires c κs = search needs
 
 returns : tie.Need-returns
 returns c =
-    let a = c .before .before .before .args in
-    let k = sync-21 (a .log .now) (a .head .now) (a .c) (c .before .if1 .taken) in
-    rw (c .refusal .ensures) (k, (reports-refused (a .log .now) (a .head .now) (a .c) 20 _ _ k, rounds-refused (a .log .now) (a .head .now) (a .c) 20))
-
-lacks-requires : tie.Need-lacks-requires
-lacks-requires c κs = search needs
+    let a = c .before .before .before .before .args in
+    let k = sync-20 (a .log .now) (a .head .now) (a .c) (let w = c .before .before .wide .ensures in let t = c .before .if1 .taken in omega arith) in
+    rw (c .refusal .ensures) (k, (reports-refused (a .log .now) (a .head .now) (a .c) 19 _ _ k, rounds-refused (a .log .now) (a .head .now) (a .c) 19))
 
 refusal-requires-2 : tie.Need-refusal-requires-2
 refusal-requires-2 c κs = search needs
@@ -38,14 +41,11 @@ refusal-requires-2 c κs = search needs
 returns-2 : tie.Need-returns-2
 returns-2 c =
     let a = c .before .before .before .before .before .before .args in
-    let k = sync-23 (a .log .now) (a .head .now) (a .c) (c .before .before .before .before .if1 .left) (sym (c .before .before .lacks .ensures) ∙ c .before .if2 .taken) in
-    rw (c .refusal2 .ensures) (k, (reports-refused (a .log .now) (a .head .now) (a .c) 22 _ _ k, rounds-refused (a .log .now) (a .head .now) (a .c) 22))
+    let k = sync-21 (a .log .now) (a .head .now) (a .c) (c .before .if2 .taken) in
+    rw (c .refusal2 .ensures) (k, (reports-refused (a .log .now) (a .head .now) (a .c) 20 _ _ k, rounds-refused (a .log .now) (a .head .now) (a .c) 20))
 
-element-copy-out-wide : tie.Need-element-copy-out-wide
-element-copy-out-wide c = search needs
-
-wide-requires : tie.Need-wide-requires
-wide-requires c κs = search needs
+lacks-requires : tie.Need-lacks-requires
+lacks-requires c κs = search needs
 
 refusal-requires-3 : tie.Need-refusal-requires-3
 refusal-requires-3 c κs = search needs
@@ -53,8 +53,8 @@ refusal-requires-3 c κs = search needs
 returns-3 : tie.Need-returns-3
 returns-3 c =
     let a = c .before .before .before .before .before .before .before .before .before .args in
-    let k = sync-20 (a .log .now) (a .head .now) (a .c) (let w = c .before .before .wide .ensures in let t = c .before .if3 .taken in omega arith) in
-    rw (c .refusal3 .ensures) (k, (reports-refused (a .log .now) (a .head .now) (a .c) 19 _ _ k, rounds-refused (a .log .now) (a .head .now) (a .c) 19))
+    let k = sync-23 (a .log .now) (a .head .now) (a .c) (c .before .before .before .before .if2 .left) (sym (c .before .before .lacks .ensures) ∙ c .before .if3 .taken) in
+    rw (c .refusal3 .ensures) (k, (reports-refused (a .log .now) (a .head .now) (a .c) 22 _ _ k, rounds-refused (a .log .now) (a .head .now) (a .c) 22))
 
 all-taken-requires : tie.Need-all-taken-requires
 all-taken-requires c κs = search needs
@@ -74,11 +74,11 @@ report-requires c κs = search needs
 returns-4 : tie.Need-returns-4
 returns-4 c =
     let a = c .before .before .before .before .before .before .before .before .before .before .before .before .before .before .before .args in
-    let w = c .before .before .before .before .before .before .before .before .wide .ensures in
+    let w = c .before .before .before .before .before .before .before .before .before .before .before .before .before .wide .ensures in
     let z = c .before .before .before .before .before .before .all-taken .ensures in
     let n : c .before .before .before .before .less .result ≡ getD (a .head .now) 0 0 - allTaken (takenOf (a .c)) = (let l = c .before .before .before .before .less .ensures in omega arith) in
-    let h = c .before .before .before .before .before .before .before .before .before .before .before .before .before .if1 .left in
-    let f = sym (c .before .before .before .before .before .before .before .before .before .before .before .lacks .ensures) ∙ c .before .before .before .before .before .before .before .before .before .before .if2 .left in
+    let h = c .before .before .before .before .before .before .before .before .before .before .if2 .left in
+    let f = sym (c .before .before .before .before .before .before .before .before .lacks .ensures) ∙ c .before .before .before .before .before .before .before .if3 .left in
     let y = sym z ∙ c .before .before .if4 .taken in
     let k = sync-done (a .log .now) (a .head .now) (a .c) (getD (a .head .now) 0 0) (a .log .now) h f (compacted-none (a .log .now) (getD (a .head .now) 0 0) (takenOf (a .c)) refl y) in
     rw (c .report .ensures, c .before .before .before .restate .ensures, n) (k, (reports-done (a .log .now) (a .head .now) (a .c) _ _ 0 k, rounds-none (a .log .now) (a .head .now) (a .c) y))
@@ -89,11 +89,11 @@ report-requires-2 c κs = search needs
 returns-5 : tie.Need-returns-5
 returns-5 c =
     let a = c .before .before .before .before .before .before .before .before .before .before .before .before .before .before .before .before .args in
-    let w = c .before .before .before .before .before .before .before .before .before .wide .ensures in
+    let w = c .before .before .before .before .before .before .before .before .before .before .before .before .before .before .wide .ensures in
     let z = c .before .before .before .before .before .before .before .all-taken .ensures in
     let n : c .before .before .before .before .before .less .result ≡ getD (a .head .now) 0 0 - allTaken (takenOf (a .c)) = (let l = c .before .before .before .before .before .less .ensures in omega arith) in
-    let h = c .before .before .before .before .before .before .before .before .before .before .before .before .before .before .if1 .left in
-    let f = sym (c .before .before .before .before .before .before .before .before .before .before .before .before .lacks .ensures) ∙ c .before .before .before .before .before .before .before .before .before .before .before .if2 .left in
+    let h = c .before .before .before .before .before .before .before .before .before .before .before .if2 .left in
+    let f = sym (c .before .before .before .before .before .before .before .before .before .lacks .ensures) ∙ c .before .before .before .before .before .before .before .before .if3 .left in
     let t = c .before .before .if5 .taken in
     let few : getD (a .head .now) 0 0 ≤ allTaken (takenOf (a .c)) = omega arith in
     let k = sync-emptied (a .log .now) (a .head .now) (a .c) h f few in
@@ -109,11 +109,11 @@ report-requires-3 c κs = search needs
 returns-6 : tie.Need-returns-6
 returns-6 c =
     let a = c .before .before .before .before .before .before .before .before .before .before .before .before .before .before .before .before .before .before .args in
-    let w = c .before .before .before .before .before .before .before .before .before .before .before .wide .ensures in
+    let w = c .before .before .before .before .before .before .before .before .before .before .before .before .before .before .before .before .wide .ensures in
     let z = c .before .before .before .before .before .before .before .before .before .all-taken .ensures in
     let n : c .before .before .before .before .before .before .before .less .result ≡ getD (a .head .now) 0 0 - allTaken (takenOf (a .c)) = (let l = c .before .before .before .before .before .before .before .less .ensures in omega arith) in
-    let h = c .before .before .before .before .before .before .before .before .before .before .before .before .before .before .before .before .if1 .left in
-    let f = sym (c .before .before .before .before .before .before .before .before .before .before .before .before .before .before .lacks .ensures) ∙ c .before .before .before .before .before .before .before .before .before .before .before .before .before .if2 .left in
+    let h = c .before .before .before .before .before .before .before .before .before .before .before .before .before .if2 .left in
+    let f = sym (c .before .before .before .before .before .before .before .before .before .before .before .lacks .ensures) ∙ c .before .before .before .before .before .before .before .before .before .before .if3 .left in
     let t = c .before .before .before .before .if5 .left in
     let p = c .before .before .compact in
     let k = sync-done (a .log .now) (a .head .now) (a .c) (p .result .kept) (p .last .0) h f
@@ -130,13 +130,13 @@ pub metered-sync-in-spec : {M : Type 1} → statement M
 metered-sync-in-spec =
     tie.close
     (tie.spec
-    refusal-requires
-    returns
-    lacks-requires
-    refusal-requires-2
-    returns-2
     element-copy-out-wide
     wide-requires
+    refusal-requires
+    returns
+    refusal-requires-2
+    returns-2
+    lacks-requires
     refusal-requires-3
     returns-3
     all-taken-requires
