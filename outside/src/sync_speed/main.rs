@@ -73,9 +73,8 @@ impl Row {
     }
 }
 
-/// A record and the checkpoint that lands on it: in place, plain and by value.
+/// A record and the checkpoint that lands on it: in place but for its log, plain and by value.
 struct InPlace {
-    log: [u64; LOG],
     head: [u32; HEAD],
     checkpoint: [u32; 9],
     reply: Reply,
@@ -94,8 +93,10 @@ struct ByValue {
     reply: Reply,
 }
 
-/// The same records three times, each kind by itself.
+/// The same records three times, each kind by itself. Logs in place stand together, as the cabinet has them, and as the plain record's stand
+/// apart from it.
 struct Samples {
+    logs: Vec<[u64; LOG]>,
     in_place: Vec<InPlace>,
     plain: Vec<Plain>,
     by_value: Vec<ByValue>,
@@ -106,7 +107,7 @@ fn on(slots: &[u8]) -> [u32; 4] {
     [0, 1, 2, 3].map(|slot| slots.iter().filter(|&&other| other == slot).count() as u32)
 }
 
-fn one(random: &mut Random, row: &Row) -> (InPlace, Plain, ByValue) {
+fn one(random: &mut Random, row: &Row) -> ([u64; LOG], InPlace, Plain, ByValue) {
     let slots: Vec<u8> = (0..row.saved).map(|_| random.below(4) as u8).collect();
     let saved: Vec<Saved> = slots.iter().map(|&slot| Saved { word: random.word(), slot }).collect();
     let mut chosen = slots.clone();
@@ -132,7 +133,8 @@ fn one(random: &mut Random, row: &Row) -> (InPlace, Plain, ByValue) {
     let short = [row.saved as u32, count, place, 1, 2, 3, 4];
     let record = Record { saved, on: on(&slots), registers: [1, 2, 3, 4], place, count };
     (
-        InPlace { log, head, checkpoint, reply },
+        log,
+        InPlace { head, checkpoint, reply },
         Plain { record, checkpoint: Checkpoint { place, registers, taken }, reply },
         ByValue { log, head: short, checkpoint, reply },
     )
@@ -145,9 +147,10 @@ fn packed(saved: &Saved) -> u64 {
 
 impl Samples {
     fn new(random: &mut Random, row: &Row) -> Samples {
-        let mut samples = Samples { in_place: Vec::new(), plain: Vec::new(), by_value: Vec::new() };
+        let mut samples = Samples { logs: Vec::new(), in_place: Vec::new(), plain: Vec::new(), by_value: Vec::new() };
         for _ in 0..RECORDS {
-            let (in_place, plain, by_value) = one(random, row);
+            let (log, in_place, plain, by_value) = one(random, row);
+            samples.logs.push(log);
             samples.in_place.push(in_place);
             samples.plain.push(plain);
             samples.by_value.push(by_value);
@@ -156,12 +159,12 @@ impl Samples {
     }
 
     fn check(&self) {
-        for ((ours, plain), value) in self.in_place.iter().zip(&self.plain).zip(&self.by_value) {
+        for (((log, ours), plain), value) in self.logs.iter().zip(&self.in_place).zip(&self.plain).zip(&self.by_value) {
             let record = &plain.record;
             let saved: Vec<u64> = record.saved.iter().map(packed).collect();
             let mut head = vec![saved.len() as u32, record.count, record.place];
             head.extend(record.registers);
-            assert!(ours.log[..saved.len()] == saved[..] && value.log[..saved.len()] == saved[..], "the saved words differ");
+            assert!(log[..saved.len()] == saved[..] && value.log[..saved.len()] == saved[..], "the saved words differ");
             assert!(ours.head[..SHORT] == head[..] && value.head[..] == head[..], "the heads differ");
             assert!(ours.head[SHORT..] == record.on, "the words on each slot differ");
             assert!(ours.reply == plain.reply && value.reply == plain.reply, "the replies differ");
@@ -172,7 +175,7 @@ impl Samples {
     fn turn(&mut self, who: usize) -> u64 {
         let start = Instant::now();
         match who {
-            0 => self.in_place.iter_mut().for_each(|s| unsafe { sync_in_place(&mut s.log, &mut s.head, &s.checkpoint, &mut s.reply) }),
+            0 => self.logs.iter_mut().zip(&mut self.in_place).for_each(|(log, s)| unsafe { sync_in_place(log, &mut s.head, &s.checkpoint, &mut s.reply) }),
             1 => self.plain.iter_mut().for_each(|s| sync_plain(&mut s.record, &s.checkpoint, &mut s.reply)),
             _ => self.by_value.iter_mut().for_each(|s| unsafe { sync_by_value(&mut s.log, &mut s.head, &s.checkpoint, &mut s.reply) }),
         }
