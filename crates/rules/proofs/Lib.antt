@@ -41,6 +41,7 @@ pub mod Reached
 pub mod RollForward
 -- Tables and runs in bytes. What lists give is computed of two of them before it is proved of all.
 pub mod Valid
+pub mod FirstVersion
 pub mod ReadBack
 pub mod EncodeCases
 pub mod Encoding
@@ -52,6 +53,7 @@ pub mod Cases
 pub mod Marked
 pub mod MoveCases
 pub mod LongCases
+pub mod LimitCases
 pub mod ReasonCases
 pub mod FormatCases
 pub mod PageCases
