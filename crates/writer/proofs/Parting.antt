@@ -2,13 +2,13 @@
 use mathlib.Core.Path.{_≡_, refl, ap, sym, subst, _∙_}
 use mathlib.Core.Bool.{Bool, true, false, cond, _&&_}
 use mathlib.Core.List.{List, [], _∷_, _++_}
-use Prim.Native.Nat.{ℕ, _+_, _-_, _*_, _/_, _≤_, _<_}
+use Prim.Native.Nat.{ℕ, _+_, _-_, _*_, _/_, _^_, _≤_, _<_}
 use native.Mathlib.Omega.{arith}
 use lib.Dec.{eqb, leb}
 use lib.ListN.{length, take, drop}
 use lib.Seq.{sets, take-at}
 use borrow.Author.Tests.{leb-true, le-leb, lt-leb, eqb-true, eq-eqb, ne-eqb}
-use Rattle.facts.specs.Tests.{no-way, and-left, and-right}
+use Rattle.facts.specs.Tests.{no-way, by-eq, and-left, and-right}
 use Rattle.rules.specs.Bytes.{written}
 use Rattle.rules.specs.Sizes.{tableMost, limitBytes}
 use Rattle.rules.specs.Format.{lengthField, versionIn, boardsIn, processesIn, channelsIn, lengthOk, recordsOk, orNumber, validateTable}
@@ -119,6 +119,7 @@ module _ (table : List ℕ) (h : validateTable table ≡ 0) where
         number-is = sym ((λ i. orNumber (eqb (h i) 0) (h i) (orNumber (roomFor table (length (m .ends)) (length (m .placements)) (length (m .limits)) (length (m .instructions))) 45 0)) ∙ ap (λ (x : Bool). orNumber x 45 0) (r .room));
         lists-written = w;
         refused = λ z. absurd (z refl);
+        counted = λ _. en;
         lists-are = λ _. e;
         written-back = λ _. subst (WritesAs table) (sym e) (apart-writes table h y);
       }
@@ -133,6 +134,7 @@ taken-nothing table m number r e h s =
       number-is = same ∙ e;
       lists-written = sym (ap (λ (b : Bool). cond b (writtenIn (apart table) m) m) off);
       refused = λ _. s ∙ ap none (sym same);
+      counted = λ z. absurd (h (sym same ∙ z));
       lists-are = λ z. absurd (h (sym same ∙ z));
       written-back = λ z. absurd (h (sym same ∙ z));
     }
@@ -191,3 +193,27 @@ module _ (table : List ℕ) (h : validateTable table ≡ 0) (n e p m i c q l : �
 
   pub room-first : e < 2 * c → leb (2 * c) e ≡ roomFor table e p m i
   room-first a = lt-leb (2 * c) e a ∙ sym (λ j. lt-leb (2 * c) e a j && (leb (3 * q) p && (leb l m && leb (3 * n) i))) ∙ tests
+
+-- ---- what is returned is small
+
+module _ (table : List ℕ) (before after : Lent) (r : Taken) (t : TakesApart table before r after) where
+  accepted-table : r .number ≡ 0 → validateTable table ≡ 0
+  unfolding validateApart
+  accepted-table z =
+      by-eq (validateTable table) 0
+      (λ e. e)
+      (λ n. absurd (n (sym
+      (ap (λ (b : Bool). orNumber b (validateTable table) (orNumber (roomFor table (length (before .ends)) (length (before .placements)) (length (before .limits)) (length (before .instructions))) 45 0))
+      (ne-eqb (validateTable table) 0 n))
+      ∙ (sym (t .number-is) ∙ z))))
+
+  pub few-instructions : r .instructions < 2 ^ 16
+  few-instructions =
+      by-eq (r .number) 0
+      (λ z.
+      let h = accepted-table z in
+      let a = t .counted z in
+      let b = length-apart table h in
+      let d = table-short table h in
+      omega arith)
+      (λ n. let e = ap (λ (x : Taken). x .instructions) (t .refused n) in omega arith)

@@ -53,6 +53,7 @@ pub record TakesApart (table : List ℕ) (before : Lent) (r : Taken) (after : Le
   -- the table's lists at the fronts; refused, zeros and all four as they were
   pub lists-written : after ≡ cond (eqb (r .number) 0) (writtenIn (apart table) before) before
   pub refused : (r .number ≡ 0 → ⊥) → r ≡ none (r .number)
+  pub counted : r .number ≡ 0 → 3 * r .instructions ≡ length (apart table .instructions)
   -- "An accepted table, taken apart and written again, comes out byte for byte": of the numbers that are then in the lists
   pub lists-are : r .number ≡ 0 → listsIn r after ≡ apart table
   pub written-back : r .number ≡ 0 → WritesAs table (listsIn r after)
