@@ -1,4 +1,4 @@
-/* The proved calls from C, as board programmers, the driver bench, the service desk and the label line use them.
+/* The proved calls from C, as board programmers, the driver bench, the service desk, the label line and the planner's office use them.
  * bindings/examples/example.rs is the same in Rust; both print examples/example.out.
  *
  *     cc -I include examples/example.c target/staticlib/libkunzeastylus.a -o example
@@ -211,10 +211,33 @@ static void label_line(void) {
     give_back(l);
 }
 
+/* The sample table from lists of numbers, in version 2 with a limit of 2, and taken apart again. Refused are a limit of 17, a limit in version
+ * 1, and version 3. */
+static void planners_office(void) {
+    static const uint32_t ends[] = {KS_OUTSIDE, 0, 0, KS_OUTSIDE}, placements[] = {0, 1, 4}, two = 2, seventeen = 17;
+    static const uint32_t instructions[] = {KS_TAKE, 0, 0, KS_ADD, 1, 0, KS_SEND, 1, 1, KS_JUMP, 0, 0};
+    struct piece out = piece(sizeof table + 1);
+    uint64_t written = ks_table_write(2, 2, 1, 2, ends, 4, placements, 3, &two, 1, instructions, 12, out.at, out.len);
+    printf("planner's office\nwritten %u, %u bytes\n", (unsigned)(written & 255), (unsigned)(written >> 32));
+    uint32_t *lists = memory((4 + 3 + 1 + 12) * sizeof *lists);
+    uint64_t apart = ks_table_apart(out.at, out.len, lists, 4, lists + 4, 3, lists + 7, 1, lists + 8, 12);
+    printf("taken apart %u, version %u, limit %u\n", (unsigned)(apart & 255), (unsigned)(apart >> 48), lists[7]);
+    printf("refused");
+    written = ks_table_write(2, 2, 1, 2, ends, 4, placements, 3, &seventeen, 1, instructions, 12, out.at, out.len);
+    printf(" %u", (unsigned)(written & 255));
+    written = ks_table_write(1, 2, 1, 2, ends, 4, placements, 3, &two, 1, instructions, 12, out.at, out.len);
+    printf(" %u", (unsigned)(written & 255));
+    written = ks_table_write(3, 2, 1, 2, ends, 4, placements, 3, &two, 1, instructions, 12, out.at, out.len);
+    printf(" %u\n", (unsigned)(written & 255));
+    free(out.at);
+    free(lists);
+}
+
 int main(void) {
     board_programmer();
     driver_bench();
     service_desk();
     label_line();
+    planners_office();
     return 0;
 }

@@ -21,18 +21,19 @@ extern "C" {
 
 /* ---- sizes, in bytes unless said */
 
-#define KS_TABLE_MOST 6262      /* the longest table: its length field at most 6,260, and that field */
+#define KS_TABLE_MOST 6278      /* the longest table: its length field at most 6,276, and that field */
 #define KS_SCHEDULE_MOST 60003  /* the longest schedule: 10,000 records */
 #define KS_RECORDS_MOST 10000
 #define KS_PROCESSES_MOST 16
 #define KS_ENDS_MOST 64         /* the longest lists of a table, in numbers */
 #define KS_PLACEMENTS_MOST 48
+#define KS_LIMITS_MOST 16
 #define KS_INSTRUCTIONS_MOST 3072
 #define KS_RECORD 6             /* a schedule's record, and an answer: code, a, word */
 #define KS_REASON 1             /* of each record in the list of reasons: the answer's code times 4, plus its cause */
 #define KS_REPORT 20            /* of each process */
 #define KS_LABEL_TABLE 84       /* a label line's table */
-#define KS_STATE 103            /* a backup record, in numbers of 32 bits */
+#define KS_STATE 135            /* a backup record, in numbers of 32 bits */
 #define KS_CALL 10              /* a call of the backup record, in numbers of 32 bits */
 
 /* ---- a table's instructions and a schedule's moves */
@@ -42,12 +43,12 @@ enum ks_move { KS_STEP = 1, KS_SYNC = 2, KS_CARRY = 3, KS_FEED = 4, KS_CRASH = 5
 enum { KS_SCANNER = 0, KS_PRINTER = 1, KS_OUTLET = 2 }; /* the label line's channels */
 enum { KS_OUTSIDE = 255 }; /* as the sender or the reader of a channel */
 
-/* ---- why a run is refused, the lowest number first; 0 is accepted */
+/* ---- why a run is refused, the lowest number first, but KS_LIMIT between 8 and 9; 0 is accepted */
 
 enum ks_refusal {
     KS_ACCEPTED = 0,
-    KS_TABLE_LENGTH = 1,      /* table under 6 bytes, length field over 6,260 or not the true one */
-    KS_TABLE_VERSION = 2,
+    KS_TABLE_LENGTH = 1,      /* table under 6 bytes, length field over 6,276 or not the true one */
+    KS_TABLE_VERSION = 2,     /* other than 1 or 2 */
     KS_TABLE_COUNTS = 3,      /* boards, processes or channels */
     KS_TABLE_EXTENT = 4,      /* n over 64, or pairs and records not ending exactly with the table */
     KS_CHANNEL_ENDS = 5,
@@ -58,10 +59,11 @@ enum ks_refusal {
     KS_SCHEDULE_VERSION = 10,
     KS_ANSWERS_SHORT = 11,    /* answer buffer under six bytes a record, or buffer of reasons under one */
     KS_REPORT_SHORT = 12,     /* report buffer under 20 bytes a process */
-    KS_FIRST_SERIAL = 46      /* of the label line: a first serial above 4,294,957,295 */
+    KS_FIRST_SERIAL = 46,     /* of the label line: a first serial above 4,294,957,295 */
+    KS_LIMIT = 47             /* a process's limit outside 1 to 16 */
 };
 
-/* ---- why a table is not written or not taken apart, beside 1 to 8 of ks_refusal */
+/* ---- why a table is not written or not taken apart, beside 1 to 8 and KS_LIMIT of ks_refusal, and after those */
 
 enum ks_table_refusal {
     KS_NO_ROOM = 45           /* the buffer is shorter than the table, or a list shorter than the table's */
@@ -83,7 +85,7 @@ enum ks_answer {
     KS_BOARD_DEAD = 34,
     KS_HALTED = 35,
     KS_NO_WORD = 36,
-    KS_OWES_SYNC = 37,        /* backed, and acts are 8 or instructions 64 */
+    KS_OWES_SYNC = 37,        /* backed, and acts are at its limit (8 in version 1) or instructions 64 */
     KS_QUEUE_FULL = 38,
     KS_CHANNEL_HELD = 39,
     KS_NO_BACKUP = 40,
@@ -116,7 +118,7 @@ enum ks_cause {
     KS_CAUSE_HALTED = 140,              /* halted */
     KS_CAUSE_NO_WORD_FOR_TAKE = 144,    /* no such word: for TAKE */
     KS_CAUSE_NO_WORD_FOR_FIRST = 145,   /* no such word: for FIRST */
-    KS_CAUSE_OWES_FOR_ACTS = 148,       /* owes a sync: 8 acts */
+    KS_CAUSE_OWES_FOR_ACTS = 148,       /* owes a sync: acts at its limit */
     KS_CAUSE_OWES_FOR_INSTRUCTIONS = 149, /* owes a sync: 64 instructions */
     KS_CAUSE_QUEUE_FULL_FOR_SEND = 152, /* queue full: for SEND */
     KS_CAUSE_QUEUE_FULL_FOR_SYNC = 153, /* queue full: for a sync */
@@ -133,11 +135,11 @@ enum ks_cause {
 
 enum ks_backup_reply {
     KS_BACKUP_OK = 0,
-    KS_BACKUP_UNFIT = 20,     /* on entry: over 48 words, slot over 3, count over 16, place over 64 */
+    KS_BACKUP_UNFIT = 20,     /* on entry: over 64 words, slot over 3, count over 32, place over 64 */
     KS_BACKUP_BAD = 21,       /* arrive: slot over 3; sync: place over 64 */
-    KS_BACKUP_FULL = 22,      /* forty-eight saved */
+    KS_BACKUP_FULL = 22,      /* 64 words saved */
     KS_BACKUP_TAKEN = 23,     /* more taken on a slot than saved */
-    KS_BACKUP_COUNT = 24,     /* count at 16 */
+    KS_BACKUP_COUNT = 24,     /* count at 32 */
     KS_BACKUP_MISSIZED = 25,  /* a lent length is not KS_STATE, KS_CALL, KS_STATE */
     KS_BACKUP_UNKNOWN = 26    /* no such call */
 };
@@ -155,7 +157,7 @@ uint64_t ks_run(const uint8_t *table, size_t table_len, const uint8_t *schedule,
 uint32_t ks_judge(const uint8_t *table, size_t table_len, const uint8_t *schedule, size_t schedule_len, size_t answers_len,
                   size_t reasons_len, size_t report_len);
 
-/* A call of the backup record. state is KS_STATE numbers: how many words are saved, count, place, four registers, then 48 pairs of slot and
+/* A call of the backup record. state is KS_STATE numbers: how many words are saved, count, place, four registers, then 64 pairs of slot and
  * word. call is KS_CALL numbers, its own and its arguments:
  *     KS_NEW                                                    state becomes the record as it starts
  *     KS_ARRIVE       slot, word
@@ -167,17 +169,19 @@ uint32_t ks_judge(const uint8_t *table, size_t table_len, const uint8_t *schedul
  * A refused call leaves state as it was; but for KS_BACKUP_SYNC and KS_TAKE_OVER, reply is left as it was. */
 uint32_t ks_backup_call(uint32_t *state, size_t state_len, const uint32_t *call, size_t call_len, uint32_t *reply, size_t reply_len);
 
-/* The table that lists of numbers say, to the front of out: ends has sender and reader of each channel, placements primary board, backup board
- * and n of each process, instructions code, a and operand of each instruction, those of all processes in a row. Bytes behind the table stay as
- * they were; refused, with 3 to 8 or KS_NO_ROOM, all of out does. The result is number + 2^32 * the table's length. */
-uint64_t ks_table_write(uint32_t boards, uint32_t processes, uint32_t channels, const uint32_t *ends, size_t ends_len,
-                        const uint32_t *placements, size_t placements_len, const uint32_t *instructions, size_t instructions_len,
-                        uint8_t *out, size_t out_len);
+/* The table that lists of numbers say, to the front of out: version is 1 or 2, ends has sender and reader of each channel, placements primary
+ * board, backup board and n of each process, limits in version 2 the limit of each process and in version 1 nothing, instructions code, a and
+ * operand of each instruction, those of all processes in a row. Bytes behind the table stay as they were; refused, with 2 to 8, KS_LIMIT or
+ * KS_NO_ROOM, all of out does. The result is number + 2^32 * the table's length. */
+uint64_t ks_table_write(uint32_t version, uint32_t boards, uint32_t processes, uint32_t channels, const uint32_t *ends, size_t ends_len,
+                        const uint32_t *placements, size_t placements_len, const uint32_t *limits, size_t limits_len,
+                        const uint32_t *instructions, size_t instructions_len, uint8_t *out, size_t out_len);
 
-/* The lists of a table, to the fronts of three lent ones. Numbers behind them stay as they were; refused, with 1 to 8 or KS_NO_ROOM, all do.
- * The result is number + 256 * boards + 2^16 * processes + 2^24 * channels + 2^32 * how many instructions there are. */
+/* The lists of a table, to the fronts of four lent ones; of version 1 there are no limits. Numbers behind them stay as they were; refused, with
+ * 1 to 8, KS_LIMIT or KS_NO_ROOM, all do. The result is number + 256 * boards + 2^16 * processes + 2^24 * channels + 2^32 * how many
+ * instructions there are + 2^48 * version. */
 uint64_t ks_table_apart(const uint8_t *table, size_t table_len, uint32_t *ends, size_t ends_len, uint32_t *placements,
-                        size_t placements_len, uint32_t *instructions, size_t instructions_len);
+                        size_t placements_len, uint32_t *limits, size_t limits_len, uint32_t *instructions, size_t instructions_len);
 
 /* The label line's table of a first serial, with processes 0 (numbering, on board 0) and 1 (printing, on board 1), and channels KS_SCANNER,
  * KS_PRINTER and KS_OUTLET: 0, or KS_FIRST_SERIAL, and then the lent bytes are untouched. */

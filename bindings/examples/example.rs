@@ -1,7 +1,8 @@
-//! The proved calls from Rust, as board programmers, the driver bench, the service desk and the label line use them. examples/example.c is
-//! the same in C; both print examples/example.out.
+//! The proved calls from Rust, as board programmers, the driver bench, the service desk, the label line and the planner's office use them.
+//! examples/example.c is the same in C; both print examples/example.out.
 use kunzeastylus::{
-    judge, label_run, label_table, labels, run, Backup, BackupRefusal, Cause, Code, Record, Refusal, Snapshot, Synced, SCANNER,
+    judge, label_run, label_table, labels, run, Backup, BackupRefusal, Cause, Code, Lists, Record, Refusal, Snapshot, Synced,
+    SCANNER,
 };
 
 /// Document 01's sample table.
@@ -130,9 +131,28 @@ fn label_line() {
     println!("\nrefused {}", number(label_run(u32::MAX, &schedule, &mut answers, &mut reasons, &mut report).err()));
 }
 
+/// The sample table from lists of numbers, in version 2 with a limit of 2, and taken apart again. Refused are a limit of 17, a limit in version
+/// 1, and version 3.
+fn planners_office() {
+    let mut lists = Lists::of(&TABLE).unwrap();
+    lists.version = 2;
+    lists.limits = vec![2];
+    let table = lists.table().unwrap();
+    println!("planner's office\nwritten 0, {} bytes", table.len());
+    let apart = Lists::of(&table).unwrap();
+    println!("taken apart 0, version {}, limit {}", apart.version, apart.limits[0]);
+    print!("refused");
+    for (version, limit) in [(2, 17), (1, 2), (3, 2)] {
+        (lists.version, lists.limits[0]) = (version, limit);
+        print!(" {}", lists.table().unwrap_err().number());
+    }
+    println!();
+}
+
 fn main() {
     board_programmer();
     driver_bench();
     service_desk();
     label_line();
+    planners_office();
 }

@@ -25,7 +25,7 @@ numbers! {
         Halted = 35,
         /// No such word.
         NoWord = 36,
-        /// Backed, and acts are 8 or instructions 64.
+        /// Backed, and acts are at the process's limit (8 in a table of version 1) or instructions 64.
         OwesSync = 37,
         QueueFull = 38,
         ChannelHeld = 39,
@@ -70,7 +70,7 @@ worded! {
         Halted = 140 => "halted",
         NoWordForTake = 144 => "no such word: for TAKE",
         NoWordForFirst = 145 => "no such word: for FIRST",
-        OwesForActs = 148 => "owes a sync: 8 acts",
+        OwesForActs = 148 => "owes a sync: acts at its limit",
         OwesForInstructions = 149 => "owes a sync: 64 instructions",
         QueueFullForSend = 152 => "queue full: for SEND",
         QueueFullForSync = 153 => "queue full: for a sync",

@@ -2,21 +2,21 @@
 use crate::calls;
 use crate::numbers::numbers;
 
-/// How many numbers a record is laid out in: how many words are saved, count, place, four registers, then 48 pairs of slot and word.
-pub const STATE: usize = 103;
+/// How many numbers a record is laid out in: how many words are saved, count, place, four registers, then 64 pairs of slot and word.
+pub const STATE: usize = 135;
 
 numbers! {
     /// Why a call of the record is refused. The record is then as it was.
     BackupRefusal {
-        /// Unfit on entry: over 48 words, slot over 3, count over 16, place over 64.
+        /// Unfit on entry: over 64 words, slot over 3, count over 32, place over 64.
         Unfit = 20,
         /// An arrival's slot over 3, or a sync's place over 64.
         Bad = 21,
-        /// Forty-eight saved.
+        /// 64 words are saved.
         Full = 22,
         /// More taken on a slot than saved.
         Taken = 23,
-        /// The count is 16.
+        /// The count is 32.
         Count = 24,
         /// Of `ks_backup_call` alone: a lent slice has another length than it should. Never met here.
         Missized = 25,
@@ -69,7 +69,7 @@ impl Backup {
         &self.numbers
     }
 
-    /// The saved words with their slots, oldest first; 48 at most are there to be shown.
+    /// The saved words with their slots, oldest first; 64 at most are there to be shown.
     pub fn words(&self) -> impl Iterator<Item = (u32, u32)> + '_ {
         self.numbers[7..].chunks_exact(2).take(self.numbers[0] as usize).map(|pair| (pair[0], pair[1]))
     }

@@ -1,6 +1,6 @@
 //! The exported calls of the proved library, and nothing else; the only unsafe code of the crate.
 use crate::label::LABEL_TABLE;
-use crate::table::Counts;
+use crate::table::Lists;
 
 mod raw {
     use crate::label::LABEL_TABLE;
@@ -56,6 +56,7 @@ mod raw {
         ) -> u64;
 
         pub fn ks_table_write(
+            version: u32,
             boards: u32,
             processes: u32,
             channels: u32,
@@ -63,6 +64,8 @@ mod raw {
             ends_len: usize,
             placements: *const u32,
             placements_len: usize,
+            limits: *const u32,
+            limits_len: usize,
             instructions: *const u32,
             instructions_len: usize,
             out: *mut u8,
@@ -76,6 +79,8 @@ mod raw {
             ends_len: usize,
             placements: *mut u32,
             placements_len: usize,
+            limits: *mut u32,
+            limits_len: usize,
             instructions: *mut u32,
             instructions_len: usize,
         ) -> u64;
@@ -138,10 +143,12 @@ pub fn ks_label_run(first: u32, schedule: &[u8], answers: &mut [u8], reasons: &m
 }
 
 /// The number by which lists or a buffer are refused or 0, plus 2^32 times the table's length.
-pub fn ks_table_write(counts: Counts, ends: &[u32], placements: &[u32], instructions: &[u32], out: &mut [u8]) -> u64 {
-    // SAFETY: four slices that don't overlap, each with its own length; the first three are only read. The call asks nothing else.
+pub fn ks_table_write(lists: &Lists, out: &mut [u8]) -> u64 {
+    let Lists { version, counts, ends, placements, limits, instructions } = lists;
+    // SAFETY: five slices that don't overlap, each with its own length; the first four are only read. The call asks nothing else.
     unsafe {
         raw::ks_table_write(
+            *version,
             counts.boards,
             counts.processes,
             counts.channels,
@@ -149,6 +156,8 @@ pub fn ks_table_write(counts: Counts, ends: &[u32], placements: &[u32], instruct
             ends.len(),
             placements.as_ptr(),
             placements.len(),
+            limits.as_ptr(),
+            limits.len(),
             instructions.as_ptr(),
             instructions.len(),
             out.as_mut_ptr(),
@@ -158,9 +167,15 @@ pub fn ks_table_write(counts: Counts, ends: &[u32], placements: &[u32], instruct
 }
 
 /// The number by which a table or the lists lent for it are refused or 0, plus 256 times its boards, 2^16 times its processes, 2^24 times
-/// its channels and 2^32 times its instructions.
-pub fn ks_table_apart(table: &[u8], ends: &mut [u32], placements: &mut [u32], instructions: &mut [u32]) -> u64 {
-    // SAFETY: four slices that don't overlap, each with its own length; the first is only read. The call asks nothing else.
+/// its channels, 2^32 times its instructions and 2^48 times its version.
+pub fn ks_table_apart(
+    table: &[u8],
+    ends: &mut [u32],
+    placements: &mut [u32],
+    limits: &mut [u32],
+    instructions: &mut [u32],
+) -> u64 {
+    // SAFETY: five slices that don't overlap, each with its own length; the first is only read. The call asks nothing else.
     unsafe {
         raw::ks_table_apart(
             table.as_ptr(),
@@ -169,6 +184,8 @@ pub fn ks_table_apart(table: &[u8], ends: &mut [u32], placements: &mut [u32], in
             ends.len(),
             placements.as_mut_ptr(),
             placements.len(),
+            limits.as_mut_ptr(),
+            limits.len(),
             instructions.as_mut_ptr(),
             instructions.len(),
         )

@@ -19,4 +19,4 @@ pub use backup::{Backup, BackupRefusal, Snapshot, Synced, STATE};
 pub use label::{label_run, label_table, labels, Label, LABEL_TABLE, OUTLET, SCANNER};
 pub use record::{Instruction, Move, Record, OUTSIDE};
 pub use run::{judge, run, ProcessEnd, Refusal, Run};
-pub use table::{take_apart, write_table, Counts, End, Lists, Operation, Process, Table, TableRefusal, TABLE_MOST};
+pub use table::{take_apart, write_table, Apart, Counts, End, Lists, Operation, Process, Table, TableRefusal, LIMIT, TABLE_MOST};

@@ -4,10 +4,10 @@ use crate::calls;
 use crate::numbers::worded;
 
 worded! {
-    /// Why a run is refused, the lowest number first.
+    /// Why a run is refused, the lowest number first; 47 comes between 8 and 9.
     Refusal {
-        TableLength = 1 => "the table has under 6 bytes, or its length field is over 6,260 or not the true length",
-        TableVersion = 2 => "the table's version (byte 2) is not 1",
+        TableLength = 1 => "the table has under 6 bytes, or its length field is over 6,276 or not the true length",
+        TableVersion = 2 => "the table's version (byte 2) is neither 1 nor 2",
         TableCounts = 3 => "boards not 2 to 16, processes not 1 to 16, or channels not 1 to 32",
         TableExtent = 4 => "a process has over 64 instructions, or the pairs and process records don't end exactly with the table",
         ChannelEnds = 5 => "a channel's end is neither a process of the table nor 255, or both are 255",
@@ -19,6 +19,7 @@ worded! {
         AnswersShort = 11 => "the answer buffer has under six bytes a record, or the buffer of reasons under one",
         ReportShort = 12 => "the report buffer has under 20 bytes a process",
         FirstSerial = 46 => "of the label line alone: a first serial above 4,294,957,295; then no table is made",
+        Limit = 47 => "a table of version 2: a process's limit is outside 1 to 16",
     }
 }
 

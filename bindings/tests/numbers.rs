@@ -44,7 +44,7 @@ macro_rules! numbered {
 
 #[test]
 fn numbers() {
-    numbered!(Refusal, "ks_refusal", (1..=12).chain([46]));
+    numbered!(Refusal, "ks_refusal", (1..=12).chain([46, 47]));
     numbered!(Code, "ks_answer", (0..=6).chain(32..=44));
     numbered!(Cause, "ks_cause", REASONS.into_iter());
     numbered!(BackupRefusal, "ks_backup_reply", 20..=26);
@@ -64,7 +64,8 @@ fn explained() {
     Refusal::ALL.iter().for_each(|refusal| has_line("Of a run", refusal.number()));
     Code::ALL.iter().for_each(|code| has_line("Of a record: its answer", code.number()));
     BackupRefusal::ALL.iter().for_each(|refusal| has_line("Of the backup record", refusal.number()));
-    has_line("Of the writer of tables", TableRefusal::NoRoom.number());
+    let of_lists = [TableRefusal::Version, TableRefusal::NoRoom, TableRefusal::Limit];
+    of_lists.iter().for_each(|refusal| has_line("Of the writer of tables", refusal.number()));
 }
 
 /// The words are those of docs/NUMBERS.md, for every byte of reasons and for every refused run, and no line there is without them.
@@ -127,24 +128,24 @@ fn a_refused_run_writes_nothing() {
 fn the_record() {
     let mut backup = Backup::new();
     assert_eq!(backup, Backup::from_numbers([0; STATE]));
-    (0..48).for_each(|i| assert_eq!(backup.arrive(i % 4, i), Ok(())));
+    (0..64).for_each(|i| assert_eq!(backup.arrive(i % 4, i), Ok(())));
     assert_eq!(backup.arrive(0, 0), Err(BackupRefusal::Full));
     assert_eq!(backup.arrive(4, 0), Err(BackupRefusal::Bad));
-    (0..16).for_each(|_| assert_eq!(backup.count_one(), Ok(())));
+    (0..32).for_each(|_| assert_eq!(backup.count_one(), Ok(())));
     assert_eq!(backup.count_one(), Err(BackupRefusal::Count));
     let snapshot = |place, taken| Snapshot { place, registers: [1, 2, 3, 4], taken };
     let before = backup;
     assert_eq!(backup.sync(&snapshot(65, [0; 4])), Err(BackupRefusal::Bad));
-    assert_eq!(backup.sync(&snapshot(64, [13, 0, 0, 0])), Err(BackupRefusal::Taken));
+    assert_eq!(backup.sync(&snapshot(64, [17, 0, 0, 0])), Err(BackupRefusal::Taken));
     assert_eq!(backup, before);
-    assert_eq!(backup.take_over().map(|taken| (taken.count(), taken.words().count())), Ok((16, 48)));
-    assert_eq!(backup.sync(&snapshot(64, [12, 12, 12, 11])), Ok(Synced { dropped: [12, 12, 12, 11], remain: [0, 0, 0, 1] }));
-    assert_eq!((backup.words().collect::<Vec<_>>(), backup.count(), backup.place()), (vec![(3, 47)], 0, 64));
+    assert_eq!(backup.take_over().map(|taken| (taken.count(), taken.words().count())), Ok((32, 64)));
+    assert_eq!(backup.sync(&snapshot(64, [16, 16, 16, 15])), Ok(Synced { dropped: [16, 16, 16, 15], remain: [0, 0, 0, 1] }));
+    assert_eq!((backup.words().collect::<Vec<_>>(), backup.count(), backup.place()), (vec![(3, 63)], 0, 64));
     let mut unfit = *backup.numbers();
     unfit[0] = u32::MAX;
     let mut unfit = Backup::from_numbers(unfit);
     assert_eq!((unfit.arrive(0, 0), unfit.take_over()), (Err(BackupRefusal::Unfit), Err(BackupRefusal::Unfit)));
-    assert_eq!(unfit.words().count(), 48);
+    assert_eq!(unfit.words().count(), 64);
 }
 
 /// What a builder says comes back from its bytes, and its refusals are the library's.
@@ -166,7 +167,7 @@ fn tables() {
     let mut short = [0xEE; 30];
     assert_eq!(write_table(&lists, &mut short), Err(TableRefusal::NoRoom));
     let mut few = [7; 8];
-    assert_eq!(take_apart(&bytes, &mut [0; 4], &mut [0; 3], &mut few), Err(TableRefusal::NoRoom));
+    assert_eq!(take_apart(&bytes, &mut [0; 4], &mut [0; 3], &mut [], &mut few), Err(TableRefusal::NoRoom));
     assert!(short.iter().all(|&byte| byte == 0xEE) && few.iter().all(|&n| n == 7));
     table.processes[0].backup = 256;
     assert_eq!(table.bytes(), Err(TableRefusal::Boards));
@@ -175,6 +176,6 @@ fn tables() {
     assert_eq!(table.bytes(), Err(TableRefusal::Instruction));
     assert_eq!(Table::of(&bytes[1..]), Err(TableRefusal::Length));
     let numbers: Vec<u8> = TableRefusal::ALL.iter().map(|refusal| refusal.number()).collect();
-    assert_eq!(numbers, (1..=8).chain([45]).collect::<Vec<_>>());
+    assert_eq!(numbers, (1..=8).chain([45, 47]).collect::<Vec<_>>());
     assert_eq!(header("ks_table_refusal"), [45]);
 }

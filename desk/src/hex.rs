@@ -8,7 +8,7 @@ pub struct NoHex {
     pub begins: String,
 }
 
-/// Bytes that have no control characters but tab, line feed and carriage return are taken for text. No sound table is: its version is 1.
+/// Bytes that have no control characters but tab, line feed and carriage return are taken for text. No sound table is: its version is 1 or 2.
 pub fn is_text(bytes: &[u8]) -> bool {
     bytes.iter().all(|byte| !byte.is_ascii_control() || b"\t\n\r".contains(byte))
 }

@@ -1,10 +1,15 @@
 //! A table's lists as text: decimal numbers under a heading for each list, `#` up to the end of a line for comments. Under `instructions`
-//! a code may be its mnemonic, SET to JUMP.
+//! a code may be its mnemonic, SET to JUMP. Where there is a heading `limits`, the table is of version 2.
 use kunzeastylus::{Counts, Instruction, Lists, OUTSIDE};
 use std::fmt::Write;
 
 /// The headings, in the order in which they are printed.
-const HEADINGS: [&str; 4] = ["counts", "ends", "placements", "instructions"];
+const HEADINGS: [&str; 5] = ["counts", "ends", "placements", "limits", "instructions"];
+const COUNTS: usize = 0;
+const ENDS: usize = 1;
+const PLACEMENTS: usize = 2;
+const LIMITS: usize = 3;
+const INSTRUCTIONS: usize = 4;
 
 /// The mnemonic of each code.
 pub fn mnemonic(code: u32) -> Option<&'static str> {
@@ -15,13 +20,13 @@ pub fn mnemonic(code: u32) -> Option<&'static str> {
 /// The lists, and the line on which each number of each list stands.
 pub struct Text {
     pub lists: Lists,
-    pub lines: [Vec<usize>; 4],
+    pub lines: [Vec<usize>; 5],
 }
 
 /// Reads the text, or says what is wrong with it, and on which line.
 pub fn parse(text: &str) -> Result<Text, String> {
-    let mut found: [Option<Vec<u32>>; 4] = Default::default();
-    let mut lines: [Vec<usize>; 4] = Default::default();
+    let mut found: [Option<Vec<u32>>; 5] = Default::default();
+    let mut lines: [Vec<usize>; 5] = Default::default();
     let mut now = None;
     for (i, line) in text.lines().enumerate() {
         let wrong = |what: String| Err(format!("line {}: {what}", i + 1));
@@ -34,7 +39,7 @@ pub fn parse(text: &str) -> Result<Text, String> {
                 continue;
             }
             let Some(heading) = now else { return wrong(format!("{word} stands under no heading")) };
-            let code = (1..=6).find(|&code| heading == 3 && mnemonic(code) == Some(word));
+            let code = (1..=6).find(|&code| heading == INSTRUCTIONS && mnemonic(code) == Some(word));
             let Some(number) = code.or_else(|| number(word)) else {
                 return wrong(format!("{word} is no heading and no decimal number below 4,294,967,296"));
             };
@@ -42,17 +47,19 @@ pub fn parse(text: &str) -> Result<Text, String> {
             lines[heading].push(i + 1);
         }
     }
-    let [counts, ends, placements, instructions] = found;
+    let [counts, ends, placements, limits, instructions] = found;
     let missing = |heading: usize| format!("no heading {}", HEADINGS[heading]);
-    let counts = counts.ok_or(missing(0))?;
+    let counts = counts.ok_or(missing(COUNTS))?;
     let [boards, processes, channels] = counts[..] else {
         return Err(format!("{} numbers under counts, which are boards, processes and channels", counts.len()));
     };
     let lists = Lists {
+        version: if limits.is_none() { 1 } else { 2 },
         counts: Counts { boards, processes, channels },
-        ends: ends.ok_or(missing(1))?,
-        placements: placements.ok_or(missing(2))?,
-        instructions: instructions.ok_or(missing(3))?,
+        ends: ends.ok_or(missing(ENDS))?,
+        placements: placements.ok_or(missing(PLACEMENTS))?,
+        limits: limits.unwrap_or_default(),
+        instructions: instructions.ok_or(missing(INSTRUCTIONS))?,
     };
     Ok(Text { lists, lines })
 }
@@ -95,6 +102,12 @@ pub fn print(lists: &Lists) -> String {
         let numbers = format!("{} {} {}", placement[0], placement[1], placement[2]);
         writeln!(text, "{numbers:<18}# process {p}").unwrap();
     }
+    if lists.version != 1 {
+        writeln!(text, "\nlimits            # of each process: how many acts ask for a sync").unwrap();
+        for (p, limit) in lists.limits.iter().enumerate() {
+            writeln!(text, "{limit:<18}# process {p}").unwrap();
+        }
+    }
     writeln!(text, "\ninstructions      # of all processes: code, a, operand").unwrap();
     for (p, _, own) in programs(lists) {
         for (place, i) in own.chunks(3).enumerate() {
@@ -121,7 +134,12 @@ pub fn hex(table: &[u8], lists: &Lists) -> String {
         line(2, format!("channel {k}: from {} to {}", end(pair[0]), end(pair[1])));
     }
     for (p, placement, own) in programs(lists) {
-        line(3, format!("process {p}: board {}, backup board {}, {} instructions", placement[0], placement[1], placement[2]));
+        let limit = lists.limits.get(p).map_or(String::new(), |limit| format!("limit {limit}, "));
+        let head = if limit.is_empty() { 3 } else { 4 };
+        line(
+            head,
+            format!("process {p}: board {}, backup board {}, {limit}{} instructions", placement[0], placement[1], placement[2]),
+        );
         for (place, i) in own.chunks(3).enumerate() {
             line(6, format!("  {place} {} {} {}", mnemonic(i[0]).unwrap_or("?"), i[1], i[2]));
         }
@@ -146,7 +164,10 @@ pub fn explain(text: &Text, number: u8) -> String {
             .chunks(2)
             .position(|pair| !passes(pair[0]) || !passes(pair[1]) || pair[0] == 255 && pair[1] == 255)
             .map(|k| {
-                format!("channel {k} ({}): an end is a process below {processes} or 255, and never both are 255", list(1, 2 * k))
+                format!(
+                    "channel {k} ({}): an end is a process below {processes} or 255, and never both are 255",
+                    list(ENDS, 2 * k)
+                )
             })
             .unwrap_or_default(),
         6 => (0..processes)
@@ -157,9 +178,15 @@ pub fn explain(text: &Text, number: u8) -> String {
             .placements
             .chunks(3)
             .position(|p| p[0] >= boards || p[1] >= boards || p[0] == p[1])
-            .map(|p| format!("process {p} ({}): two different boards below {boards} are wanted", list(2, 3 * p)))
+            .map(|p| format!("process {p} ({}): two different boards below {boards} are wanted", list(PLACEMENTS, 3 * p)))
             .unwrap_or_default(),
         8 => instruction(text),
+        47 => lists
+            .limits
+            .iter()
+            .position(|limit| !(1..=16).contains(limit))
+            .map(|p| format!("process {p} ({}): a limit is 1 to 16, and this is {}", list(LIMITS, p), lists.limits[p]))
+            .unwrap_or_default(),
         _ => String::new(),
     }
 }
@@ -175,7 +202,7 @@ fn lengths(text: &Text) -> String {
         lists.placements.chunks(3).enumerate().find(|(_, p)| p[2] > 64).map(|(p, placement)| {
             format!(
                 "placements, line {}: process {p} has {} instructions, and 64 are the most",
-                text.lines[2][3 * p + 2],
+                text.lines[PLACEMENTS][3 * p + 2],
                 placement[2]
             )
         })
@@ -191,6 +218,10 @@ fn lengths(text: &Text) -> String {
             )
         })
         .or_else(over)
+        .or_else(|| {
+            let wanted = if lists.version == 1 { 0 } else { processes as usize };
+            wants("limits", lists.limits.len(), wanted, format!("one for each of {processes} processes"))
+        })
         .or_else(|| wants("instructions", lists.instructions.len(), 3 * total, format!("three for each of {total} instructions")))
         .unwrap_or_default()
 }
@@ -218,7 +249,7 @@ fn instruction(text: &Text) -> String {
                 1..=6 => continue,
                 _ => format!("no code {code}"),
             };
-            let line = text.lines[3].get(3 * (before + place)).map_or(String::new(), |line| format!(", line {line}"));
+            let line = text.lines[INSTRUCTIONS].get(3 * (before + place)).map_or(String::new(), |line| format!(", line {line}"));
             return format!("process {p}, place {place} (instructions{line}): {why}");
         }
         before += own.len() / 3;

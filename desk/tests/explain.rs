@@ -134,6 +134,14 @@ fn complaints() {
     complains(&["-"], &[], 3, "refused 1\n", "standard input: the table, its first 0 bytes: the table has under 6 bytes");
     complains(&["--bytes", sample], &[], 3, "refused 1\n", "the table");
     complains(&["-"], b"00 09 01 02 01 01 FF 00 00 01 00", 3, "refused 9\n", "the schedule, 0 bytes behind the table's 11");
+    let limited = b"00 0A 02 02 01 01 FF 00 00 01 11 00";
+    complains(
+        &["-"],
+        limited,
+        3,
+        "refused 47\n",
+        "the table, its first 12 bytes: a table of version 2: a process's limit is outside",
+    );
     // 10,000 records have no room for a crash.
     let most =
         [&[0, 9, 1, 2, 1, 1, 255, 0, 0, 1, 0][..], &kunzeastylus::Record::schedule(&[kunzeastylus::Record::step(0); 10_000])]

@@ -2,7 +2,7 @@
 use desk::{hex, lists};
 use kunzeastylus::Lists;
 
-const SAMPLES: [&str; 5] = ["sample", "lost_queue", "roll_forward", "first", "held"];
+const SAMPLES: [&str; 6] = ["sample", "lost_queue", "roll_forward", "first", "held", "limits"];
 
 fn file(name: &str) -> String {
     std::fs::read_to_string(format!("{}/../samples/{name}", env!("CARGO_MANIFEST_DIR"))).expect("a sample")
@@ -30,7 +30,11 @@ fn samples_both_ways() {
 
 /// The sample's text with one line changed: the number that refuses it, and what is said.
 fn refused(old: &str, new: &str) -> (u8, String) {
-    let text = file("sample.lists");
+    refused_of("sample.lists", old, new)
+}
+
+fn refused_of(name: &str, old: &str, new: &str) -> (u8, String) {
+    let text = file(name);
     assert_eq!(text.matches(old).count(), 1, "{old}");
     let text = lists::parse(&text.replace(old, new)).expect("lists");
     let number = text.lists.table().expect_err("a refusal").number();
@@ -58,6 +62,25 @@ fn what_and_where() {
 }
 
 #[test]
+fn limits() {
+    // The heading makes it version 2, and the limits come back.
+    let lists = lists::parse(&file("limits.lists")).expect("lists").lists;
+    assert_eq!((lists.version, &lists.limits[..]), (2, &[2, 16][..]));
+    assert!(lists::hex(&table("limits"), &lists).contains("process 0: board 0, backup board 1, limit 2, "));
+    let (number, why) = refused_of("limits.lists", "\n16 ", "\n17 ");
+    assert!(number == 47 && why.starts_with("process 1 (limits, line 15): a limit is 1 to 16, and this is 17"), "{number} {why}");
+    let (number, why) = refused_of("limits.lists", "\n2                 #", "\n0                 #");
+    assert!(number == 47 && why.starts_with("process 0 (limits, line 14)"), "{number} {why}");
+    let (number, why) = refused_of("limits.lists", "\n16 ", "\n16 8 ");
+    assert!(number == 4 && why == "limits: 3 numbers, and 2 are wanted, one for each of 2 processes", "{number} {why}");
+    let (number, why) = refused("\ninstructions ", "\nlimits instructions ");
+    assert!(number == 4 && why == "limits: 0 numbers, and 1 are wanted, one for each of 1 processes", "{number} {why}");
+    // An instruction goes before a limit.
+    let text = file("limits.lists").replace("\n16 ", "\n17 ").replace("\nSET ", "\n7 ");
+    assert_eq!(lists::parse(&text).expect("lists").lists.table().map_err(|refusal| refusal.number()), Err(8));
+}
+
+#[test]
 fn text_that_is_none() {
     for (text, said) in [
         ("1 2 3", "line 1: 1 stands under no heading"),
@@ -71,5 +94,5 @@ fn text_that_is_none() {
         assert_eq!(lists::parse(text).err().as_deref(), Some(said), "{text}");
     }
     let text = lists::parse("# all at once\ninstructions SET 1 2 counts 2 1 1 ends 255 0 placements 0 1 1").expect("lists");
-    assert_eq!((text.lists.instructions, text.lists.counts.boards), (vec![1, 1, 2], 2));
+    assert_eq!((text.lists.instructions, text.lists.counts.boards, text.lists.version), (vec![1, 1, 2], 2, 1));
 }

@@ -44,7 +44,7 @@ fn main() -> ExitCode {
 fn refused(input: &Input, file: &str, refusal: Refusal, with: &str) -> Failure {
     let (table, schedule) = (input.table.len(), input.schedule.len());
     let bytes = match refusal.number() {
-        1..=8 => format!("the table, its first {table} bytes"),
+        1..=8 | 47 => format!("the table, its first {table} bytes"),
         _ => format!("the schedule, {schedule} bytes behind the table's {table}{with}"),
     };
     Failure::Explained(refusal.number(), format!("{}: {bytes}: {}", input::name(file), refusal.words()))

@@ -5,7 +5,8 @@ use kunzeastylus::{Lists, TableRefusal};
 use std::process::ExitCode;
 
 const USAGE: &str = "./table [--bytes | --apart] FILE, where FILE - is standard input
-  FILE          lists as text: decimal numbers under the headings counts, ends, placements and instructions. Prints the table as hex text
+  FILE          lists as text: decimal numbers under the headings counts, ends, placements and instructions, and for a table of version 2
+                limits. Prints the table as hex text
   --bytes FILE  the same, and prints the table's bytes
   --apart FILE  a table, bytes or hex text; a schedule behind it, as ./run takes them, is left out. Prints its lists as such text
 What is refused prints `refused` and the number (docs/NUMBERS.md), says why on standard error, and ends with 3.";
@@ -42,8 +43,8 @@ fn apart(file: &str) -> Result<Vec<u8>, Failure> {
 
 fn refused(refusal: TableRefusal, place: String) -> Failure {
     let meaning = match refusal {
-        TableRefusal::Length => "under 6 bytes, or a length field over 6,260 or not the true one",
-        TableRefusal::Version => "its version",
+        TableRefusal::Length => "under 6 bytes, or a length field over 6,276 or not the true one",
+        TableRefusal::Version => "a version other than 1 or 2",
         TableRefusal::Counts => "boards, processes or channels",
         TableRefusal::Extent => "n over 64, or a list not as long as its counts say",
         TableRefusal::ChannelEnds => "channel ends",
@@ -51,6 +52,7 @@ fn refused(refusal: TableRefusal, place: String) -> Failure {
         TableRefusal::Boards => "a board not below B, or primary equal to backup",
         TableRefusal::Instruction => "an instruction",
         TableRefusal::NoRoom => "no room for the table",
+        TableRefusal::Limit => "a limit outside 1 to 16",
     };
     let why = if place.is_empty() { meaning.to_string() } else { format!("{meaning}: {place}") };
     Failure::Explained(refusal.number(), why)

@@ -1,8 +1,8 @@
 //! The proved library's exported call, and its lent numbers as a record.
-use crate::model::Record;
+use crate::model::{Record, WORDS_MOST};
 
 /// How many numbers a state and a reply have, and how many a call has.
-pub const STATE: usize = 103;
+pub const STATE: usize = 7 + 2 * WORDS_MOST;
 pub const CALL: usize = 10;
 
 mod raw {
@@ -26,8 +26,8 @@ pub fn ks_backup_call(state: &mut [u32], call: &[u32], reply: &mut [u32]) -> u32
     unsafe { raw::ks_backup_call(state.as_mut_ptr(), state.len(), call.as_ptr(), call.len(), reply.as_mut_ptr(), reply.len()) }
 }
 
-/// The record that 103 numbers stand for: length, count, place, four registers, then pairs of slot and word. A length that goes far
-/// past the end is cut short: the record is unfit by 49 words already.
+/// The record that a state's numbers stand for: length, count, place, four registers, then pairs of slot and word. A length that goes far
+/// past the end is cut short: the record is unfit by one word too many already.
 pub fn view(numbers: &[u32]) -> Record {
     let at = |i: usize| numbers.get(i).copied().unwrap_or(0);
     let len = numbers[0].min(1000) as usize;

@@ -1,6 +1,9 @@
 //! Random states and calls: what is fit and what is unfit in each way, arguments in and out of range, takes that are possible and not.
 use crate::call::{CALL, STATE};
-use crate::model::Record;
+use crate::model::{Record, COUNT_MOST, WORDS_MOST};
+
+/// The most words, as a number of the call's.
+const MOST: u32 = WORDS_MOST as u32;
 use outside::random::Random;
 
 /// The ways of being unfit, as bits that can be combined.
@@ -17,12 +20,12 @@ fn any_word(random: &mut Random) -> u32 {
 /// A state that is fit, with any numbers past its words.
 pub fn fit_state(random: &mut Random) -> Vec<u32> {
     let mut state: Vec<u32> = (0..STATE).map(|_| random.word()).collect();
-    let some = random.below(49);
-    let len = random.pick(&[0, 1, 24, 47, 48, some, some, some]);
-    let count = random.below(17);
+    let some = random.below(MOST + 1);
+    let len = random.pick(&[0, 1, 24, 48, 49, MOST - 1, MOST, some, some, some]);
+    let count = random.below(COUNT_MOST + 1);
     let place = random.below(65);
     state[0] = len;
-    state[1] = random.pick(&[0, 15, 16, count, count]);
+    state[1] = random.pick(&[0, 16, 17, COUNT_MOST - 1, COUNT_MOST, count, count]);
     state[2] = random.pick(&[0, 64, place, place]);
     // On one slot only, in turn, or mixed.
     let one = random.below(4);
@@ -44,24 +47,24 @@ pub fn unfit_state(random: &mut Random, ways: u32) -> Vec<u32> {
     let mut state = fit_state(random);
     if ways & WORDS != 0 {
         // Every pair counts now, so each is first put on a slot.
-        for i in 0..48 {
+        for i in 0..WORDS_MOST {
             state[7 + 2 * i] %= 4;
         }
-        state[0] = random.over(48);
+        state[0] = random.over(MOST);
     }
     if ways & SLOT != 0 {
         if state[0] == 0 {
             state[0] = 1;
             state[7] = 0;
         }
-        let within = state[0].min(48);
+        let within = state[0].min(MOST);
         for _ in 0..1 + random.below(3) {
             let i = random.below(within) as usize;
             state[7 + 2 * i] = random.over(3);
         }
     }
     if ways & COUNT != 0 {
-        state[1] = random.over(16);
+        state[1] = random.over(COUNT_MOST);
     }
     if ways & PLACE != 0 {
         state[2] = random.over(64);

@@ -1,4 +1,8 @@
-//! The backup record, written from document 01, "The backup record", and from nothing else.
+//! The backup record, written from document 01, "The backup record", and document 02, and from nothing else.
+
+/// W-207: "A saved list may now hold 64 words and a count 32; numbers 20, 22 and 24 follow"; document 01 has 48 and 16.
+pub const WORDS_MOST: usize = 64;
+pub const COUNT_MOST: u32 = 32;
 
 /// "A value: up to 48 saved words with slots, count, place, registers."
 #[derive(Clone, Debug, PartialEq, Eq)]
@@ -18,7 +22,8 @@ impl Record {
 
     /// "over 48 words, slot over 3, count over 16, place over 64"
     pub fn unfit(&self) -> bool {
-        self.words.len() > 48 || self.words.iter().any(|&(slot, _)| slot > 3) || self.count > 16 || self.place > 64
+        let many = self.words.len() > WORDS_MOST || self.count > COUNT_MOST;
+        many || self.words.iter().any(|&(slot, _)| slot > 3) || self.place > 64
     }
 
     /// How many words are saved on a slot.
@@ -34,7 +39,7 @@ impl Record {
         if slot > 3 {
             return 21;
         }
-        if self.words.len() == 48 {
+        if self.words.len() == WORDS_MOST {
             return 22;
         }
         self.words.push((slot, word));
@@ -46,7 +51,7 @@ impl Record {
         if self.unfit() {
             return 20;
         }
-        if self.count == 16 {
+        if self.count == COUNT_MOST {
             return 24;
         }
         self.count += 1;

@@ -4,9 +4,10 @@
 use crate::call::ks_run;
 use outside::rules::generate::{encode_schedule, encode_table};
 use outside::rules::lent::Lent;
+use outside::rules::limits;
 use outside::rules::page::lines;
 use outside::rules::reader::Instruction::{Add, First, Jump, Send, Set, Take};
-use outside::rules::reader::{Channel, Instruction, Process, Record, Table, OUTSIDE};
+use outside::rules::reader::{judge_table, Channel, Instruction, Process, Record, Table, OUTSIDE};
 use outside::rules::reasons::by_hand;
 use outside::rules::run::{Outcome, Run};
 use outside::rules::sample::{carry, crash, feed, sample_schedule, step, sync, SAMPLE};
@@ -20,14 +21,14 @@ pub struct Case {
 }
 
 fn table(boards: u8, channels: &[(u8, u8)], processes: &[(u8, u8, &[Instruction])]) -> Vec<u8> {
-    encode_table(&Table {
-        boards,
-        channels: channels.iter().map(|&(sender, reader)| Channel { sender, reader }).collect(),
-        processes: processes
-            .iter()
-            .map(|&(primary, backup, program)| Process { primary, backup, program: program.to_vec() })
-            .collect(),
-    })
+    encode_table(&said(boards, channels, processes))
+}
+
+fn said(boards: u8, channels: &[(u8, u8)], processes: &[(u8, u8, &[Instruction])]) -> Table {
+    let mut table = Table::new(boards, channels.iter().map(|&(sender, reader)| Channel { sender, reader }).collect());
+    table.processes =
+        processes.iter().map(|&(primary, backup, program)| Process::new(primary, backup, program.to_vec())).collect();
+    table
 }
 
 /// One process that sends a word again and again to the outside.
@@ -71,24 +72,27 @@ fn to_itself() -> Vec<u8> {
     table(2, &[(0, 0), (0, OUTSIDE)], &[(0, 1, &program)])
 }
 
-/// One process that reads four channels from the outside, for ever.
+/// One process that reads four channels from the outside, for ever, in version 1.
 fn four_channels() -> Vec<u8> {
     let program = [Set { a: 3, word: 1 }, First { a: 0, mask: 0b1111 }, Jump { a: 3, place: 1 }];
     table(2, &[(OUTSIDE, 0); 4], &[(0, 1, &program)])
 }
 
-/// 48 words saved: 8 taken before the sync that waits, 8 since, and 8 unread on each of four channels.
-fn forty_eight() -> Vec<Record> {
-    let feeds = |from: u8, to: u8| (from..to).map(|i| feed(i % 4, 100 + i as u32));
-    let mut records = vec![step(0)];
-    records.extend(feeds(0, 32));
-    records.extend([step(0); 16]);
-    records.push(sync(0));
-    records.extend(feeds(32, 40));
-    records.extend([step(0); 16]);
-    records.extend(feeds(40, 48));
-    records.push(crash(0));
-    records
+/// The same in version 2, with a limit.
+fn four_limited(limit: u8) -> Vec<u8> {
+    encode_table(&limits::four_channels(limit))
+}
+
+/// The sender of one word again and again, with a limit of 16.
+fn sender_limited() -> Vec<u8> {
+    encode_table(&judge_table(&sender()).expect("a sound table").limited(|_| 16))
+}
+
+/// Two processes that take for ever what they are fed, the first with a limit of 1 and the second with one of 3.
+fn two_limits() -> Vec<u8> {
+    let process = |channel| [Take { a: 0, channel }, Jump { a: 0, place: 0 }];
+    let table = said(2, &[(OUTSIDE, 0), (OUTSIDE, 1)], &[(0, 1, &process(0)), (0, 1, &process(1))]);
+    encode_table(&table.limited(|p| [1, 3][p]))
 }
 
 /// One process that adds up what it takes, and sends nothing.
@@ -232,8 +236,8 @@ pub fn cases() -> Vec<Case> {
             "quiet 1",
         ],
     );
-    case("48 unread words", four_channels(), &forty_eight(), &["83 0 0 0", "process 0 1 0 48 0 0 0 0 0", "quiet 0"]);
-    let on = [&forty_eight()[..], &[feed(3, 1), step(0), step(0), step(0), step(0)]].concat();
+    case("48 unread words", four_channels(), &limits::fullest(8), &["83 0 0 0", "process 0 1 0 48 0 0 0 0 0", "quiet 0"]);
+    let on = [&limits::fullest(8)[..], &[feed(3, 1), step(0), step(0), step(0), step(0)]].concat();
     case(
         "48 unread words: no further feed, the oldest taken first",
         four_channels(),
@@ -277,6 +281,67 @@ pub fn cases() -> Vec<Case> {
         adding(),
         &carried,
         &["196 0 0 0", "197 0 0 0", "process 0 1 2 0 0 1 64 0 0", "quiet 0"],
+    );
+    // W-207: a sync limit for each process.
+    let mut third = vec![step(0), feed(0, 5), feed(1, 6), feed(2, 7)];
+    third.extend([&[step(0); 5][..], &[sync(0), step(0)]].concat());
+    case(
+        "limit 2: a third act only after a sync",
+        four_limited(2),
+        &third,
+        &["7 1 1 6", "8 0 0 0", "9 37 0 0", "10 0 0 0", "11 1 2 7", "process 0 0 2 0 0 7 2 0 1", "quiet 0"],
+    );
+    case(
+        "limit 16: sixteen words are queued, the next owes a sync",
+        sender_limited(),
+        &steps(23),
+        &["21 0 0 0", "22 2 0 9", "23 37 0 0", "process 0 0 2 0 0 9 0 0 0", "quiet 0"],
+    );
+    let carried = [&steps(22)[..], &[carry(0); 16], &[crash(0)]].concat();
+    case(
+        "limit 16: sixteen words carried, hold-back 16",
+        sender_limited(),
+        &carried,
+        &["38 4 0 9", "39 0 0 0", "process 0 1 0 0 16 0 0 0 0", "quiet 0"],
+    );
+    let full = limits::fullest(16);
+    case("limit 16: 64 unread words", four_limited(16), &full, &["131 0 0 0", "process 0 1 0 64 0 0 0 0 0", "quiet 0"]);
+    let on = [&full[..], &[feed(3, 1), step(0), step(0)]].concat();
+    case(
+        "limit 16: 64 unread words, no further feed, the oldest taken first",
+        four_limited(16),
+        &on,
+        &["132 39 3 0", "133 0 0 0", "134 1 0 100", "process 0 1 2 63 0 100 0 0 1", "quiet 0"],
+    );
+    case(
+        "limit 1: 34 unread words",
+        four_limited(1),
+        &limits::fullest(1),
+        &["41 0 0 0", "process 0 1 0 34 0 0 0 0 0", "quiet 0"],
+    );
+    let mut two = vec![feed(0, 5), feed(0, 5)];
+    two.extend([feed(1, 6); 4]);
+    two.extend([step(0); 3]);
+    two.extend([step(1); 7]);
+    case(
+        "limits 1 and 3: to each process its own",
+        two_limits(),
+        &two,
+        &[
+            "7 1 0 5",
+            "8 0 0 0",
+            "9 37 0 0",
+            "10 1 1 6",
+            "11 0 0 0",
+            "12 1 1 6",
+            "13 0 0 0",
+            "14 1 1 6",
+            "15 0 0 0",
+            "16 37 1 0",
+            "process 0 0 0 1 0 5 0 0 0",
+            "process 1 0 0 1 0 6 0 0 0",
+            "quiet 0",
+        ],
     );
     cases
 }

@@ -1,7 +1,7 @@
 //! The proved run of a schedule against the simulator, on generated tables and schedules: `cabinet [--runs N] [--seed N]`.
 //!
 //! First the service desk's cases, with lines and reasons written by hand; then these and document 01's sample, cut after each record and
-//! with each board pulled at each place; then random runs of every kind of input.
+//! with each board pulled at each place; then saved lists as long as each limit lets them get; then random runs of every kind of input.
 mod call;
 mod compare;
 mod desk;
@@ -12,6 +12,7 @@ use compare::Comparison;
 use outside::random::Random;
 use outside::rules::generate::{encode_schedule, encode_table};
 use outside::rules::lent::Lent;
+use outside::rules::limits;
 use outside::rules::reader::Record;
 use outside::rules::reasons::by_hand;
 use outside::rules::sample::{crash, sample_schedule, SAMPLE};
@@ -28,6 +29,19 @@ fn pulled(comparison: &mut Comparison, kind: &'static str, table: &[u8], records
             let crashed = [&records[..place], &[crash(board)], &records[place..]].concat();
             comparison.run(kind, table, &encode_schedule(&crashed), buffers);
         }
+    }
+}
+
+/// A saved list that is as long as its limit lets it get, with a board pulled at every place on the way there: the inbox at the end has
+/// just so many words.
+fn fullest(comparison: &mut Comparison, limit: u8) {
+    let table = encode_table(&limits::four_channels(limit));
+    let records = limits::fullest(limit);
+    let end = comparison.run("fullest", &table, &encode_schedule(&records), Lent::needed(records.len(), 1));
+    assert_eq!(end.lent.report[..4], [1, 0, limits::most_saved(limit), 0], "limit {limit}: board, place, unread and hold-back");
+    if [1, 2, 8, 16].contains(&limit) {
+        let lead = &records[..records.len() - 1];
+        pulled(comparison, "fullest", &table, lead);
     }
 }
 
@@ -65,6 +79,7 @@ fn main() {
         let buffers = Lent::needed(case.records.len(), case.table.processes.len());
         comparison.run("reasons by hand", &encode_table(&case.table), &encode_schedule(&case.records), buffers);
     }
+    (1..=16).for_each(|limit| fullest(&mut comparison, limit));
     while comparison.seen.runs < runs {
         round(&mut comparison, &mut random);
     }

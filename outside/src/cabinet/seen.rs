@@ -4,6 +4,9 @@ use outside::rules::reasons::{reasons, CAUSES};
 use outside::rules::run::Run;
 use std::collections::BTreeMap;
 
+/// The numbers by which a run is refused, in their order, and 0.
+const NUMBERS: [u8; 14] = [0, 1, 2, 3, 4, 5, 6, 7, 8, 47, 9, 10, 11, 12];
+
 /// The kinds whose schedules are written so that most records are accepted.
 pub const SOUND: [&str; 3] = ["sound", "crash at every place", "10,000 records"];
 
@@ -27,7 +30,13 @@ struct Kind {
 /// What a table may have, as a test of it.
 type Trait = (&'static str, fn(&Table) -> bool);
 
-const TRAITS: [Trait; 10] = [
+const TRAITS: [Trait; 16] = [
+    ("version 1", |t| t.version == 1),
+    ("version 2", |t| t.version == 2),
+    ("limit 1", |t| t.processes.iter().any(|p| p.limit == 1)),
+    ("limit 2", |t| t.processes.iter().any(|p| p.limit == 2)),
+    ("limit 8 in version 2", |t| t.version == 2 && t.processes.iter().any(|p| p.limit == 8)),
+    ("limit 16", |t| t.processes.iter().any(|p| p.limit == 16)),
     ("one process", |t| t.processes.len() == 1),
     ("16 processes", |t| t.processes.len() == 16),
     ("2 boards", |t| t.boards == 2),
@@ -57,7 +66,7 @@ pub struct Seen {
     reasons: BTreeMap<u8, u64>,
     /// Runs refused with 11 for the list of reasons alone.
     reasons_short: u64,
-    numbers: [u64; 13],
+    numbers: BTreeMap<u8, u64>,
     kinds: Vec<Kind>,
     traits: [u64; TRAITS.len()],
     /// The table that was looked at last, so that a sweep looks once.
@@ -79,7 +88,7 @@ impl Seen {
         });
         let kind = &mut self.kinds[at];
         kind.runs += 1;
-        self.numbers[run.outcome.number as usize] += 1;
+        *self.numbers.entry(run.outcome.number).or_default() += 1;
         if run.outcome.number != 0 {
             kind.refused += 1;
             self.reasons_short += (run.outcome.number == 11 && run.lent.answers.len() >= schedule.len() - 3) as u64;
@@ -141,14 +150,14 @@ impl Seen {
             format!("{code}: {}", each.join("/"))
         });
         println!("answers, cause by cause {}", answers.collect::<Vec<_>>().join(", "));
-        let numbers: Vec<String> = self.numbers.iter().enumerate().map(|(n, times)| format!("{n}: {times}")).collect();
+        let numbers: Vec<String> = self.numbers.iter().map(|(n, times)| format!("{n}: {times}")).collect();
         println!("numbers {}", numbers.join(", "));
         let mut missing: Vec<String> = Vec::new();
         let named = |reason: u8| format!("answer {} with cause {}", reason / 4, reason % 4);
         missing.extend(reasons().filter(|reason| !self.reasons.contains_key(reason)).map(named));
         let unknown = |reason: &&u8| !reasons().any(|known| known == **reason);
         missing.extend(self.reasons.keys().filter(unknown).map(|&reason| format!("a rule for {}", named(reason))));
-        missing.extend((0..13).filter(|&n| self.numbers[n] == 0).map(|n| format!("number {n}")));
+        missing.extend(NUMBERS.iter().filter(|n| !self.numbers.contains_key(n)).map(|n| format!("number {n}")));
         missing.extend(
             TRAITS.iter().zip(&self.traits).filter(|(_, &n)| n == 0).map(|((name, _), _)| format!("a table with {name}")),
         );

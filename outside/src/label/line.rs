@@ -24,14 +24,10 @@ pub fn table(first: u32) -> Table {
     ];
     let printing =
         vec![Set { a: 1, word: 1 }, Take { a: 0, channel: PRINTER }, Send { a: 0, channel: OUTLET }, Jump { a: 1, place: 1 }];
-    Table {
-        boards: 2,
-        channels: [(OUTSIDE, 0), (0, 1), (1, OUTSIDE)].map(|(sender, reader)| Channel { sender, reader }).to_vec(),
-        processes: vec![
-            Process { primary: 0, backup: 1, program: numbering },
-            Process { primary: 1, backup: 0, program: printing },
-        ],
-    }
+    let channels = [(OUTSIDE, 0), (0, 1), (1, OUTSIDE)].map(|(sender, reader)| Channel { sender, reader });
+    let mut table = Table::new(2, channels.to_vec());
+    table.processes = vec![Process::new(0, 1, numbering), Process::new(1, 0, printing)];
+    table
 }
 
 /// "For every carton fed, the outlet gets the carton's code and then the next serial." No sum here may wrap.

@@ -2,12 +2,13 @@
 //! the independent simulator gives. Its output is that crate's file `stdout`.
 use outside::rules::generate::{encode_schedule, encode_table};
 use outside::rules::page::page;
-use outside::rules::reader::{Channel, Instruction, Process, Record, Table, OUTSIDE};
+use outside::rules::reader::{Channel, Instruction, Process, Record, Table, OUTSIDE, TABLE_LENGTH};
 use outside::rules::sample::SAMPLE;
 use std::io::Write;
 
-/// 16 boards, 16 processes of 64 instructions, 32 channels: one from the outside to each process, and one from each to the next.
-fn large_table() -> Vec<u8> {
+/// 16 boards, 16 processes of 64 instructions, 32 channels: one from the outside to each process, and one from each to the next. In version
+/// 2 process p has the limit p + 1.
+fn large_table(version: u8) -> Vec<u8> {
     let fed = (0..16).map(|p| Channel { sender: OUTSIDE, reader: p });
     let next = (0..16).map(|p| Channel { sender: p, reader: (p + 1) % 16 });
     let processes = (0..16u8)
@@ -22,10 +23,12 @@ fn large_table() -> Vec<u8> {
                     _ => Instruction::Set { a: 3, word: j },
                 })
                 .collect();
-            Process { primary: p, backup: (p + 1) % 16, program }
+            Process::new(p, (p + 1) % 16, program)
         })
         .collect();
-    encode_table(&Table { boards: 16, channels: fed.chain(next).collect(), processes })
+    let mut table = Table::new(16, fed.chain(next).collect());
+    table.processes = processes;
+    encode_table(&if version == 1 { table } else { table.limited(|p| p as u8 + 1) })
 }
 
 /// Records without end, as the cases have them.
@@ -56,7 +59,7 @@ fn input(table: &[u8], field: u16) -> Vec<u8> {
 fn wants(input: &[u8]) -> usize {
     match input {
         [high, low, ..] => match u16::from_be_bytes([*high, *low]) as usize {
-            length @ 0..=6260 => 2 + length + 60_004,
+            length @ 0..=TABLE_LENGTH => 2 + length + 60_004,
             _ => 2,
         },
         _ => 2,
@@ -95,7 +98,7 @@ fn changed(mut input: Vec<u8>, at: usize, byte: u8, length: usize) -> Vec<u8> {
 }
 
 fn main() {
-    let large = large_table();
+    let (large, limited) = (large_table(1), large_table(2));
     let short = input(&SAMPLE, 61);
 
     let empty = input(&SAMPLE, 1);
@@ -115,10 +118,14 @@ fn main() {
     case("length 3", &changed(short.clone(), 1, 3, 100));
     case("length 4", &changed(short.clone(), 1, 4, 100));
     case("length 6261", &changed(input(&large, 61), 1, 117, 6325));
-    case("length 6261 and no more", &changed(input(&large, 61), 1, 117, 2));
-    case("length 6260 and no more", &large[..2]);
+    case("length 6276 of version 1", &changed(input(&large, 61), 1, 132, 6341));
+    case("length 6277", &changed(input(&limited, 61), 1, 133, 6341));
+    case("length 6277 and no more", &changed(input(&limited, 61), 1, 133, 2));
+    case("length 6276 and no more", &limited[..2]);
     case("length 65280", &changed(short.clone(), 0, 255, 100));
     case("version 9", &changed(short.clone(), 2, 9, 100));
+    case("version 2 with a head of 3", &changed(short.clone(), 2, 2, 100));
+    case("version 1 with a head of 4", &changed(input(&limited, 61), 2, 1, 6341));
 
     case("version 2 of the schedule", &changed(short, 39, 2, 100));
     case("60003 bytes of schedule", &input(&SAMPLE, 60_001)[..60_040]);
@@ -133,4 +140,11 @@ fn main() {
     case("16 processes and 10000 records", &input(&large, 60_001)[..66_265]);
     case("and a byte more", &input(&large, 60_001)[..66_266]);
     case("and a word more", &input(&large, 60_007)[..66_271]);
+
+    case("limits 1 to 16", &input(&limited, 1)[..6281]);
+    case("limits 1 to 16 and 10000 records", &input(&limited, 60_001)[..66_281]);
+    case("limits 1 to 16 and a byte more", &input(&limited, 60_001)[..66_282]);
+    case("limit 0", &changed(input(&limited, 61), 72, 0, 6341));
+    case("limit 17", &changed(input(&limited, 61), 5892, 17, 6341));
+    case("limit 17 and 60004 bytes", &changed(input(&limited, 60_002), 5892, 17, 66_282));
 }

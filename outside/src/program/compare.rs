@@ -7,8 +7,8 @@ use std::path::{Path, PathBuf};
 pub struct Comparison {
     program: PathBuf,
     pub runs: u32,
-    /// How often each refusal, from 1 to 12, and at 0 accepted runs.
-    numbers: [u32; 13],
+    /// How often each refusal, and at 0 accepted runs.
+    numbers: [u32; 48],
     /// How often each answer's code.
     codes: [u32; 45],
     quiet: [u32; 2],
@@ -16,11 +16,11 @@ pub struct Comparison {
 }
 
 /// The numbers by which the program can refuse: its own buffers are long enough.
-const NUMBERS: std::ops::RangeInclusive<usize> = 0..=10;
+const NUMBERS: [usize; 12] = [0, 1, 2, 3, 4, 5, 6, 7, 8, 47, 9, 10];
 
 impl Comparison {
     pub fn new(program: PathBuf) -> Comparison {
-        Comparison { program, runs: 0, numbers: [0; 13], codes: [0; 45], quiet: [0; 2], longest: 0 }
+        Comparison { program, runs: 0, numbers: [0; 48], codes: [0; 45], quiet: [0; 2], longest: 0 }
     }
 
     pub fn program(&self) -> &Path {
@@ -67,7 +67,7 @@ impl Comparison {
     /// Shows what was met; true if everything was that can be.
     pub fn report(&self) -> bool {
         println!("program: {} runs; accepted {}, quiet {}", self.runs, self.numbers[0], self.quiet[1]);
-        println!("  refused 1 to 10: {:?}", &self.numbers[1..=10]);
+        println!("  refused 1 to 10: {:?}, 47: {}", &self.numbers[1..=10], self.numbers[47]);
         println!("  answers 0 to 6: {:?}, 32 to 44: {:?}", &self.codes[..7], &self.codes[32..]);
         println!("  the longest page has {} bytes", self.longest);
         let met = NUMBERS.into_iter().all(|number| self.numbers[number] > 0);

@@ -101,7 +101,8 @@ pub fn input(random: &mut Random, kind: usize) -> Vec<u8> {
         }
         _ => {
             // Bytes that begin as a table does, some of them.
-            let start: &[u8] = random.pick(&[&[][..], &[0], &[0, 9, 1, 2, 1, 1], &[0x18, 0x74, 1], &[0x18, 0x75]]);
+            let start: &[u8] =
+                random.pick(&[&[][..], &[0], &[0, 9, 1, 2, 1, 1], &[0, 10, 2, 2, 1, 1], &[0x18, 0x84, 2], &[0x18, 0x85]]);
             joined(start, &any_bytes(random, 200))
         }
     }

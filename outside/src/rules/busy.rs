@@ -1,11 +1,12 @@
 //! Sound tables whose programs go round for ever: every process reads what comes on any of its channels and sends on, so that words keep
 //! moving and schedules of any length have accepted records. A label line is of this form.
+use super::generate::in_some_version;
 use super::reader::{Channel, Instruction, Process, Table, OUTSIDE};
 use crate::random::Random;
 
 /// A table of so many boards and processes, with up to 32 channels.
 pub fn busy(random: &mut Random, boards: u8, processes: u8) -> Table {
-    let mut table = Table { boards, channels: Vec::new(), processes: Vec::new() };
+    let mut table = Table::new(boards, Vec::new());
     let mut free: Vec<u8> = (0..processes).collect();
     // Each reads a channel from the outside or from the process before it.
     for reader in 0..processes {
@@ -33,9 +34,9 @@ pub fn busy(random: &mut Random, boards: u8, processes: u8) -> Table {
         let primary = random.below(used as u32) as u8;
         let backup = (primary + 1 + random.below(used as u32 - 1) as u8) % used;
         let program = round(random, table.reads(p).collect(), table.sends(p).collect());
-        table.processes.push(Process { primary, backup, program });
+        table.processes.push(Process::new(primary, backup, program));
     }
-    table
+    in_some_version(random, table)
 }
 
 /// A program that goes round for ever: reads a word on any of its channels, adds, and sends on each of its own; or first reads all.

@@ -22,9 +22,11 @@ pub enum Damage {
     LongTrue,
     /// A table: one process reads most channels. A schedule: over 10,000 records, or as many as that.
     Crowded,
+    /// A table: the other version's head for one process, or a limit that is none. A schedule: as `Limits`.
+    Heads,
 }
 
-pub const DAMAGES: [Damage; 9] = [
+pub const DAMAGES: [Damage; 10] = [
     Damage::None,
     Damage::Bytes,
     Damage::Limits,
@@ -34,6 +36,7 @@ pub const DAMAGES: [Damage; 9] = [
     Damage::Long,
     Damage::LongTrue,
     Damage::Crowded,
+    Damage::Heads,
 ];
 
 /// The limits of anything, and the numbers beside them.
@@ -48,23 +51,25 @@ fn near(random: &mut Random, byte: u8) -> u8 {
     }
 }
 
-/// The places of a sound table's bytes that decide something: header, pairs, boards and n, instructions.
+/// The places of a sound table's bytes that decide something: header, pairs, boards, limit and n, instructions.
 fn deciding(random: &mut Random, table: &[u8]) -> usize {
     let pairs = 2 * table[5] as usize;
+    // A process record begins with boards and n, in version 2 with the limit between them.
+    let long = if table[2] == 1 { 3 } else { 4 };
     let mut heads = Vec::new();
     let mut at = 6 + pairs;
     while at < table.len() {
         heads.push(at);
-        at += 3 + 6 * table[at + 2] as usize;
+        at += long + 6 * table[at + long - 1] as usize;
     }
     let head = random.pick(&heads);
-    let n = table[head + 2] as u32;
+    let n = table[head + long - 1] as u32;
     match random.below(9) {
         0 => 2 + random.below(4) as usize,
         1..=2 => 6 + random.below(pairs as u32) as usize,
-        3..=4 => head + random.below(2) as usize,
-        5 => head + 2,
-        _ if n > 0 => head + 3 + 6 * random.below(n) as usize + random.pick(&[0, 1, 2, 5, 5]),
+        3..=4 => head + random.below(long as u32 - 1) as usize,
+        5 => head + long - 1,
+        _ if n > 0 => head + long + 6 * random.below(n) as usize + random.pick(&[0, 1, 2, 5, 5]),
         _ => head,
     }
 }
@@ -79,7 +84,18 @@ fn change_bytes(random: &mut Random, bytes: &mut [u8]) {
 fn change_field(random: &mut Random, bytes: &mut [u8]) {
     let length = (bytes.len() - 2) as u16;
     let any = random.below(65_536) as u16;
-    let other = [length.wrapping_add(1), length.wrapping_sub(1), length.swap_bytes(), length.wrapping_add(2), 0, 6260, 6261, any];
+    let other = [
+        length.wrapping_add(1),
+        length.wrapping_sub(1),
+        length.swap_bytes(),
+        length.wrapping_add(2),
+        0,
+        6260,
+        6261,
+        6276,
+        6277,
+        any,
+    ];
     bytes[..2].copy_from_slice(&random.pick(&other).to_be_bytes());
 }
 
@@ -105,7 +121,7 @@ fn damage(random: &mut Random, mut bytes: Vec<u8>, damage: Damage) -> Vec<u8> {
         Damage::Cut => cut(random, &mut bytes, 0),
         Damage::CutTrue => cut(random, &mut bytes, 2),
         Damage::Long | Damage::LongTrue => lengthen(random, &mut bytes),
-        Damage::None | Damage::Limits | Damage::Crowded => (),
+        Damage::None | Damage::Limits | Damage::Crowded | Damage::Heads => (),
     }
     if matches!(damage, Damage::CutTrue | Damage::LongTrue) {
         bytes = with_length(bytes);
@@ -124,14 +140,34 @@ pub fn damage_table(random: &mut Random, mut table: Vec<u8>, how: Damage) -> Vec
             let reader = random.below(processes) as u8;
             (0..channels).filter(|_| !random.once_in(4)).for_each(|k| table[7 + 2 * k] = reader);
         }
+        Damage::Heads => return other_heads(random, table),
         _ => (),
     }
     damage(random, table, how)
 }
 
+/// One process of a sound table gets a limit that is none or, all lengths true, loses or gets a limit byte; or the version alone becomes
+/// the other one.
+fn other_heads(random: &mut Random, mut table: Vec<u8>) -> Vec<u8> {
+    let long = if table[2] == 1 { 3 } else { 4 };
+    let mut at = 6 + 2 * table[5] as usize;
+    for _ in 0..random.below(table[4] as u32) {
+        at += long + 6 * table[at + long - 1] as usize;
+    }
+    match random.below(4) {
+        0 => table[2] = 3 - table[2],
+        1..=2 if long == 4 => table[at + 2] = random.pick(&[0, 17, 18, 32, 128, 255]),
+        _ if long == 4 => {
+            table.remove(at + 2);
+        }
+        _ => table.insert(at + 2, random.pick(&[0, 1, 8, 16, 17])),
+    }
+    with_length(table)
+}
+
 pub fn damage_schedule(random: &mut Random, mut schedule: Vec<u8>, how: Damage) -> Vec<u8> {
     match how {
-        Damage::Limits => schedule[2] = near(random, schedule[2]),
+        Damage::Limits | Damage::Heads => schedule[2] = near(random, schedule[2]),
         Damage::Crowded => {
             let records = random.pick(&[9_999, 10_000, 10_001, 10_002, 10_921]);
             schedule.resize(3 + 6 * records, 0);

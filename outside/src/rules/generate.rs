@@ -5,12 +5,16 @@ use crate::random::Random;
 
 /// The bytes of a table.
 pub fn encode_table(table: &Table) -> Vec<u8> {
-    let mut bytes = vec![0, 0, 1, table.boards, table.processes.len() as u8, table.channels.len() as u8];
+    let mut bytes = vec![0, 0, table.version, table.boards, table.processes.len() as u8, table.channels.len() as u8];
     for ends in &table.channels {
         bytes.extend([ends.sender, ends.reader]);
     }
     for process in &table.processes {
-        bytes.extend([process.primary, process.backup, process.program.len() as u8]);
+        bytes.extend([process.primary, process.backup]);
+        if table.version != 1 {
+            bytes.push(process.limit);
+        }
+        bytes.push(process.program.len() as u8);
         for &instruction in &process.program {
             let (code, a, operand) = match instruction {
                 Instruction::Set { a, word } => (1, a, word),
@@ -123,11 +127,25 @@ fn program(random: &mut Random, reads: Vec<u8>, sends: Vec<u8>) -> Vec<Instructi
     program
 }
 
+/// A limit of a process: an end, the one that version 1 has, or any.
+pub fn limit(random: &mut Random) -> u8 {
+    let any = 1 + random.below(16) as u8;
+    random.pick(&[1, 2, 8, 16, 16, any, any])
+}
+
+/// The table as it is, in version 1, or in version 2 with limits for its processes.
+pub fn in_some_version(random: &mut Random, table: Table) -> Table {
+    if random.once_in(2) {
+        return table;
+    }
+    table.limited(|_| limit(random))
+}
+
 /// A sound table.
 pub fn table(random: &mut Random) -> Table {
     let boards = size(random, 2, 16);
     let processes = size(random, 1, 16);
-    let mut table = Table { boards: boards as u8, channels: Vec::new(), processes: Vec::new() };
+    let mut table = Table::new(boards as u8, Vec::new());
     let mut free: Vec<u8> = (0..processes as u8).collect();
     for _ in 0..size(random, 1, 32) {
         table.channels.push(channel(random, processes, &free));
@@ -139,21 +157,21 @@ pub fn table(random: &mut Random) -> Table {
         let primary = random.below(used) as u8;
         let backup = ((primary as u32 + 1 + random.below(used - 1)) % used) as u8;
         let program = program(random, table.reads(p).collect(), table.sends(p).collect());
-        table.processes.push(Process { primary, backup, program });
+        table.processes.push(Process::new(primary, backup, program));
     }
-    table
+    in_some_version(random, table)
 }
 
-/// The largest table: 16 boards, 16 processes of 64 instructions, 32 channels.
+/// The largest table of either version: 16 boards, 16 processes of 64 instructions, 32 channels.
 pub fn largest(random: &mut Random) -> Table {
     let channels = (0..32).map(|k| Channel { sender: k % 16, reader: (k / 2 + 1) % 16 }).collect();
-    let mut table = Table { boards: 16, channels, processes: Vec::new() };
+    let mut table = Table::new(16, channels);
     for p in 0..16 {
         let scope = Scope { registers: 4, n: 64, reads: table.reads(p).collect(), sends: table.sends(p).collect() };
         let program = (0..64).map(|_| instruction(random, &scope)).collect();
-        table.processes.push(Process { primary: p as u8, backup: (p as u8 + 1) % 16, program });
+        table.processes.push(Process::new(p as u8, (p as u8 + 1) % 16, program));
     }
-    table
+    in_some_version(random, table)
 }
 
 /// A place of the list, each as often as its weight says.

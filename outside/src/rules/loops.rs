@@ -1,12 +1,13 @@
 //! Sound tables whose programs calculate for long: loops of SET, ADD and JUMP, some without any word, some with a word taken or sent at
 //! each turn, so that the limit on instructions is met before the limit on acts, with it, or after it (W-204).
+use super::generate::in_some_version;
 use super::reader::{Channel, Instruction, Process, Table, OUTSIDE};
 use crate::random::Random;
 
 /// A table of two to four boards and one to four processes in a row, each fed by the outside or by the one before it.
 pub fn loops(random: &mut Random) -> Table {
     let (boards, processes) = (2 + random.below(3) as u8, 1 + random.below(4) as u8);
-    let mut table = Table { boards, channels: Vec::new(), processes: Vec::new() };
+    let mut table = Table::new(boards, Vec::new());
     for reader in 0..processes {
         let sender = if reader == 0 || random.once_in(2) { OUTSIDE } else { reader - 1 };
         table.channels.push(Channel { sender, reader });
@@ -16,9 +17,9 @@ pub fn loops(random: &mut Random) -> Table {
         let primary = random.below(boards as u32) as u8;
         let backup = (primary + 1 + random.below(boards as u32 - 1) as u8) % boards;
         let program = calculation(random, p as u8, table.sends(p).collect());
-        table.processes.push(Process { primary, backup, program });
+        table.processes.push(Process::new(primary, backup, program));
     }
-    table
+    in_some_version(random, table)
 }
 
 /// A loop of up to 64 instructions; `channel` is one that it reads.

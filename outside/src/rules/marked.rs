@@ -1,7 +1,8 @@
 //! The marked cases M1 to M13 of document 01, the ninth take, the 65th instruction, buffers, schedules and refused pages.
 use super::backup::{Backup, Message, Snapshot};
-use super::generate::{encode_schedule, encode_table};
+use super::generate::{encode_schedule, encode_table, with_length};
 use super::lent::Lent;
+use super::limits::{four_channels, fullest, most_saved};
 use super::page::page;
 use super::reader::{judge_run, judge_schedule, judge_table, Channel, Instruction, Process, Record, Table, OUTSIDE};
 use super::run::{run, Outcome};
@@ -136,11 +137,8 @@ fn no_word_comes_first() {
     let mut program = vec![Instruction::Take { a: 0, channel: 0 }];
     program.extend([Instruction::Set { a: 1, word: 1 }; 62]);
     program.push(Instruction::Jump { a: 1, place: 0 });
-    let table = Table {
-        boards: 2,
-        channels: vec![Channel { sender: OUTSIDE, reader: 0 }],
-        processes: vec![Process { primary: 0, backup: 1, program }],
-    };
+    let mut table = Table::new(2, vec![Channel { sender: OUTSIDE, reader: 0 }]);
+    table.processes.push(Process::new(0, 1, program));
     let mut records = vec![feed(0, 9)];
     records.extend([step(0); 65]);
     records.extend([feed(0, 9), step(0), sync(0), step(0)]);
@@ -148,6 +146,79 @@ fn no_word_comes_first() {
         answers(&encode_table(&table), &records)[64..],
         [(0, 0, 0), (36, 0, 0), (4, 0, 9), (37, 0, 0), (0, 0, 0), (1, 0, 9)]
     );
+}
+
+/// The sample in version 2 with this limit.
+fn sample_limited(limit: u8) -> Vec<u8> {
+    let mut table = SAMPLE.to_vec();
+    table[2] = 2;
+    table.insert(12, limit);
+    with_length(table)
+}
+
+#[test]
+fn limits_of_version_2() {
+    // W-207: "a limit byte, 1 to 16, between the backup board and n"; "47, a limit outside 1 to 16".
+    for limit in 0..=255 {
+        let judged = judge_table(&sample_limited(limit));
+        match limit {
+            1..=16 => assert_eq!(judged.map(|table| (table.version, table.processes[0].limit)), Ok((2, limit))),
+            _ => assert_eq!(judged, Err(47)),
+        }
+    }
+    // "Version 1 is read as limit 8 throughout."
+    let [mut one, two] = [&SAMPLE[..], &sample_limited(8)].map(|table| judge_table(table).unwrap());
+    assert_eq!((one.version, one.processes[0].limit), (1, 8));
+    one.version = 2;
+    assert_eq!(one, two);
+    // 47 after 8, and before 9, in the whole table; a version 1 table in version 2's clothes is 4.
+    let mut both = sample_limited(0);
+    both[14] = 7;
+    assert_eq!(judge_table(&both), Err(8));
+    assert_eq!(judge_run(&sample_limited(17), &[], Lent::all(0)), Err(47));
+    assert_eq!(number(2, 2), 4);
+    let mut other = sample_limited(8);
+    other[2] = 1;
+    assert_eq!(judge_table(&other), Err(4));
+    assert_eq!([number(2, 0), number(2, 3)], [2, 2]);
+    // A version 1 table of up to 6,276 bytes behind its length passes 1, and its records can't fill it.
+    let mut long = SAMPLE.to_vec();
+    long.resize(2 + 6276, 0);
+    assert_eq!(judge_table(&with_length(long.clone())), Err(4));
+    long.push(0);
+    assert_eq!(judge_table(&with_length(long)), Err(1));
+}
+
+#[test]
+fn acts_up_to_the_limit_pass() {
+    for limit in 1..=16 {
+        let table = four_channels(limit);
+        let mut records = vec![step(0)];
+        (0..=limit).for_each(|i| records.push(feed(i % 4, 9)));
+        records.extend(vec![step(0); 2 * limit as usize + 1]);
+        let codes: Vec<u8> = answers(&encode_table(&table), &records).iter().map(|answer| answer.0).collect();
+        assert_eq!(codes.iter().filter(|&&code| code == 1).count(), limit as usize);
+        assert_eq!(codes.last(), Some(&37));
+    }
+}
+
+#[test]
+fn saved_lists_get_full() {
+    for limit in 1..=16 {
+        let table = four_channels(limit);
+        let mut cabinet = Cabinet::new(&table);
+        let records = fullest(limit);
+        let (pulled, lead) = records.split_last().unwrap();
+        assert!(lead.iter().all(|&record| cabinet.answer(record).code < 32));
+        let saved = |cabinet: &Cabinet| cabinet.processes[0].backup.as_ref().map(|backup| backup.saved.len());
+        assert_eq!(saved(&cabinet), Some(most_saved(limit) as usize));
+        // No further word: every channel is held, and a take is 37.
+        (0..4).for_each(|k| assert_eq!(cabinet.answer(feed(k, 1)).code, 39));
+        assert_eq!(cabinet.answer(step(0)).code, 37);
+        assert_eq!(cabinet.answer(*pulled).code, 0);
+        let words: Vec<u32> = cabinet.processes[0].inbox.iter().map(|message| message.word).collect();
+        assert_eq!(words, (100..100 + most_saved(limit) as u32).collect::<Vec<_>>());
+    }
 }
 
 #[test]
@@ -188,7 +259,9 @@ fn pages_that_are_refused() {
     assert_eq!(page(&[0]), "refused 1\n");
     assert_eq!(page(&SAMPLE), "refused 9\n");
     assert_eq!(page(&SAMPLE[..36]), "refused 1\n");
-    assert_eq!(page(&[0x18, 0x75]), "refused 1\n");
+    // W-207: "The table's length limit becomes 6,276".
+    assert_eq!(page(&[0x18, 0x84]), "refused 1\n");
+    assert_eq!(page(&[0x18, 0x85]), "refused 1\n");
     assert_eq!(page(&[SAMPLE.as_slice(), &[0, 1, 1]].concat()), "records 0\nprocess 0 0 0 0 0 0 0 0 0\nquiet 1\n");
     // M2 through the program: 36 bytes of table, whose last instruction lacks a byte.
     let mut parted = SAMPLE;

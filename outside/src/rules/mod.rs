@@ -6,6 +6,7 @@ pub mod busy;
 pub mod damage;
 pub mod generate;
 pub mod lent;
+pub mod limits;
 pub mod loops;
 pub mod page;
 pub mod plain;

@@ -1,15 +1,16 @@
 //! The bench program's page: document 01, "The bench program's page".
 use super::lent::Lent;
-use super::reader::record;
+use super::reader::{record, TABLE_LENGTH};
 use super::run::{run, Run};
 use std::fmt::Write;
 
 /// What the program prints, given its whole input.
 pub fn page(input: &[u8]) -> String {
     // "The program reads the table (as long as its length bytes say) and then, up to the end of input, the schedule [..]. Input that
-    // ends early is run as it is. A table length over 6,260 prints `refused 1` and reads no further".
+    // ends early is run as it is. A table length over 6,260 prints `refused 1` and reads no further"; W-207: "The table's length
+    // limit becomes 6,276".
     let length = input.first_chunk::<2>().map_or(0, |field| u16::from_be_bytes(*field) as usize);
-    if length > 6260 {
+    if length > TABLE_LENGTH {
         return "refused 1\n".to_string();
     }
     let (table, schedule) = input.split_at(input.len().min(2 + length));

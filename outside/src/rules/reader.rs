@@ -1,13 +1,18 @@
-//! Tables and schedules, judged and read: document 01, "The table", the first paragraph on schedules, and refusals 1 to 12.
+//! Tables and schedules, judged and read: document 01, "The table", the first paragraph on schedules, and refusals 1 to 12; tables of
+//! version 2 and 47 by document 02, W-207.
 //!
 //! "A refused one, lowest number first": each number is looked for in the whole table before the next one.
 use super::lent::Lent;
+
+/// W-207: "The table's length limit becomes 6,276"
+pub const TABLE_LENGTH: usize = 6276;
 
 /// "255 for the outside"
 pub const OUTSIDE: u8 = 255;
 
 #[derive(Clone, Debug, PartialEq, Eq)]
 pub struct Table {
+    pub version: u8,
     pub boards: u8,
     pub channels: Vec<Channel>,
     pub processes: Vec<Process>,
@@ -23,7 +28,16 @@ pub struct Channel {
 pub struct Process {
     pub primary: u8,
     pub backup: u8,
+    /// W-207: "a limit byte, 1 to 16"; in a table of version 1 it is 8.
+    pub limit: u8,
     pub program: Vec<Instruction>,
+}
+
+impl Process {
+    /// W-207: "Version 1 is read as limit 8 throughout."
+    pub fn new(primary: u8, backup: u8, program: Vec<Instruction>) -> Process {
+        Process { primary, backup, limit: 8, program }
+    }
 }
 
 /// Registers, channels and places are numbers that fit, once judged.
@@ -46,6 +60,18 @@ pub struct Record {
 }
 
 impl Table {
+    /// A table of version 1 with no processes yet.
+    pub fn new(boards: u8, channels: Vec<Channel>) -> Table {
+        Table { version: 1, boards, channels, processes: Vec::new() }
+    }
+
+    /// The same in version 2, with a limit for each process.
+    pub fn limited(mut self, mut limit: impl FnMut(usize) -> u8) -> Table {
+        self.version = 2;
+        self.processes.iter_mut().enumerate().for_each(|(p, process)| process.limit = limit(p));
+        self
+    }
+
     /// The channels that a process reads, ascending: "Its slots 0 to 3 are those channels, ascending."
     pub fn reads(&self, process: usize) -> impl Iterator<Item = u8> + '_ {
         (0..self.channels.len() as u8).filter(move |&k| self.channels[k as usize].reader as usize == process)
@@ -70,20 +96,27 @@ fn word(bytes: &[u8]) -> u32 {
 struct Unjudged<'a> {
     primary: u8,
     backup: u8,
+    limit: u8,
     instructions: &'a [u8],
 }
 
-/// Pairs and records, if no n is over 64 and they end exactly with the table.
-fn parts(bytes: &[u8], channels: u8, processes: u8) -> Option<(&[u8], Vec<Unjudged<'_>>)> {
+/// Pairs and records, if no n is over 64 and they end exactly with the table. W-207: "Table version 2 adds a limit byte, 1 to 16, between
+/// the backup board and n."
+fn parts(bytes: &[u8], version: u8, channels: u8, processes: u8) -> Option<(&[u8], Vec<Unjudged<'_>>)> {
     let (pairs, mut rest) = bytes.split_at_checked(2 * channels as usize)?;
     let mut records = Vec::new();
     for _ in 0..processes {
-        let (&[primary, backup, n], after) = rest.split_first_chunk::<3>()?;
+        let (&[primary, backup], after) = rest.split_first_chunk::<2>()?;
+        let (limit, after) = match version {
+            1 => (8, after),
+            _ => after.split_first().map(|(&limit, after)| (limit, after))?,
+        };
+        let (&n, after) = after.split_first()?;
         if n > 64 {
             return None;
         }
         let (instructions, after) = after.split_at_checked(6 * n as usize)?;
-        records.push(Unjudged { primary, backup, instructions });
+        records.push(Unjudged { primary, backup, limit, instructions });
         rest = after;
     }
     rest.is_empty().then_some((pairs, records))
@@ -114,14 +147,15 @@ fn instruction(table: &Table, process: usize, n: usize, bytes: &[u8]) -> Option<
     }
 }
 
-/// The table that the bytes give, or the number from 1 to 8 by which they are refused.
+/// The table that the bytes give, or the number, 1 to 8 or 47, by which they are refused.
 pub fn judge_table(bytes: &[u8]) -> Result<Table, u8> {
-    // "1 table under 6 bytes, length field over 6,260 or not the true one"
-    if bytes.len() < 6 || length_field(bytes) > 6260 || length_field(bytes) != bytes.len() - 2 {
+    // "1 table under 6 bytes, length field over 6,260 or not the true one"; W-207: "The table's length limit becomes 6,276"
+    if bytes.len() < 6 || length_field(bytes) > TABLE_LENGTH || length_field(bytes) != bytes.len() - 2 {
         return Err(1);
     }
-    // "2 its version"
-    if bytes[2] != 1 {
+    // W-207: "2 means a version other than 1 or 2"
+    let version = bytes[2];
+    if !(1..=2).contains(&version) {
         return Err(2);
     }
     // "3 B, P or C"
@@ -130,13 +164,14 @@ pub fn judge_table(bytes: &[u8]) -> Result<Table, u8> {
         return Err(3);
     }
     // "4 n over 64, or pairs and records not ending exactly with the table"
-    let (pairs, records) = parts(&bytes[6..], channels, processes).ok_or(4)?;
+    let (pairs, records) = parts(&bytes[6..], version, channels, processes).ok_or(4)?;
     // "5 channel ends": "a process number, or 255 for the outside, never both 255"
     let ends = |end: u8| end == OUTSIDE || end < processes;
     if pairs.chunks(2).any(|pair| !ends(pair[0]) || !ends(pair[1]) || (pair[0] == OUTSIDE && pair[1] == OUTSIDE)) {
         return Err(5);
     }
     let mut table = Table {
+        version,
         boards,
         channels: pairs.chunks(2).map(|pair| Channel { sender: pair[0], reader: pair[1] }).collect(),
         processes: Vec::new(),
@@ -156,7 +191,11 @@ pub fn judge_table(bytes: &[u8]) -> Result<Table, u8> {
         for bytes in record.instructions.chunks_exact(6) {
             program.push(instruction(&table, p, n, bytes).ok_or(8)?);
         }
-        table.processes.push(Process { primary: record.primary, backup: record.backup, program });
+        table.processes.push(Process { primary: record.primary, backup: record.backup, limit: record.limit, program });
+    }
+    // W-207: "47, a limit outside 1 to 16, checked after 8 and before 9"
+    if records.iter().any(|record| !(1..=16).contains(&record.limit)) {
+        return Err(47);
     }
     Ok(table)
 }
@@ -187,7 +226,8 @@ pub fn judge_schedule(bytes: &[u8]) -> Result<Vec<Record>, u8> {
     Ok(judge_records(bytes)?.chunks_exact(6).map(record).collect())
 }
 
-/// What a run is made of, the records still as bytes, or the number from 1 to 12 by which it is refused with buffers of these lengths.
+/// What a run is made of, the records still as bytes, or the number, 1 to 12 or 47, by which it is refused with buffers of these
+/// lengths.
 pub fn judge_run<'s>(table: &[u8], schedule: &'s [u8], buffers: Lent<usize>) -> Result<(Table, &'s [u8]), u8> {
     let table = judge_table(table)?;
     let records = judge_records(schedule)?;

@@ -43,18 +43,15 @@ pub struct ByHand {
 /// A table of two boards, whose one process reads channels 0, from the outside, and 1, from itself, and sends on 2 to the outside.
 fn one(program: &[Instruction]) -> Table {
     let ends = [(OUTSIDE, 0), (0, 0), (0, OUTSIDE)];
-    Table {
-        boards: 2,
-        channels: ends.map(|(sender, reader)| Channel { sender, reader }).to_vec(),
-        processes: vec![Process { primary: 0, backup: 1, program: program.to_vec() }],
-    }
+    let mut table = Table::new(2, ends.map(|(sender, reader)| Channel { sender, reader }).to_vec());
+    table.processes.push(Process::new(0, 1, program.to_vec()));
+    table
 }
 
 /// Four processes on one board, which send eight words each and fill its queue; the fifth can't send or sync.
 fn full() -> (Table, Vec<Record>) {
-    let process = |p| Process { primary: 0, backup: 1, program: vec![Send { a: 0, channel: p }; 9] };
-    let channels = (0..5).map(|sender| Channel { sender, reader: OUTSIDE }).collect();
-    let table = Table { boards: 2, channels, processes: (0..5).map(process).collect() };
+    let mut table = Table::new(2, (0..5).map(|sender| Channel { sender, reader: OUTSIDE }).collect());
+    table.processes.extend((0..5).map(|p| Process::new(0, 1, vec![Send { a: 0, channel: p }; 9])));
     (table, (0..32).map(|i| step(i % 4)).chain([step(4), sync(4)]).collect())
 }
 

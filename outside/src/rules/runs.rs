@@ -19,15 +19,20 @@ fn generated_is_sound() {
         let records = schedule(&mut random, &table, 20);
         assert_eq!(judge_schedule(&encode_schedule(&records)), Ok(records));
     }
-    let largest = largest(&mut random);
-    assert_eq!(encode_table(&largest).len(), 6262);
-    assert_eq!(judge_table(&encode_table(&largest)), Ok(largest));
+    let mut lengths = [0; 3];
+    while lengths[1..].contains(&0) {
+        let largest = largest(&mut random);
+        let bytes = encode_table(&largest);
+        lengths[largest.version as usize] = bytes.len();
+        assert_eq!(judge_table(&bytes), Ok(largest));
+    }
+    assert_eq!(lengths[1..], [6262, 6278]);
 }
 
 #[test]
 fn damaged_meets_every_number() {
     let mut random = Random::new(SEED);
-    let mut seen = [0; 11];
+    let mut seen = [0; 48];
     for i in 0..20_000 {
         let table = table(&mut random);
         let how = DAMAGES[i % DAMAGES.len()];
@@ -36,7 +41,7 @@ fn damaged_meets_every_number() {
         let bytes = damage_schedule(&mut random, encode_schedule(&[]), how);
         seen[judge_schedule(&bytes).err().unwrap_or(0) as usize] += 1;
     }
-    assert!(seen.iter().all(|&n| n > 0), "seen {seen:?}");
+    (0..=10).chain([47]).for_each(|number| assert!(seen[number] > 0, "seen {seen:?}"));
 }
 
 #[test]

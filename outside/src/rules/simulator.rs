@@ -53,6 +53,7 @@ enum Entry {
 #[derive(Clone, Debug)]
 pub struct Process<'t> {
     program: &'t [Instruction],
+    limit: u8,
     pub board: u8,
     pub place: u8,
     pub registers: [u32; 4],
@@ -73,6 +74,7 @@ impl<'t> Process<'t> {
     fn new(given: &'t reader::Process) -> Process<'t> {
         Process {
             program: &given.program,
+            limit: given.limit,
             board: given.primary,
             place: 0,
             registers: [0; 4],
@@ -96,7 +98,8 @@ impl<'t> Process<'t> {
         self.inbox.push_back(message);
         if let Some(backup) = &mut self.backup {
             backup.saved.push(message);
-            debug_assert!(backup.saved.len() <= 48, "over 48 saved words");
+            // W-207: "at most 32 plus twice the limit saved words"
+            debug_assert!(backup.saved.len() <= 32 + 2 * self.limit as usize, "more saved words than the limit allows");
         }
     }
 
@@ -110,10 +113,10 @@ impl<'t> Process<'t> {
         self.backup.is_some() && self.instructions >= 64
     }
 
-    /// "37 if backed and acts are 8", or for its instructions, with the cause. W-206: "Code 37: 1 when only the 64 instructions are to
+    /// "37 if backed and acts are 8", in W-207 the process's limit; or for its instructions; with the cause. W-206: "Code 37: 1 when only the 64 instructions are to
     /// blame".
     fn must_sync(&self) -> Option<u8> {
-        let acted = self.backup.is_some() && self.acts >= 8;
+        let acted = self.backup.is_some() && self.acts >= self.limit as u32;
         (acted || self.ran_long()).then_some(if acted { 0 } else { 1 })
     }
 
@@ -304,9 +307,11 @@ impl<'t> Cabinet<'t> {
                     Some(reader) => reader.arrive(Message { channel, slot: wire.slot, word }),
                     None => self.totals[channel as usize] -= 1,
                 }
-                if let Some(backup) = &mut self.processes[wire.sender as usize].backup {
+                let sender = &mut self.processes[wire.sender as usize];
+                if let Some(backup) = &mut sender.backup {
                     backup.count += 1;
-                    debug_assert!(backup.count <= 16, "a count over 16");
+                    // W-207: "a count of at most twice the limit"; it never passes the limit itself.
+                    debug_assert!(backup.count <= sender.limit, "a count over the limit");
                 }
                 Answer::new(4, channel, word)
             }
@@ -365,6 +370,7 @@ impl<'t> Cabinet<'t> {
             }
             *process = Process {
                 program: process.program,
+                limit: process.limit,
                 board: backup.board,
                 place: backup.place,
                 registers: backup.registers,

@@ -9,10 +9,9 @@ const fn code(code: u8) -> u8 {
     4 * code
 }
 
-/// "at most 32 entries", "8 or more together", "acts are 8", "64 instructions done"
+/// "at most 32 entries", "8 or more together", "64 instructions done"
 const QUEUE: usize = 32;
 const HELD: u8 = 8;
-const ACTS: u8 = 8;
 const INSTRUCTIONS: u32 = 64;
 
 #[derive(Clone, Copy)]
@@ -78,6 +77,8 @@ struct Process<'t> {
     board: u8,
     place: u8,
     hold_back: u8,
+    /// How many acts ask for a sync.
+    limit: u8,
     acts: u8,
     /// Those done since the last sync was issued, as the acts are.
     instructions: u32,
@@ -95,7 +96,7 @@ impl Process<'_> {
 
     /// What a TAKE, a FIRST or a SEND asks.
     fn must_not_sync(&self) -> Result<(), u8> {
-        if self.acts >= ACTS && self.backup.is_some() {
+        if self.acts >= self.limit && self.backup.is_some() {
             return Err(code(37));
         }
         self.ran_long()
@@ -184,6 +185,7 @@ impl<'t> Cabinet<'t> {
             board: given.primary,
             place: 0,
             hold_back: 0,
+            limit: given.limit,
             acts: 0,
             instructions: 0,
             waiting: false,

@@ -22,13 +22,10 @@ pub struct Input {
 
 /// Processes p on board p modulo 8 with the backup on the next one.
 fn table(channels: Vec<(u8, u8)>, program: impl Fn(u8) -> Vec<Instruction>) -> Table {
-    Table {
-        boards: BOARDS,
-        channels: channels.into_iter().map(|(sender, reader)| Channel { sender, reader }).collect(),
-        processes: (0..PROCESSES)
-            .map(|p| Process { primary: p % BOARDS, backup: (p + 1) % BOARDS, program: program(p) })
-            .collect(),
-    }
+    let channels = channels.into_iter().map(|(sender, reader)| Channel { sender, reader }).collect();
+    let mut table = Table::new(BOARDS, channels);
+    table.processes = (0..PROCESSES).map(|p| Process::new(p % BOARDS, (p + 1) % BOARDS, program(p))).collect();
+    table
 }
 
 /// Four label lines of four processes each, 32 channels: two scanners feed the first, the second also sends to itself, the third and
@@ -135,5 +132,7 @@ pub fn inputs(random: &mut Random) -> Vec<Input> {
         input("feeds, full inboxes", readers(), [40, 4, 20, 80], false),
         input("a crash in the middle", lines(0), [60, 6, 30, 6], true),
         input("the even mix", lines(0), [1, 1, 1, 1], false),
+        // W-207: scanners sync every 2 acts, the others every 16.
+        input("limits 2 and 16", lines(0).limited(|p| if p % 4 == 0 { 2 } else { 16 }), [50, 12, 35, 5], false),
     ]
 }

@@ -1,6 +1,6 @@
 //! The proved judging of tables, schedules and buffers against the reader: `table [--runs N] [--seed N]`.
 //!
-//! Document 01's sample with every length field, every change of one byte and every shorter length; then random tables and schedules,
+//! Document 01's sample, in either version, with every length field, every change of one byte and every shorter length; then random tables and schedules,
 //! sound and damaged, with buffers of lengths around what is enough.
 mod call;
 
@@ -9,17 +9,17 @@ use outside::random::Random;
 use outside::rules::damage::{damage_schedule, damage_table, Damage, DAMAGES};
 use outside::rules::generate::{encode_schedule, encode_table, largest, schedule, table};
 use outside::rules::lent::Lent;
-use outside::rules::reader::judge_run;
+use outside::rules::reader::{judge_run, judge_table};
 use outside::rules::sample::{sample_schedule, SAMPLE};
 
 const SEED: u64 = 0xD1B5_4A32_D192_ED03;
 const RUNS: u32 = 200_000;
 
-/// The numbers of a run: 0, and the refusals 1 to 12.
-const NUMBERS: usize = 13;
+/// The numbers of a run: 0, and the refusals.
+const NUMBERS: [u8; 14] = [0, 1, 2, 3, 4, 5, 6, 7, 8, 47, 9, 10, 11, 12];
 
-/// How often each kind of input was given each number.
-struct Seen(Vec<(String, [u32; NUMBERS])>);
+/// How often each kind of input was given each number, in the order of `NUMBERS`.
+struct Seen(Vec<(String, [u32; NUMBERS.len()])>);
 
 impl Seen {
     /// One judgement by both, counted under its kind.
@@ -32,11 +32,12 @@ impl Seen {
             println!("table: FAILED");
             std::process::exit(1);
         }
+        let at = NUMBERS.iter().position(|&number| number == wanted).expect("a number of a run");
         match self.0.iter_mut().find(|(name, _)| name == kind) {
-            Some((_, row)) => row[wanted as usize] += 1,
+            Some((_, row)) => row[at] += 1,
             None => {
-                let mut row = [0; NUMBERS];
-                row[wanted as usize] = 1;
+                let mut row = [0; NUMBERS.len()];
+                row[at] = 1;
                 self.0.push((kind.to_string(), row));
             }
         }
@@ -44,19 +45,19 @@ impl Seen {
 
     /// Prints all counts; false if a number was never seen.
     fn report(&self) -> bool {
-        let print = |name: &str, row: &[u32; NUMBERS]| {
+        let print = |name: &str, row: &[u32; NUMBERS.len()]| {
             print!("{name:>20}");
             row.iter().for_each(|n| print!("{n:>8}"));
             println!("{:>9}", row.iter().sum::<u32>());
         };
-        let mut all = [0; NUMBERS];
-        self.0.iter().for_each(|(_, row)| (0..NUMBERS).for_each(|n| all[n] += row[n]));
+        let mut all = [0; NUMBERS.len()];
+        self.0.iter().for_each(|(_, row)| (0..row.len()).for_each(|n| all[n] += row[n]));
         print!("{:>20}", "");
-        (0..NUMBERS).for_each(|n| print!("{n:>8}"));
+        NUMBERS.iter().for_each(|n| print!("{n:>8}"));
         println!("{:>9}", "all");
         self.0.iter().for_each(|(name, row)| print(name, row));
         print("all", &all);
-        let missing: Vec<usize> = (0..NUMBERS).filter(|&n| all[n] == 0).collect();
+        let missing: Vec<u8> = (0..all.len()).filter(|&n| all[n] == 0).map(|n| NUMBERS[n]).collect();
         missing.iter().for_each(|n| println!("no run was given {n}"));
         missing.is_empty()
     }
@@ -88,10 +89,14 @@ fn variants(bytes: &[u8], mut each: impl FnMut(&str, &[u8])) {
     }
 }
 
-/// Document 01's sample, all variants of its table and of its schedule.
+/// Document 01's sample, all variants of its table, in either version, and of its schedule.
 fn sample(seen: &mut Seen) {
     let schedule = encode_schedule(&sample_schedule());
+    let limited = judge_table(&SAMPLE).expect("the sample").limited(|_| 2);
     variants(&SAMPLE, |kind, table| seen.compare(&format!("sample {kind}"), table, &schedule, Lent::needed(20, 1)));
+    variants(&encode_table(&limited), |kind, table| {
+        seen.compare(&format!("limited {kind}"), table, &schedule, Lent::needed(20, 1))
+    });
     variants(&schedule, |kind, schedule| seen.compare(&format!("sample {kind}"), &SAMPLE, schedule, Lent::needed(41, 1)));
 }
 

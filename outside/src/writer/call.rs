@@ -6,6 +6,7 @@ mod raw {
     extern "C" {
         // Each slice is a pointer and a length.
         pub fn ks_table_write(
+            version: u32,
             boards: u32,
             processes: u32,
             channels: u32,
@@ -13,6 +14,8 @@ mod raw {
             ends_len: usize,
             placements: *const u32,
             placements_len: usize,
+            limits: *const u32,
+            limits_len: usize,
             instructions: *const u32,
             instructions_len: usize,
             out: *mut u8,
@@ -26,6 +29,8 @@ mod raw {
             ends_len: usize,
             placements: *mut u32,
             placements_len: usize,
+            limits: *mut u32,
+            limits_len: usize,
             instructions: *mut u32,
             instructions_len: usize,
         ) -> u64;
@@ -35,10 +40,11 @@ mod raw {
 /// The call on any lists and a buffer of any length: it asks nothing of its caller.
 pub fn ks_table_write(lists: &Lists, out: &mut [u8]) -> u64 {
     let [boards, processes, channels] = lists.counts;
-    let [ends, placements, instructions] = &lists.lists;
-    // SAFETY: four slices that don't overlap, each with its own length; three are only read.
+    let [ends, placements, limits, instructions] = &lists.lists;
+    // SAFETY: five slices that don't overlap, each with its own length; four are only read.
     unsafe {
         raw::ks_table_write(
+            lists.version,
             boards,
             processes,
             channels,
@@ -46,6 +52,8 @@ pub fn ks_table_write(lists: &Lists, out: &mut [u8]) -> u64 {
             ends.len(),
             placements.as_ptr(),
             placements.len(),
+            limits.as_ptr(),
+            limits.len(),
             instructions.as_ptr(),
             instructions.len(),
             out.as_mut_ptr(),
@@ -54,10 +62,10 @@ pub fn ks_table_write(lists: &Lists, out: &mut [u8]) -> u64 {
     }
 }
 
-/// The call on any bytes and three lists of any lengths.
-pub fn ks_table_apart(table: &[u8], lent: &mut [Vec<u32>; 3]) -> u64 {
-    let [ends, placements, instructions] = lent;
-    // SAFETY: four slices that don't overlap, each with its own length; the first is only read.
+/// The call on any bytes and four lists of any lengths.
+pub fn ks_table_apart(table: &[u8], lent: &mut [Vec<u32>; 4]) -> u64 {
+    let [ends, placements, limits, instructions] = lent;
+    // SAFETY: five slices that don't overlap, each with its own length; the first is only read.
     unsafe {
         raw::ks_table_apart(
             table.as_ptr(),
@@ -66,6 +74,8 @@ pub fn ks_table_apart(table: &[u8], lent: &mut [Vec<u32>; 3]) -> u64 {
             ends.len(),
             placements.as_mut_ptr(),
             placements.len(),
+            limits.as_mut_ptr(),
+            limits.len(),
             instructions.as_mut_ptr(),
             instructions.len(),
         )

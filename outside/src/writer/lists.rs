@@ -1,22 +1,26 @@
-//! A table as lists of numbers, judged and written from documents 01 and 02 (W-201) alone.
+//! A table as lists of numbers, judged and written from documents 01 and 02 (W-201, W-207) alone.
 use outside::random::Random;
 use outside::rules::reader::{Instruction, Table, OUTSIDE};
 
-/// Boards, processes and channels; then channel ends, placements and instructions.
+/// The version; boards, processes and channels; then channel ends, placements, limits and instructions. Version 1 has no limits.
 #[derive(Clone, Debug, PartialEq, Eq)]
 pub struct Lists {
+    pub version: u32,
     pub counts: [u32; 3],
-    pub lists: [Vec<u32>; 3],
+    pub lists: [Vec<u32>; 4],
 }
 
 impl Lists {
     pub fn of(table: &Table) -> Lists {
-        let mut lists: [Vec<u32>; 3] = Default::default();
+        let mut lists: [Vec<u32>; 4] = Default::default();
         table.channels.iter().for_each(|ends| lists[0].extend([ends.sender as u32, ends.reader as u32]));
         for process in &table.processes {
             lists[1].extend([process.primary as u32, process.backup as u32, process.program.len() as u32]);
+            if table.version == 2 {
+                lists[2].push(process.limit as u32);
+            }
             for &instruction in &process.program {
-                lists[2].extend(match instruction {
+                lists[3].extend(match instruction {
                     Instruction::Set { a, word } => [1, a as u32, word],
                     Instruction::Add { a, b } => [2, a as u32, b as u32],
                     Instruction::Take { a, channel } => [3, a as u32, channel as u32],
@@ -26,17 +30,24 @@ impl Lists {
                 });
             }
         }
-        Lists { counts: [table.boards as u32, table.processes.len() as u32, table.channels.len() as u32], lists }
+        let counts = [table.boards as u32, table.processes.len() as u32, table.channels.len() as u32];
+        Lists { version: table.version as u32, counts, lists }
     }
 
-    /// 0, or the number from 3 to 8 that refuses them, the lowest first over the whole table.
+    /// 0, or the number that refuses them: W-207, 2 "first of all"; 3 to 8, the lowest first over the whole table; and 47.
     pub fn number(&self) -> u8 {
         let [boards, processes, channels] = self.counts.map(u64::from);
-        let [ends, placements, instructions] = &self.lists;
+        let [ends, placements, limits, instructions] = &self.lists;
+        if self.version != 1 && self.version != 2 {
+            return 2;
+        }
         if !(2..=16).contains(&boards) || !(1..=16).contains(&processes) || !(1..=32).contains(&channels) {
             return 3;
         }
-        let sized = ends.len() as u64 == 2 * channels && placements.len() as u64 == 3 * processes;
+        // "takes no limits for version 1 (else 4)"
+        let limited = if self.version == 1 { 0 } else { processes };
+        let sized =
+            ends.len() as u64 == 2 * channels && placements.len() as u64 == 3 * processes && limits.len() as u64 == limited;
         if !sized || placements.chunks(3).any(|p| p[2] > 64) {
             return 4;
         }
@@ -64,6 +75,10 @@ impl Lists {
                 return 8;
             }
             at = end;
+        }
+        // "47, a limit outside 1 to 16, checked after 8 and before 9 (before 45 in the writer)"
+        if limits.iter().any(|limit| !(1..=16).contains(limit)) {
+            return 47;
         }
         0
     }
@@ -94,15 +109,15 @@ impl Lists {
             0 => random.word(),
             _ => random.pick(&odd),
         };
-        match random.below(12) {
+        match random.below(14) {
             0..=1 => self.counts[random.below(3) as usize] = number,
             2 => {
-                let list = &mut self.lists[random.below(3) as usize];
+                let list = &mut self.lists[random.below(4) as usize];
                 let at = random.below(list.len() as u32 + 1) as usize;
                 list.insert(at, number);
             }
             3 => {
-                let list = &mut self.lists[random.below(3) as usize];
+                let list = &mut self.lists[random.below(4) as usize];
                 if !list.is_empty() {
                     list.remove(random.below(list.len() as u32) as usize);
                 }
@@ -112,8 +127,9 @@ impl Lists {
                 let reader = random.below(self.counts[1].max(1));
                 self.lists[0].iter_mut().skip(1).step_by(2).take(6).for_each(|end| *end = reader);
             }
+            5 => self.version = random.pick(&[0, 1, 2, 3, 255, 256, 257, 258, number]),
             n => {
-                let list = &mut self.lists[n as usize % 3];
+                let list = &mut self.lists[n as usize % 4];
                 if !list.is_empty() {
                     let at = random.below(list.len() as u32) as usize;
                     list[at] = match random.below(3) {

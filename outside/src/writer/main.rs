@@ -8,6 +8,7 @@ mod lists;
 use call::{ks_table_apart, ks_table_write};
 use lists::Lists;
 use outside::random::Random;
+use outside::rules::damage::{damage_table, Damage};
 use outside::rules::generate::{encode_table, largest, table};
 use outside::rules::reader::judge_table;
 
@@ -15,7 +16,7 @@ const SEED: u64 = 0x9E37_79B9_7F4A_7C15;
 const RUNS: u32 = 250_000;
 
 /// How often each number was seen, of writing and of taking apart.
-struct Seen([[u32; 46]; 2]);
+struct Seen([[u32; 48]; 2]);
 
 fn fail(what: &str, lists: &Lists) -> ! {
     println!("{what}: {lists:?}\nwriter: FAILED");
@@ -48,14 +49,14 @@ impl Seen {
     }
 
     /// A table taken apart into lists with so much room, and those written again.
-    fn apart(&mut self, table: &[u8], lists: &Lists, spare: [i32; 3]) {
-        let before: [Vec<u32>; 3] =
+    fn apart(&mut self, table: &[u8], lists: &Lists, spare: [i32; 4]) {
+        let before: [Vec<u32>; 4] =
             std::array::from_fn(|i| vec![0xABCD_0000 + i as u32; (lists.lists[i].len() as i32 + spare[i]).max(0) as usize]);
         let mut lent = before.clone();
         let result = ks_table_apart(table, &mut lent);
         let number = match judge_table(table) {
             Err(number) => number,
-            _ if (0..3).any(|i| lent[i].len() < lists.lists[i].len()) => 45,
+            _ if (0..4).any(|i| lent[i].len() < lists.lists[i].len()) => 45,
             _ => 0,
         };
         self.0[1][number as usize] += 1;
@@ -63,8 +64,9 @@ impl Seen {
         let mut wanted = before;
         let mut returned = number as u64;
         if number == 0 {
-            (0..3).for_each(|i| wanted[i][..lists.lists[i].len()].copy_from_slice(&lists.lists[i]));
-            returned |= boards << 8 | processes << 16 | channels << 24 | (lists.lists[2].len() as u64 / 3) << 32;
+            (0..4).for_each(|i| wanted[i][..lists.lists[i].len()].copy_from_slice(&lists.lists[i]));
+            returned |= boards << 8 | processes << 16 | channels << 24 | (lists.lists[3].len() as u64 / 3) << 32;
+            returned |= (lists.version as u64) << 48;
         }
         if result != returned || lent != wanted {
             fail(&format!("taken apart with {spare:?} to spare: {result:#x}, {returned:#x} wanted"), lists);
@@ -75,7 +77,7 @@ impl Seen {
     }
 
     fn report(&self) -> bool {
-        let wanted: [&[usize]; 2] = [&[0, 3, 4, 5, 6, 7, 8, 45], &[0, 1, 2, 3, 4, 5, 6, 7, 8, 45]];
+        let wanted: [&[usize]; 2] = [&[0, 2, 3, 4, 5, 6, 7, 8, 47, 45], &[0, 1, 2, 3, 4, 5, 6, 7, 8, 47, 45]];
         let mut whole = true;
         for (row, name) in ["written", "taken apart"].iter().enumerate() {
             print!("{name:>12}");
@@ -105,7 +107,7 @@ fn main() {
     }
     println!("writer: seed {seed:#x}, {runs} runs");
     let mut random = Random::new(seed);
-    let mut seen = Seen([[0; 46]; 2]);
+    let mut seen = Seen([[0; 48]; 2]);
     for run in 0..runs {
         let said = if run == 0 { largest(&mut random) } else { table(&mut random) };
         let (lists, bytes) = (Lists::of(&said), encode_table(&said));
@@ -115,17 +117,23 @@ fn main() {
                 seen.write(&lists, Some(&bytes), room);
             }
             1 => {
-                let damaged = lists.damaged(&mut random);
+                let mut damaged = lists.damaged(&mut random);
+                if random.once_in(3) {
+                    damaged = damaged.damaged(&mut random);
+                }
                 let again = written(&damaged);
-                seen.write(&damaged, again.as_deref(), random.pick(&[0, 6_262, 6_262, 7_000]));
+                seen.write(&damaged, again.as_deref(), random.pick(&[0, 6_278, 6_278, 7_000]));
             }
             2 => seen.apart(&bytes, &lists, std::array::from_fn(|_| random.below(4) as i32 - 1)),
             _ => {
                 let mut bytes = bytes;
                 let at = random.below(bytes.len() as u32) as usize;
                 bytes[at] = random.word() as u8;
+                if random.once_in(4) {
+                    bytes = damage_table(&mut random, encode_table(&said), Damage::Heads);
+                }
                 let lists = Lists::of(&judge_table(&bytes).unwrap_or(said));
-                seen.apart(&bytes, &lists, [0, 0, 0]);
+                seen.apart(&bytes, &lists, [0; 4]);
             }
         }
     }
@@ -138,16 +146,19 @@ fn main() {
     }
 }
 
-/// The bytes of lists, written from document 01, if they are accepted.
+/// The bytes of lists, written from documents 01 and 02, if they are accepted.
 fn written(lists: &Lists) -> Option<Vec<u8>> {
     (lists.number() == 0).then(|| {
-        let [ends, placements, instructions] = &lists.lists;
-        let mut body = vec![1];
+        let [ends, placements, limits, instructions] = &lists.lists;
+        let mut body = vec![lists.version as u8];
         body.extend(lists.counts.iter().map(|&count| count as u8));
         body.extend(ends.iter().map(|&end| end as u8));
         let mut own = instructions.chunks(3);
+        let mut limits = limits.iter();
         for placement in placements.chunks(3) {
-            body.extend(placement.iter().map(|&number| number as u8));
+            body.extend(placement[..2].iter().map(|&number| number as u8));
+            body.extend(limits.next().map(|&limit| limit as u8));
+            body.push(placement[2] as u8);
             for i in own.by_ref().take(placement[2] as usize) {
                 body.extend([i[0] as u8, i[1] as u8]);
                 body.extend(i[2].to_be_bytes());
