@@ -1,9 +1,9 @@
--- Each move keeps what holds of one process.
+-- Each move keeps what holds of one process; Transfers has a resync and its carry.
 use mathlib.Core.Path.{_≡_, refl, ap, sym, _∙_, subst}
 use mathlib.Core.Bool.{true, false}
 use mathlib.Core.Option.{some}
 use mathlib.Core.List.{List, [], _∷_, _++_}
-use Prim.Native.Nat.{ℕ, zero, suc, _≤_, _<_}
+use Prim.Native.Nat.{ℕ, zero, suc, _+_, _≤_, _<_}
 use native.Mathlib.Omega.{arith}
 use lib.ListN.{length}
 use Rattle.facts.specs.Tests.{no-way}
@@ -11,17 +11,18 @@ use Rattle.backup.specs.Limits.{logMost, sentMost}
 use Rattle.backup.specs.Replica.{Replica, Checkpoint, FailOver, arrive, arrived, count, counted, sync, synced, failOver}
 use Rattle.rules.specs.Table.{Table, channelAt, codeOf, portOf}
 use Rattle.rules.specs.Machine.{Mail, Machine, Act, sent, delivered}
-use Rattle.rules.specs.Cabinet.{eventsMost, Standby, Since, Process, Item, message, checkpoint, protected, limited, isSome}
+use Rattle.rules.specs.Cabinet.{eventsMost, Standby, Since, Process, Item, message, checkpoint, transfer, protected, limited, isSome, isComplete}
 use Rattle.rules.specs.Moves.{advanced, counting, oneSent, issued, snapshot, receive, counts, keeps, recovered, promoted, unprotected}
 use Rattle.rules.specs.Judge.{Accepted}
 use Rattle.rules.proofs.Steps.{Steps}
 use Rattle.rules.proofs.Runs.{Run, here, more, _then_, isSend, Silent, tally, count1, countOf, Allows, within-snoc}
 use Rattle.rules.proofs.Tables.{step-low}
 use Rattle.rules.proofs.Ahead.{Ahead, level, checkpoints, checkpoints-append, ahead-later, ahead-silent, ahead-send, ahead-issue, up-to-send, up-to-issue, UpToEnd, up-to-end, ahead-total}
-use Rattle.rules.proofs.Good.{stateOf, Replay, Backed, Alone, Late, Good, backed, alone, late, backed-sent, good-backed}
+use Rattle.rules.proofs.Good.{stateOf, Replay, Settled, Coming, Link, settled, coming, Backed, Alone, Late, Good, backed, alone, late, backed-sent, backed-settled, good-backed}
+use Rattle.rules.proofs.Links.{link-later, link-silent, link-send, coming-some, coming-no-checkpoint}
 use Rattle.rules.proofs.Tally.{count-snoc}
 use Rattle.rules.proofs.Replays.{replay-later, replay-on, replay-none, replay-silent, replay-send, replay-zero}
-use Rattle.rules.proofs.Backups.{called, run-low, arrives, arrived-state, arrived-kept, counts-it, counted-kept, syncs, synced-state, synced-kept, takes-over, recovers}
+use Rattle.rules.proofs.Backups.{called, called-backup, not-called, run-low, arrives, arrived-state, arrived-kept, counts-it, counted-kept, syncs, synced-state, synced-kept, takes-over, recovers}
 
 -- the reference machine went on silently to mid
 pub record Stepped (t : Table) (p : ℕ) (m mid : Machine) : Type 0 where
@@ -56,7 +57,7 @@ then-counted : (t : Table) (p : ℕ) (ks : List Act) (k : Act) (x : Process) →
 then-counted t p ks k x safe e = counting-limited (count1 t p k) x safe ∙ ap (count1 t p k) e ∙ sym (count-snoc t p ks k)
 
 -- rolled forward to the reference machine
-alone-of-late : {t : Table} {p : ℕ} {items : List Item} {x : Process} {m : Machine} → x .suppress ≡ 0 → Late t p items x m → Alone t p items x m
+pub alone-of-late : {t : Table} {p : ℕ} {items : List Item} {x : Process} {m : Machine} → x .suppress ≡ 0 → Late t p items x m → Alone t p items x m
 alone-of-late {t} {p} {items} {x} {m} z h =
     let same : x .machine ≡ m = replay-zero (subst (λ (n : ℕ). Replay (codeOf t p) (x .machine) n (h .acts) m) z (h .replay)) in
     record {
@@ -79,18 +80,14 @@ module _ {t : Table} (ok : Accepted t) {p : ℕ} (hp : p < length (t .processes)
       let r : Replica = h .standby .replica in
       let fits = room (h .standby) (h .is-standby) in
       backed record {
-        standby = record { board = h .standby .board; replica = arrived r (portOf t p (mail .channel)) (mail .word) };
+        standby = record { board = h .standby .board; replica = arrived r (portOf t p (mail .channel)) (mail .word); complete = h .standby .complete };
         is-standby = called (λ s. arrive s (portOf t p (mail .channel)) (mail .word)) (h .is-standby) (arrives t ok p hp r (h .kept) (sent-fits h) mail reads fits);
         kept = arrived-kept t ok p hp r (h .kept) (sent-fits h) mail reads fits;
         no-suppress = h .no-suppress;
-        before = h .before;
-        replay = subst (λ (a : Machine). Replay (codeOf t p) a (r .sent) (h .before) (delivered mail m))
-            (sym (arrived-state t ok p hp r (h .kept) (sent-fits h) mail reads)) (replay-later mail (h .replay));
         since = h .since;
-        ahead = ahead-later mail (h .ahead);
+        link = link-later mail _ (arrived-state t ok p hp r (h .kept) (sent-fits h) mail reads) refl (h .link);
         is-since = h .is-since;
         few = h .few;
-        one = h .one;
       }
   good-receive mail reads room (alone h) =
       alone record {
@@ -113,11 +110,12 @@ module _ {t : Table} (ok : Accepted t) {p : ℕ} (hp : p < length (t .processes)
 
   -- ---- transmit
 
-  pub good-counts : {items : List Item} {x : Process} {m : Machine} (mail : Mail) → Good t p (message mail ∷ items) x m
-      → Transmitted t p items mail (counts x) m
+  -- a complete backup counts it
+  counts-settled : {items : List Item} {x : Process} {m : Machine} (mail : Mail) (h : Backed t p (message mail ∷ items) x m)
+      → Settled t p (h .standby) (message mail ∷ items) m (h .since) (x .machine) → Transmitted t p items mail (counts x) m
   unfolding counts
-  good-counts mail (backed h) =
-      let v = up-to-send (h .ahead) in
+  counts-settled mail h l =
+      let v = up-to-send (l .ahead) in
       let r : Replica = h .standby .replica in
       record {
         mid = v .mid;
@@ -125,19 +123,72 @@ module _ {t : Table} (ok : Accepted t) {p : ℕ} (hp : p < length (t .processes)
         steps = record { acts = v .acts; to-mid = v .to-mid; silent-there = v .silent-there };
         sends-it = v .sends-it;
         good = backed record {
-          standby = record { board = h .standby .board; replica = counted r };
-          is-standby = called count (h .is-standby) (counts-it t ok p hp r (h .kept) (sent-fits h));
+          standby = record { board = h .standby .board; replica = counted r; complete = h .standby .complete };
+          is-standby = called-backup count (h .is-standby) (l .complete) (counts-it t ok p hp r (h .kept) (sent-fits h));
           kept = counted-kept t ok p hp r (h .kept) (sent-fits h);
           no-suppress = h .no-suppress;
-          before = h .before ++ (v .acts ++ (sent mail ∷ []));
-          replay = (unfold stateOf in replay-on (h .replay) (v .to-mid) (v .silent-there) (v .sends-it));
           since = h .since;
-          ahead = v .rest;
+          link = settled record {
+            complete = l .complete;
+            before = l .before ++ (v .acts ++ (sent mail ∷ []));
+            replay = (unfold stateOf in replay-on (l .replay) (v .to-mid) (v .silent-there) (v .sends-it));
+            ahead = v .rest;
+            one = l .one;
+          };
           is-since = h .is-since;
           few = h .few;
-          one = h .one;
         };
       }
+
+  -- one that is being made doesn't: the word was queued before its state
+  counts-coming : {items : List Item} {x : Process} {m : Machine} (mail : Mail) (h : Backed t p (message mail ∷ items) x m)
+      → Coming t p (h .standby) (message mail ∷ items) m (h .since) (x .machine) → Transmitted t p items mail (counts x) m
+  unfolding counts
+  counts-coming {items} {x} {m} mail h l = go (l .old) (l .is-items) (l .to-snapshot) (l .none-else)
+    where
+      go : (old : List Item) → message mail ∷ items ≡ old ++ (transfer p ∷ l .new) → Ahead t p (l .before) m old (l .until) (stateOf t p (h .standby .replica))
+          → checkpoints old + checkpoints (l .new) ≡ 0 → Transmitted t p items mail (counts x) m
+      go [] e a n = absurd (no-way (cc))
+      go (y ∷ old) e a n =
+          let same : y ≡ message mail = cc in
+          let rest : items ≡ old ++ (transfer p ∷ l .new) = cc in
+          let v = up-to-send (subst (λ (i : Item). Ahead t p (l .before) m (i ∷ old) (l .until) (stateOf t p (h .standby .replica))) same a) in
+          record {
+            mid = v .mid;
+            last = v .last;
+            steps = record { acts = v .acts; to-mid = v .to-mid; silent-there = v .silent-there };
+            sends-it = v .sends-it;
+            good = backed record {
+              standby = h .standby;
+              is-standby = not-called count (h .is-standby) (l .incomplete);
+              kept = h .kept;
+              no-suppress = h .no-suppress;
+              since = h .since;
+              link = coming record {
+                incomplete = l .incomplete;
+                uncounted = l .uncounted;
+                old = old;
+                new = l .new;
+                is-items = rest;
+                before = l .before ++ (v .acts ++ (sent mail ∷ []));
+                until = l .until;
+                to-snapshot = v .rest;
+                ahead = l .ahead;
+                none-else = subst (λ (i : Item). checkpoints (i ∷ old) + checkpoints (l .new) ≡ 0) same n;
+              };
+              is-since = h .is-since;
+              few = h .few;
+            };
+          }
+
+  pub good-counts : {items : List Item} {x : Process} {m : Machine} (mail : Mail) → Good t p (message mail ∷ items) x m
+      → Transmitted t p items mail (counts x) m
+  unfolding counts
+  good-counts {items} {x} {m} mail (backed h) = go (h .link)
+    where
+      go : Link t p (h .standby) (message mail ∷ items) m (h .since) (x .machine) → Transmitted t p items mail (counts x) m
+      go (settled l) = counts-settled mail h l
+      go (coming l) = counts-coming mail h l
   good-counts mail (alone h) =
       let v = up-to-send (h .ahead) in
       record {
@@ -156,14 +207,14 @@ module _ {t : Table} (ok : Accepted t) {p : ℕ} (hp : p < length (t .processes)
       }
   good-counts mail (late h) = absurd (no-way (let e = h .no-items in cc))
 
-  pub good-keeps : {items : List Item} {x : Process} {m : Machine} (s : Checkpoint) → Good t p (checkpoint p s ∷ items) x m
-      → Synced t p items (keeps s x) m
+  keeps-settled : {items : List Item} {x : Process} {m : Machine} (s : Checkpoint) (h : Backed t p (checkpoint p s ∷ items) x m)
+      → Settled t p (h .standby) (checkpoint p s ∷ items) m (h .since) (x .machine) → Synced t p items (keeps s x) m
   unfolding keeps
-  good-keeps {m = m} s (backed h) =
-      let v = up-to-issue (h .ahead) in
+  keeps-settled s h l =
+      let v = up-to-issue (l .ahead) in
       let r : Replica = h .standby .replica in
-      let ran = h .replay .ran then v .to-mid in
-      let is : s ≡ record { pc = v .mid .pc; registers = v .mid .registers; taken = tally t p (h .before ++ v .acts) } = (let e = v .is-snapshot in cc) in
+      let ran = l .replay .ran then v .to-mid in
+      let is : s ≡ record { pc = v .mid .pc; registers = v .mid .registers; taken = tally t p (l .before ++ v .acts) } = (let e = v .is-snapshot in cc) in
       let is-pc = ap (λ (c : Checkpoint). c .pc) is in
       let is-registers = ap (λ (c : Checkpoint). c .registers) is in
       let is-taken = ap (λ (c : Checkpoint). c .taken) is in
@@ -171,19 +222,31 @@ module _ {t : Table} (ok : Accepted t) {p : ℕ} (hp : p < length (t .processes)
         mid = v .mid;
         steps = record { acts = v .acts; to-mid = v .to-mid; silent-there = v .silent-there };
         good = backed record {
-          standby = record { board = h .standby .board; replica = synced r s };
-          is-standby = called (λ c. sync c s) (h .is-standby) (syncs t ok p hp r (h .kept) (sent-fits h) ran s is-pc is-registers is-taken);
+          standby = record { board = h .standby .board; replica = synced r s; complete = h .standby .complete };
+          is-standby = called-backup (λ c. sync c s) (h .is-standby) (l .complete) (syncs t ok p hp r (h .kept) (sent-fits h) ran s is-pc is-registers is-taken);
           kept = synced-kept t ok p hp r (h .kept) (sent-fits h) ran s is-pc is-registers is-taken;
           no-suppress = h .no-suppress;
-          before = [];
-          replay = replay-none (synced-state t ok p hp r (h .kept) (sent-fits h) ran s is-pc is-registers is-taken);
           since = h .since;
-          ahead = v .rest;
+          link = settled record {
+            complete = l .complete;
+            before = [];
+            replay = replay-none (synced-state t ok p hp r (h .kept) (sent-fits h) ran s is-pc is-registers is-taken);
+            ahead = v .rest;
+            one = (let o = l .one in omega arith);
+          };
           is-since = h .is-since;
           few = h .few;
-          one = (let o = h .one in omega arith);
         };
       }
+
+  pub good-keeps : {items : List Item} {x : Process} {m : Machine} (s : Checkpoint) → Good t p (checkpoint p s ∷ items) x m
+      → Synced t p items (keeps s x) m
+  unfolding keeps
+  good-keeps {items} {x} {m} s (backed h) = go (h .link)
+    where
+      go : Link t p (h .standby) (checkpoint p s ∷ items) m (h .since) (x .machine) → Synced t p items (keeps s x) m
+      go (settled l) = keeps-settled s h l
+      go (coming l) = absurd (coming-no-checkpoint l)
   good-keeps s (alone h) =
       let v = up-to-issue (h .ahead) in
       record {
@@ -241,13 +304,10 @@ module _ {t : Table} (ok : Accepted t) {p : ℕ} (hp : p < length (t .processes)
         is-standby = h .is-standby;
         kept = h .kept;
         no-suppress = h .no-suppress;
-        before = h .before;
-        replay = h .replay;
         since = h .since ++ (k ∷ []);
-        ahead = ahead-silent (h .ahead) e s;
+        link = link-silent (h .link) e s;
         is-since = then-counted t p (h .since) k x safe (h .is-since);
         few = within-snoc t p (h .since) k (h .is-since) (h .few) (limit safe);
-        one = h .one;
       }
   good-silent {x = x} {k = k} (alone h) e s limit = alone (alone-silent (counting (count1 t p k) x) h e s)
   good-silent {x = x} {k = k} (late h) e s limit = late-silent (counting (count1 t p k) x) (x .suppress) refl h e s
@@ -287,20 +347,17 @@ module _ {t : Table} (ok : Accepted t) {p : ℕ} (hp : p < length (t .processes)
       → Steps (codeOf t p) (x .machine) (sent mail) n → (limited x ≡ true → Allows (sent mail) (x .since))
       → Good t p (items ++ (message mail ∷ [])) (advanced n (counting oneSent x) 0 x) m
   unfolding advanced
-  good-send {items = items} {x = x} {mail = mail} (backed h) z e limit =
+  good-send {x = x} {mail = mail} (backed h) z e limit =
       let safe : limited x ≡ true = ap isSome (h .is-standby) in
       backed record {
         standby = h .standby;
         is-standby = h .is-standby;
         kept = h .kept;
         no-suppress = refl;
-        before = h .before;
-        replay = h .replay;
         since = h .since ++ (sent mail ∷ []);
-        ahead = ahead-send (h .ahead) e;
+        link = link-send (h .link) e;
         is-since = then-counted t p (h .since) (sent mail) x safe (h .is-since);
         few = within-snoc t p (h .since) (sent mail) (h .is-since) (h .few) (limit safe);
-        one = (let o = h .one in let c = checkpoints-append items (message mail ∷ []) in omega arith);
       }
   good-send {x = x} (alone h) z e limit = alone (alone-send (counting oneSent x) h e)
   good-send {x = x} (late h) z e limit = alone (alone-send (counting oneSent x) (alone-of-late z h) e)
@@ -310,29 +367,35 @@ module _ {t : Table} (ok : Accepted t) {p : ℕ} (hp : p < length (t .processes)
   pub good-issued : {items : List Item} {x : Process} {m : Machine} → Good t p items x m → protected x ≡ true → checkpoints items ≡ 0
       → Good t p (items ++ (checkpoint p (snapshot x) ∷ [])) (issued x) m
   unfolding issued
-  good-issued {items = items} {x = x} (backed h) y z =
+  good-issued {items = items} {x = x} {m = m} (backed h) y z =
+      let l = backed-settled h y in
       backed record {
         standby = h .standby;
         is-standby = h .is-standby;
         kept = h .kept;
         no-suppress = h .no-suppress;
-        before = h .before;
-        replay = h .replay;
         since = [];
-        ahead = rw (h .is-since) (ahead-issue (h .ahead) (h .few));
+        link = settled record {
+          complete = l .complete;
+          before = l .before;
+          replay = l .replay;
+          ahead = subst (λ (n : Since). Ahead t p (l .before) m (items ++ (checkpoint p (record { pc = x .machine .pc; registers = x .machine .registers; taken = n .taken }) ∷ [])) [] (x .machine))
+              (sym (h .is-since)) (ahead-issue (l .ahead) (h .few));
+          one = (let o = checkpoints-append items (checkpoint p (snapshot x) ∷ []) in omega arith);
+        };
         is-since = refl;
         few = record { instructions = omega arith; events = omega arith };
-        one = (let o = checkpoints-append items (checkpoint p (snapshot x) ∷ []) in omega arith);
       }
-  good-issued (alone h) y z = absurd (no-way (let e = ap isSome (h .no-standby) in cc))
-  good-issued (late h) y z = absurd (no-way (let e = ap isSome (h .no-standby) in cc))
+  good-issued (alone h) y z = absurd (no-way (let e = ap isComplete (h .no-standby) in cc))
+  good-issued (late h) y z = absurd (no-way (let e = ap isComplete (h .no-standby) in cc))
 
   -- ---- crash
 
   -- its board crashes: it goes on at its backup, behind the reference machine by what was transmitted since
-  late-promoted : {items : List Item} {x : Process} {m : Machine} (h : Backed t p items x m) → Late t p [] (promoted t p (h .standby)) m
+  late-promoted : {items : List Item} {x : Process} {m : Machine} (h : Backed t p items x m) → protected x ≡ true → Late t p [] (promoted t p (h .standby)) m
   unfolding promoted stateOf
-  late-promoted {m = m} h =
+  late-promoted {m = m} h safe =
+      let l = backed-settled h safe in
       let r : Replica = h .standby .replica in
       let machine-is : recovered t p (failOver r) ≡ stateOf t p r = recovers t ok p hp r (h .kept) (sent-fits h) in
       let sent-is : failOver r .sent ≡ r .sent = ap (λ (f : FailOver). f .sent) (takes-over t ok p hp r (h .kept) (sent-fits h)) in
@@ -340,38 +403,43 @@ module _ {t : Table} (ok : Accepted t) {p : ℕ} (hp : p < length (t .processes)
         no-standby = refl;
         no-items = refl;
         few = rw sent-is (backed-sent h);
-        acts = h .before;
-        replay = rw (machine-is, sent-is) (h .replay);
+        acts = l .before;
+        replay = rw (machine-is, sent-is) (l .replay);
         low = subst (λ (a : Machine). a .pc ≤ length (codeOf t p)) (sym machine-is) (h .kept .low);
       }
 
-  pub good-promoted : {items : List Item} {x : Process} {m : Machine} {s : Standby} → Good t p items x m → x .standby ≡ some s
+  pub good-promoted : {items : List Item} {x : Process} {m : Machine} {s : Standby} → Good t p items x m → x .standby ≡ some s → protected x ≡ true
       → Good t p [] (promoted t p s) m
-  good-promoted {m = m} g has = good-backed (λ s. Good t p [] (promoted t p s) m) g has (λ h. late (late-promoted h))
+  good-promoted {m = m} g has safe = good-backed (λ s. Good t p [] (promoted t p s) m) g has (λ h. late (late-promoted h safe))
 
   -- its backup's board crashes
-  alone-unprotected : {items : List Item} {x : Process} {m : Machine} → Backed t p items x m → Alone t p items (unprotected x) m
+  alone-unprotected : {items : List Item} {x : Process} {m : Machine} → Backed t p items x m → protected x ≡ true → Alone t p items (unprotected x) m
   unfolding unprotected stateOf
-  alone-unprotected h =
+  alone-unprotected h safe =
+      let l = backed-settled h safe in
       record {
         no-standby = refl;
         no-suppress = h .no-suppress;
-        before = h .before;
+        before = l .before;
         since = h .since;
-        ahead = h .ahead;
-        low = run-low t ok p hp (h .replay .ran then ahead-total (h .ahead) .ran) (h .kept .low);
+        ahead = l .ahead;
+        low = run-low t ok p hp (l .replay .ran then ahead-total (l .ahead) .ran) (h .kept .low);
       }
 
-  pub good-unprotected : {items : List Item} {x : Process} {m : Machine} {s : Standby} → Good t p items x m → x .standby ≡ some s
+  pub good-unprotected : {items : List Item} {x : Process} {m : Machine} {s : Standby} → Good t p items x m → x .standby ≡ some s → protected x ≡ true
       → Good t p items (unprotected x) m
-  good-unprotected {items} {x} {m} g has = good-backed (λ _. Good t p items (unprotected x) m) g has (λ h. alone (alone-unprotected h))
+  good-unprotected {items} {x} {m} g has safe = good-backed (λ _. Good t p items (unprotected x) m) g has (λ h. alone (alone-unprotected h safe))
 
 -- ---- at a quiet end
 
 -- a process that can't step is one of which nothing is late: the reference machine steps silently to it
 pub good-quiet : {t : Table} {p : ℕ} {x : Process} {m : Machine} → Good t p [] x m → ((n : Machine) (k : Act) → Steps (codeOf t p) (x .machine) k n → ⊥)
     → UpToEnd (codeOf t p) m (x .machine)
-good-quiet (backed h) stuck = up-to-end (h .ahead)
+good-quiet {t} {p} {x} {m} (backed h) stuck = go (h .link)
+  where
+    go : Link t p (h .standby) [] m (h .since) (x .machine) → UpToEnd (codeOf t p) m (x .machine)
+    go (settled l) = up-to-end (l .ahead)
+    go (coming l) = absurd (coming-some l)
 good-quiet (alone h) stuck = up-to-end (h .ahead)
 good-quiet {t} {p} {x = x} {m = m} (late h) stuck = go (h .replay .ran) stuck
   where
