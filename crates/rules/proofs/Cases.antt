@@ -4,6 +4,7 @@ use mathlib.Core.List.{List, [], _∷_, _++_, map}
 use Prim.Native.Nat.{ℕ, zero, suc, _*_, _/_, _%_, _^_}
 use lib.ListN.{length, drop, replicate}
 use Rattle.rules.specs.Table.{Channel, Instruction, SET, ADD, TAKE, FIRST, SEND, JUMP, NONE, Placement, Table}
+use Rattle.rules.specs.Sizes.{limitBefore}
 use Rattle.rules.specs.Moves.{Command, Numbers}
 use Rattle.rules.specs.Bytes.{byteAt, number32, wordBytes, allBytes}
 use Rattle.rules.specs.Format.{processesIn}
@@ -45,7 +46,7 @@ abbrev pub channel : ℕ → ℕ → Channel
 channel sender reader = record { sender = sender; reader = reader }
 
 abbrev pub placement : ℕ → ℕ → List Instruction → Placement
-placement primary standby code = record { primary = primary; standby = standby; code = code }
+placement primary standby code = record { primary = primary; standby = standby; limit = limitBefore; code = code }
 
 abbrev pub cabinet : ℕ → List Channel → List Placement → Table
 cabinet boards channels processes = record { boards = boards; channels = channels; processes = processes }

@@ -43,6 +43,7 @@ counted-room o h s = go (isComplete o)
     after (some r) h e =
         let same : record { board = r .board; replica = count (r .replica) .replica; complete = r .complete } ≡ s = cc in
         subst (λ (k : Standby). length (k .replica .log) < logMost) same (rw (count-log (r .replica)) (h r refl))
+
     go : (b : Bool) → cond b (onReplica count o) o ≡ some s → length (s .replica .log) < logMost
     go true e = after o h e
     go false e = h s e

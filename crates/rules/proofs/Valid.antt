@@ -1,4 +1,4 @@
--- A table that passes numbers 1 to 8 is one of which `Accepted` holds.
+-- A table that passes numbers 1 to 8 and 47 is one of which `Accepted` holds.
 use mathlib.Core.Path.{_≡_, refl, ap, _∙_}
 use mathlib.Core.Bool.{Bool, true, false, _&&_}
 use mathlib.Core.List.{List, map}
@@ -11,7 +11,7 @@ use borrow.Author.Tests.{leb-true}
 use Rattle.facts.specs.Tests.{and-left, and-right}
 use Rattle.backup.specs.Limits.{pcMost}
 use Rattle.rules.specs.Table.{Placement, codeOf}
-use Rattle.rules.specs.Judge.{endsOk, inputsOk, boardsOk, instructionsOk, Accepted}
+use Rattle.rules.specs.Judge.{endsOk, inputsOk, boardsOk, instructionsOk, limitsOk, Accepted}
 use Rattle.rules.specs.Bytes.{sixes}
 use Rattle.rules.specs.Format.{boardsIn, processesIn, channelsIn, versionIn, pairs, recordsStart, recordBytes, programLength, recordLength, rests, placementIn, instruction, decodeTable, orNumber, lengthOk, countsFit, countsOk, recordsOk, extentOk, validateTable}
 
@@ -25,7 +25,7 @@ pub further-passed : (test : Bool) (n further : ℕ) → orNumber test (suc n) f
 further-passed true n further h = h
 further-passed false n further h = absurd (omega arith)
 
--- ---- all eight
+-- ---- all of them
 
 pub record Valid (bytes : List ℕ) : Type 0 where
   pub length-ok : lengthOk bytes ≡ true
@@ -36,19 +36,21 @@ pub record Valid (bytes : List ℕ) : Type 0 where
   pub inputs-ok : inputsOk (decodeTable bytes) ≡ true
   pub boards-ok : boardsOk (decodeTable bytes) ≡ true
   pub instructions-ok : instructionsOk (decodeTable bytes) ≡ true
+  pub limits-ok : limitsOk (decodeTable bytes) ≡ true
 
--- of any eight tests
-eight : (a b c d e f g h : Bool)
-    → orNumber a 1 (orNumber b 2 (orNumber c 3 (orNumber d 4 (orNumber e 5 (orNumber f 6 (orNumber g 7 (orNumber h 8 0))))))) ≡ 0
-    → (a ≡ true) × (b ≡ true) × (c ≡ true) × (d ≡ true) × (e ≡ true) × (f ≡ true) × (g ≡ true) × (h ≡ true)
-eight a b c d e f g h n1 =
+-- of any nine tests
+nine : (a b c d e f g h i : Bool)
+    → orNumber a 1 (orNumber b 2 (orNumber c 3 (orNumber d 4 (orNumber e 5 (orNumber f 6 (orNumber g 7 (orNumber h 8 (orNumber i 47 0)))))))) ≡ 0
+    → (a ≡ true) × (b ≡ true) × (c ≡ true) × (d ≡ true) × (e ≡ true) × (f ≡ true) × (g ≡ true) × (h ≡ true) × (i ≡ true)
+nine a b c d e f g h i n1 =
     let n2 = further-passed a 0 _ n1 in
     let n3 = further-passed b 1 _ n2 in
     let n4 = further-passed c 2 _ n3 in
     let n5 = further-passed d 3 _ n4 in
     let n6 = further-passed e 4 _ n5 in
     let n7 = further-passed f 5 _ n6 in
-    let n8 = further-passed g 6 _ n7 in (
+    let n8 = further-passed g 6 _ n7 in
+    let n9 = further-passed h 7 _ n8 in (
       test-passed a 0 _ n1,
       test-passed b 1 _ n2,
       test-passed c 2 _ n3,
@@ -56,14 +58,15 @@ eight a b c d e f g h n1 =
       test-passed e 4 _ n5,
       test-passed f 5 _ n6,
       test-passed g 6 _ n7,
-      test-passed h 7 0 n8,
+      test-passed h 7 _ n8,
+      test-passed i 46 0 n9,
     )
 
 pub valid : (bytes : List ℕ) → validateTable bytes ≡ 0 → Valid bytes
 unfolding validateTable
 valid bytes h =
     let t = decodeTable bytes in
-    let all = eight (lengthOk bytes) (eqb (versionIn bytes) 1) (countsOk bytes) (extentOk bytes) (endsOk t) (inputsOk t) (boardsOk t) (instructionsOk t) h in
+    let all = nine (lengthOk bytes) (eqb (versionIn bytes) 1) (countsOk bytes) (extentOk bytes) (endsOk t) (inputsOk t) (boardsOk t) (instructionsOk t) (limitsOk t) h in
     record {
       length-ok = all .0;
       version-ok = all .1;
@@ -73,6 +76,7 @@ valid bytes h =
       inputs-ok = all .5;
       boards-ok = all .6;
       instructions-ok = all .7;
+      limits-ok = all .8;
     }
 
 -- ---- the counts are the lists' lengths
@@ -162,4 +166,5 @@ decoded-accepted bytes h =
       few-inputs = v .inputs-ok;
       on-boards = v .boards-ok;
       instructions = v .instructions-ok;
+      limits = v .limits-ok;
     }

@@ -9,9 +9,9 @@ use lib.ListN.{length, getD, take, drop}
 use Rattle.facts.specs.Tests.{allOf}
 use Rattle.backup.specs.Limits.{pcMost}
 use Rattle.rules.specs.Table.{Placement, Table}
-use Rattle.rules.specs.Judge.{endsOk, inputsOk, boardsOk, instructionsOk}
+use Rattle.rules.specs.Judge.{endsOk, inputsOk, boardsOk, instructionsOk, limitsOk}
 use Rattle.rules.specs.Bytes.{byteAt, sixes, wordBytes, allBytes}
-use Rattle.rules.specs.Format.{boardsIn, processesIn, channelsIn, pairs, recordBytes, programLength, rests, instruction, orNumber, countsFit, tableNumber, decodeTable, validateTable}
+use Rattle.rules.specs.Format.{boardsIn, processesIn, channelsIn, pairs, recordBytes, programLength, rests, instruction, orNumber, countsFit, limitBefore, tableNumber, decodeTable, validateTable}
 
 -- Boards B, processes P and channels C; for each channel sender and reader; for each process primary board, backup board and n; and for
 -- each instruction code, `a` and operand, the instructions of all processes in a row.
@@ -34,7 +34,7 @@ threes make (suc n) l = make (getD l 0 0) (getD l 1 0) (getD l 2 0) ∷ threes m
 abbrev pub placedBy : ℕ → List ℕ → List ℕ → List Placement
 placedBy zero placements instructions = []
 placedBy (suc n) placements instructions =
-    record { primary = getD placements 0 0; standby = getD placements 1 0; code = threes instruction (programLength placements) instructions }
+    record { primary = getD placements 0 0; standby = getD placements 1 0; limit = limitBefore; code = threes instruction (programLength placements) instructions }
     ∷ placedBy n (drop 3 placements) (drop (3 * programLength placements) instructions)
 
 unfoldable pub tableOf : Lists → Table
@@ -88,7 +88,7 @@ listsOk l =
 -- "The writer refuses with 3 to 8 on the same conditions as the reader": 0, or the lowest of them. The tests look at the numbers
 -- themselves, so one that fits no byte is refused by the test that looks at it.
 unfoldable pub validateLists : Lists → ℕ
-unfolding tableOf listsOk endsOk inputsOk boardsOk instructionsOk
+unfolding tableOf listsOk endsOk inputsOk boardsOk instructionsOk limitsOk
 validateLists l =
     orNumber (countsFit (l .boards) (l .processes) (l .channels)) 3
     (orNumber (listsOk l) 4

@@ -6,10 +6,10 @@ use Prim.Native.Nat.{ℕ, zero, suc, _+_, _*_}
 use lib.Dec.{eqb, leb}
 use lib.ListN.{length, drop}
 use Rattle.backup.specs.Limits.{pcMost}
-pub use Rattle.rules.specs.Sizes.{tableMost, boardsLeast, boardsMost, processesMost, channelsMost, recordHead}
+pub use Rattle.rules.specs.Sizes.{tableMost, boardsLeast, boardsMost, processesMost, channelsMost, recordHead, limitBefore}
 use Rattle.rules.specs.Table.{Channel, Instruction, SET, ADD, TAKE, FIRST, SEND, JUMP, NONE, Placement, Table}
 use Rattle.rules.specs.Cabinet.{isEmpty}
-use Rattle.rules.specs.Judge.{endsOk, inputsOk, boardsOk, instructionsOk}
+use Rattle.rules.specs.Judge.{endsOk, inputsOk, boardsOk, instructionsOk, limitsOk}
 use Rattle.rules.specs.Bytes.{byteAt, number16, sixes}
 
 -- ---- where things stand
@@ -71,7 +71,7 @@ instruction (suc (suc (suc (suc (suc (suc (suc n))))))) a operand = NONE
 -- the placement of the record that begins a list
 abbrev pub placementIn : List ℕ → Placement
 placementIn rest =
-    record { primary = byteAt rest 0; standby = byteAt rest 1; code = sixes instruction (programLength rest) (drop recordHead rest) }
+    record { primary = byteAt rest 0; standby = byteAt rest 1; limit = limitBefore; code = sixes instruction (programLength rest) (drop recordHead rest) }
 
 unfoldable pub decodeTable : List ℕ → Table
 decodeTable bytes = record {
@@ -112,18 +112,19 @@ unfoldable pub extentOk : List ℕ → Bool
 extentOk bytes = leb (recordsStart bytes) (length bytes) && recordsOk (processesIn bytes) (recordBytes bytes)
 
 -- 5 to 8, of what a table says: "channel ends"; "more than four channels read"; "a board not below B, or primary equal to backup"; "an
--- instruction"
+-- instruction". W-207: "47, a limit outside 1 to 16, checked after 8"
 abbrev pub tableNumber : Table → ℕ
 tableNumber t =
     orNumber (endsOk t) 5
     (orNumber (inputsOk t) 6
     (orNumber (boardsOk t) 7
     (orNumber (instructionsOk t) 8
-    0)))
+    (orNumber (limitsOk t) 47
+    0))))
 
 -- 0, or the number that refuses the table. 2 is "its version".
 unfoldable pub validateTable : List ℕ → ℕ
-unfolding lengthOk countsOk extentOk decodeTable endsOk inputsOk boardsOk instructionsOk
+unfolding lengthOk countsOk extentOk decodeTable endsOk inputsOk boardsOk instructionsOk limitsOk
 validateTable bytes =
     orNumber (lengthOk bytes) 1
     (orNumber (eqb (versionIn bytes) 1) 2

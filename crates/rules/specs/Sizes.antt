@@ -1,7 +1,8 @@
 -- The sizes that document 01 gives the cabinet, its table and its schedule, each named once; those of the backup record, the largest program
 -- among them, are its `Limits`. What stands above passes them on. The code names the same numbers in table/src/format.rt, state/src/board.rt,
 -- state/src/channel.rt and step/src/guards.rt.
-use Prim.Native.Nat.{ℕ, _*_}
+use Prim.Native.Nat.{ℕ, _+_, _*_}
+use Rattle.backup.specs.Limits.{ports}
 
 -- ---- the table
 
@@ -45,9 +46,16 @@ outboxMost = 32
 abbrev pub entriesMost : ℕ
 entriesMost = boardsMost * outboxMost
 
--- "37 if backed and acts are 8"
-abbrev pub eventsMost : ℕ
-eventsMost = 8
+-- W-207: "a limit byte, 1 to 16", for the acts of each process between two syncs
+abbrev pub limitLeast : ℕ
+limitLeast = 1
+
+abbrev pub limitMost : ℕ
+limitMost = 16
+
+-- "37 if backed and acts are 8"; W-207: "Version 1 is read as limit 8 throughout."
+abbrev pub limitBefore : ℕ
+limitBefore = 8
 
 -- W-204: "A backed process now also owes a sync after 64 instructions done since its last sync was issued."
 abbrev pub instructionsMost : ℕ
@@ -56,3 +64,7 @@ instructionsMost = 64
 -- "A channel is held when its unread words and those in the queues are 8 or more together."
 abbrev pub occupancyMost : ℕ
 occupancyMost = 8
+
+-- W-207: "at most 32 plus twice the limit saved words": four channels of 8, and what was taken since the last sync but one was issued
+abbrev pub savedMost : ℕ → ℕ
+savedMost limit = ports * occupancyMost + 2 * limit
