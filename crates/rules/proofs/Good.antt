@@ -91,6 +91,7 @@ pub record Alone (t : Table) (p : ℕ) (items : List Item) (x : Process) (m : Ma
   pub before : List Act
   pub since : List Act
   pub ahead : Ahead t p before m items since (x .machine)
+  pub one : checkpoints items ≤ 1
   pub low : x .machine .pc ≤ length (codeOf t p)
 
 -- with no backup, still rolling forward to the reference machine

@@ -1,51 +1,31 @@
--- Each move keeps what holds of one process; Transfers has a resync and its carry.
+-- Each move keeps what holds of one process; Carried has the carries, Transfers a resync and its carry.
 use mathlib.Core.Path.{_≡_, refl, ap, sym, _∙_, subst}
 use mathlib.Core.Bool.{true, false}
 use mathlib.Core.Option.{some}
 use mathlib.Core.List.{List, [], _∷_, _++_}
-use Prim.Native.Nat.{ℕ, zero, suc, _+_, _≤_, _<_}
+use Prim.Native.Nat.{ℕ, zero, suc, _≤_, _<_}
 use native.Mathlib.Omega.{arith}
 use lib.ListN.{length}
 use Rattle.facts.specs.Tests.{no-way}
 use Rattle.backup.specs.Limits.{logMost, sentMost}
-use Rattle.backup.specs.Replica.{Replica, Checkpoint, FailOver, arrive, arrived, count, counted, sync, synced, failOver}
+use Rattle.backup.specs.Replica.{Replica, FailOver, arrive, arrived, failOver}
 use Rattle.rules.specs.Table.{Table, channelAt, codeOf, limitOf, portOf}
 use Rattle.rules.specs.Machine.{Mail, Machine, Act, sent, delivered}
-use Rattle.rules.specs.Cabinet.{Standby, Since, Process, Item, message, checkpoint, transfer, protected, limited, isSome, isComplete}
-use Rattle.rules.specs.Moves.{advanced, counting, oneSent, issued, snapshot, receive, counts, keeps, recovered, promoted, unprotected}
+use Rattle.rules.specs.Cabinet.{Standby, Since, Process, Item, message, checkpoint, protected, limited, isSome, isComplete}
+use Rattle.rules.specs.Moves.{advanced, counting, oneSent, issued, snapshot, receive, recovered, promoted, unprotected}
 use Rattle.rules.specs.Judge.{Accepted}
 use Rattle.rules.proofs.Steps.{Steps}
-use Rattle.rules.proofs.Runs.{Run, here, more, _then_, isSend, Silent, tally, count1, countOf, Allows, within-snoc}
+use Rattle.rules.proofs.Runs.{Run, here, more, _then_, isSend, count1, countOf, Allows, within-snoc}
 use Rattle.rules.proofs.Tables.{step-low, limit-high}
-use Rattle.rules.proofs.Ahead.{Ahead, level, checkpoints, checkpoints-append, ahead-later, ahead-silent, ahead-send, ahead-issue, up-to-send, up-to-issue, UpToEnd, up-to-end, ahead-total}
-use Rattle.rules.proofs.Good.{stateOf, Replay, Settled, Coming, Link, settled, coming, Backed, Alone, Late, Good, backed, alone, late, backed-sent, backed-settled, good-backed}
-use Rattle.rules.proofs.Links.{link-later, link-silent, link-send, coming-some, coming-no-checkpoint}
+use Rattle.rules.proofs.Ahead.{Ahead, level, checkpoints, checkpoints-append, ahead-later, ahead-silent, ahead-send, ahead-issue, UpToEnd, up-to-end, ahead-total}
+use Rattle.rules.proofs.Good.{stateOf, Replay, Link, settled, coming, Backed, Alone, Late, Good, backed, alone, late, backed-sent, backed-settled, good-backed}
+use Rattle.rules.proofs.Links.{link-later, link-silent, link-send, coming-some}
 use Rattle.rules.proofs.Tally.{count-snoc}
-use Rattle.rules.proofs.Replays.{replay-later, replay-on, replay-none, replay-silent, replay-send, replay-zero}
-use Rattle.rules.proofs.Backups.{called, called-backup, not-called, run-low, arrives, arrived-state, arrived-kept, counts-it, counted-kept, syncs, synced-state, synced-kept, takes-over, recovers}
-
--- the reference machine went on silently to mid
-pub record Stepped (t : Table) (p : ℕ) (m mid : Machine) : Type 0 where
-  pub acts : List Act
-  pub to-mid : Run (codeOf t p) m acts mid
-  pub silent-there : Silent acts
-
--- a message of the process is transmitted: the reference machine goes on to right after its send
-pub record Transmitted (t : Table) (p : ℕ) (items : List Item) (mail : Mail) (x : Process) (m : Machine) : Type 0 where
-  pub mid : Machine
-  pub last : Machine
-  pub steps : Stepped t p m mid
-  pub sends-it : Steps (codeOf t p) mid (sent mail) last
-  pub good : Good t p items x last
-
--- its checkpoint is transmitted: the reference machine goes on to the snapshot
-pub record Synced (t : Table) (p : ℕ) (items : List Item) (x : Process) (m : Machine) : Type 0 where
-  pub mid : Machine
-  pub steps : Stepped t p m mid
-  pub good : Good t p items x mid
+use Rattle.rules.proofs.Replays.{replay-later, replay-silent, replay-send, replay-zero}
+use Rattle.rules.proofs.Backups.{called, run-low, arrives, arrived-state, arrived-kept, takes-over, recovers}
 
 module _ {t : Table} (ok : Accepted t) {p : ℕ} {items : List Item} {x : Process} {m : Machine} where
-  sent-fits : (h : Backed t p items x m) → h .standby .replica .sent < sentMost
+  pub sent-fits : (h : Backed t p items x m) → h .standby .replica .sent < sentMost
   sent-fits h = let a = backed-sent h in let b = limit-high t ok p in omega arith
 
 -- what is counted of a limited process
@@ -66,6 +46,7 @@ alone-of-late {t} {p} {items} {x} {m} z h =
       before = [];
       since = [];
       ahead = rw (h .no-items) (subst (λ (a : Machine). Ahead t p [] a [] [] (x .machine)) same level);
+      one = rw (h .no-items) (omega arith);
       low = h .low;
     }
 
@@ -96,6 +77,7 @@ module _ {t : Table} (ok : Accepted t) {p : ℕ} (hp : p < length (t .processes)
         before = h .before;
         since = h .since;
         ahead = ahead-later mail (h .ahead);
+        one = h .one;
         low = (unfold delivered in h .low);
       }
   good-receive mail reads room (late h) =
@@ -107,161 +89,6 @@ module _ {t : Table} (ok : Accepted t) {p : ℕ} (hp : p < length (t .processes)
         replay = replay-later mail (h .replay);
         low = (unfold delivered in h .low);
       }
-
-  -- ---- transmit
-
-  -- a complete backup counts it
-  counts-settled : {items : List Item} {x : Process} {m : Machine} (mail : Mail) (h : Backed t p (message mail ∷ items) x m)
-      → Settled t p (h .standby) (message mail ∷ items) m (h .since) (x .machine) → Transmitted t p items mail (counts x) m
-  unfolding counts
-  counts-settled mail h l =
-      let v = up-to-send (l .ahead) in
-      let r : Replica = h .standby .replica in
-      record {
-        mid = v .mid;
-        last = v .last;
-        steps = record { acts = v .acts; to-mid = v .to-mid; silent-there = v .silent-there };
-        sends-it = v .sends-it;
-        good = backed record {
-          standby = record { board = h .standby .board; replica = counted r; complete = h .standby .complete };
-          is-standby = called-backup count (h .is-standby) (l .complete) (counts-it t ok p hp r (h .kept) (sent-fits ok h));
-          kept = counted-kept t ok p hp r (h .kept) (sent-fits ok h);
-          no-suppress = h .no-suppress;
-          since = h .since;
-          link = settled record {
-            complete = l .complete;
-            before = l .before ++ (v .acts ++ (sent mail ∷ []));
-            replay = (unfold stateOf in replay-on (l .replay) (v .to-mid) (v .silent-there) (v .sends-it));
-            ahead = v .rest;
-            one = l .one;
-          };
-          is-since = h .is-since;
-          few = h .few;
-        };
-      }
-
-  -- one that is being made doesn't: the word was queued before its state
-  counts-coming : {items : List Item} {x : Process} {m : Machine} (mail : Mail) (h : Backed t p (message mail ∷ items) x m)
-      → Coming t p (h .standby) (message mail ∷ items) m (h .since) (x .machine) → Transmitted t p items mail (counts x) m
-  unfolding counts
-  counts-coming {items} {x} {m} mail h l = go (l .old) (l .is-items) (l .to-snapshot) (l .none-else)
-    where
-      go : (old : List Item) → message mail ∷ items ≡ old ++ (transfer p ∷ l .new) → Ahead t p (l .before) m old (l .until) (stateOf t p (h .standby .replica))
-          → checkpoints old + checkpoints (l .new) ≡ 0 → Transmitted t p items mail (counts x) m
-      go [] e a n = absurd (no-way (cc))
-      go (y ∷ old) e a n =
-          let same : y ≡ message mail = cc in
-          let rest : items ≡ old ++ (transfer p ∷ l .new) = cc in
-          let v = up-to-send (subst (λ (i : Item). Ahead t p (l .before) m (i ∷ old) (l .until) (stateOf t p (h .standby .replica))) same a) in
-          record {
-            mid = v .mid;
-            last = v .last;
-            steps = record { acts = v .acts; to-mid = v .to-mid; silent-there = v .silent-there };
-            sends-it = v .sends-it;
-            good = backed record {
-              standby = h .standby;
-              is-standby = not-called count (h .is-standby) (l .incomplete);
-              kept = h .kept;
-              no-suppress = h .no-suppress;
-              since = h .since;
-              link = coming record {
-                incomplete = l .incomplete;
-                uncounted = l .uncounted;
-                old = old;
-                new = l .new;
-                is-items = rest;
-                before = l .before ++ (v .acts ++ (sent mail ∷ []));
-                until = l .until;
-                to-snapshot = v .rest;
-                ahead = l .ahead;
-                none-else = subst (λ (i : Item). checkpoints (i ∷ old) + checkpoints (l .new) ≡ 0) same n;
-              };
-              is-since = h .is-since;
-              few = h .few;
-            };
-          }
-
-  pub good-counts : {items : List Item} {x : Process} {m : Machine} (mail : Mail) → Good t p (message mail ∷ items) x m
-      → Transmitted t p items mail (counts x) m
-  unfolding counts
-  good-counts {items} {x} {m} mail (backed h) = go (h .link)
-    where
-      go : Link t p (h .standby) (message mail ∷ items) m (h .since) (x .machine) → Transmitted t p items mail (counts x) m
-      go (settled l) = counts-settled mail h l
-      go (coming l) = counts-coming mail h l
-  good-counts mail (alone h) =
-      let v = up-to-send (h .ahead) in
-      record {
-        mid = v .mid;
-        last = v .last;
-        steps = record { acts = v .acts; to-mid = v .to-mid; silent-there = v .silent-there };
-        sends-it = v .sends-it;
-        good = alone record {
-          no-standby = rw (h .no-standby);
-          no-suppress = h .no-suppress;
-          before = h .before ++ (v .acts ++ (sent mail ∷ []));
-          since = h .since;
-          ahead = v .rest;
-          low = h .low;
-        };
-      }
-  good-counts mail (late h) = absurd (no-way (let e = h .no-items in cc))
-
-  keeps-settled : {items : List Item} {x : Process} {m : Machine} (s : Checkpoint) (h : Backed t p (checkpoint p s ∷ items) x m)
-      → Settled t p (h .standby) (checkpoint p s ∷ items) m (h .since) (x .machine) → Synced t p items (keeps s x) m
-  unfolding keeps
-  keeps-settled s h l =
-      let v = up-to-issue (l .ahead) in
-      let r : Replica = h .standby .replica in
-      let ran = l .replay .ran then v .to-mid in
-      let is : s ≡ record { pc = v .mid .pc; registers = v .mid .registers; taken = tally t p (l .before ++ v .acts) } = (let e = v .is-snapshot in cc) in
-      let is-pc = ap (λ (c : Checkpoint). c .pc) is in
-      let is-registers = ap (λ (c : Checkpoint). c .registers) is in
-      let is-taken = ap (λ (c : Checkpoint). c .taken) is in
-      record {
-        mid = v .mid;
-        steps = record { acts = v .acts; to-mid = v .to-mid; silent-there = v .silent-there };
-        good = backed record {
-          standby = record { board = h .standby .board; replica = synced r s; complete = h .standby .complete };
-          is-standby = called-backup (λ c. sync c s) (h .is-standby) (l .complete) (syncs t ok p hp r (h .kept) (sent-fits ok h) ran s is-pc is-registers is-taken);
-          kept = synced-kept t ok p hp r (h .kept) (sent-fits ok h) ran s is-pc is-registers is-taken;
-          no-suppress = h .no-suppress;
-          since = h .since;
-          link = settled record {
-            complete = l .complete;
-            before = [];
-            replay = replay-none (synced-state t ok p hp r (h .kept) (sent-fits ok h) ran s is-pc is-registers is-taken);
-            ahead = v .rest;
-            one = (let o = l .one in omega arith);
-          };
-          is-since = h .is-since;
-          few = h .few;
-        };
-      }
-
-  pub good-keeps : {items : List Item} {x : Process} {m : Machine} (s : Checkpoint) → Good t p (checkpoint p s ∷ items) x m
-      → Synced t p items (keeps s x) m
-  unfolding keeps
-  good-keeps {items} {x} {m} s (backed h) = go (h .link)
-    where
-      go : Link t p (h .standby) (checkpoint p s ∷ items) m (h .since) (x .machine) → Synced t p items (keeps s x) m
-      go (settled l) = keeps-settled s h l
-      go (coming l) = absurd (coming-no-checkpoint l)
-  good-keeps s (alone h) =
-      let v = up-to-issue (h .ahead) in
-      record {
-        mid = v .mid;
-        steps = record { acts = v .acts; to-mid = v .to-mid; silent-there = v .silent-there };
-        good = alone record {
-          no-standby = rw (h .no-standby);
-          no-suppress = h .no-suppress;
-          before = [];
-          since = h .since;
-          ahead = v .rest;
-          low = h .low;
-        };
-      }
-  good-keeps s (late h) = absurd (no-way (let e = h .no-items in cc))
 
   -- ---- step
 
@@ -275,6 +102,7 @@ module _ {t : Table} (ok : Accepted t) {p : ℕ} (hp : p < length (t .processes)
         before = h .before;
         since = h .since ++ (k ∷ []);
         ahead = ahead-silent (h .ahead) e s;
+        one = h .one;
         low = step-low t ok p hp e;
       }
 
@@ -332,13 +160,14 @@ module _ {t : Table} (ok : Accepted t) {p : ℕ} (hp : p < length (t .processes)
   alone-send : {items : List Item} {x : Process} {m n : Machine} {mail : Mail} (counted : Since) → Alone t p items x m
       → Steps (codeOf t p) (x .machine) (sent mail) n → Alone t p (items ++ (message mail ∷ [])) (advanced n counted 0 x) m
   unfolding advanced
-  alone-send {mail = mail} counted h e =
+  alone-send {items = items} {mail = mail} counted h e =
       record {
         no-standby = h .no-standby;
         no-suppress = refl;
         before = h .before;
         since = h .since ++ (sent mail ∷ []);
         ahead = ahead-send (h .ahead) e;
+        one = (let o = h .one in let c = checkpoints-append items (message mail ∷ []) in omega arith);
         low = step-low t ok p hp e;
       }
 
@@ -423,6 +252,7 @@ module _ {t : Table} (ok : Accepted t) {p : ℕ} (hp : p < length (t .processes)
         before = l .before;
         since = h .since;
         ahead = l .ahead;
+        one = l .one;
         low = run-low t ok p hp (l .replay .ran then ahead-total (l .ahead) .ran) (h .kept .low);
       }
 

@@ -12,6 +12,7 @@ pub mod Replays
 pub mod Links
 pub mod Backups
 pub mod GoodMoves
+pub mod Carried
 pub mod Copies
 pub mod Transfers
 -- the whole cabinet, and each move followed by the reference machine:

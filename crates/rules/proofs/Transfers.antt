@@ -13,7 +13,8 @@ use Rattle.rules.specs.Moves.{completed, rebacked, copied, rebacking}
 use Rattle.rules.proofs.Ahead.{Ahead, level, checkpoints, checkpoints-append, no-transfer, up-to-end}
 use Rattle.rules.proofs.Good.{stateOf, Kept, Replay, Coming, Link, settled, coming, Backed, Alone, Good, backed, alone, late}
 use Rattle.rules.proofs.Replays.{replay-none}
-use Rattle.rules.proofs.GoodMoves.{Synced, alone-of-late}
+use Rattle.rules.proofs.GoodMoves.{alone-of-late}
+use Rattle.rules.proofs.Carried.{Synced}
 
 -- ---- resync
 

@@ -18,7 +18,7 @@ use Rattle.rules.specs.Moves.{withProcess, withOutbox, onReplica, onBack
 use Rattle.rules.specs.Judge.{Accepted}
 use Rattle.rules.proofs.Steps.{Steps}
 use Rattle.rules.proofs.Good.{Good}
-use Rattle.rules.proofs.GoodMoves.{Transmitted, Synced, good-counts, good-keeps}
+use Rattle.rules.proofs.Carried.{Transmitted, Synced, good-counts, good-keeps}
 use Rattle.rules.proofs.Transfers.{good-rebacked}
 use Rattle.rules.proofs.Invariant.{ownerOf, mine, machineAt, Seated, Invariant, in-table, in-reference, its-outbox, RoomFor, Roomy, owner}
 use Rattle.rules.proofs.Frame.{SameSeat, called-backup-board, completed-board, seated-same, OthersStay, change, change-same, deliver-keeps, leave-others, leave-own}
