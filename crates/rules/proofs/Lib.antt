@@ -42,6 +42,10 @@ pub mod Quiet
 pub mod Transparency
 -- The bounds of every state that is reached, and what a crash there leaves to do again.
 pub mod Reached
+-- W-210 of every state that is reached: the record of a resync.
+pub mod CopyCalls
+pub mod Pending
+pub mod Arrivals
 pub mod RollForward
 -- Tables and runs in bytes.
 pub mod Valid
@@ -50,6 +54,7 @@ pub mod Encoding
 pub mod Apart
 pub mod AcceptedRun
 pub mod Buffers
+pub mod Homes
 -- Cases, computed: M1 to M13, then those that only a case can tell.
 pub mod Cases
 pub mod Marked

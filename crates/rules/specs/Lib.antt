@@ -10,6 +10,7 @@ pub mod Judge
 pub mod Bounds
 pub mod RollForward
 pub mod Transparent
+pub mod Rebackup
 pub mod Bytes
 pub mod Format
 pub mod Encode
