@@ -46,6 +46,9 @@ pub mod Reached
 pub mod CopyCalls
 pub mod Pending
 pub mod Arrivals
+pub mod Totals
+-- W-211: backed again, and nothing again.
+pub mod Recovery
 pub mod RollForward
 -- Tables and runs in bytes.
 pub mod Valid
