@@ -52,6 +52,7 @@ pub mod Recovery
 pub mod RollForward
 -- Tables and runs in bytes.
 pub mod Valid
+pub mod FirstVersion
 pub mod ReadBack
 pub mod Encoding
 pub mod Apart

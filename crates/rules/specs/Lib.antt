@@ -14,6 +14,7 @@ pub mod Rebackup
 pub mod Recovery
 pub mod Bytes
 pub mod Format
+pub mod FirstVersion
 pub mod Encode
 pub mod Schedule
 pub mod Run
