@@ -39,7 +39,8 @@ copiedSoFar t p m words = allArrived t p (synced initial (snapshotOf m)) words
 -- none of these calls is refused, and they make the record of a resync
 pub record CopyCalls (t : Table) (p : ℕ) (m : Machine) : Type 0 where
   pub syncs : syncNumber initial (snapshotOf m) ≡ 0
-  pub arrives : (sofar rest : List Mail) (x : Mail) → m .mailbox ≡ sofar ++ (x ∷ rest) → arriveNumber (copiedSoFar t p m sofar) (portOf t p (x .channel)) ≡ 0
+  pub arrives : (sofar rest : List Mail) (x : Mail) → m .mailbox ≡ sofar ++ (x ∷ rest)
+      → arriveNumber (copiedSoFar t p m sofar) (portOf t p (x .channel)) ≡ 0
   pub makes : copiedSoFar t p m (m .mailbox) ≡ copied t p m
 
 -- ---- what waits
