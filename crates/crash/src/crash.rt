@@ -10,8 +10,8 @@ use crate::losses::other_dead;
 use crate::processes::crash_all;
 use crate::recount::add_unread;
 use crate::recount::drop_unread;
+use backup::limits::LOG;
 use backup::place::HEAD;
-use process::mail::MAIL;
 use process::row::ROW;
 use state::board::BOARD_ROW;
 use state::board::DEAD;
@@ -28,8 +28,8 @@ pub fn crash(
     ins: &[u32; 64],
     arity: &[u32; 16],
     rows: &mut [[u32; ROW]; 16],
-    mails: &mut [[u64; MAIL]; 16],
-    logs: &[[u64; MAIL]; 16],
+    mails: &mut [[u64; LOG]; 16],
+    logs: &[[u64; LOG]; 16],
     heads: &[[u32; HEAD]; 16],
     boards: &mut [[u32; BOARD_ROW]; 16],
     totals: &mut [u32; 32],
@@ -40,10 +40,10 @@ pub fn crash(
 {
     let b = index16(a);
     if boards[b][DEAD] != 0 {
-        return refusal(34, a);
+        return refusal(34, 1, a);
     }
     if other_dead(most16(boards_many), boards, b) {
-        return refusal(44, a);
+        return refusal(44, 0, a);
     }
     let p = most16(processes);
     let k = most32(channels);
@@ -55,6 +55,7 @@ pub fn crash(
     die(&mut boards[b]);
     Answer {
         code: 0,
+        cause: 2,
         a: 0,
         word: 0,
     }
