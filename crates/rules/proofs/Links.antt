@@ -1,5 +1,5 @@
 -- How a backup, the reference machine and the running machine stay linked, whether the backup is complete or being made.
-use mathlib.Core.Path.{_≡_, refl, ap, sym, _∙_, subst}
+use mathlib.Core.Path.{_≡_, ap, _∙_}
 use mathlib.Core.Bool.{false}
 use mathlib.Core.List.{List, [], _∷_, _++_, append-assoc}
 use Prim.Native.Nat.{ℕ, _+_}
@@ -11,8 +11,8 @@ use Rattle.rules.specs.Machine.{Mail, Machine, Act, sent, delivered}
 use Rattle.rules.specs.Cabinet.{Standby, Item, message, checkpoint, transfer}
 use Rattle.rules.proofs.Steps.{Steps}
 use Rattle.rules.proofs.Runs.{isSend}
-use Rattle.rules.proofs.Ahead.{Ahead, checkpoints, checkpoints-append, ahead-later, ahead-silent, ahead-send, UpToEnd, up-to-end}
-use Rattle.rules.proofs.Good.{stateOf, Replay, Trailing, Coming, Link, trailing, coming}
+use Rattle.rules.proofs.Ahead.{checkpoints, checkpoints-append, ahead-later, ahead-silent, ahead-send}
+use Rattle.rules.proofs.Good.{stateOf, Coming, Link, trailing, coming}
 use Rattle.rules.proofs.Replays.{replay-later}
 
 module _ {t : Table} {p : ℕ} {s : Standby} {items : List Item} {m : Machine} {since : List Act} {b : Machine} where

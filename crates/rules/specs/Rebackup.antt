@@ -2,15 +2,15 @@
 -- Definitions only; proofs/CopyCalls, Pending, Homes and Arrivals prove them.
 use mathlib.Core.Logic.{_≢_}
 use mathlib.Core.Path.{_≡_}
-use mathlib.Core.Bool.{Bool, true, false, cond, _||_}
+use mathlib.Core.Bool.{Bool, false, cond, _||_}
 use mathlib.Core.Option.{some}
 use mathlib.Core.List.{List, [], _∷_, _++_}
-use Prim.Native.Nat.{ℕ, suc, _≤_}
+use Prim.Native.Nat.{ℕ, suc}
 use lib.Dec.{eqb}
 use Rattle.backup.specs.Replica.{Message, Replica, Checkpoint, initial, arrived, synced, arriveNumber, syncNumber}
 use Rattle.rules.specs.Table.{Table, placementAt, channelAt, portOf}
 use Rattle.rules.specs.Machine.{Mail, Machine}
-use Rattle.rules.specs.Cabinet.{Standby, Process, Item, Cabinet, noTakes, processAt, outboxAt, otherBoard, isCheckpointOf, waiting, occupancy}
+use Rattle.rules.specs.Cabinet.{Standby, Process, Item, Cabinet, noTakes, processAt, otherBoard, isCheckpointOf, occupancy}
 use Rattle.rules.specs.Moves.{Answer, stepDone, issueDone, crashDone, rejoinDone, rebackupDone, received, queued, suppressed, transmitted, injected, syncKept, syncLost, transferKept, refused, numbers, copied}
 use Rattle.rules.specs.Transparent.{traceOf}
 
