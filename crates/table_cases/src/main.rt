@@ -417,7 +417,7 @@ fn schedule(name: &[u8], at: usize, byte: u8, at2: usize, byte2: u8) {
 // The first bytes of the schedule.
 fn short(name: &[u8], length: usize) {
     let s = SCHEDULE;
-    run_case(name, front(&s, length), 12, 20);
+    run_case(name, front(&s, length), 12, 2, 20);
 }
 
 // Records of zeros, a version, and at most five bytes behind the last record; the length field is true.
@@ -427,7 +427,7 @@ fn records(name: &[u8], n: usize, version: u8, behind: usize) {
     s[0] = (field / 256 % 256) as u8;
     s[1] = (field % 256) as u8;
     s[2] = version;
-    run_case(name, front(&s, field + 2), 60006, 20);
+    run_case(name, front(&s, field + 2), 60006, 10001, 20);
 }
 
 fn schedules() {
