@@ -1,27 +1,30 @@
 //! The list of reasons: document 02, W-206. Which bytes can be in it, and one record for each, by hand.
 
 /// Every code, and its causes: "The cause is 0 except here."
-pub const CAUSES: [(u8, &[u8]); 20] = [
-    (0, &[0, 1, 2]), // "1 for a sync, 2 for a crash"
+pub const CAUSES: [(u8, &[u8]); 23] = [
+    (0, &[0, 1, 2, 3]), // "1 for a sync, 2 for a crash"; W-210: "cause 3 under code 0 means a return or a resync"
     (1, &[0]),
     (2, &[0]),
     (3, &[0]),
     (4, &[0, 1]), // "1 for a feed"
-    (5, &[0]),
+    (5, &[0, 3]), // W-210: "under 5, 38 and 41 a resync"
     (6, &[0]),
     (32, &[0, 1]),    // "1 when the move is known and the word is at fault"
     (33, &[0, 1, 2]), // "1 for a board, 2 for a channel"
     (34, &[0, 1]),    // "1 for a crash"
     (35, &[0]),
-    (36, &[0, 1]), // "1 for FIRST"
-    (37, &[0, 1]), // "1 when only the 64 instructions are to blame"
-    (38, &[0, 1]), // "1 for a sync"
-    (39, &[0, 1]), // "1 for a feed"
+    (36, &[0, 1]),    // "1 for FIRST"
+    (37, &[0, 1]),    // "1 when only the 64 instructions are to blame"
+    (38, &[0, 1, 3]), // "1 for a sync"
+    (39, &[0, 1]),    // "1 for a feed"
     (40, &[0]),
-    (41, &[0]),
+    (41, &[0, 3]),
     (42, &[0]),
     (43, &[0]),
     (44, &[0]),
+    (48, &[0]),
+    (49, &[0]),
+    (50, &[0]),
 ];
 
 /// Every byte that can be in the list.
@@ -55,15 +58,15 @@ mod tests {
     fn each_byte_is_another() {
         let mut all: Vec<u8> = reasons().collect();
         all.dedup();
-        assert_eq!(all.len(), 31);
-        assert!(all.is_sorted() && all.iter().all(|&byte| byte < 45 * 4));
+        assert_eq!(all.len(), 38);
+        assert!(all.is_sorted() && all.iter().all(|&byte| byte < 51 * 4));
     }
 
     #[test]
     fn records_of_any_kind() {
         let any = |kind, a, word| Record { kind, a, word };
         // An unknown move with a word has cause 0, whatever its a.
-        let records = [any(0, 0, 0), any(6, 0, 1), any(255, 255, 1), any(1, 0, 1), any(5, 255, 1)];
+        let records = [any(0, 0, 0), any(8, 0, 1), any(255, 255, 1), any(1, 0, 1), any(5, 255, 1)];
         assert_eq!(given(&[], &records), [(32, 0), (32, 0), (32, 0), (32, 1), (32, 1)]);
         let records = [step(1), sync(255), carry(2), crash(2), feed(3, 9)];
         assert_eq!(given(&[], &records), [(33, 0), (33, 0), (33, 1), (33, 1), (33, 2)]);
