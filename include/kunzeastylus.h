@@ -98,7 +98,7 @@ enum ks_answer {
 /* ---- why it is that answer: a byte of the list of reasons, the answer's code times 4, plus its cause */
 
 enum ks_cause {
-    KS_CAUSE_CALCULATED = 0,            /* done: SET, ADD or JUMP */
+    KS_CAUSE_CALCULATED = 0,            /* done: calculated */
     KS_CAUSE_SYNC_ISSUED = 1,           /* done: sync issued */
     KS_CAUSE_BOARD_CRASHED = 2,         /* done: board crashed */
     KS_CAUSE_TOOK = 4,                  /* took */

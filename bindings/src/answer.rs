@@ -50,7 +50,7 @@ impl Code {
 worded! {
     /// Why an answer is what it is. The number is the byte in the list of reasons: the answer's code times 4, plus its cause.
     Cause {
-        Calculated = 0 => "done: SET, ADD or JUMP",
+        Calculated = 0 => "done: calculated",
         SyncIssued = 1 => "done: sync issued",
         BoardCrashed = 2 => "done: board crashed",
         Took = 4 => "took",

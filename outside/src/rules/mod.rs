@@ -1,5 +1,5 @@
-//! Document 01, as document 02 amends it, in Rust, written from their text and from nothing else: no line here was taken from the proved code or its definitions.
-//! Names are the documents' own, so that each line can be held against its sentence.
+//! Documents 01 and 02 in Rust, written from their text and from nothing else: no line here was taken from the proved code or its
+//! definitions. Names are the documents' own, so that each line can be held against its sentence.
 
 pub mod backup;
 pub mod busy;
