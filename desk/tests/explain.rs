@@ -108,7 +108,7 @@ fn pulled() {
     assert_eq!(between[0], "21 records on 2 boards with 1 process and 2 channels");
     let last = pull("1@21", &["--from", "20"]);
     assert_eq!(last[1], "20 step process 0, JUMP to place 0 by register 0 done: calculated");
-    assert_eq!(last[2], "pull crash board 1 refused 44, another board has crashed");
+    assert_eq!(last[2], "pull crash board 1 refused 44, some process has no backup");
     // No such board is the library's to say.
     assert_eq!(pull("2@1", &["--to", "1"])[1], "pull crash board 2 refused 33, not in this table: the board");
 }
