@@ -1,4 +1,4 @@
-//! `./explain`: two samples in words, as stored beside them; a pulled board; what is said where it can't; and that the places it follows are
+//! `./explain`: three samples in words, as stored beside them; a pulled board; what is said where it can't; and that the places it follows are
 //! those of the report, after every record of generated runs.
 use desk::explain::{explain, Asked, Input, Pull};
 use desk::follow::{Followed, Standing};
@@ -54,7 +54,7 @@ fn complains(arguments: &[&str], input: &[u8], code: i32, shown: &str, about: &s
 
 #[test]
 fn samples() {
-    for name in ["lost_queue", "held"] {
+    for name in ["lost_queue", "held", "repaired"] {
         let words = file(&format!("{name}.words"));
         assert_eq!(explain(&sample(name), ALL).as_deref(), Ok(&words[..]), "{name}");
         assert_eq!(printed(&[&format!("samples/{name}.hex")], &[]), words, "{name}");
