@@ -51,10 +51,13 @@ pub mod Cases
 pub mod Marked
 pub mod MoveCases
 pub mod LongCases
+pub mod ReasonCases
 pub mod FormatCases
 pub mod PageCases
 pub mod ReferenceCases
 -- W-202 leaves the bus order alone.
 pub mod BusOrder
+-- W-206: one byte never fits two causes.
+pub mod OneCause
 -- Demand 3 of every accepted run.
 pub mod Theorem

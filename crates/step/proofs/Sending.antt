@@ -1,5 +1,5 @@
 -- A step that sends a word, in the lists: one that is suppressed, the refusals 37, 38 and 39, and the word that joins its board's queue.
-use mathlib.Core.Path.{_≡_, refl, ap, sym, _∙_, subst}
+use mathlib.Core.Path.{_≡_, refl, ap, ap₂, sym, _∙_, subst}
 use mathlib.Core.Bool.{Bool, true, false, _||_}
 use mathlib.Core.List.{List, [], _∷_, _++_}
 use Prim.Native.Nat.{ℕ, suc, _+_, _-_, _%_, _^_, _≤_, _<_}
@@ -19,6 +19,7 @@ use Rattle.rules.specs.Cabinet as rules
 use Rattle.rules.specs.Cabinet.{Cabinet, Process, outboxMost, isCheckpointOf, processAt, outboxAt, full, waiting}
 use Rattle.rules.specs.Moves as moves
 use Rattle.rules.specs.Moves.{guard, refuse, accept, owedFor, sendBlocked, sendHeld, refusalNumber, suppressed, numbers, advanced, counting, oneSent, step, stepFrom, withProcess, withOutbox, enqueue}
+use Rattle.rules.specs.Reasons.{refusalCause, causeOf}
 use Rattle.rules.proofs.Steps.{Steps}
 use Rattle.rules.proofs.Counting.{weight, flight-joined}
 use Rattle.rules.proofs.Decoded.{owed-number}
@@ -35,11 +36,11 @@ use Rattle.state.proofs.Totals.{occupancy-outbox, totalled-more}
 use Rattle.state.proofs.Changing.{row-changed}
 use Rattle.state.proofs.Ends.{sent-inside, reader-inside}
 use Rattle.state.proofs.Refusing.{turned-down}
-use Rattle.step.specs.Parts.{owingIn, SendTurns}
+use Rattle.step.specs.Parts.{owingIn, blameIn, SendTurns}
 use Rattle.state.specs.Channel.{heldIn}
 use Rattle.state.proofs.Held.{full-is, occupancy-small}
 use Rattle.step.proofs.Issuing.{board-is, board-there, queue-has}
-use Rattle.step.proofs.Stepping.{turned-to, machine-is, step-is, owing-is, instructions-room, events-room}
+use Rattle.step.proofs.Stepping.{turned-to, machine-is, step-is, owing-is, blame-is, instructions-room, events-room}
 
 -- a word that joins a queue is no checkpoint
 waiting-joined : (q : ℕ) (l : List rules.Item) (x : Mail) → waiting q (l ++ (rules.message x ∷ [])) ≡ waiting q l
@@ -222,24 +223,25 @@ send-at-its-index {reader} {rows} {boards} {rows′} {boards′} {totals} {total
 }
 
 module _ (reader : List ℕ) (rows boards : List (List ℕ)) (totals : List ℕ) (p channel word : ℕ) (r : Moved) where
-  pub send-suppressed : (row′ : List ℕ) → 0 < getD (getD rows p []) 6 0 → Suppresses (getD rows p []) row′ → r ≡ aloneOf (answerOf 3 channel word)
+  pub send-suppressed : (row′ : List ℕ) → 0 < getD (getD rows p []) 6 0 → Suppresses (getD rows p []) row′ → r ≡ aloneOf (answerOf 3 0 channel word)
       → SendTurns reader rows boards totals p channel word (set rows p row′) boards totals r
-  unfolding numbers
+  unfolding numbers causeOf
   send-suppressed row′ l became g = record {
     turned = λ t sender port mails logs heads waits entries c command n code register operand reach wired i h f hp.
         let left : ℕ = getD (getD rows p []) 6 0 - 1 in
         let e : getD (getD rows p []) 6 0 ≡ suc left = omega arith in
-        turned-to entries command (aloneOf (answerOf 3 channel word)) _ (suppressed (record { channel = channel; word = word }))
-        (suppressed-so reach h p hp n code register operand channel word i left e) g refl
+        turned-to entries command (aloneOf (answerOf 3 0 channel word)) _ (suppressed (record { channel = channel; word = word }))
+        (suppressed-so reach h p hp n code register operand channel word i left e) g refl refl
         (suppress-holds reach h p hp n code register operand channel word i left row′ e became);
   }
 
   module _ (none : getD (getD rows p []) 6 0 ≡ 0) where
-    pub send-37 : owingIn (getD rows p []) ≡ true → r ≡ refusedWith 37 p → SendTurns reader rows boards totals p channel word rows boards totals r
-    send-37 e g = record {
+    pub send-37 : owingIn (getD rows p []) ≡ true → (cause : ℕ) → cause ≡ blameIn (getD rows p []) → r ≡ refusedWith 37 cause p
+        → SendTurns reader rows boards totals p channel word rows boards totals r
+    send-37 e cause b g = record {
       turned = λ t sender port mails logs heads waits entries c command n code register operand reach wired i h f hp.
           turned-down command p (owedFor (processAt c p)) h (refused-37 reach h p hp n code register operand channel word i none _ refl e) f
-          (g ∙ ap (λ (k : ℕ). refusedWith k p) (sym (owed-number (processAt c p))));
+          (g ∙ ap₂ (λ (k z : ℕ). refusedWith k z p) (sym (owed-number (processAt c p))) (b ∙ sym (blame-is h p hp)));
     }
 
     module _ (fresh : owingIn (getD rows p []) ≡ false) (b : ℕ) (is-b : getD (getD rows p []) 0 0 < 16 → b ≡ getD (getD rows p []) 0 0) where
@@ -248,8 +250,8 @@ module _ (reader : List ℕ) (rows boards : List (List ℕ)) (totals : List ℕ)
           → Holds t (storeOf rows mails logs heads boards totals waits) entries c → p < length (t .processes) → b ≡ getD (getD rows p []) 0 0
       the-board reach h hp = is-b (let a = board-there reach h p hp in let z = reach .accepted .boards-high in omega arith)
 
-      pub send-38 : outboxMost ≤ countIn boards b → r ≡ refusedWith 38 p → SendTurns reader rows boards totals p channel word rows boards totals r
-      unfolding refusalNumber
+      pub send-38 : outboxMost ≤ countIn boards b → r ≡ refusedWith 38 0 p → SendTurns reader rows boards totals p channel word rows boards totals r
+      unfolding refusalNumber refusalCause
       send-38 l g = record {
         turned = λ t sender port mails logs heads waits entries c command n code register operand reach wired i h f hp.
             turned-down command p sendBlocked h
@@ -257,9 +259,9 @@ module _ (reader : List ℕ) (rows boards : List (List ℕ)) (totals : List ℕ)
       }
 
       module _ (few : countIn boards b < outboxMost) (k : ℕ) (is-k : channel < 32 → k ≡ channel) where
-        pub send-39 : heldIn (getD reader k 0) (getD totals k 0) ≡ true → r ≡ refusedWith 39 p
+        pub send-39 : heldIn (getD reader k 0) (getD totals k 0) ≡ true → r ≡ refusedWith 39 0 p
             → SendTurns reader rows boards totals p channel word rows boards totals r
-        unfolding refusalNumber
+        unfolding refusalNumber refusalCause
         send-39 e g = record {
           turned = λ t sender port mails logs heads waits entries c command n code register operand reach wired i h f hp.
               let l = channel-inside reach h p hp n code register operand channel word i in
@@ -272,9 +274,9 @@ module _ (reader : List ℕ) (rows boards : List (List ℕ)) (totals : List ℕ)
 
         pub send-queued : (row′ : List ℕ) → heldIn (getD reader k 0) (getD totals k 0) ≡ false → Queues (getD rows p []) row′
             → placeOf (getD boards b []) b < 512
-            → r ≡ record { answer = answerOf 2 channel word; at = placeOf (getD boards b []) b; entry = record { item = Word channel word } }
+            → r ≡ record { answer = answerOf 2 0 channel word; at = placeOf (getD boards b []) b; entry = record { item = Word channel word } }
             → SendTurns reader rows boards totals p channel word (set rows p row′) (set boards b (pushedIn (getD boards b []))) (set totals k ((getD totals k 0 + 1) % 2 ^ 32)) r
-        unfolding numbers
+        unfolding numbers causeOf
         send-queued row′ e became below g = record {
           turned = λ t sender port mails logs heads waits entries c command n code register operand reach wired i h f hp.
               let l = channel-inside reach h p hp n code register operand channel word i in
@@ -290,6 +292,6 @@ module _ (reader : List ℕ) (rows boards : List (List ℕ)) (totals : List ℕ)
               let d : Cabinet = then reach h p hp n code register operand channel word i in
               let its-board = subst (λ (q : ℕ). Holds t (after q channel) (set entries (placeOf (getD boards q []) q) y) d) (sym bb) there in
               let its-channel = subst (λ (j : ℕ). Holds t (after b j) (set entries (placeOf (getD boards b []) b) y) d) (sym kk) its-board in
-              turned-to entries command (record { answer = answerOf 2 channel word; at = placeOf (getD boards b []) b; entry = y }) _ (moves.queued (record { channel = channel; word = word })) so g refl
+              turned-to entries command (record { answer = answerOf 2 0 channel word; at = placeOf (getD boards b []) b; entry = y }) _ (moves.queued (record { channel = channel; word = word })) so g refl refl
               (rw (lt-ltb (placeOf (getD boards b []) b) 512 below) its-channel);
         }

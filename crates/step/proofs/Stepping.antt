@@ -1,12 +1,13 @@
 -- Move 1 in the lists: which case of the rules' step it is, the refusals 35 and 36, and the parts.
-use mathlib.Core.Path.{_≡_, refl, ap, sym, _∙_, subst}
-use mathlib.Core.Bool.{Bool, true, _&&_, _||_}
+use mathlib.Core.Path.{_≡_, refl, ap, ap₂, sym, _∙_, subst}
+use mathlib.Core.Bool.{Bool, true, false, cond, _&&_, _||_}
 use mathlib.Core.List.{List, []}
 use Prim.Native.Nat.{ℕ, _<_}
 use native.Mathlib.Omega.{arith}
-use lib.Dec.{leb}
+use lib.Dec.{leb, ltb}
 use lib.ListN.{length, getD}
-use borrow.Author.Tests.{ne-eqb}
+use borrow.Author.Tests.{ne-eqb, ltb-true}
+use Rattle.facts.specs.Tests.{no-way}
 use Rattle.process.specs.Row.{machineOf, processOf}
 use Rattle.instruction.specs.Instruction.{Intends, Fetched, Examined, TallyRoom}
 use Rattle.instruction.specs.Laws as laws
@@ -14,11 +15,13 @@ use Rattle.instruction.specs.declared.instruction.Intent.{Intent}
 use Rattle.instruction.specs.declared.instruction.Intent.the-variants.{Halted, NoMail, Internal, Take, Send}
 use Rattle.records.specs.Fetch.{fetched, instructionOf}
 use Rattle.records.specs.declared.fetch.Instruction.{Instruction}
+use Rattle.rules.specs.Table as rules
 use Rattle.rules.specs.Table.{Table, codeOf}
-use Rattle.rules.specs.Machine.{Machine, Outcome, instructionAt, localStep}
+use Rattle.rules.specs.Machine.{Machine, Outcome, halted, noMail, execute, instructionAt, localStep}
 use Rattle.rules.specs.Cabinet.{Cabinet, Process, instructionsMost, eventsMost, processAt, limited, exhausted, overrun, owing}
-use Rattle.rules.specs.Moves.{Command, Result, Answer, refuse, accept, isHalted, missing, refusalNumber, numbers, numbered, step, stepFrom}
-use Rattle.rules.proofs.Decoded.{missing-number}
+use Rattle.rules.specs.Moves.{Command, Result, Answer, refuse, accept, isHalted, missing, owedFor, refusalNumber, numbers, numbered, step, stepFrom}
+use Rattle.rules.specs.Reasons.{refusalCause, causeOf}
+use Rattle.rules.proofs.Decoded.{owed-cause, missing-number, missing-cause}
 use Rattle.state.specs.declared.entry.Entry.{Entry}
 use Rattle.state.specs.declared.moved.Moved.{Moved}
 use Rattle.state.specs.Store.{Store, storeOf, Holds}
@@ -27,19 +30,28 @@ use Rattle.state.proofs.Reading.{at-process}
 use Rattle.process.proofs.Rows.{limited-is}
 use Rattle.state.proofs.Counters.{instructions-few, events-few}
 use Rattle.state.proofs.Refusing.{turned-down}
-use Rattle.step.specs.Parts.{spentIn, overrunIn, owingIn, CalculateTurns, TakeTurns, SendTurns}
+use Rattle.step.specs.Parts.{spentIn, overrunIn, owingIn, blameIn, missingOf, CalculateTurns, TakeTurns, SendTurns}
 use Rattle.step.specs.Steps as specs
 
 -- ---- an accepted move
 
 pub turned-to : {t : Table} {s : Store} (entries : List Entry) {c : Cabinet} (command : Command) {result : Result} {r : Moved} (m : Moved) (d : Cabinet) (x : Answer)
-    → result ≡ accept d x → r ≡ m → numbers x ≡ numbered (m .answer .code) (m .answer .a) (m .answer .word) → Holds t s (storedBy entries m) d
+    → result ≡ accept d x → r ≡ m → numbers x ≡ numbered (m .answer .code) (m .answer .a) (m .answer .word) → causeOf x ≡ m .answer .cause → Holds t s (storedBy entries m) d
     → Turned t s entries c command result r
-turned-to {t} {s} entries {c} command {result} {r} m d x e f g h =
+turned-to {t} {s} entries {c} command {result} {r} m d x e f g cause h =
     subst (λ (z : Moved). Turned t s entries c command result z) (sym f)
-    (subst (λ (z : Result). Turned t s entries c command z m) (sym e) (record { answer-is = g; holds = h }))
+    (subst (λ (z : Result). Turned t s entries c command z m) (sym e) (record { answer-is = g; cause-is = cause; holds = h }))
 
 -- ---- the case of the rules' step
+
+-- a machine that waits for a word stands at an instruction of its program
+waits-inside : (program : List rules.Instruction) (m : Machine) → localStep program m ≡ noMail → m .pc < length program
+unfolding localStep
+waits-inside program m e = go (ltb (m .pc) (length program)) refl e
+  where
+    go : (b : Bool) → ltb (m .pc) (length program) ≡ b → cond b (execute (instructionAt program m) m) halted ≡ noMail → m .pc < length program
+    go true f g = ltb-true (m .pc) (length program) f
+    go false f g = absurd (no-way (cc))
 
 module _ {t : Table} {s : Store} {entries : List Entry} {c : Cabinet} (h : Holds t s entries c) (p : ℕ) (hp : p < length (t .processes)) where
   abbrev row : List ℕ
@@ -56,7 +68,7 @@ module _ {t : Table} {s : Store} {entries : List Entry} {c : Cabinet} (h : Holds
   unfolding step
   step-is o e = ap (λ (m : Machine). stepFrom t c p (processAt c p) (localStep (codeOf t p) m)) machine-is ∙ ap (stepFrom t c p (processAt c p)) e
 
-  exhausted-is : exhausted (processAt c p) ≡ spentIn row
+  pub exhausted-is : exhausted (processAt c p) ≡ spentIn row
   unfolding exhausted processOf
   exhausted-is = ap exhausted (at-process h p hp) ∙ ap (λ (b : Bool). b && leb eventsMost (getD row 7 0)) (limited-is row mail (getD (s .logs) p []) (getD (s .heads) p []))
 
@@ -67,6 +79,10 @@ module _ {t : Table} {s : Store} {entries : List Entry} {c : Cabinet} (h : Holds
   pub owing-is : owing (processAt c p) ≡ owingIn row
   unfolding owing
   owing-is = λ i. exhausted-is i || overrun-is i
+
+  -- which of the two is to blame
+  pub blame-is : refusalCause (owedFor (processAt c p)) ≡ blameIn row
+  blame-is = owed-cause (processAt c p) ∙ ap (λ (b : Bool). cond b 0 1) exhausted-is
 
   -- a process is limited where its row says so, and then its instructions and its events are few
   pub limited-here : (getD row 12 0 ≡ 0 → ⊥) → limited (processAt c p) ≡ true
@@ -94,6 +110,17 @@ module _ {t : Table} {s : Store} {entries : List Entry} {c : Cabinet} (h : Holds
     pub refused-36 : Intends (codeOf t p) row mail n code a operand NoMail → step t c p ≡ refuse (missing (instructionAt (codeOf t p) (processAt c p .machine)))
     unfolding stepFrom
     refused-36 i = step-is _ (i .outcome)
+
+    -- whether it was a FIRST, by the code that was fetched
+    pub missing-is : Intends (codeOf t p) row mail n code a operand NoMail
+        → refusalCause (missing (instructionAt (codeOf t p) (processAt c p .machine))) ≡ missingOf code
+    unfolding machineOf
+    missing-is i =
+        let e = i .fetched .length-is in
+        let here : getD row 1 0 < length (codeOf t p) = waits-inside (codeOf t p) (machineOf row mail) (i .outcome) in
+        ap (λ (m : Machine). refusalCause (missing (instructionAt (codeOf t p) m))) machine-is
+        ∙ ap (λ (x : rules.Instruction). refusalCause (missing x)) (i .fetched .instruction-is (omega arith))
+        ∙ missing-cause code a operand
 
 -- ---- what the move promises
 
@@ -132,20 +159,19 @@ module _ (table start lengths reader port : List ℕ) (rows mails boards : List 
   meant : (intent : Intent) → Means intent → Examined (getD rows p []) (getD mails p []) (getD lengths p 0) (j .code) (j .a) (j .operand) intent
   meant intent m = subst (Examined (getD rows p []) (getD mails p []) (getD lengths p 0) (j .code) (j .a) (j .operand)) (m .is) (m .examined)
 
-  pub steps-35 : Means Halted → r ≡ refusedWith 35 p → Promises rows mails boards totals
-  unfolding refusalNumber
+  pub steps-35 : Means Halted → r ≡ refusedWith 35 0 p → Promises rows mails boards totals
+  unfolding refusalNumber refusalCause
   steps-35 m g = record {
     turned = λ t sender logs heads waits entries c command reach wired programmed h f hp.
         turned-down command p isHalted h (refused-35 h p hp _ _ _ _ (intends Halted (meant Halted m) reach programmed h hp)) f g;
   }
 
-  pub steps-36 : Means NoMail → r ≡ refusedWith 36 p → Promises rows mails boards totals
-  unfolding refusalNumber
+  pub steps-36 : Means NoMail → r ≡ refusedWith 36 (missingOf (j .code)) p → Promises rows mails boards totals
   steps-36 m g = record {
     turned = λ t sender logs heads waits entries c command reach wired programmed h f hp.
-        turned-down command p (missing (instructionAt (codeOf t p) (processAt c p .machine))) h
-        (refused-36 h p hp _ _ _ _ (intends NoMail (meant NoMail m) reach programmed h hp)) f
-        (g ∙ ap (λ (n : ℕ). refusedWith n p) (sym (missing-number (instructionAt (codeOf t p) (processAt c p .machine)))));
+        let i = intends NoMail (meant NoMail m) reach programmed h hp in
+        turned-down command p (missing (instructionAt (codeOf t p) (processAt c p .machine))) h (refused-36 h p hp _ _ _ _ i) f
+        (g ∙ ap₂ (λ (n k : ℕ). refusedWith n k p) (sym (missing-number (instructionAt (codeOf t p) (processAt c p .machine)))) (sym (missing-is h p hp _ _ _ _ i)));
   }
 
   pub steps-calculated : {rows′ : List (List ℕ)} → Means Internal → CalculateTurns rows p (j .code) (j .a) (j .operand) rows′ r

@@ -1,5 +1,5 @@
 -- A step that takes a word, in the lists: the refusal 37, and the word that leaves its mailbox.
-use mathlib.Core.Path.{_≡_, refl, ap, sym, _∙_, subst}
+use mathlib.Core.Path.{_≡_, refl, ap, ap₂, sym, _∙_, subst}
 use mathlib.Core.Bool.{Bool, true, false}
 use mathlib.Core.List.{List, []}
 use Prim.Native.Nat.{ℕ, zero, suc, _+_, _-_, _%_, _^_, _≤_, _<_}
@@ -17,6 +17,7 @@ use Rattle.rules.specs.Table.{Table, codeOf, channelAt, portOf}
 use Rattle.rules.specs.Machine.{Mail, Machine, took}
 use Rattle.rules.specs.Cabinet.{Cabinet, Process, processAt, unreadOn}
 use Rattle.rules.specs.Moves.{guard, refuse, accept, owedFor, received, numbers, advanced, counting, oneTaken, step, stepFrom, withProcess}
+use Rattle.rules.specs.Reasons.{causeOf}
 use Rattle.rules.proofs.Steps.{Steps}
 use Rattle.rules.proofs.Counting.{step-unread}
 use Rattle.rules.proofs.Decoded.{owed-number}
@@ -32,8 +33,8 @@ use Rattle.state.proofs.Ends.{read-inside}
 use Rattle.state.proofs.Owners.{unread-own}
 use Rattle.state.proofs.Counters.{takes-few}
 use Rattle.state.proofs.Refusing.{turned-down}
-use Rattle.step.specs.Parts.{owingIn, TakeTurns}
-use Rattle.step.proofs.Stepping.{turned-to, machine-is, step-is, owing-is, limited-here, instructions-room, events-room}
+use Rattle.step.specs.Parts.{owingIn, blameIn, TakeTurns}
+use Rattle.step.proofs.Stepping.{turned-to, machine-is, step-is, owing-is, blame-is, limited-here, instructions-room, events-room}
 
 -- a row's receives on a port
 taken-at : (row mail log head : List ℕ) (port : ℕ) → port < ports → getD row (8 + port) 0 ≡ getD (processOf row mail log head .since .taken) port 0
@@ -154,11 +155,11 @@ take-at-its-index {port} {rows} {mails} {rows′} {mails′} {totals} {totals′
 }
 
 module _ (port : List ℕ) (rows mails : List (List ℕ)) (totals : List ℕ) (p code register at : ℕ) (r : Moved) where
-  pub take-37 : owingIn (getD rows p []) ≡ true → r ≡ refusedWith 37 p → TakeTurns port rows mails totals p code register at rows mails totals r
-  take-37 e g = record {
+  pub take-37 : owingIn (getD rows p []) ≡ true → (cause : ℕ) → cause ≡ blameIn (getD rows p []) → r ≡ refusedWith 37 cause p → TakeTurns port rows mails totals p code register at rows mails totals r
+  take-37 e cause b g = record {
     turned = λ t sender reader logs heads boards waits entries c command n operand reach wired i h f hp.
         turned-down command p (owedFor (processAt c p)) h (take-refused reach h p hp n code register operand at i e) f
-        (g ∙ ap (λ (k : ℕ). refusedWith k p) (sym (owed-number (processAt c p))));
+        (g ∙ ap₂ (λ (k z : ℕ). refusedWith k z p) (sym (owed-number (processAt c p))) (b ∙ sym (blame-is h p hp)));
   }
 
   -- no word stands past the mailbox's end
@@ -170,9 +171,9 @@ module _ (port : List ℕ) (rows mails : List (List ℕ)) (totals : List ℕ) (p
 
   pub take-done : (k : ℕ) (row′ mail′ : List ℕ) (left : ℕ) → owingIn (getD rows p []) ≡ false → (mailIn (getD (getD mails p []) at 0) .channel < 32 → k ≡ mailIn (getD (getD mails p []) at 0) .channel)
       → Takes (getD rows p []) (getD mails p []) code register at (getD port k 0) row′ mail′ → (left + 1) % 2 ^ 32 ≡ getD totals k 0 → left < 2 ^ 32
-      → r ≡ aloneOf (answerOf 1 (mailIn (getD (getD mails p []) at 0) .channel) (mailIn (getD (getD mails p []) at 0) .word))
+      → r ≡ aloneOf (answerOf 1 0 (mailIn (getD (getD mails p []) at 0) .channel) (mailIn (getD (getD mails p []) at 0) .word))
       → TakeTurns port rows mails totals p code register at (set rows p row′) (set mails p mail′) (set totals k left) r
-  unfolding numbers
+  unfolding numbers causeOf
   take-done k row′ mail′ left e is-k takes is-left fits g = record {
     turned = λ t sender reader logs heads boards waits entries c command n operand reach wired i h f hp.
         let x : Mail = mailIn (getD (getD mails p []) at 0) in
@@ -185,5 +186,5 @@ module _ (port : List ℕ) (rows mails : List (List ℕ)) (totals : List ℕ) (p
         (subst (λ (j : ℕ). Takes (getD rows p []) (getD mails p []) code register at j row′ mail′) is-port takes) (is-left ∙ ap (λ (j : ℕ). getD totals j 0) kk) fits in
         let after : ℕ → Store = λ j. storeOf (set rows p row′) (set mails p mail′) logs heads boards (set totals j left) waits in
         subst (λ (j : ℕ). Turned t (after j) entries c command (step t c p) r) (sym kk)
-        (turned-to entries command (aloneOf (answerOf 1 (x .channel) (x .word))) _ (received x) (take-accepted reach h p hp n code register operand at i e) g refl there);
+        (turned-to entries command (aloneOf (answerOf 1 0 (x .channel) (x .word))) _ (received x) (take-accepted reach h p hp n code register operand at i e) g refl refl there);
   }

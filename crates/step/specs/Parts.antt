@@ -2,7 +2,7 @@
 -- Document 01: "For TAKE and FIRST: 36 no such word, then 37 if backed and acts are 8. For a SEND not held back: 37 likewise, 38 queue
 -- full, 39 held." W-204: "a sync after 64 instructions [..]. Every kind of instruction then answers 37".
 use mathlib.Core.Path.{_≡_}
-use mathlib.Core.Bool.{Bool, not, _&&_, _||_}
+use mathlib.Core.Bool.{Bool, not, cond, _&&_, _||_}
 use mathlib.Core.List.{List, []}
 use Prim.Native.Nat.{ℕ, _+_, _<_}
 use lib.Dec.{eqb, leb}
@@ -29,6 +29,14 @@ overrunIn row = not (eqb (getD row 12 0) 0) && leb instructionsMost (getD row 15
 -- a sync is owed
 abbrev pub owingIn : List ℕ → Bool
 owingIn row = spentIn row || overrunIn row
+
+-- W-206: "Code 37: 1 when only the 64 instructions are to blame", of a row whose process owes a sync
+abbrev pub blameIn : List ℕ → ℕ
+blameIn row = cond (spentIn row) 0 1
+
+-- W-206: "Code 36: 1 for FIRST.", by the instruction's code
+abbrev pub missingOf : ℕ → ℕ
+missingOf code = cond (eqb code 4) 1 0
 
 -- Process a's instruction computes. Whatever the lists are that it isn't lent.
 pub record CalculateTurns (rows : List (List ℕ)) (a code register operand : ℕ) (rows′ : List (List ℕ)) (r : Moved) : Type 0 where

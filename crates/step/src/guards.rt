@@ -1,7 +1,7 @@
 // Whether a process owes a sync. "37 if backed and acts are 8"; W-204: "A backed process now also owes a sync after 64 instructions done
 // since its last sync was issued."
 ghost use mathlib.Core.Path.{_≡_};
-ghost use Rattle.step.specs.Parts.{spentIn, overrunIn, owingIn};
+ghost use Rattle.step.specs.Parts.{spentIn, overrunIn, owingIn, blameIn};
 use process::row::EVENTS;
 use process::row::INSTRUCTIONS;
 use process::row::PROTECTED;
@@ -31,4 +31,11 @@ pub fn owing(row: &[u32; ROW]) -> bool
     ensures { λ r. ⌜ r ≡ owingIn (now (row .entry)) ⌝ }
 {
     spent(row) || overrun(row)
+}
+
+// W-206, of a process that owes a sync: "1 when only the 64 instructions are to blame".
+pub fn blame(row: &[u32; ROW]) -> u32
+    ensures { λ r. ⌜ r ≡ blameIn (now (row .entry)) ⌝ }
+{
+    if spent(row) { 0 } else { 1 }
 }

@@ -1,6 +1,7 @@
 // A step that sends a word: "A SEND with hold-back above 0 lowers it by one and sends nothing. Otherwise the word joins its board's
 // queue." "For a SEND not held back: 37 likewise, 38 queue full, 39 held."
 ghost use Rattle.step.specs.Parts.{SendTurns};
+use crate::guards::blame;
 use crate::guards::owing;
 use instruction::instruction::queue_send;
 use instruction::instruction::suppress_send;
@@ -39,20 +40,21 @@ pub fn send(
         suppress_send(&mut rows[p]);
         return alone(Answer {
             code: 3,
+            cause: 0,
             a: channel,
             word: word,
         });
     }
     if owing(&rows[p]) {
-        return refused(37, a);
+        return refused(37, blame(&rows[p]), a);
     }
     let b = index16(rows[p][BOARD]);
     if boards[b][COUNT] >= QUEUE {
-        return refused(38, a);
+        return refused(38, 0, a);
     }
     let k = index32(channel);
     if held(reader[k], totals[k]) {
-        return refused(39, a);
+        return refused(39, 0, a);
     }
     let at = place(&boards[b], b);
     queue_send(&mut rows[p]);
@@ -61,6 +63,7 @@ pub fn send(
     Moved {
         answer: Answer {
             code: 2,
+            cause: 0,
             a: channel,
             word: word,
         },

@@ -1,4 +1,6 @@
 // Move 1: one instruction of a process. "Step: 35 halted. For TAKE and FIRST: 36 no such word, then 37 [..]."
+ghost use mathlib.Core.Path.{_≡_};
+ghost use Rattle.step.specs.Parts.{missingOf};
 ghost use Rattle.step.specs.Steps.{Steps};
 use crate::calculate::calculate;
 use crate::send::send;
@@ -14,6 +16,13 @@ use state::board::index16;
 use state::board::wide;
 use state::moved::Moved;
 use state::moved::refused;
+
+// W-206: "Code 36: 1 for FIRST."
+fn missing(code: u8) -> u32
+    ensures { λ r. ⌜ r ≡ missingOf code ⌝ }
+{
+    if code == 4 { 1 } else { 0 }
+}
 
 pub fn step(
     table: &[u8],
@@ -32,8 +41,8 @@ pub fn step(
     let p = index16(a);
     let i = fetch(table, wide(start[p]), wide(rows[p][PC]));
     match examine(&rows[p], &mails[p], lengths[p], i.code, i.a, i.operand) {
-        Intent::Halted => refused(35, a),
-        Intent::NoMail => refused(36, a),
+        Intent::Halted => refused(35, 0, a),
+        Intent::NoMail => refused(36, missing(i.code), a),
         Intent::Internal => calculate(rows, a, i.code, i.a, i.operand),
         Intent::Take { at } => take(port, rows, mails, totals, a, i.code, i.a, at),
         Intent::Send { channel, word } => send(reader, rows, boards, totals, a, channel, word),

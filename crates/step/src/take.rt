@@ -1,6 +1,7 @@
 // A step that takes a word: "For TAKE and FIRST: [..] 37 if backed and acts are 8", or 64 instructions (W-204). The word leaves the
 // mailbox, and its channel's total is one less.
 ghost use Rattle.step.specs.Parts.{TakeTurns};
+use crate::guards::blame;
 use crate::guards::owing;
 use instruction::instruction::take_word;
 use process::mail::MAIL;
@@ -29,10 +30,10 @@ pub fn take(
 {
     let p = index16(a);
     if owing(&rows[p]) {
-        return refused(37, a);
+        return refused(37, blame(&rows[p]), a);
     }
     if at >= MAIL {
-        return refused(36, a);
+        return refused(36, 0, a);
     }
     let x = mails[p][at];
     let channel = channel_of(x);
@@ -41,6 +42,7 @@ pub fn take(
     totals[k] = std::num::wrapping_sub_u32(totals[k], 1);
     alone(Answer {
         code: 1,
+        cause: 0,
         a: channel,
         word: word_of(x),
     })

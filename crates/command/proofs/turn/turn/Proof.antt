@@ -18,11 +18,14 @@ use Rattle.state.proofs.moved.refused.Reads as refused-reads
 judge-requires : tie.Need-judge-requires
 judge-requires c κs = search needs
 
+cause-requires : tie.Need-cause-requires
+cause-requires c κs = search needs
+
 refused-requires : tie.Need-refused-requires
 refused-requires c κs = search needs
 
 returns : tie.Need-returns
-returns c = let s = c .before .before .before .before .args in let j = c .before .before .judge in turn-refused (lentOf (s .table .now) (s .boards-many) (s .processes) (s .channels) (s .start .now) (s .lengths .now) (s .sender .now) (s .reader .now) (s .port .now) (s .ins .now) (s .arity .now)) (storeOf (s .rows .now) (s .mails .now) (s .logs .now) (s .heads .now) (s .boards .now) (s .totals .now) (s .waits .now)) (s .mv) (s .a) (s .word) (j .result) (j .ensures) _ (c .before .if1 .taken) (c .refused .ensures)
+returns c = let s = c .before .before .before .before .before .args in let j = c .before .before .before .judge in turn-refused (lentOf (s .table .now) (s .boards-many) (s .processes) (s .channels) (s .start .now) (s .lengths .now) (s .sender .now) (s .reader .now) (s .port .now) (s .ins .now) (s .arity .now)) (storeOf (s .rows .now) (s .mails .now) (s .logs .now) (s .heads .now) (s .boards .now) (s .totals .now) (s .waits .now)) (s .mv) (s .a) (s .word) (j .result) (j .ensures) _ (c .before .before .if1 .taken) _ (c .before .cause .ensures) (c .refused .ensures)
 
 step-requires : tie.Need-step-requires
 step-requires c κs = search needs
@@ -65,6 +68,7 @@ turn-spec =
     tie.close
     (tie.spec
     judge-requires
+    cause-requires
     refused-requires
     returns
     step-requires

@@ -59,16 +59,25 @@ index-1-owing c = search needs
 owing-requires : tie.Need-owing-requires
 owing-requires c κs = search needs
 
+mul-blame : tie.Need-mul-blame
+mul-blame c = search needs
+
+index-1-blame : tie.Need-index-1-blame
+index-1-blame c = search needs
+
+blame-requires : tie.Need-blame-requires
+blame-requires c κs = search needs
+
 refused-requires : tie.Need-refused-requires
 refused-requires c κs = search needs
 
 returns-2 : tie.Need-returns-2
 returns-2 c =
-    let s = c .before .before .before .before .before .before .before in
-    let p = c .before .before .before .before .before .before .index16 in
-    let none = c .before .before .before .before .if1 .left in
+    let s = c .before .before .before .before .before .before .before .before .before in
+    let p = c .before .before .before .before .before .before .before .before .index16 in
+    let none = c .before .before .before .before .before .before .if1 .left in
     send-at-its-index (p .result) (s .args .a) (p .ensures .1)
-    (λ e. send-37 (s .args .reader .now) (s .args .rows .now) (s .args .boards .now) (s .args .totals .now) (p .result) (s .args .channel) (s .args .word) _ (omega arith) (sym (c .before .before .owing .ensures) ∙ c .before .if2 .taken) (rw (← e) (c .refused .ensures)))
+    (λ e. send-37 (s .args .reader .now) (s .args .rows .now) (s .args .boards .now) (s .args .totals .now) (p .result) (s .args .channel) (s .args .word) _ (omega arith) (sym (c .before .before .before .before .owing .ensures) ∙ c .before .before .before .if2 .taken) _ (c .before .blame .ensures) (rw (← e) (c .refused .ensures)))
 
 mul-index16 : tie.Need-mul-index16
 mul-index16 c = search needs
@@ -188,7 +197,7 @@ returns-5 c =
     (λ e. rw (c .before .before .push .ensures, c .wrapping-add-u32 .ensures)
     (send-queued (s .args .reader .now) (s .args .rows .now) (s .args .boards .now) (s .args .totals .now) (p .result) (s .args .channel) (s .args .word) _ (omega arith) (sym (c .before .before .before .before .before .before .before .before .before .before .before .before .before .before .before .before .before .before .owing .ensures) ∙ c .before .before .before .before .before .before .before .before .before .before .before .before .before .before .before .before .before .if2 .left) (b .result) (b .ensures .1) (c .before .before .before .before .before .before .before .before .before .before .before .before .before .if3 .left) (k .result) (k .ensures .1) (c .before .before .before .before .queue-send .last .0) (sym (c .before .before .before .before .before .before .before .before .before .held .ensures) ∙ c .before .before .before .before .before .before .before .before .if4 .left) (c .before .before .before .before .queue-send .ensures)
     (rw (← at .ensures .1 (b .ensures .0)) (at .ensures .0))
-    (λ i. record { answer = record { code = 2; a = s .args .channel; word = s .args .word }; at = at .ensures .1 (b .ensures .0) i; entry = record { item = Word (s .args .channel) (s .args .word) } })))
+    (λ i. record { answer = record { code = 2; cause = 0; a = s .args .channel; word = s .args .word }; at = at .ensures .1 (b .ensures .0) i; entry = record { item = Word (s .args .channel) (s .args .word) } })))
 
 pub send-spec : {M : Type 1} → statement M
 send-spec =
@@ -206,6 +215,9 @@ send-spec =
     mul-owing
     index-1-owing
     owing-requires
+    mul-blame
+    index-1-blame
+    blame-requires
     refused-requires
     returns-2
     mul-index16

@@ -71,6 +71,9 @@ refused-requires c κs = search needs
 enum-told-2 : tie.Need-enum-told-2
 enum-told-2 c = search needs
 
+missing-requires : tie.Need-missing-requires
+missing-requires c κs = search needs
+
 refused-requires-2 : tie.Need-refused-requires-2
 refused-requires-2 c κs = search needs
 
@@ -105,14 +108,14 @@ returns c =
 
 returns-2 : tie.Need-returns-2
 returns-2 c =
-    let s = c .before .before .before .before .before .before .before .before .before .before .before .before .before .before in
-    let p = c .before .before .before .before .before .before .before .before .before .before .before .before .index16 in
-    let j = c .before .before .before .before .before .before .before .fetch in
-    let k = c .before .before .before .before .before .before .before .before .wide2 .ensures .0 in
-    let f = c .before .before .before .before .before .before .before .before .before .before .wide .ensures .0 in
-    let x = c .before .before .before .examine in
+    let s = c .before .before .before .before .before .before .before .before .before .before .before .before .before .before .before in
+    let p = c .before .before .before .before .before .before .before .before .before .before .before .before .before .index16 in
+    let j = c .before .before .before .before .before .before .before .before .fetch in
+    let k = c .before .before .before .before .before .before .before .before .before .wide2 .ensures .0 in
+    let f = c .before .before .before .before .before .before .before .before .before .before .before .wide .ensures .0 in
+    let x = c .before .before .before .before .examine in
     step-at-its-index (p .result) (s .args .a) (p .ensures .1)
-    (λ e. steps-36 (s .args .table .now) (s .args .start .now) (s .args .lengths .now) (s .args .reader .now) (s .args .port .now) (s .args .rows .now) (s .args .mails .now) (s .args .boards .now) (s .args .totals .now) (p .result) _ (j .result) (rw (← f, ← k) (j .ensures)) (record { seen = x .result; examined = x .ensures; is = c .before .enum-told2 .given .1 }) (rw (← e) (c .refused2 .ensures)))
+    (λ e. steps-36 (s .args .table .now) (s .args .start .now) (s .args .lengths .now) (s .args .reader .now) (s .args .port .now) (s .args .rows .now) (s .args .mails .now) (s .args .boards .now) (s .args .totals .now) (p .result) _ (j .result) (rw (← f, ← k) (j .ensures)) (record { seen = x .result; examined = x .ensures; is = c .before .before .enum-told2 .given .1 }) (rw (← e, ← c .before .missing .ensures) (c .refused2 .ensures)))
 
 returns-3 : tie.Need-returns-3
 returns-3 c =
@@ -170,6 +173,7 @@ step-spec =
     enum-told
     refused-requires
     enum-told-2
+    missing-requires
     refused-requires-2
     enum-told-3
     calculate-requires
