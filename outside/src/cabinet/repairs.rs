@@ -24,6 +24,14 @@ fn small_table(random: &mut Random) -> Table {
     }
 }
 
+/// The bus order of a run, which was compared already, is that of a plain run, and so is a quiet end; whether it is one.
+fn demand_3(table: &Table, records: &[Record]) -> bool {
+    let mut cabinet = Cabinet::new(table);
+    let run: Vec<_> = records.iter().map(|&record| (record, cabinet.answer(record))).collect();
+    transparent(table, &run, &cabinet).unwrap_or_else(|fault| panic!("{fault}: {table:?} {run:?}"));
+    cabinet.quiet()
+}
+
 /// The cabinet goes on from there with other records, which suit it.
 fn led_on(random: &mut Random, table: &Table, mut records: Vec<Record>, lengths: &[usize]) -> Vec<Record> {
     let more = random.pick(lengths);
@@ -54,6 +62,7 @@ pub fn returned(comparison: &mut Comparison, random: &mut Random) {
                 records = led_on(random, &table, records, &[0, 10]);
             }
             compare(comparison, random, RETURNED, &bytes, &records);
+            demand_3(&table, &records);
         }
     }
 }
@@ -73,6 +82,7 @@ pub fn pulled_again(comparison: &mut Comparison, random: &mut Random) {
             let records = if random.once_in(3) { crashed } else { [&crashed[..], &lead[place..]].concat() };
             let records = led_on(random, &table, records, &[0, 10, 40]);
             compare(comparison, random, AGAIN, &bytes, &records);
+            demand_3(&table, &records);
         }
     }
 }
@@ -82,8 +92,5 @@ pub fn often(comparison: &mut Comparison, random: &mut Random, crashes: usize, r
     let table = row(random);
     let records = crash_after_crash(random, &table, crashes, records);
     compare(comparison, random, OFTEN, &encode_table(&table), &records);
-    let mut cabinet = Cabinet::new(&table);
-    let run: Vec<_> = records.iter().map(|&record| (record, cabinet.answer(record))).collect();
-    assert!(cabinet.quiet(), "a run doesn't come to rest: {table:?} {run:?}");
-    transparent(&table, &run, &cabinet).unwrap_or_else(|fault| panic!("{fault}: {table:?} {run:?}"));
+    assert!(demand_3(&table, &records), "a run doesn't come to rest: {table:?} {records:?}");
 }

@@ -185,6 +185,15 @@ fn words_since_issue() {
 }
 
 #[test]
+fn takes_start_from_0() {
+    // 5 was taken before the issue and is in no copy; the next sync drops 7 alone.
+    let table = table(&[Take { a: 0, channel: 0 }, Jump { a: 0, place: 0 }]);
+    let lead = [crash(1), give_back(1), feed(0, 5), feed(0, 7), feed(0, 9), step(0), step(0), resync(0), step(0)];
+    let answers = last(&table, &lead, [carry(0), sync(0), carry(0)]);
+    assert_eq!(answers, [(5, 0, 0, 3), (0, 0, 0, 1), (5, 0, 1, 0)]);
+}
+
+#[test]
 fn words_in_front_are_not_counted() {
     let program = [Set { a: 0, word: 3 }, Send { a: 0, channel: 1 }, Send { a: 0, channel: 1 }];
     let table = table(&program);
