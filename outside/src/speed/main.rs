@@ -13,7 +13,7 @@ use mixes::{claimed, others, Input, Mix, RECORDS};
 use outside::random::Random;
 use outside::rules::generate::{encode_schedule, encode_table, schedule, table};
 use outside::rules::lent::Lent;
-use outside::rules::repairs::row;
+use outside::rules::repairs::{crash_after_crash, row};
 use timing::time;
 
 const SEED: u64 = 0xE703_7ED1_A0B4_28DB;
@@ -24,12 +24,13 @@ const GROWTH: [&str; 3] = ["steps mostly", "feeds, full inboxes", "the even mix"
 
 /// The plain run is a right one: on generated runs it equals the simulator's.
 fn check_plain(random: &mut Random) {
-    for _ in 0..2_000 {
-        let table = if random.once_in(2) { row(random) } else { table(random) };
-        let schedule = encode_schedule(&schedule(random, &table, 200));
-        let table = encode_table(&table);
-        let wanted = outside::rules::run::run(&table, &schedule, Lent::needed(200, 16));
-        let mut lent = Lent::needed(200, 16).filled(0);
+    for i in 0..2_000 {
+        let table = if i % 2 == 0 { row(random) } else { table(random) };
+        let records = if i % 4 == 0 { crash_after_crash(random, &table, 3, 150) } else { schedule(random, &table, 200) };
+        let lengths = Lent::needed(records.len(), table.processes.len());
+        let (table, schedule) = (encode_table(&table), encode_schedule(&records));
+        let wanted = outside::rules::run::run(&table, &schedule, lengths);
+        let mut lent = lengths.filled(0);
         let returned = baseline::run(&table, &schedule, lent.lend());
         assert!(returned == wanted.outcome.returned() && returned as u8 == 0, "the plain run returns {returned:#x}");
         assert!(lent == wanted.lent, "the plain run is none");
@@ -57,11 +58,11 @@ impl Asked {
         among.into_iter().filter(|mix| mix.name.contains(&self.named))
     }
 
-    /// A line for each mix, in nanoseconds a record; the largest ratios.
-    fn print_mixes(&self, among: Vec<Mix>) -> [f64; 2] {
+    /// A line for each mix, in nanoseconds a record; the largest ratios, and the least share of records not refused.
+    fn print_mixes(&self, among: Vec<Mix>) -> ([f64; 2], f64) {
         println!("| mix | step | sync | carry | feed | other | not refused | ours | median | plain | median | floor | ratio | of medians |");
         println!("|---|---|---|---|---|---|---|---|---|---|---|---|---|---|");
-        let mut worst = [0.0f64; 2];
+        let (mut worst, mut least) = ([0.0f64; 2], 100.0f64);
         for mix in self.mixes(among) {
             let input = mix.draw(&mut Random::new(self.seed), RECORDS);
             let shares: Vec<String> = input.moves.iter().map(|share| format!("{share:.0}%")).collect();
@@ -73,8 +74,9 @@ impl Asked {
             let (shares, times) = (shares.join(" | "), times.join(" | "));
             println!("| {} | {shares} | {accepted:.1}% | {times} | {:.2} | {:.2} |", mix.name, ratio[0], ratio[1]);
             worst = [worst[0].max(ratio[0]), worst[1].max(ratio[1])];
+            least = least.min(accepted);
         }
-        worst
+        (worst, least)
     }
 
     /// Whole calls with 0, 100, 1,000 and 10,000 records in microseconds, and what a record takes above a call with none. A round has 10,000
@@ -112,11 +114,11 @@ fn main() {
     );
     println!("Whole calls: table and schedule judged, answers, reasons and report written.");
     println!("\n16 processes, nanoseconds a record, the quickest run and the median:\n");
-    let worst = asked.print_mixes(claimed());
+    let (worst, least) = asked.print_mixes(claimed());
     println!("\nThe label line, of 2 processes, and records that are refused mostly:\n");
     asked.print_mixes(others());
     println!("\nWhole calls, the quickest, in microseconds, and nanoseconds a record above a call with none:\n");
     asked.print_growth(claimed());
-    println!("\nEvery run's number, answers, reasons and report were those of the plain run. On 16 processes with most records not refused");
-    println!("the largest ratio is {:.2}, of medians {:.2}.", worst[0], worst[1]);
+    println!("\nEvery run's number, answers, reasons and report were those of the plain run. On 16 processes, with {least:.1}% or more of the records");
+    println!("not refused, the largest ratio is {:.2}, of medians {:.2}.", worst[0], worst[1]);
 }

@@ -128,6 +128,6 @@ pub fn claimed() -> Vec<Mix> {
 pub fn others() -> Vec<Mix> {
     vec![
         Mix::new("the label line", line::table(1), [50, 6, 30, 6]),
-        Mix { kept: 1, ..Mix::new("refused mostly", lines(0), [20, 60, 60, 60]) },
+        Mix { kept: 1, ..Mix::new("refused mostly", lines(0), [10, 60, 120, 60]) },
     ]
 }
