@@ -13,7 +13,7 @@ use Rattle.backup.specs.Limits.{logMost, ports, pcMost}
 use Rattle.backup.specs.Replica.{Message, Replica, savedOn, takenOn, lacking, sync, syncNumber, synced}
 use Rattle.backup.specs.Laws.{saved-remaining}
 use Rattle.backup.specs.Accepts.{fit-parts, enough, answer-number, answer-done, sync-accepted, synced-fit}
-use Rattle.backup.specs.Place.{messages, viewIn, tallyIn, headLength, Sound, Called, takenOf, checkpointOf, lacksIn, Compacted, restatedIn, reportOf, refusedOf, landedIn, Reports}
+use Rattle.backup.specs.Place.{messages, viewIn, tallyIn, headLength, Sound, Called, takenOf, checkpointOf, lacksIn, Compacted, restatedIn, reportOf, refusedOf, landedIn, Reports, syncNumberIn}
 use Rattle.backup.specs.Report.{syncReport}
 use Rattle.backup.specs.ReportLaws.{syncReport-accepted, syncReport-refused, gone-taken}
 use Rattle.backup.specs.Rounds.{allTaken, syncRounds, syncRounds-none, syncRounds-some, OnePass, onePass-by}
@@ -140,3 +140,20 @@ module _ (log head : List ℕ) (c : Checkpoint) where
             remained = listed-same (tallyIn head′) (λ p. savedOn p (synced v (checkpointOf c) .log)) ports there i;
           })
           ∙ sym (syncReport-accepted v (checkpointOf c) z)
+
+-- ---- its number, of any head
+
+module _ (head : List ℕ) (c : Checkpoint) where
+  pub sync-number-21 : pcMost < c .pc → 21 ≡ syncNumberIn head c
+  sync-number-21 h = rw (lt-ltb pcMost (c .pc) h)
+
+  module _ (h : c .pc ≤ pcMost) where
+    pub sync-number-23 : lacksIn head (takenOf c) ≡ true → 23 ≡ syncNumberIn head c
+    sync-number-23 l = rw (le-ltb pcMost (c .pc) h, l)
+
+    module _ (l : lacksIn head (takenOf c) ≡ false) where
+      pub sync-number-20 : logMost < getD head 0 0 → 20 ≡ syncNumberIn head c
+      sync-number-20 k = rw (le-ltb pcMost (c .pc) h, l, lt-ltb logMost (getD head 0 0) k)
+
+      pub sync-number-0 : getD head 0 0 ≤ logMost → 0 ≡ syncNumberIn head c
+      sync-number-0 k = rw (le-ltb pcMost (c .pc) h, l, le-ltb logMost (getD head 0 0) k)
