@@ -9,8 +9,12 @@ pub mod Ahead
 pub mod Good
 pub mod Tally
 pub mod Replays
+pub mod Links
 pub mod Backups
 pub mod GoodMoves
+pub mod Carried
+pub mod Copies
+pub mod Transfers
 -- the whole cabinet, and each move followed by the reference machine:
 pub mod Invariant
 pub mod Guards

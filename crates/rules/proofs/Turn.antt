@@ -15,9 +15,9 @@ use Rattle.rules.specs.Transparent.{traceOf, fedOf}
 use Rattle.rules.proofs.Invariant.{Invariant, Roomy}
 use Rattle.rules.proofs.Decoded.{isFeed, moveOf-feed, refusalNumber-not-4}
 use Rattle.rules.proofs.Guards.{fedMail, Done, yields-turn}
-use Rattle.rules.proofs.Follow.{Follows, traced1, stay, follows-then, follow-computing, follow-taking, follow-suppressing, follow-sending, follow-issue}
-use Rattle.rules.proofs.Transmission.{follow-transmit, follow-sync, follow-inject}
-use Rattle.rules.proofs.CrashKeeps.{follow-crash}
+use Rattle.rules.proofs.Follow.{Follows, traced1, stay, follows-then, follow-computing, follow-taking, follow-suppressing, follow-sending, follow-issue, follow-rebackup}
+use Rattle.rules.proofs.Transmission.{follow-transmit, follow-sync, follow-transfer, follow-inject}
+use Rattle.rules.proofs.CrashKeeps.{follow-crash, follow-rejoin}
 use Rattle.rules.proofs.Room.{Room}
 use Rattle.rules.proofs.Sizes.{roomy}
 use Rattle.rules.proofs.KeepRoom.{turn-room}
@@ -64,8 +64,11 @@ module _ {t : Table} (ok : Accepted t) {c : Cabinet} {s : Reference} (inv : Inva
     issues = λ h safe none-waits _. follow-issue ok inv (r .a) (there h) safe none-waits;
     transmits = λ _ _ mail rest e. follow-transmit ok inv room (r .a) mail rest e;
     syncs = λ _ _ p k rest e. landed-silent p (droppedFrom k (processAt c p .standby)) (protected (processAt c p)) (follow-sync ok inv (r .a) p k rest e);
+    completes = λ _ _ p rest e. follow-transfer ok inv (r .a) p rest e;
     injects = λ h outside free. follow-inject ok inv room (fedMail r) h outside free;
-    crashes = λ h alive none-dead. follow-crash ok inv (r .a) h alive none-dead;
+    crashes = λ _ _ safe. follow-crash ok inv (r .a) safe;
+    rejoins = λ h fallen. follow-rejoin inv (r .a) h fallen;
+    rebacks = λ h bare alive settled _ none-waits _. follow-rebackup ok inv (r .a) (there h) (room .for-copies (r .a) (there h)) bare alive settled none-waits;
   }
 
   turn-follows : Follows t (turn t c r .cabinet) s (traced1 (turn t c r .answer)) (fedBy (moveOf (r .move)) r (turn t c r .answer))

@@ -1,4 +1,4 @@
--- Document 01 as definitions: read Sizes, Table, Machine, Reference, Cabinet and Moves in this order, then Transparent; for the bytes
+-- Document 01 as definitions: read Sizes, Table, Machine, Reference, Cabinet, Moves/Answers and Moves in this order, then Transparent; for the bytes
 -- Bytes, Format, Schedule, Run and Transparency, and Page.
 pub mod Sizes
 pub mod Table
