@@ -45,6 +45,7 @@ pub mod Reached
 pub mod RollForward
 -- Tables and runs in bytes.
 pub mod Valid
+pub mod FirstVersion
 pub mod ReadBack
 pub mod Encoding
 pub mod Apart

@@ -1,14 +1,16 @@
 -- The sizes that document 01 gives the cabinet, its table and its schedule, each named once; those of the backup record, the largest program
 -- among them, are its `Limits`. What stands above passes them on. The code names the same numbers in table/src/format.rt, state/src/board.rt,
 -- state/src/channel.rt and step/src/guards.rt.
+use mathlib.Core.Bool.{Bool, cond}
 use Prim.Native.Nat.{ℕ, _+_, _*_}
+use lib.Dec.{eqb}
 use Rattle.backup.specs.Limits.{ports}
 
 -- ---- the table
 
--- "Bytes 0 and 1: the length of all that follows them, at most 6,260."
+-- "Bytes 0 and 1: the length of all that follows them, at most 6,260." W-207: "The table's length limit becomes 6,276", whatever the version
 abbrev pub tableMost : ℕ
-tableMost = 6260
+tableMost = 6276
 
 -- "boards B, 2 to 16", "processes P, 1 to 16", "channels C, 1 to 32"
 abbrev pub boardsLeast : ℕ
@@ -23,9 +25,20 @@ processesMost = 16
 abbrev pub channelsMost : ℕ
 channelsMost = 32
 
--- "one record for each process: primary board, backup board, n [..], and n instructions": the bytes before the instructions
-abbrev pub recordHead : ℕ
-recordHead = 3
+-- W-207: "Table version 2 adds a limit byte": whether a table of this version has limits, and how many limit bytes a process's record has
+abbrev pub withLimits : ℕ → Bool
+withLimits version = eqb version 2
+
+abbrev pub limitBytes : ℕ → ℕ
+limitBytes version = cond (withLimits version) 1 0
+
+-- "one record for each process: primary board, backup board, n [..], and n instructions", the limit "between the backup board and n": where n
+-- stands, and the bytes before the instructions
+abbrev pub lengthPlace : ℕ → ℕ
+lengthPlace version = 2 + limitBytes version
+
+abbrev pub recordHead : ℕ → ℕ
+recordHead version = 1 + lengthPlace version
 
 -- ---- the schedule
 
