@@ -5,12 +5,12 @@ ghost use Prim.Native.Nat.{_<_};
 ghost use Rattle.state.specs.Store.{storeOf};
 ghost use Rattle.command.specs.Plan.{lentOf};
 ghost use Rattle.cabinet.specs.Plays.{Plays};
+use backup::limits::LOG;
 use backup::place::HEAD;
 use bus::transmit::oldest;
 use command::turn::carry;
 use command::turn::turn;
 use outcome::answer::put;
-use process::mail::MAIL;
 use process::row::ROW;
 use records::schedule::command_at;
 use state::board::BOARD_ROW;
@@ -40,8 +40,8 @@ pub fn play(
     ins: &[u32; 64],
     arity: &[u32; 16],
     rows: &mut [[u32; ROW]; 16],
-    mails: &mut [[u64; MAIL]; 16],
-    logs: &mut [[u64; MAIL]; 16],
+    mails: &mut [[u64; LOG]; 16],
+    logs: &mut [[u64; LOG]; 16],
     heads: &mut [[u32; HEAD]; 16],
     boards: &mut [[u32; BOARD_ROW]; 16],
     totals: &mut [u32; 32],

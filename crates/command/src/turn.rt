@@ -5,11 +5,11 @@ ghost use Rattle.rules.specs.Moves.{moveOf};
 ghost use Rattle.state.specs.Store.{storeOf};
 ghost use Rattle.command.specs.Plan.{lentOf};
 ghost use Rattle.command.specs.Turns.{beyondOf, numberOf, wordedOf, judgeOf, Turns, Carries};
+use backup::limits::LOG;
 use backup::place::HEAD;
 use bus::inject::inject;
 use bus::transmit::transmit;
 use crash::crash::crash;
-use process::mail::MAIL;
 use process::row::ROW;
 use state::board::BOARD_ROW;
 use state::board::wide;
@@ -74,8 +74,8 @@ pub fn turn(
     ins: &[u32; 64],
     arity: &[u32; 16],
     rows: &mut [[u32; ROW]; 16],
-    mails: &mut [[u64; MAIL]; 16],
-    logs: &mut [[u64; MAIL]; 16],
+    mails: &mut [[u64; LOG]; 16],
+    logs: &mut [[u64; LOG]; 16],
     heads: &mut [[u32; HEAD]; 16],
     boards: &mut [[u32; BOARD_ROW]; 16],
     totals: &mut [u32; 32],
@@ -146,8 +146,8 @@ pub fn carry(
     reader: &[u32; 32],
     port: &[u32; 32],
     rows: &mut [[u32; ROW]; 16],
-    mails: &mut [[u64; MAIL]; 16],
-    logs: &mut [[u64; MAIL]; 16],
+    mails: &mut [[u64; LOG]; 16],
+    logs: &mut [[u64; LOG]; 16],
     heads: &mut [[u32; HEAD]; 16],
     boards: &mut [[u32; BOARD_ROW]; 16],
     totals: &mut [u32; 32],

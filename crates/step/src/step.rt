@@ -3,9 +3,9 @@ ghost use Rattle.step.specs.Steps.{Steps};
 use crate::calculate::calculate;
 use crate::send::send;
 use crate::take::take;
+use backup::limits::LOG;
 use instruction::instruction::Intent;
 use instruction::instruction::examine;
-use process::mail::MAIL;
 use process::row::PC;
 use process::row::ROW;
 use records::fetch::fetch;
@@ -22,7 +22,7 @@ pub fn step(
     reader: &[u32; 32],
     port: &[u32; 32],
     rows: &mut [[u32; ROW]; 16],
-    mails: &mut [[u64; MAIL]; 16],
+    mails: &mut [[u64; LOG]; 16],
     boards: &mut [[u32; BOARD_ROW]; 16],
     totals: &mut [u32; 32],
     a: u32,

@@ -2,8 +2,8 @@
 // mailbox, and its channel's total is one less.
 ghost use Rattle.step.specs.Parts.{TakeTurns};
 use crate::guards::owing;
+use backup::limits::LOG;
 use instruction::instruction::take_word;
-use process::mail::MAIL;
 use process::mail::channel_of;
 use process::mail::word_of;
 use process::row::ROW;
@@ -18,7 +18,7 @@ use state::moved::refused;
 pub fn take(
     port: &[u32; 32],
     rows: &mut [[u32; ROW]; 16],
-    mails: &mut [[u64; MAIL]; 16],
+    mails: &mut [[u64; LOG]; 16],
     totals: &mut [u32; 32],
     a: u32,
     code: u8,
@@ -31,7 +31,7 @@ pub fn take(
     if owing(&rows[p]) {
         return refused(37, a);
     }
-    if at >= MAIL {
+    if at >= LOG {
         return refused(36, a);
     }
     let x = mails[p][at];
