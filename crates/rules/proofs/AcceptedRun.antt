@@ -1,20 +1,23 @@
 -- An accepted run: its table is valid, what it returns and writes, and how failure transparency of its commands becomes that of its bytes.
 use mathlib.Core.Path.{_≡_, refl, ap, sym, _∙_}
-use mathlib.Core.Bool.{Bool, true, false, cond}
-use mathlib.Core.List.{List, [], _∷_}
+use mathlib.Core.Bool.{Bool, true, false, cond, _&&_}
+use mathlib.Core.List.{List, [], _∷_, map}
 use Prim.Native.Nat.{ℕ, suc, _*_, _≤_}
 use lib.Dec.{eqb, leb}
 use lib.ListN.{length, length-map}
+use lib.Seq.{take-at}
 use borrow.Author.Tests.{eqb-true, eqb-false, leb-true}
+use Rattle.facts.specs.Tests.{and-left, and-right}
 use Rattle.rules.specs.Table.{Table}
 use Rattle.rules.specs.Cabinet.{Cabinet, started, quiescent}
 use Rattle.rules.specs.Moves.{Command, numbers, turn, runFrom}
+use Rattle.rules.specs.Reasons.{reasonOf}
 use Rattle.rules.specs.Judge.{Accepted}
 use Rattle.rules.specs.Transparent.{answered, finished, ListTransparent}
 use Rattle.rules.specs.Format.{orNumber, processesIn, decodeTable, validateTable}
 use Rattle.rules.specs.Schedule.{commandsIn, decodeSchedule, validateSchedule}
 use Rattle.rules.specs.Run.{Buffers, lengthsOf, validateRun, ranFrom, refusedWith, run, accepted}
-use Rattle.rules.specs.Transparency.{answersIn, FailureTransparency}
+use Rattle.rules.specs.Transparency.{answersIn, reasonsIn, FailureTransparency}
 use Rattle.rules.proofs.Valid.{test-passed, further-passed, decoded-accepted}
 use Rattle.rules.proofs.ReadBack.{answers-back}
 
@@ -67,22 +70,24 @@ module _ (table schedule : List ℕ) (buffers : Buffers) (h : accepted table sch
   unfolding validateRun
   schedule-valid = number-passed (validateSchedule schedule) _ (number-passed (validateTable table) _ run-valid .1) .0
 
-  -- what numbers 11 and 12 ask
-  buffers-fit : (6 * commandsIn schedule ≤ length (buffers .answers)) × (20 * processesIn table ≤ length (buffers .report))
+  -- what numbers 11, of two buffers, and 12 ask
+  room-tested : ((leb (6 * commandsIn schedule) (length (buffers .answers)) && leb (commandsIn schedule) (length (buffers .reasons))) ≡ true)
+      × (leb (20 * processesIn table) (length (buffers .report)) ≡ true)
   unfolding validateRun
-  buffers-fit =
-      let eleven = leb (6 * commandsIn schedule) (length (buffers .answers)) in
+  room-tested =
+      let eleven = leb (6 * commandsIn schedule) (length (buffers .answers)) && leb (commandsIn schedule) (length (buffers .reasons)) in
       let twelve = leb (20 * processesIn table) (length (buffers .report)) in
-      let both = number-passed (validateSchedule schedule) _ (number-passed (validateTable table) _ run-valid .1) .1 in (
-        leb-true (6 * commandsIn schedule) (length (buffers .answers)) (test-passed eleven 10 _ both),
-        leb-true (20 * processesIn table) (length (buffers .report)) (test-passed twelve 11 _ (further-passed eleven 10 _ both)),
-      )
+      let both = number-passed (validateSchedule schedule) _ (number-passed (validateTable table) _ run-valid .1) .1 in
+      (test-passed eleven 10 _ both, test-passed twelve 11 _ (further-passed eleven 10 _ both))
 
   pub answers-fit : 6 * commandsIn schedule ≤ length (buffers .answers)
-  answers-fit = buffers-fit .0
+  answers-fit = leb-true _ _ (and-left (leb (6 * commandsIn schedule) (length (buffers .answers))) _ (room-tested .0))
+
+  pub reasons-fit : commandsIn schedule ≤ length (buffers .reasons)
+  reasons-fit = leb-true _ _ (and-right (leb (6 * commandsIn schedule) (length (buffers .answers))) _ (room-tested .0))
 
   pub report-fits : 20 * processesIn table ≤ length (buffers .report)
-  report-fits = buffers-fit .1
+  report-fits = leb-true _ _ (room-tested .1)
 
   -- ---- the answers, read out of the buffer
 
@@ -92,6 +97,16 @@ module _ (table schedule : List ℕ) (buffers : Buffers) (h : accepted table sch
       let t = decodeTable table in
       let commands = decodeSchedule schedule in
       rw (run-is, ← answered-length t commands) (answers-back (answered t commands) _)
+
+  -- the reasons, read out of theirs
+  pub reasons-read : reasonsIn (run table schedule buffers)
+      ≡ map reasonOf (runFrom (decodeTable table) (started (decodeTable table)) (decodeSchedule schedule) .answers)
+  unfolding ranFrom
+  reasons-read =
+      let t = decodeTable table in
+      let commands = decodeSchedule schedule in
+      let l = runFrom t (started t) commands .answers in
+      rw (run-is) (take-at (map reasonOf l) _ (length commands) (length-map l reasonOf ∙ one-answer-each t (started t) commands))
 
   pub quiet-is : run table schedule buffers .quiet ≡ quiescent (decodeTable table) (finished (decodeTable table) (decodeSchedule schedule))
   unfolding ranFrom

@@ -1,7 +1,7 @@
 -- The lent buffers: a run leaves them as long as they were, and what stands behind the written bytes as it was.
 use mathlib.Core.Path.{_≡_, refl, ap, sym, _∙_}
 use mathlib.Core.Bool.{Bool, true, false, cond}
-use mathlib.Core.List.{List, [], _∷_}
+use mathlib.Core.List.{List, [], _∷_, map}
 use Prim.Native.Nat.{ℕ, zero, suc, _*_, _≤_}
 use native.Mathlib.Omega.{arith}
 use native.Mathlib.Nat.{mul-zero, mul-suc}
@@ -11,7 +11,8 @@ use lib.Seq.{drop-append-seam}
 use Rattle.facts.specs.Tests.{no-way}
 use Rattle.rules.specs.Table.{Table}
 use Rattle.rules.specs.Cabinet.{Process, Cabinet, started, placed}
-use Rattle.rules.specs.Moves.{Command, deliver}
+use Rattle.rules.specs.Moves.{Command, deliver, runFrom}
+use Rattle.rules.specs.Reasons.{reasonOf}
 use Rattle.rules.specs.Transparent.{answered, finished}
 use Rattle.rules.specs.Bytes.{allBytes, written}
 use Rattle.rules.specs.Format.{processesIn, decodeTable}
@@ -20,7 +21,7 @@ use Rattle.rules.specs.Run.{Buffers, lengthsOf, answerBytes, reportBytes
 use Rattle.rules.proofs.Guards.{Leaves, after-run}
 use Rattle.rules.proofs.Crashed.{crash-length}
 use Rattle.rules.proofs.Valid.{length-sixes, processes-counted}
-use Rattle.rules.proofs.AcceptedRun.{answered-length, run-is, answers-fit, report-fits}
+use Rattle.rules.proofs.AcceptedRun.{one-answer-each, answered-length, run-is, answers-fit, reasons-fit, report-fits}
 
 -- ---- written bytes
 
@@ -80,6 +81,12 @@ module _ (table schedule : List ℕ) where
       length-bytes answerBytes 6 (answered (decodeTable table) (decodeSchedule schedule)) (λ x. refl)
       ∙ ap (λ (n : ℕ). 6 * n) (answered-length (decodeTable table) (decodeSchedule schedule) ∙ commands-counted)
 
+  reason-bytes : length (map reasonOf (runFrom (decodeTable table) (started (decodeTable table)) (decodeSchedule schedule) .answers)) ≡ commandsIn schedule
+  reason-bytes =
+      let t = decodeTable table in
+      let l = runFrom t (started t) (decodeSchedule schedule) .answers in
+      length-map l reasonOf ∙ one-answer-each t (started t) (decodeSchedule schedule) ∙ commands-counted
+
   report-bytes : length (allBytes reportBytes (finished (decodeTable table) (decodeSchedule schedule) .processes)) ≡ 20 * processesIn table
   report-bytes =
       length-bytes reportBytes 20 (finished (decodeTable table) (decodeSchedule schedule) .processes) (λ x. refl)
@@ -100,6 +107,14 @@ module _ (table schedule : List ℕ) (buffers : Buffers) (h : accepted table sch
       rw (run-is table schedule buffers h)
       (lent (allBytes answerBytes (answered (decodeTable table) (decodeSchedule schedule))) (buffers .answers) (6 * commandsIn schedule)
       (answer-bytes table schedule) (answers-fit table schedule buffers h))
+
+  pub reasons-lent : Lent (commandsIn schedule) (buffers .reasons) (run table schedule buffers .buffers .reasons)
+  unfolding ranFrom
+  reasons-lent =
+      let t = decodeTable table in
+      rw (run-is table schedule buffers h)
+      (lent (map reasonOf (runFrom t (started t) (decodeSchedule schedule) .answers)) (buffers .reasons) (commandsIn schedule)
+      (reason-bytes table schedule) (reasons-fit table schedule buffers h))
 
   pub report-lent : Lent (20 * processesIn table) (buffers .report) (run table schedule buffers .buffers .report)
   unfolding ranFrom

@@ -73,7 +73,7 @@ tableBytes t =
 -- ---- a run, with buffers that are just long enough
 
 abbrev pub runOf : List ℕ → List Command → Ran
-runOf table l = run table (scheduleBytes l) (buffersOf (replicate (6 * length l) 0) (replicate (20 * processesIn table) 0))
+runOf table l = run table (scheduleBytes l) (buffersOf (replicate (6 * length l) 0) (replicate (length l) 0) (replicate (20 * processesIn table) 0))
 
 -- the number that it returns
 abbrev pub numberOf : List ℕ → List Command → List (List ℕ)

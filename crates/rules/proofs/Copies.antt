@@ -19,15 +19,15 @@ use Rattle.rules.specs.Judge.{Accepted}
 use Rattle.rules.proofs.Tables.{input}
 use Rattle.rules.proofs.Good.{mailOf, stateOf, PortsBelow, no-ports, one-port, Kept}
 
-abbrev messageOf : Table → ℕ → Mail → Message
+abbrev pub messageOf : Table → ℕ → Mail → Message
 messageOf t p x = record { port = portOf t p (x .channel); word = x .word }
 
 -- words of the channels that p reads
-abbrev Own : Table → ℕ → List Mail → Type 0
+abbrev pub Own : Table → ℕ → List Mail → Type 0
 Own t p l = (k : ℕ) → channelAt t k .reader ≢ p → unreadOn k l ≡ 0
 
 module _ (t : Table) (ok : Accepted t) (p : ℕ) (hp : p < length (t .processes)) where
-  first-own : (x : Mail) (l : List Mail) → Own t p (x ∷ l) → channelAt t (x .channel) .reader ≡ p
+  pub first-own : (x : Mail) (l : List Mail) → Own t p (x ∷ l) → channelAt t (x .channel) .reader ≡ p
   first-own x l own =
       by-eq (channelAt t (x .channel) .reader) p (λ e. e)
       (λ n. absurd (let a = own (x .channel) n in

@@ -1,5 +1,5 @@
 -- Numbers and what they stand for: which numbers are no move and no instruction, and where the refusals' numbers lie.
-use mathlib.Core.Path.{_≡_, refl, sym}
+use mathlib.Core.Path.{_≡_, refl, ap, sym}
 use mathlib.Core.Logic.{_≢_}
 use mathlib.Core.Bool.{Bool, true, false, cond}
 use Prim.Native.Nat.{ℕ, zero, suc, _≤_, _<_}
@@ -9,6 +9,7 @@ use borrow.Author.Tests.{ne-eqb}
 use Rattle.rules.specs.Table.{Instruction, SET, ADD, TAKE, FIRST, SEND, JUMP, NONE}
 use Rattle.rules.specs.Format.{instruction}
 use Rattle.rules.specs.Cabinet.{Process, exhausted}
+use Rattle.rules.specs.Reasons.{refusalCause}
 use Rattle.rules.specs.Moves.{Move, stepMove, issueMove, transmitMove, injectMove, crashMove, rejoinMove, rebackupMove, unknown, moveOf, Refusal, unknownMove, strayWord, noProcess, noBoard, noChannel, transmitDead, crashDead, isHalted, noWordToTake, noWordForFirst, eventsFull, instructionsFull, sendBlocked, syncBlocked, rebackupBlocked, sendHeld, injectHeld, noBackup, syncWaits, rebackupWaits, outboxEmpty, notOutside, notBacked, boardLive, unready, hasBackup, refusalNumber, missing, owedFor}
 
 -- ---- moves
@@ -107,6 +108,15 @@ owed-number limit x = go (exhausted limit x)
     go true = refl
     go false = refl
 
+-- W-206: "1 when only the 64 instructions are to blame"
+pub owed-cause : (limit : ℕ) (x : Process) → refusalCause (owedFor limit x) ≡ cond (exhausted limit x) 0 1
+unfolding refusalCause
+owed-cause limit x = go (exhausted limit x)
+  where
+    go : (b : Bool) → refusalCause (cond b eventsFull instructionsFull) ≡ cond b 0 1
+    go true = refl
+    go false = refl
+
 -- whichever of the two found no word
 pub missing-number : (i : Instruction) → refusalNumber (missing i) ≡ 36
 unfolding missing refusalNumber
@@ -117,3 +127,16 @@ missing-number (FIRST a mask) = refl
 missing-number (SEND a k) = refl
 missing-number (JUMP a n) = refl
 missing-number NONE = refl
+
+-- W-206: "Code 36: 1 for FIRST."
+pub missing-cause : (code a operand : ℕ) → refusalCause (missing (instruction code a operand)) ≡ cond (eqb code 4) 1 0
+unfolding missing refusalCause
+missing-cause zero a operand = refl
+missing-cause (suc zero) a operand = refl
+missing-cause (suc (suc zero)) a operand = refl
+missing-cause (suc (suc (suc zero))) a operand = refl
+missing-cause (suc (suc (suc (suc zero)))) a operand = refl
+missing-cause (suc (suc (suc (suc (suc zero))))) a operand = refl
+missing-cause (suc (suc (suc (suc (suc (suc zero)))))) a operand = refl
+missing-cause (suc (suc (suc (suc (suc (suc (suc n))))))) a operand =
+    sym (ap (λ (b : Bool). cond b 1 0) (ne-eqb (suc (suc (suc (suc (suc (suc (suc n))))))) 4 (λ e. omega arith)))

@@ -15,9 +15,8 @@ use Rattle.rules.specs.Table.{Table, channelAt, placementAt, codeOf, lim
 use Rattle.rules.specs.Machine.{Mail, Machine, booted, Act, internal, took, sent, moved, localStep}
 use Rattle.rules.specs.Reference.{Reference, Action, referenceRun, injections}
 use Rattle.rules.specs.Cabinet.{instructionsMost, Standby, Process, Item, message, checkpoint, transfer, Cabinet, processAt, outboxAt, deadAt, protected, limited, otherBoard, exhausted, overrun, owing, waiting}
-use Rattle.rules.specs.Moves.{Answer, numbers, withProcess, withOutbox, enqueue, advanced, counting, oneDone, oneSent, oneTaken, issued, snapshot, copied, rebacking}
+use Rattle.rules.specs.Moves.{withProcess, withOutbox, enqueue, advanced, counting, oneDone, oneSent, oneTaken, issued, snapshot, copied, rebacking}
 use Rattle.rules.specs.Judge.{Accepted}
-use Rattle.rules.specs.Transparent.{traceOf}
 use Rattle.rules.proofs.Runs.{busy1, Allows}
 use Rattle.rules.proofs.Tables.{step-own, primary-ok, standby-ok, apart-ok}
 use Rattle.rules.proofs.Ahead.{checkpoints}
@@ -37,10 +36,6 @@ pub record Follows (t : Table) (c : Cabinet) (s : Reference) (trace fed : List M
   pub invariant : Invariant t c end
   pub traced : end .trace ≡ s .trace ++ trace
   pub injected : injections actions ≡ fed
-
--- the words that an answer puts into the trace
-abbrev pub traced1 : Answer → List Mail
-traced1 a = traceOf (numbers a ∷ [])
 
 -- one after another
 pub follows-then : {t : Table} {c d : Cabinet} {s : Reference} {tr fd tr′ fd′ : List Mail} (f : Follows t c s tr fd) → Follows t d (f .end) tr′ fd′

@@ -28,6 +28,10 @@ crashedBy t b c = record { processes = allAfterCrash t b 0 (c .processes); outbo
 abbrev pub rejoinedBy : ℕ → Cabinet → Cabinet
 rejoinedBy b c = record { processes = c .processes; outboxes = set (c .outboxes) b []; dead = set (c .dead) b false }
 
+-- the cabinet after a resync of process p
+abbrev pub rebackupBy : Table → ℕ → Cabinet → Cabinet
+rebackupBy t p c = withProcess p (rebacking t p (processAt c p)) (enqueue (processAt c p .board) (transfer p) c)
+
 -- what a command does in cabinet c, by its move, with the cabinet and the answer afterwards
 module _ (t : Table) (c : Cabinet) (r : Command) (P : Move → Cabinet → Answer → Type 0) where
   -- the process and the board that it names
@@ -69,7 +73,7 @@ module _ (t : Table) (c : Cabinet) (r : Command) (P : Move → Cabinet → Answe
     -- a resync
     pub rebacks : r .a < length (t .processes) → protected x ≡ false → deadAt c (otherBoard t (r .a) x) ≡ false → x .suppress ≡ 0 → crowded t c (r .a) ≡ false
         → waiting (r .a) (outboxAt c (x .board)) ≡ false → leb outboxMost (length (outboxAt c (x .board))) ≡ false
-        → P rebackupMove (withProcess (r .a) (rebacking t (r .a) x) (enqueue (x .board) (transfer (r .a)) c)) rebackupDone
+        → P rebackupMove (rebackupBy t (r .a) c) rebackupDone
 
   -- ---- the walk
 

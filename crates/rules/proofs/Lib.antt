@@ -42,6 +42,13 @@ pub mod Quiet
 pub mod Transparency
 -- The bounds of every state that is reached, and what a crash there leaves to do again.
 pub mod Reached
+-- W-210 of every state that is reached: the record of a resync.
+pub mod CopyCalls
+pub mod Pending
+pub mod Arrivals
+pub mod Totals
+-- W-211: backed again, and nothing again.
+pub mod Recovery
 pub mod RollForward
 -- Tables and runs in bytes.
 pub mod Valid
@@ -51,15 +58,19 @@ pub mod Encoding
 pub mod Apart
 pub mod AcceptedRun
 pub mod Buffers
+pub mod Homes
 -- Cases, computed: M1 to M13, then those that only a case can tell.
 pub mod Cases
 pub mod Marked
 pub mod MoveCases
 pub mod LongCases
+pub mod ReasonCases
 pub mod FormatCases
 pub mod PageCases
 pub mod ReferenceCases
 -- W-202 leaves the bus order alone.
 pub mod BusOrder
+-- W-206: one byte never fits two causes.
+pub mod OneCause
 -- Demand 3 of every accepted run.
 pub mod Theorem

@@ -1,15 +1,18 @@
--- Document 01 as definitions: read Sizes, Table, Machine, Reference, Cabinet, Moves/Answers and Moves in this order, then Transparent; for the bytes
--- Bytes, Format, Schedule, Run and Transparency, and Page.
+-- Documents 01 and 02 as definitions: read Sizes, Table, Machine, Reference, Cabinet, Moves/Answers, Moves and Reasons in this order, then
+-- Transparent; for the bytes Bytes, Format, Schedule, Run and Transparency, and Page.
 pub mod Sizes
 pub mod Table
 pub mod Machine
 pub mod Reference
 pub mod Cabinet
 pub mod Moves
+pub mod Reasons
 pub mod Judge
 pub mod Bounds
 pub mod RollForward
 pub mod Transparent
+pub mod Rebackup
+pub mod Recovery
 pub mod Bytes
 pub mod Format
 pub mod FirstVersion

@@ -9,7 +9,7 @@ use Rattle.rules.specs.Bytes.{byteAt, number32}
 use Rattle.rules.specs.Format.{tableMost, processesMost, lengthField, processesIn}
 use Rattle.rules.specs.Schedule.{commandsMost}
 use Rattle.rules.specs.Moves.{Numbers}
-use Rattle.rules.specs.Run.{Buffers, Ran, run}
+use Rattle.rules.specs.Run.{Buffers, buffersOf, Ran, run}
 use Rattle.rules.specs.Transparency.{answersIn}
 
 -- ---- text
@@ -103,9 +103,9 @@ tableIn input = take (2 + lengthField input) input
 abbrev pub scheduleIn : List ℕ → List ℕ
 scheduleIn input = drop (2 + lengthField input) input
 
--- buffers that hold the answers and the report of every run
+-- buffers that hold the answers, the reasons and the report of every run
 abbrev pub benchBuffers : Buffers
-benchBuffers = record { answers = replicate (6 * commandsMost) 0; report = replicate (20 * processesMost) 0 }
+benchBuffers = buffersOf (replicate (6 * commandsMost) 0) (replicate commandsMost 0) (replicate (20 * processesMost) 0)
 
 -- what the program prints for all of its input: "A table length over 6,260 prints `refused 1`"; W-207: over 6,276
 unfoldable pub benchPage : List ℕ → List ℕ

@@ -1,6 +1,6 @@
 -- A whole run, from the bytes of a table and a schedule and the lent buffers to the numbers that it returns and the buffers afterwards
 -- (document 01, "What each move replies").
-use mathlib.Core.Bool.{Bool, false, cond}
+use mathlib.Core.Bool.{Bool, false, cond, _&&_}
 use mathlib.Core.List.{List, _∷_, _++_, map}
 use Prim.Native.Nat.{ℕ, _*_}
 use lib.Dec.{eqb, leb}
@@ -9,6 +9,7 @@ use Rattle.rules.specs.Table.{Table}
 use Rattle.rules.specs.Machine.{register}
 use Rattle.rules.specs.Cabinet.{Process, started, quiescent}
 use Rattle.rules.specs.Moves.{Command, Numbers, numbers, runFrom}
+use Rattle.rules.specs.Reasons.{reasonOf}
 use Rattle.rules.specs.Bytes.{wordBytes, allBytes, written}
 use Rattle.rules.specs.Format.{processesIn, orNumber, decodeTable, validateTable}
 use Rattle.rules.specs.Schedule.{commandsIn, decodeSchedule, validateSchedule}
@@ -17,19 +18,22 @@ use Rattle.rules.specs.Schedule.{commandsIn, decodeSchedule, validateSch
 pub record Buffers : Type 0 where
   -- "One six-byte answer a record"
   pub answers : List ℕ
+  -- W-206: "a second list with one byte a record"
+  pub reasons : List ℕ
   -- "20 bytes a process"
   pub report : List ℕ
 
-abbrev pub buffersOf : List ℕ → List ℕ → Buffers
-buffersOf answers report = record { answers = answers; report = report }
+abbrev pub buffersOf : List ℕ → List ℕ → List ℕ → Buffers
+buffersOf answers reasons report = record { answers = answers; reasons = reasons; report = report }
 
 -- how long they are, which is all of them that decides whether a run is refused
 pub record Lengths : Type 0 where
   pub answers : ℕ
+  pub reasons : ℕ
   pub report : ℕ
 
 abbrev pub lengthsOf : Buffers → Lengths
-lengthsOf buffers = record { answers = length (buffers .answers); report = length (buffers .report) }
+lengthsOf buffers = record { answers = length (buffers .answers); reasons = length (buffers .reasons); report = length (buffers .report) }
 
 -- "An accepted run returns 0, its number of records, and whether it ended quiet."
 pub record Ran : Type 0 where
@@ -61,19 +65,20 @@ reportBytes x =
 -- ---- the run
 
 -- 0, or "lowest number first": those of the table, 47 among them ("checked after 8 and before 9"), those of the schedule, then
--- "11 answer buffer under six bytes a record; 12 report buffer under 20 bytes a process"
+-- "11 answer buffer under six bytes a record; 12 report buffer under 20 bytes a process". W-206: "A buffer for this list under one byte a
+-- record makes the run answer 11."
 unfoldable pub validateRun : List ℕ → List ℕ → Lengths → ℕ
 unfolding validateTable validateSchedule
 validateRun table schedule lengths =
     orNumber (eqb (validateTable table) 0) (validateTable table)
     (orNumber (eqb (validateSchedule schedule) 0) (validateSchedule schedule)
-    (orNumber (leb (6 * commandsIn schedule) (lengths .answers)) 11
+    (orNumber (leb (6 * commandsIn schedule) (lengths .answers) && leb (commandsIn schedule) (lengths .reasons)) 11
     (orNumber (leb (20 * processesIn table) (lengths .report)) 12
     0)))
 
 -- the run of a table and a list of commands: "It starts from the cabinet that the table gives"
 unfoldable pub ranFrom : Table → List Command → Buffers → Ran
-unfolding started runFrom numbers quiescent
+unfolding started runFrom numbers reasonOf quiescent
 ranFrom t commands buffers =
     let end = runFrom t (started t) commands in
     record {
@@ -82,6 +87,7 @@ ranFrom t commands buffers =
       quiet = quiescent t (end .cabinet);
       buffers = record {
         answers = written (allBytes answerBytes (map numbers (end .answers))) (buffers .answers);
+        reasons = written (map reasonOf (end .answers)) (buffers .reasons);
         report = written (allBytes reportBytes (end .cabinet .processes)) (buffers .report);
       };
     }

@@ -1,6 +1,7 @@
 -- Failure transparency of a run, on the bytes that go in and come out: demand 3 of document 01 (Transparent has the statement itself).
 use mathlib.Core.List.{List}
 use Prim.Native.Nat.{ℕ}
+use lib.ListN.{take}
 use Rattle.rules.specs.Moves.{Numbers, numbered}
 use Rattle.rules.specs.Transparent.{Transparent, traceOf, fedOf, machinesOf, finished}
 use Rattle.rules.specs.Bytes.{sixes}
@@ -15,6 +16,10 @@ readAnswers n buffer = sixes numbered n buffer
 -- the answers that a run wrote, read out of its buffer
 abbrev pub answersIn : Ran → List Numbers
 answersIn r = readAnswers (r .records) (r .buffers .answers)
+
+-- W-206: "a second list with one byte a record", read out of its own
+abbrev pub reasonsIn : Ran → List ℕ
+reasonsIn r = take (r .records) (r .buffers .reasons)
 
 -- Of the bytes of a table and a schedule, and of what a run of them returned and left in its buffers: what was fed and the bus order are
 -- read out of the answers there, and quiet is the one returned. "those that the five moves give after our last record" are the rules' own.

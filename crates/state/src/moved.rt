@@ -6,9 +6,10 @@ use crate::board::ENTRIES;
 use crate::entry::Entry;
 use crate::entry::Item;
 
-// An answer's three numbers.
+// An answer's three numbers, and its cause (W-206).
 pub struct Answer {
     pub code: u32,
+    pub cause: u32,
     pub a: u32,
     pub word: u32,
 }
@@ -32,11 +33,12 @@ pub fn blank() -> Entry
 }
 
 // A refusal repeats a with word 0.
-pub fn refusal(code: u32, a: u32) -> Answer
-    ensures { λ r. ⌜ r ≡ refusalOf code a ⌝ }
+pub fn refusal(code: u32, cause: u32, a: u32) -> Answer
+    ensures { λ r. ⌜ r ≡ refusalOf code cause a ⌝ }
 {
     Answer {
         code: code,
+        cause: cause,
         a: a,
         word: 0,
     }
@@ -53,8 +55,8 @@ pub fn alone(answer: Answer) -> Moved
     }
 }
 
-pub fn refused(code: u32, a: u32) -> Moved
-    ensures { λ r. ⌜ r ≡ refusedWith code a ⌝ }
+pub fn refused(code: u32, cause: u32, a: u32) -> Moved
+    ensures { λ r. ⌜ r ≡ refusedWith code cause a ⌝ }
 {
-    alone(refusal(code, a))
+    alone(refusal(code, cause, a))
 }
