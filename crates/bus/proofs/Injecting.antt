@@ -14,6 +14,7 @@ use Rattle.rules.specs.Moves.{Result, refuse, accept, guard, notOutside, inject
 use Rattle.state.specs.declared.entry.Entry.{Entry}
 use Rattle.state.specs.declared.moved.Answer.{Answer}
 use Rattle.state.specs.Store.{Store, storeOf, Totalled, Holds}
+use Rattle.rules.specs.Reasons.{refusalCause, causeOf}
 use Rattle.state.specs.Moved.{Reachable, Answered, refusalOf}
 use Rattle.state.specs.Wired.{Wired}
 use Rattle.state.proofs.Refusing.{turned-away}
@@ -22,7 +23,7 @@ use Rattle.state.proofs.Totals.{totalled-more}
 use Rattle.state.proofs.Ends.{fed-inside}
 use Rattle.state.proofs.Arrivals.{room-for-feed}
 use Rattle.bus.specs.Delivers.{mailOf, Delivers}
-use Rattle.bus.specs.Transmitted.{transmittedOf}
+use Rattle.bus.specs.Transmitted.{injectedOf}
 use Rattle.state.specs.Channel.{heldIn}
 use Rattle.state.proofs.Held.{full-is, occupancy-small}
 use Rattle.bus.specs.Injects.{Injects}
@@ -54,17 +55,17 @@ at-its-channel : {t : Table} {c : Cabinet} {a k : ℕ} → Reachable t c → a <
 at-its-channel reach l is-k = is-k (let z = reach .accepted .channels-high in omega arith)
 
 module _ (sender reader port : List ℕ) (rows mails logs heads : List (List ℕ)) (totals : List ℕ) (a word k : ℕ) (r : Answer) (is-k : a < 32 → k ≡ a) where
-  pub injects-43 : getD sender k 0 ≢ environment → r ≡ refusalOf 43 a → Injects sender reader port rows mails logs heads totals a word rows mails logs heads totals r
-  unfolding refusalNumber
+  pub injects-43 : getD sender k 0 ≢ environment → r ≡ refusalOf 43 0 a → Injects sender reader port rows mails logs heads totals a word rows mails logs heads totals r
+  unfolding refusalNumber refusalCause
   injects-43 n e = record {
     answered = λ t boards waits entries c command reach wired h f l.
         let same : k ≡ a = at-its-channel reach l is-k in
         turned-away command a notOutside h (refused-43 reach wired h a word l (λ z. n (ap (λ (i : ℕ). getD sender i 0) same ∙ z))) f e;
   }
 
-  pub injects-39 : getD sender k 0 ≡ environment → heldIn (getD reader k 0) (getD totals k 0) ≡ true → r ≡ refusalOf 39 a
+  pub injects-39 : getD sender k 0 ≡ environment → heldIn (getD reader k 0) (getD totals k 0) ≡ true → r ≡ refusalOf 39 1 a
       → Injects sender reader port rows mails logs heads totals a word rows mails logs heads totals r
-  unfolding refusalNumber
+  unfolding refusalNumber refusalCause
   injects-39 n b e = record {
     answered = λ t boards waits entries c command reach wired h f l.
         let same : k ≡ a = at-its-channel reach l is-k in
@@ -73,10 +74,10 @@ module _ (sender reader port : List ℕ) (rows mails logs heads : List (List ℕ
   }
 
   pub injects-done : (rows′ mails′ logs′ heads′ : List (List ℕ)) (more : ℕ) → getD sender k 0 ≡ environment
-      → heldIn (getD reader k 0) (getD totals k 0) ≡ false → more ≡ (getD totals k 0 + 1) % 2 ^ 32 → r ≡ transmittedOf a word
+      → heldIn (getD reader k 0) (getD totals k 0) ≡ false → more ≡ (getD totals k 0 + 1) % 2 ^ 32 → r ≡ injectedOf a word
       → Delivers reader port rows mails logs heads a word rows′ mails′ logs′ heads′
       → Injects sender reader port rows mails logs heads totals a word rows′ mails′ logs′ heads′ (set totals k more) r
-  unfolding numbers
+  unfolding numbers causeOf
   injects-done rows′ mails′ logs′ heads′ more n b is-more e d = record {
     answered = λ t boards waits entries c command reach wired h f l.
         let same-k : k ≡ a = at-its-channel reach l is-k in
@@ -93,6 +94,6 @@ module _ (sender reader port : List ℕ) (rows mails logs heads : List (List ℕ
         let done = d .holds t sender boards totals (set totals k more) waits entries c (reach .accepted) wired h to (room-for-feed reach a (held-is reach wired h a word l ∙ free))
         (subst (λ (i : ℕ). Totalled t (set totals i more) (deliver t (mailOf a word) c)) (sym same-k) true-again) in
         subst (λ (z : Answer). Answered t after entries c command (inject t c (mailOf a word)) z) (sym e)
-        (subst (λ (z : Result). Answered t after entries c command z (transmittedOf a word)) (sym so)
-        (record { answer-is = refl; holds = done }));
+        (subst (λ (z : Result). Answered t after entries c command z (injectedOf a word)) (sym so)
+        (record { answer-is = refl; cause-is = refl; holds = done }));
   }

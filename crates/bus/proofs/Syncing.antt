@@ -18,10 +18,11 @@ use Rattle.process.specs.Change.{BackupBecame, Drops}
 use Rattle.rules.specs.Table.{Table}
 use Rattle.rules.specs.Cabinet as rules
 use Rattle.rules.specs.Cabinet.{Process, Cabinet, processAt, outboxAt, protected, waiting}
-use Rattle.rules.specs.Moves.{Command, syncKept, syncLost, landed, numbers, numbered, withProcess, withOutbox, keeps, transmitItem}
+use Rattle.rules.specs.Moves.{Command, syncKept, syncLost, landed, droppedFrom, numbers, numbered, withProcess, withOutbox, keeps, transmitItem}
 use Rattle.rules.proofs.Counting.{flight-leave}
 use Rattle.state.specs.declared.entry.Entry.{Entry}
 use Rattle.state.specs.Store.{Store, storeOf, Holds, itemOf, blankEntry, outboxIn, firstIn, countIn, flag}
+use Rattle.rules.specs.Reasons.{causeOf}
 use Rattle.state.specs.Moved.{Reachable, Answered, answerOf}
 use Rattle.state.proofs.Reading.{at-process, at-outbox, how-many-boards}
 use Rattle.state.proofs.Queueing.{QueueThen, left}
@@ -102,8 +103,8 @@ module _ {t : Table} {s : Store} {entries : List Entry} {c : Cabinet} (reach : R
       → (dropped : ℕ) → Drops (getD (s .rows) p []) (getD (s .logs) p []) (getD (s .heads) p []) k dropped
       → (command : Command) (number word : ℕ) → cond (eqb (getD (getD (s .rows) p []) 12 0) 0) 6 5 ≡ number → cond (eqb (getD (getD (s .rows) p []) 12 0) 0) 0 dropped ≡ word
       → Answered t (storeOf (s .rows) (s .mails) (set (s .logs) p log′) (set (s .heads) p head′) (set (s .boards) b board′) (s .totals) (set (s .waits) p 0)) entries c command
-      (transmitItem t (withOutbox b rest c) (rules.checkpoint p k)) (answerOf number p word)
-  unfolding transmitItem numbers
+      (transmitItem t (withOutbox b rest c) (rules.checkpoint p k)) (answerOf number 0 p word)
+  unfolding transmitItem numbers causeOf
   sync-answered log′ head′ became dropped drops command number word e w = record {
     answer-is =
         ap (λ (x : Process). numbers (landed p k x)) (at-process h p its-process)
@@ -112,6 +113,7 @@ module _ {t : Table} {s : Store} {entries : List Entry} {c : Cabinet} (reach : R
         ∙ ap (λ (y : Bool). numbers (cond y (syncKept p dropped) (syncLost p))) (protected-is _ _ _ _)
         ∙ by-flag (eqb (getD (getD (s .rows) p []) 12 0) 0)
         ∙ (λ i. numbered (e i) p (w i));
+    cause-is = no-cause (protected (processAt c p)) (droppedFrom k (processAt c p .standby));
     holds = sync-holds log′ head′ became;
   }
     where
@@ -119,20 +121,24 @@ module _ {t : Table} {s : Store} {entries : List Entry} {c : Cabinet} (reach : R
       by-flag true = refl
       by-flag false = refl
 
+      no-cause : (z : Bool) (n : ℕ) → causeOf (cond z (syncKept p n) (syncLost p)) ≡ 0
+      no-cause true n = refl
+      no-cause false n = refl
+
 -- ---- what the call promises
 
 module _ (rows logs heads : List (List ℕ)) (waits : List ℕ) (process : ℕ) (checkpoint : code.Checkpoint) (p : ℕ) (is-p : process < 16 → p ≡ process)
     (log′ head′ : List ℕ) (became : BackupBecame (getD rows p []) (getD logs p []) (getD heads p []) log′ head′ (keeps (checkpointOf checkpoint)))
     (dropped : ℕ) (drops : Drops (getD rows p []) (getD logs p []) (getD heads p []) (checkpointOf checkpoint) dropped) where
   pub syncs-so : (number word : ℕ) → cond (eqb (getD (getD rows p []) 12 0) 0) 6 5 ≡ number → cond (eqb (getD (getD rows p []) 12 0) 0) 0 dropped ≡ word
-      → Syncs rows logs heads waits process checkpoint (set logs p log′) (set heads p head′) (set waits p 0) (answerOf number process word)
+      → Syncs rows logs heads waits process checkpoint (set logs p log′) (set heads p head′) (set waits p 0) (answerOf number 0 process word)
   syncs-so number word e w = record {
     answered = λ t mails boards totals entries c command b board′ rest reach h hb popped oldest.
         let s : Store = storeOf rows mails logs heads boards totals waits in
         let hq : process < length (t .processes) = its-process reach h b hb process (checkpointOf checkpoint) rest oldest board′ popped in
         let same : p ≡ process = is-p (let z = reach .accepted .processes-high in omega arith) in
         subst (λ (i : ℕ). Answered t (storeOf rows mails (set logs i log′) (set heads i head′) (set boards b board′) totals (set waits i 0)) entries c command
-        (transmitItem t (withOutbox b rest c) (rules.checkpoint process (checkpointOf checkpoint))) (answerOf number process word)) (sym same)
+        (transmitItem t (withOutbox b rest c) (rules.checkpoint process (checkpointOf checkpoint))) (answerOf number 0 process word)) (sym same)
         (sync-answered reach h b hb process (checkpointOf checkpoint) rest oldest board′ popped log′ head′
         (subst (λ (i : ℕ). BackupBecame (getD rows i []) (getD logs i []) (getD heads i []) log′ head′ (keeps (checkpointOf checkpoint))) same became) dropped
         (subst (λ (i : ℕ). Drops (getD rows i []) (getD logs i []) (getD heads i []) (checkpointOf checkpoint) dropped) same drops) command number word
@@ -140,11 +146,11 @@ module _ (rows logs heads : List (List ℕ)) (waits : List ℕ) (process : ℕ) 
         (subst (λ (i : ℕ). cond (eqb (getD (getD rows i []) 12 0) 0) 0 dropped ≡ word) same w));
   }
 
-  pub syncs-lost : getD (getD rows p []) 12 0 ≡ 0 → Syncs rows logs heads waits process checkpoint (set logs p log′) (set heads p head′) (set waits p 0) (answerOf 6 process 0)
+  pub syncs-lost : getD (getD rows p []) 12 0 ≡ 0 → Syncs rows logs heads waits process checkpoint (set logs p log′) (set heads p head′) (set waits p 0) (answerOf 6 0 process 0)
   syncs-lost z =
       let f = eq-eqb (getD (getD rows p []) 12 0) 0 z in syncs-so 6 0 (ap (λ (y : Bool). cond y 6 5) f) (ap (λ (y : Bool). cond y 0 dropped) f)
 
   pub syncs-kept : (getD (getD rows p []) 12 0 ≡ 0 → ⊥)
-      → Syncs rows logs heads waits process checkpoint (set logs p log′) (set heads p head′) (set waits p 0) (answerOf 5 process dropped)
+      → Syncs rows logs heads waits process checkpoint (set logs p log′) (set heads p head′) (set waits p 0) (answerOf 5 0 process dropped)
   syncs-kept n =
       let f = ne-eqb (getD (getD rows p []) 12 0) 0 n in syncs-so 5 dropped (ap (λ (y : Bool). cond y 6 5) f) (ap (λ (y : Bool). cond y 0 dropped) f)

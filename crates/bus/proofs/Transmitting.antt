@@ -25,6 +25,7 @@ use Rattle.state.specs.declared.entry.Item.{Item}
 use Rattle.state.specs.declared.entry.Item.the-variants.{Word, Sync}
 use Rattle.state.specs.declared.moved.Answer.{Answer}
 use Rattle.state.specs.Store.{Store, storeOf, Holds, itemOf, blankEntry, outboxIn, firstIn, countIn, flag}
+use Rattle.rules.specs.Reasons.{refusalCause, causeOf}
 use Rattle.state.specs.Moved.{Reachable, Answered, refusalOf}
 use Rattle.state.specs.Wired.{Wired}
 use Rattle.state.proofs.Reading.{at-outbox, at-dead, how-many-boards}
@@ -171,13 +172,13 @@ module _ {t : Table} {s : Store} {entries : List Entry} {c : Cabinet} (reach : R
       → Carries sender reader port (s .rows) (s .mails) (s .logs) (s .heads) (s .totals) channel word rows′ mails′ logs′ heads′ totals′ r
       → Answered t (storeOf rows′ mails′ logs′ heads′ (set (s .boards) b (poppedIn (getD (s .boards) b []))) totals′ (s .waits)) entries c command
       (transmitItem t left-cabinet (rules.message (mailOf channel word))) r
-  unfolding transmitItem numbers
+  unfolding transmitItem numbers causeOf
   word-answered rows′ mails′ logs′ heads′ totals′ r command wired carried =
       let boards′ : List (List ℕ) = set (s .boards) b (poppedIn (getD (s .boards) b [])) in
       let after = carried .holds t boards′ between (s .waits) entries left-cabinet (reach .accepted) wired word-left on-bus there
       (word-owner reach b (mailOf channel word) rest is-queue .0) (room-for-oldest reach b (mailOf channel word) rest is-queue) in
       subst (λ (z : Answer). Answered t (storeOf rows′ mails′ logs′ heads′ boards′ totals′ (s .waits)) entries c command (transmitItem t left-cabinet (rules.message (mailOf channel word))) z) (sym (carried .answer-is))
-      (record { answer-is = refl; holds = after })
+      (record { answer-is = refl; cause-is = refl; holds = after })
 
 -- ---- what the move promises
 
@@ -194,14 +195,14 @@ at-its-board {sender} {reader} {port} {rows} {mails} {logs} {heads} {boards} {to
 }
 
 module _ (sender reader port : List ℕ) (rows mails logs heads boards : List (List ℕ)) (totals waits : List ℕ) (b : ℕ) (x : Entry) (r : Answer) where
-  pub transmits-34 : getD (getD boards b []) 2 0 ≢ 0 → r ≡ refusalOf 34 b
+  pub transmits-34 : getD (getD boards b []) 2 0 ≢ 0 → r ≡ refusalOf 34 0 b
       → Transmits sender reader port rows mails logs heads boards totals waits b x rows mails logs heads boards totals waits r
-  unfolding refusalNumber
+  unfolding refusalNumber refusalCause
   transmits-34 n e = record { answered = λ t entries c command reach wired h f hb o. turned-away command b transmitDead h (refused-34 h b hb n) f e }
 
-  pub transmits-42 : getD (getD boards b []) 2 0 ≡ 0 → frontOf (getD boards b []) x ≡ Empty → r ≡ refusalOf 42 b
+  pub transmits-42 : getD (getD boards b []) 2 0 ≡ 0 → frontOf (getD boards b []) x ≡ Empty → r ≡ refusalOf 42 0 b
       → Transmits sender reader port rows mails logs heads boards totals waits b x rows mails logs heads boards totals waits r
-  unfolding refusalNumber
+  unfolding refusalNumber refusalCause
   transmits-42 z none e = record {
     answered = λ t entries c command reach wired h f hb o. turned-away command b outboxEmpty h (refused-42 h b hb z (front-none (getD boards b []) x none)) f e;
   }

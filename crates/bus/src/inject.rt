@@ -26,15 +26,16 @@ pub fn inject(
 {
     let k = index32(a);
     if sender[k] != ENVIRONMENT {
-        return refusal(43, a);
+        return refusal(43, 0, a);
     }
     if held(reader[k], totals[k]) {
-        return refusal(39, a);
+        return refusal(39, 1, a);
     }
     deliver(reader, port, rows, mails, logs, heads, a, word);
     totals[k] = std::num::wrapping_add_u32(totals[k], 1);
     Answer {
         code: 4,
+        cause: 1,
         a: a,
         word: word,
     }

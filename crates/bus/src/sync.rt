@@ -26,12 +26,14 @@ pub fn transmit_sync(
     if rows[p][PROTECTED] == 0 {
         return Answer {
             code: 6,
+            cause: 0,
             a: process,
             word: 0,
         };
     }
     Answer {
         code: 5,
+        cause: 0,
         a: process,
         word: dropped,
     }

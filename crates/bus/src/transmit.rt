@@ -47,10 +47,10 @@ pub fn transmit(
 {
     let b = index16(a);
     if boards[b][DEAD] != 0 {
-        return refusal(34, a);
+        return refusal(34, 0, a);
     }
     let Front::Oldest { item } = peek(&boards[b], oldest) else {
-        return refusal(42, a);
+        return refusal(42, 0, a);
     };
     pop(&mut boards[b]);
     if let Item::Word { channel, word } = item {
@@ -73,7 +73,7 @@ pub fn transmit(
         checkpoint,
     } = item
     else {
-        return refusal(42, a);
+        return refusal(42, 0, a);
     };
     transmit_sync(rows, logs, heads, waits, process, checkpoint)
 }

@@ -32,6 +32,7 @@ pub fn transmit_word(
     counts(&rows[p], &mut heads[p]);
     let answer = Answer {
         code: 4,
+        cause: 0,
         a: channel,
         word: word,
     };

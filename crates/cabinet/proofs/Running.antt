@@ -26,13 +26,13 @@ use Rattle.rules.specs.Cabinet.{Cabinet, started, quiescent}
 use Rattle.rules.specs.Moves.{runFrom, numbers}
 use Rattle.rules.specs.Run.{Buffers, buffersOf, lengthsOf, ranOf, answerBytes, reportBytes, validateRun, ranFrom, refusedWith, run, accepted}
 use Rattle.rules.proofs.Valid.{valid, test-passed, length-sixes, processes-counted, decoded-accepted}
-use Rattle.rules.proofs.AcceptedRun.{table-valid, schedule-valid, answers-fit, report-fits}
+use Rattle.rules.proofs.AcceptedRun.{table-valid, schedule-valid, answers-fit, reasons-fit, report-fits}
 use Rattle.rules.proofs.Theorem.{failure-transparency}
 use Rattle.state.specs.declared.entry.Entry.{Entry}
 use Rattle.state.specs.Store.{Store, storeOf, Holds, blankEntry}
 use Rattle.state.specs.Moved.{Reachable}
 use Rattle.command.specs.Plan.{Lent, lentOf, Suits}
-use Rattle.cabinet.specs.Plays.{Played, Suited, Plays}
+use Rattle.cabinet.specs.Plays.{sheetsOf, Played, Suited, Plays}
 use Rattle.outcome.specs.Starts.{Fresh, Placed, Seats}
 use Rattle.outcome.specs.Reports.{Reports}
 use Rattle.outcome.specs.Quiets.{Quiets}
@@ -43,7 +43,7 @@ use Rattle.cabinet.specs.declared.run.Verdict.{Verdict}
 -- ---- the plan of an accepted table
 
 abbrev pub lentBy : List ℕ → Plan → Lent
-lentBy table plan = lentOf table (plan .boards) (plan .processes) (plan .channels) (plan .start) (plan .length) (plan .sender) (plan .reader) (plan .port) (plan .inputs) (plan .arity)
+lentBy table plan = lentOf table (plan .boards) (plan .processes) (plan .channels) (plan .start) (plan .length) (plan .limit) (plan .sender) (plan .reader) (plan .port) (plan .inputs) (plan .arity)
 
 suits : (table : List ℕ) (plan : Plan) → validateTable table ≡ 0 → Plans table plan → Suits (decodeTable table) (lentBy table plan)
 suits table plan ok p = record {
@@ -57,6 +57,7 @@ suits table plan ok p = record {
         ap (λ (at : ℕ). instructionOf (fetched table at k)) (p .start-at q h)
         ∙ fetched-code table (valid table ok .extent-ok) q (rw (← processes-counted table) h) k l;
   };
+  limited = p .limit-at;
   addressed = record { arity-at = p .arity-at; input-at = p .input-at };
 }
 
@@ -79,11 +80,11 @@ passed : (table schedule : List ℕ) (buffers : Buffers) → validateRun table s
 unfolding accepted ranFrom
 passed table schedule buffers h = rw h
 
-module _ (table schedule : List ℕ) (records : ℕ) (plan : Plan) (answers report answers′ report′ : List ℕ)
+module _ (table schedule : List ℕ) (records : ℕ) (plan : Plan) (answers reasons report answers′ reasons′ report′ : List ℕ)
     (rows rows₀ mails₀ logs₀ heads₀ boards₀ : List (List ℕ)) (totals₀ waits₀ : List ℕ) (s : Store) (quiet : Bool)
     (fresh : Fresh (storeOf rows₀ mails₀ logs₀ heads₀ boards₀ totals₀ waits₀) (replicate 512 blankEntry))
     (seats : Seats rows₀ (plan .primary) (plan .standby) (plan .processes) rows)
-    (plays : Plays (lentBy table plan) schedule records (storeOf rows mails₀ logs₀ heads₀ boards₀ totals₀ waits₀) answers s answers′)
+    (plays : Plays (lentBy table plan) schedule records (storeOf rows mails₀ logs₀ heads₀ boards₀ totals₀ waits₀) (sheetsOf answers reasons) s (sheetsOf answers′ reasons′))
     (reports : Reports (s .rows) (plan .processes) report report′)
     (quiets : Quiets table (plan .boards) (plan .processes) (plan .start) (plan .length) (s .rows) (s .mails) (s .boards) quiet) where
   abbrev t : Table
@@ -92,11 +93,11 @@ module _ (table schedule : List ℕ) (records : ℕ) (plan : Plan) (answers repo
   abbrev end : Cabinet
   end = runFrom t (started t) (decodeSchedule schedule) .cabinet
 
-  pub conducts : Conducts table schedule records plan (buffersOf answers report) quiet (buffersOf answers′ report′)
+  pub conducts : Conducts table schedule records plan (buffersOf answers reasons report) quiet (buffersOf answers′ reasons′ report′)
   unfolding ranFrom
   conducts = record {
     conducted = λ ok plans many.
-        let before = buffersOf answers report in
+        let before = buffersOf answers reasons report in
         let acc = passed table schedule before ok in
         let tv = table-valid table schedule before acc in
         let at : Accepted t = decoded-accepted table tv in
@@ -104,19 +105,27 @@ module _ (table schedule : List ℕ) (records : ℕ) (plan : Plan) (answers repo
         let placed : Placed t (plan .primary) (plan .standby) (plan .processes) = record { processes-is = plans .processes-is; primary-at = plans .primary-at; standby-at = plans .standby-at } in
         let begins = seats .holds t mails₀ logs₀ heads₀ boards₀ totals₀ waits₀ (replicate 512 blankEntry) at placed fresh in
         let so-many : records ≡ length (decodeSchedule schedule) = many ∙ sym (commands-many schedule) in
-        let played = plays .played t (record { accepted = at; suits = su; records-is = so-many; room = rw many (answers-fit table schedule before acc); starts = begins }) in
+        let played = plays .played t
+        (record {
+          accepted = at;
+          suits = su;
+          records-is = so-many;
+          room = rw many (answers-fit table schedule before acc);
+          reasons-room = rw many (reasons-fit table schedule before acc);
+          starts = begins;
+        }) in
         let reach : Reachable t end = record { accepted = at; commands = decodeSchedule schedule; is-reached = refl } in
         let room : 20 * plan .processes ≤ length report = rw (plans .processes-is, processes-counted table) (report-fits table schedule before acc) in
         let r = reports .reported t (s .mails) (s .logs) (s .heads) (s .boards) (s .totals) (s .waits) (plays .entries) end reach (played .holds) (plans .processes-is) room in
         let q = quiets .answers t (s .logs) (s .heads) (s .totals) (s .waits) (plays .entries) end reach (su .programmed) (played .holds) (plans .boards-is) (plans .processes-is) in
-        λ i. record { number = 0; records = so-many i; quiet = q i; buffers = record { answers = played .answers-are i; report = r i } };
+        λ i. record { number = 0; records = so-many i; quiet = q i; buffers = record { answers = played .answers-are i; reasons = played .reasons-are i; report = r i } };
   }
 
 -- ---- the call
 
 module _ (table schedule : List ℕ) (before : Buffers) (d : Decoded) (j : Judged) (is-d : Decodes table d) (is-j : ScheduleJudged schedule j) where
   abbrev number : ℕ
-  number = judgedRun (d .number) (d .plan .processes) j (record { answers = length (before .answers); report = length (before .report) })
+  number = judgedRun (d .number) (d .plan .processes) j (record { answers = length (before .answers); reasons = length (before .reasons); report = length (before .report) })
 
   judged : number ≡ validateRun table schedule (lengthsOf before)
   judged = run-is table schedule _ (d .number) (d .plan .processes) j (is-d .number-is) (λ z. is-d .accepted z .processes-is ∙ processes-counted table) is-j

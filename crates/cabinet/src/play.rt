@@ -4,13 +4,14 @@ ghost use mathlib.Core.Path.{_≡_};
 ghost use Prim.Native.Nat.{_<_};
 ghost use Rattle.state.specs.Store.{storeOf};
 ghost use Rattle.command.specs.Plan.{lentOf};
-ghost use Rattle.cabinet.specs.Plays.{Plays};
+ghost use Rattle.cabinet.specs.Plays.{sheetsOf, Plays};
 use backup::limits::LOG;
 use backup::place::HEAD;
 use bus::transmit::oldest;
 use command::turn::carry;
 use command::turn::turn;
 use outcome::answer::put;
+use outcome::answer::put_reason;
 use process::row::ROW;
 use records::schedule::command_at;
 use state::board::BOARD_ROW;
@@ -34,6 +35,7 @@ pub fn play(
     channels: usize,
     start: &[u32; 16],
     lengths: &[u32; 16],
+    limits: &[u32; 16],
     sender: &[u32; 32],
     reader: &[u32; 32],
     port: &[u32; 32],
@@ -47,8 +49,9 @@ pub fn play(
     totals: &mut [u32; 32],
     waits: &mut [u32; 16],
     answers: &mut [u8],
+    reasons: &mut [u8],
 )
-    ensures { λ _. ⌜ Plays (lentOf (now (table .entry)) «boards_many» processes channels (now (start .entry)) (now (lengths .entry)) (now (sender .entry)) (now (reader .entry)) (now (port .entry)) (now (ins .entry)) (now (arity .entry))) (now (schedule .entry)) records (storeOf (now (rows .entry)) (now (mails .entry)) (now (logs .entry)) (now (heads .entry)) (now (boards .entry)) (now (totals .entry)) (now (waits .entry))) (now (answers .entry)) (storeOf (now (rows .exit)) (now (mails .exit)) (now (logs .exit)) (now (heads .exit)) (now (boards .exit)) (now (totals .exit)) (now (waits .exit))) (now (answers .exit)) ⌝ }
+    ensures { λ _. ⌜ Plays (lentOf (now (table .entry)) «boards_many» processes channels (now (start .entry)) (now (lengths .entry)) (now (limits .entry)) (now (sender .entry)) (now (reader .entry)) (now (port .entry)) (now (ins .entry)) (now (arity .entry))) (now (schedule .entry)) records (storeOf (now (rows .entry)) (now (mails .entry)) (now (logs .entry)) (now (heads .entry)) (now (boards .entry)) (now (totals .entry)) (now (waits .entry))) (sheetsOf (now (answers .entry)) (now (reasons .entry))) (storeOf (now (rows .exit)) (now (mails .exit)) (now (logs .exit)) (now (heads .exit)) (now (boards .exit)) (now (totals .exit)) (now (waits .exit))) (sheetsOf (now (answers .exit)) (now (reasons .exit))) ⌝ }
 {
     let none = blank();
     let mut entries = [none; ENTRIES];
@@ -81,6 +84,7 @@ pub fn play(
                 word,
                 e,
             );
+            put_reason(reasons, k, r.code, r.cause);
             put(answers, k, r);
             continue;
         }
@@ -91,6 +95,7 @@ pub fn play(
             channels,
             start,
             lengths,
+            limits,
             sender,
             reader,
             port,
@@ -109,7 +114,9 @@ pub fn play(
         );
         let at = m.at;
         let e = m.entry;
-        put(answers, k, m.answer);
+        let r = m.answer;
+        put_reason(reasons, k, r.code, r.cause);
+        put(answers, k, r);
         if at >= ENTRIES {
             continue;
         }

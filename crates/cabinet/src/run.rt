@@ -1,4 +1,4 @@
-// The public call: a table and a schedule in, answers and a report into lent buffers, and a number, how many records were run, and
+// The public call: a table and a schedule in, answers, reasons and a report into lent buffers, and a number, how many records were run, and
 // whether the cabinet ended quiet. Document 01, "What each move replies". All state is this call's own; nothing is kept between calls.
 ghost use Rattle.rules.specs.Run.{buffersOf};
 ghost use Rattle.cabinet.specs.Conducts.{Conducts};
@@ -31,16 +31,18 @@ fn conduct(
     records: usize,
     plan: Plan,
     answers: &mut [u8],
+    reasons: &mut [u8],
     report: &mut [u8],
 ) -> bool
-    ensures { λ r. ⌜ Conducts (now (table .entry)) (now (schedule .entry)) records plan (buffersOf (now (answers .entry)) (now (report .entry))) r
-        (buffersOf (now (answers .exit)) (now (report .exit))) ⌝ }
+    ensures { λ r. ⌜ Conducts (now (table .entry)) (now (schedule .entry)) records plan (buffersOf (now (answers .entry)) (now (reasons .entry)) (now (report .entry))) r
+        (buffersOf (now (answers .exit)) (now (reasons .exit)) (now (report .exit))) ⌝ }
 {
     let boards_many = plan.boards;
     let processes = plan.processes;
     let channels = plan.channels;
     let start = plan.start;
     let lengths = plan.length;
+    let limits = plan.limit;
     let primary = plan.primary;
     let standby = plan.standby;
     let sender = plan.sender;
@@ -65,6 +67,7 @@ fn conduct(
         channels,
         &start,
         &lengths,
+        &limits,
         &sender,
         &reader,
         &port,
@@ -78,6 +81,7 @@ fn conduct(
         &mut totals,
         &mut waits,
         answers,
+        reasons,
     );
     write_report(&rows, processes, report);
     quiescent(
@@ -93,9 +97,15 @@ fn conduct(
 }
 
 // The run of a table and a schedule, whatever bytes they are.
-pub fn run(table: &[u8], schedule: &[u8], answers: &mut [u8], report: &mut [u8]) -> Verdict
-    ensures { λ r. ⌜ Runs (now (table .entry)) (now (schedule .entry)) (buffersOf (now (answers .entry)) (now (report .entry))) r
-        (buffersOf (now (answers .exit)) (now (report .exit))) ⌝ }
+pub fn run(
+    table: &[u8],
+    schedule: &[u8],
+    answers: &mut [u8],
+    reasons: &mut [u8],
+    report: &mut [u8],
+) -> Verdict
+    ensures { λ r. ⌜ Runs (now (table .entry)) (now (schedule .entry)) (buffersOf (now (answers .entry)) (now (reasons .entry)) (now (report .entry))) r
+        (buffersOf (now (answers .exit)) (now (reasons .exit)) (now (report .exit))) ⌝ }
 {
     let d = decode(table);
     let s = judge_schedule(schedule);
@@ -105,6 +115,7 @@ pub fn run(table: &[u8], schedule: &[u8], answers: &mut [u8], report: &mut [u8])
     let records = s.records;
     let lengths = Lengths {
         answers: answers.len(),
+        reasons: reasons.len(),
         report: report.len(),
     };
     let number = judge_run(table_number, processes, s, lengths);
@@ -115,7 +126,7 @@ pub fn run(table: &[u8], schedule: &[u8], answers: &mut [u8], report: &mut [u8])
             quiet: false,
         };
     }
-    let quiet = conduct(table, schedule, records, plan, answers, report);
+    let quiet = conduct(table, schedule, records, plan, answers, reasons, report);
     Verdict {
         number: 0,
         records: records,

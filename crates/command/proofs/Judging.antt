@@ -9,9 +9,10 @@ use borrow.Author.Tests.{leb-false}
 use Rattle.rules.specs.Table.{Table}
 use Rattle.rules.specs.Cabinet.{Cabinet}
 use Rattle.rules.specs.Moves.{Refusal, unknownMove, strayWord, noProcess, noBoard, noChannel, refusalNumber, Result, refuse, guard, step, issue, transmit, inject, crash, Move, stepMove, issueMove, transmitMove, injectMove, crashMove, unknown, moveOf, perform, judged}
+use Rattle.rules.specs.Reasons.{refusalCause}
 use Rattle.rules.specs.Schedule.{command}
 use Rattle.rules.proofs.Decoded.{isFeed, moveOf-feed, moveOf-unknown}
-use Rattle.command.specs.Turns.{beyondOf, numberOf, wordedOf, judgeOf}
+use Rattle.command.specs.Turns.{beyondOf, numberOf, wordedOf, judgeOf, faultOf, causeBy}
 
 -- an unknown move's number
 pub unknown-number : (boards processes channels a mv : ℕ) → (mv ≡ 1 → ⊥) → (mv ≡ 2 → ⊥) → (mv ≡ 3 → ⊥) → (mv ≡ 4 → ⊥) → (mv ≡ 5 → ⊥)
@@ -19,26 +20,33 @@ pub unknown-number : (boards processes channels a mv : ℕ) → (mv ≡ 1 → �
 unfolding numberOf
 unknown-number boards processes channels a mv h1 h2 h3 h4 h5 = ap (numberOf boards processes channels a) (moveOf-unknown mv h1 h2 h3 h4 h5)
 
--- a result is a refusal of this number
-pub record Refuses (result : Result) (n : ℕ) : Type 0 where
+-- an unknown move's cause
+pub unknown-cause : (number mv : ℕ) → (mv ≡ 1 → ⊥) → (mv ≡ 2 → ⊥) → (mv ≡ 3 → ⊥) → (mv ≡ 4 → ⊥) → (mv ≡ 5 → ⊥) → causeBy number (moveOf mv) ≡ 0
+unfolding causeBy
+unknown-cause number mv h1 h2 h3 h4 h5 = ap (causeBy number) (moveOf-unknown mv h1 h2 h3 h4 h5)
+
+-- a result is a refusal of this number and the cause of that number
+pub record Refuses (result : Result) (n : ℕ) (cause : ℕ → ℕ) : Type 0 where
   pub why : Refusal
   pub result-is : result ≡ refuse why
   pub number-is : n ≡ refusalNumber why
+  pub cause-is : cause n ≡ refusalCause why
 
 -- a result is a refusal of this number, or the number is 0
-pub data Tested (result : Result) (n : ℕ) : Type 0 where
-  stops : Refuses result n → Tested result n
-  goes : n ≡ 0 → Tested result n
+pub data Tested (result : Result) (n : ℕ) (cause : ℕ → ℕ) : Type 0 where
+  stops : Refuses result n cause → Tested result n cause
+  goes : n ≡ 0 → Tested result n cause
 
-pub must-stop : {result : Result} {n : ℕ} → Tested result n → (n ≡ 0 → ⊥) → Refuses result n
+pub must-stop : {result : Result} {n : ℕ} {cause : ℕ → ℕ} → Tested result n cause → (n ≡ 0 → ⊥) → Refuses result n cause
 must-stop (stops r) h = r
 must-stop (goes e) h = absurd (h e)
 
 -- a check, of the rules and of the code
-tested-guard : (b : Bool) (why : Refusal) (rest : Result) (m n : ℕ) → m ≡ refusalNumber why → Tested rest n → Tested (guard b why rest) (cond b m n)
+tested-guard : (cause : ℕ → ℕ) (b : Bool) (why : Refusal) (rest : Result) (m n : ℕ) → m ≡ refusalNumber why → cause m ≡ refusalCause why
+    → Tested rest n cause → Tested (guard b why rest) (cond b m n) cause
 unfolding guard
-tested-guard true why rest m n e h = stops (record { why = why; result-is = refl; number-is = e })
-tested-guard false why rest m n e h = h
+tested-guard cause true why rest m n e f h = stops (record { why = why; result-is = refl; number-is = e; cause-is = f })
+tested-guard cause false why rest m n e f h = h
 
 module _ (t : Table) (c : Cabinet) (a word : ℕ) where
   abbrev number : Move → ℕ
@@ -48,22 +56,24 @@ module _ (t : Table) (c : Cabinet) (a word : ℕ) where
   judgement mv = judgeOf (t .boards) (length (t .processes)) (length (t .channels)) mv a word
 
   -- an unknown move is 32 whatever its word
-  unknown-tested : (b : Bool) → Tested (refuse unknownMove) (cond b 32 32)
-  unfolding refusalNumber
-  unknown-tested true = stops (record { why = unknownMove; result-is = refl; number-is = refl })
-  unknown-tested false = stops (record { why = unknownMove; result-is = refl; number-is = refl })
+  unknown-tested : (b : Bool) → Tested (refuse unknownMove) (cond b 32 32) (λ _. 0)
+  unfolding refusalNumber refusalCause
+  unknown-tested true = stops (record { why = unknownMove; result-is = refl; number-is = refl; cause-is = refl })
+  unknown-tested false = stops (record { why = unknownMove; result-is = refl; number-is = refl; cause-is = refl })
 
   -- 33, and before it 32 for a word
-  beyond : (why : Refusal) (most : ℕ) (rest : Result) → 33 ≡ refusalNumber why → Tested (guard (leb most a) why rest) (beyondOf a most)
-  beyond why most rest e = tested-guard (leb most a) why rest 33 0 e (goes refl)
+  beyond : (why : Refusal) (most : ℕ) (rest : Result) → 33 ≡ refusalNumber why
+      → Tested (guard (leb most a) why rest) (beyondOf a most) (λ n. faultOf n (refusalCause why))
+  beyond why most rest e = tested-guard (λ n. faultOf n (refusalCause why)) (leb most a) why rest 33 0 e refl (goes refl)
 
   worded : (why : Refusal) (most : ℕ) (rest : Result) → 33 ≡ refusalNumber why
-      → Tested (guard (not (eqb word 0)) strayWord (guard (leb most a) why rest)) (cond (not (eqb word 0)) 32 (beyondOf a most))
-  unfolding refusalNumber
-  worded why most rest e = tested-guard (not (eqb word 0)) strayWord (guard (leb most a) why rest) 32 (beyondOf a most) refl (beyond why most rest e)
+      → Tested (guard (not (eqb word 0)) strayWord (guard (leb most a) why rest)) (cond (not (eqb word 0)) 32 (beyondOf a most)) (λ n. faultOf n (refusalCause why))
+  unfolding refusalNumber refusalCause
+  worded why most rest e =
+      tested-guard (λ n. faultOf n (refusalCause why)) (not (eqb word 0)) strayWord (guard (leb most a) why rest) 32 (beyondOf a most) refl refl (beyond why most rest e)
 
-  performed : (mv : ℕ) (m : Move) → Tested (perform t c (command mv a word) m) (cond (not (isFeed m) && not (eqb word 0)) 32 (number m))
-  unfolding perform numberOf refusalNumber
+  performed : (mv : ℕ) (m : Move) → Tested (perform t c (command mv a word) m) (cond (not (isFeed m) && not (eqb word 0)) 32 (number m)) (λ n. causeBy n m)
+  unfolding perform numberOf causeBy refusalNumber refusalCause
   performed mv stepMove = worded noProcess (length (t .processes)) (step t c a) refl
   performed mv issueMove = worded noProcess (length (t .processes)) (issue t c a) refl
   performed mv transmitMove = worded noBoard (t .boards) (transmit t c a) refl
@@ -71,14 +81,14 @@ module _ (t : Table) (c : Cabinet) (a word : ℕ) where
   performed mv crashMove = worded noBoard (t .boards) (crash t c a) refl
   performed mv unknown = unknown-tested (not (eqb word 0))
 
-  tested : (mv : ℕ) → Tested (judged t c (command mv a word)) (judgement mv)
+  tested : (mv : ℕ) → Tested (judged t c (command mv a word)) (judgement mv) (λ n. causeBy n (moveOf mv))
   unfolding judged judgeOf
   tested mv =
-      subst (λ (b : Bool). Tested (perform t c (command mv a word) (moveOf mv)) (cond (not b && not (eqb word 0)) 32 (number (moveOf mv)))) (moveOf-feed mv)
-      (performed mv (moveOf mv))
+      subst (λ (b : Bool). Tested (perform t c (command mv a word) (moveOf mv)) (cond (not b && not (eqb word 0)) 32 (number (moveOf mv))) (λ n. causeBy n (moveOf mv)))
+      (moveOf-feed mv) (performed mv (moveOf mv))
 
   -- a number other than 0 is the rules' refusal
-  pub refuses : (mv : ℕ) → (judgement mv ≡ 0 → ⊥) → Refuses (judged t c (command mv a word)) (judgement mv)
+  pub refuses : (mv : ℕ) → (judgement mv ≡ 0 → ⊥) → Refuses (judged t c (command mv a word)) (judgement mv) (λ n. causeBy n (moveOf mv))
   refuses mv h = must-stop (tested mv) h
 
   -- none of the two applies: the move is made, and a is in the table

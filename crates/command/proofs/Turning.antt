@@ -1,11 +1,11 @@
 -- One record of a schedule: what judging it and making its move promise is what the rules make of it.
-use mathlib.Core.Path.{_≡_, refl, ap, sym, _∙_, subst}
+use mathlib.Core.Path.{_≡_, refl, ap, ap₂, sym, _∙_, subst}
 use mathlib.Core.List.{List}
 use Prim.Native.Nat.{ℕ, _<_}
 use lib.ListN.{length, getD}
 use Rattle.rules.specs.Table.{Table}
 use Rattle.rules.specs.Cabinet.{Cabinet}
-use Rattle.rules.specs.Moves.{Command, Result, refusalNumber, judged}
+use Rattle.rules.specs.Moves.{Command, Result, refusalNumber, transmitMove, moveOf, judged}
 use Rattle.rules.specs.Schedule.{command}
 use Rattle.state.specs.declared.entry.Entry.{Entry}
 use Rattle.state.specs.declared.moved.Answer.{Answer}
@@ -19,7 +19,7 @@ use Rattle.bus.specs.Injects.{Injects}
 use Rattle.bus.specs.Transmits.{Transmits}
 use Rattle.crash.specs.Crashes.{Crashes}
 use Rattle.command.specs.Plan.{Lent, Suits}
-use Rattle.command.specs.Turns.{judgeOf, numberOf, Turns, Carries}
+use Rattle.command.specs.Turns.{judgeOf, numberOf, causeBy, Turns, Carries}
 use Rattle.command.proofs.Judging.{judgement, refuses, steps, issues, transmits, injects, crashes, known}
 
 -- ---- a carry
@@ -30,12 +30,14 @@ module _ (boards processes channels : ℕ) (sender reader port : List ℕ) (s : 
   unfolding judgeOf numberOf
   by-boards t c e = ap (λ (b : ℕ). judgeOf b processes channels 3 a word) (sym e) ∙ sym is-n
 
-  pub carry-refused : (r : Answer) → (n ≡ 0 → ⊥) → r ≡ refusalOf n a → Carries boards processes channels sender reader port s a word oldest s r
-  carry-refused r h e = record {
+  pub carry-refused : (r : Answer) → (n ≡ 0 → ⊥) → (cause : ℕ) → cause ≡ causeBy n transmitMove → r ≡ refusalOf n cause a
+      → Carries boards processes channels sender reader port s a word oldest s r
+  carry-refused r h cause k e = record {
     carried = λ t entries c reach wired eb holds o.
         let f = by-boards t c eb in
         let x = refuses t c a word 3 (λ z. h (sym f ∙ z)) in
-        turned-away (command 3 a word) a (x .why) holds (x .result-is) refl (e ∙ ap (λ (m : ℕ). refusalOf m a) (sym f ∙ x .number-is));
+        turned-away (command 3 a word) a (x .why) holds (x .result-is) refl
+        (e ∙ ap₂ (λ (m z : ℕ). refusalOf m z a) (sym f ∙ x .number-is) (k ∙ ap (λ (m : ℕ). causeBy m transmitMove) (sym f) ∙ x .cause-is));
   }
 
   pub carry-made : (s′ : Store) (r : Answer) → n ≡ 0
@@ -53,12 +55,13 @@ module _ (l : Lent) (s : Store) (mv a word n : ℕ) (is-n : n ≡ judgeOf (l .bo
   by-table : (t : Table) (c : Cabinet) → Suits t l → judgement t c a word mv ≡ n
   by-table t c u = sym (is-n ∙ (λ i. judgeOf (u .boards-is i) (u .processes-is i) (u .channels-is i) mv a word))
 
-  pub turn-refused : (r : Moved) → (n ≡ 0 → ⊥) → r ≡ refusedWith n a → Turns l s mv a word s r
-  turn-refused r h e = record {
+  pub turn-refused : (r : Moved) → (n ≡ 0 → ⊥) → (cause : ℕ) → cause ≡ causeBy n (moveOf mv) → r ≡ refusedWith n cause a → Turns l s mv a word s r
+  turn-refused r h cause k e = record {
     turned = λ t entries c reach u holds other.
         let f = by-table t c u in
         let x = refuses t c a word mv (λ z. h (sym f ∙ z)) in
-        turned-down (command mv a word) a (x .why) holds (x .result-is) refl (e ∙ ap (λ (m : ℕ). refusedWith m a) (sym f ∙ x .number-is));
+        turned-down (command mv a word) a (x .why) holds (x .result-is) refl
+        (e ∙ ap₂ (λ (m z : ℕ). refusedWith m z a) (sym f ∙ x .number-is) (k ∙ ap (λ (m : ℕ). causeBy m (moveOf mv)) (sym f) ∙ x .cause-is));
   }
 
   -- no move is left that has none of the five numbers
@@ -70,7 +73,7 @@ module _ (l : Lent) (s : Store) (mv a word n : ℕ) (is-n : n ≡ judgeOf (l .bo
   at-number k e t c u z = ap (judgement t c a word) (sym e) ∙ by-table t c u ∙ z
 
   pub turn-steps : (rows mails boards : List (List ℕ)) (totals : List ℕ) (r : Moved) → n ≡ 0 → mv ≡ 1
-      → Steps (l .table) (l .start) (l .lengths) (l .reader) (l .port) (s .rows) (s .mails) (s .boards) (s .totals) a rows mails boards totals r
+      → Steps (l .table) (l .start) (l .lengths) (l .limits) (l .reader) (l .port) (s .rows) (s .mails) (s .boards) (s .totals) a rows mails boards totals r
       → Turns l s mv a word (storeOf rows mails (s .logs) (s .heads) boards totals (s .waits)) r
   turn-steps rows mails boards totals r z e made = record {
     turned = λ t entries c reach u holds other.
@@ -78,7 +81,7 @@ module _ (l : Lent) (s : Store) (mv a word n : ℕ) (is-n : n ≡ judgeOf (l .bo
         let after : Store = storeOf rows mails (s .logs) (s .heads) boards totals (s .waits) in
         subst (λ (k : ℕ). Turned t after entries c (command k a word) (judged t c (command k a word)) r) (sym e)
         (subst (λ (y : Result). Turned t after entries c (command 1 a word) y r) (sym (x .0))
-        (made .turned t (l .sender) (s .logs) (s .heads) (s .waits) entries c (command 1 a word) reach (u .wired) (u .programmed) holds refl (x .1)));
+        (made .turned t (l .sender) (s .logs) (s .heads) (s .waits) entries c (command 1 a word) reach (u .wired) (u .programmed) (u .limited) holds refl (x .1)));
   }
 
   pub turn-issues : (rows boards : List (List ℕ)) (waits : List ℕ) (r : Moved) → n ≡ 0 → mv ≡ 2

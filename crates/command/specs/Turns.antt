@@ -41,6 +41,19 @@ unfoldable pub judgeOf : ℕ → ℕ → ℕ → ℕ → ℕ → ℕ → ℕ
 unfolding numberOf
 judgeOf boards processes channels mv a word = cond (wordedOf mv word) 32 (numberOf boards processes channels a (moveOf mv))
 
+-- W-206, of a known move: "Code 32: 1 when the move is known and the word is at fault"; of a 33 what it says there
+abbrev pub faultOf : ℕ → ℕ → ℕ
+faultOf number of-33 = cond (eqb number 32) 1 of-33
+
+-- the cause of a 32 or a 33, by the move: "Code 33: 1 for a board, 2 for a channel."
+unfoldable pub causeBy : ℕ → Move → ℕ
+causeBy number stepMove = faultOf number 0
+causeBy number issueMove = faultOf number 0
+causeBy number transmitMove = faultOf number 1
+causeBy number injectMove = faultOf number 2
+causeBy number crashMove = faultOf number 1
+causeBy number unknown = 0
+
 -- every move but a carry
 pub record Turns (l : Lent) (s : Store) (mv a word : ℕ) (s′ : Store) (r : Moved) : Type 0 where
   pub turned : (t : Table) (entries : List Entry) (c : Cabinet) → Reachable t c → Suits t l → Holds t s entries c → mv ≢ 3

@@ -4,7 +4,7 @@ ghost use mathlib.Core.Bool.{cond};
 ghost use Rattle.rules.specs.Moves.{moveOf};
 ghost use Rattle.state.specs.Store.{storeOf};
 ghost use Rattle.command.specs.Plan.{lentOf};
-ghost use Rattle.command.specs.Turns.{beyondOf, numberOf, wordedOf, judgeOf, Turns, Carries};
+ghost use Rattle.command.specs.Turns.{beyondOf, numberOf, wordedOf, judgeOf, faultOf, causeBy, Turns, Carries};
 use backup::limits::LOG;
 use backup::place::HEAD;
 use bus::inject::inject;
@@ -60,6 +60,27 @@ fn judge(boards: usize, processes: usize, channels: usize, mv: u8, a: u32, word:
     number(boards, processes, channels, mv, a)
 }
 
+// W-206, of a known move: "Code 32: 1 when the move is known and the word is at fault"; of a 33 what it says there.
+fn fault(number: u32, of_33: u32) -> u32
+    ensures { λ r. ⌜ r ≡ faultOf number of_33 ⌝ }
+{
+    if number == 32 { 1 } else { of_33 }
+}
+
+// The cause of a 32 or a 33, by the move: "Code 33: 1 for a board, 2 for a channel."
+fn cause(number: u32, mv: u8) -> u32
+    ensures { λ r. ⌜ r ≡ causeBy number (moveOf mv) ⌝ }
+{
+    match mv {
+        1 => fault(number, 0),
+        2 => fault(number, 0),
+        3 => fault(number, 1),
+        4 => fault(number, 2),
+        5 => fault(number, 1),
+        _ => 0,
+    }
+}
+
 // Every move but a carry, whose entry the loop hands over.
 pub fn turn(
     table: &[u8],
@@ -68,6 +89,7 @@ pub fn turn(
     channels: usize,
     start: &[u32; 16],
     lengths: &[u32; 16],
+    limits: &[u32; 16],
     sender: &[u32; 32],
     reader: &[u32; 32],
     port: &[u32; 32],
@@ -84,17 +106,18 @@ pub fn turn(
     a: u32,
     word: u32,
 ) -> Moved
-    ensures { λ r. ⌜ Turns (lentOf (now (table .entry)) «boards_many» processes channels (now (start .entry)) (now (lengths .entry)) (now (sender .entry)) (now (reader .entry)) (now (port .entry)) (now (ins .entry)) (now (arity .entry))) (storeOf (now (rows .entry)) (now (mails .entry)) (now (logs .entry)) (now (heads .entry)) (now (boards .entry)) (now (totals .entry)) (now (waits .entry))) mv a word (storeOf (now (rows .exit)) (now (mails .exit)) (now (logs .exit)) (now (heads .exit)) (now (boards .exit)) (now (totals .exit)) (now (waits .exit))) r ⌝ }
+    ensures { λ r. ⌜ Turns (lentOf (now (table .entry)) «boards_many» processes channels (now (start .entry)) (now (lengths .entry)) (now (limits .entry)) (now (sender .entry)) (now (reader .entry)) (now (port .entry)) (now (ins .entry)) (now (arity .entry))) (storeOf (now (rows .entry)) (now (mails .entry)) (now (logs .entry)) (now (heads .entry)) (now (boards .entry)) (now (totals .entry)) (now (waits .entry))) mv a word (storeOf (now (rows .exit)) (now (mails .exit)) (now (logs .exit)) (now (heads .exit)) (now (boards .exit)) (now (totals .exit)) (now (waits .exit))) r ⌝ }
 {
     let number = judge(boards_many, processes, channels, mv, a, word);
     if number != 0 {
-        return refused(number, a);
+        return refused(number, cause(number, mv), a);
     }
     match mv {
         1 => step(
             table,
             start,
             lengths,
+            limits,
             reader,
             port,
             rows,
@@ -133,7 +156,7 @@ pub fn turn(
             waits,
             a,
         )),
-        _ => refused(32, a),
+        _ => refused(32, 0, a),
     }
 }
 
@@ -160,7 +183,7 @@ pub fn carry(
 {
     let number = judge(boards_many, processes, channels, 3, a, word);
     if number != 0 {
-        return refusal(number, a);
+        return refusal(number, cause(number, 3), a);
     }
     transmit(
         sender,

@@ -15,6 +15,7 @@ use Rattle.rules.specs.Moves.{Result, refuse, accept, guard, crashDead, otherCr
 use Rattle.state.specs.declared.entry.Entry.{Entry}
 use Rattle.state.specs.declared.moved.Answer.{Answer}
 use Rattle.state.specs.Store.{Store, storeOf, Holds, deadIn}
+use Rattle.rules.specs.Reasons.{refusalCause, causeOf}
 use Rattle.state.specs.Moved.{Reachable, Answered, refusalOf, answerOf}
 use Rattle.state.proofs.Reading.{at-dead}
 use Rattle.state.proofs.Refusing.{turned-away}
@@ -54,9 +55,9 @@ module _ {t : Table} {s : Store} {entries : List Entry} {c : Cabinet} (h : Holds
 
 module _ (boards-many processes channels : ℕ) (sender reader ins arity : List ℕ) (rows mails logs heads boards : List (List ℕ)) (totals waits : List ℕ) (a b : ℕ)
     (is-b : a < 16 → b ≡ a) (r : Answer) where
-  pub crashes-34 : (getD (getD boards b []) 2 0 ≡ 0 → ⊥) → r ≡ refusalOf 34 a
+  pub crashes-34 : (getD (getD boards b []) 2 0 ≡ 0 → ⊥) → r ≡ refusalOf 34 1 a
       → Crashes boards-many processes channels sender reader ins arity rows mails logs heads boards totals waits a rows mails boards totals waits r
-  unfolding refusalNumber
+  unfolding refusalNumber refusalCause
   crashes-34 n e = record {
     answered = λ t port entries c command reach wired addressed eb ep ec h f ha.
         let its : b ≡ a = is-b (let z = reach .accepted .boards-high in omega arith) in
@@ -71,9 +72,9 @@ module _ (boards-many processes channels : ℕ) (sender reader ins arity : List 
         let m : n ≡ t .boards = is-n (let z = reach .accepted .boards-high in omega arith) ∙ eb in
         sym (ap (λ (i : ℕ). anyBelow (deadApart boards i) n) its ∙ ap (anyBelow (deadApart boards a)) m) ∙ e
 
-    pub crashes-44 : (found : Bool) → found ≡ anyBelow (deadApart boards b) n → found ≡ true → r ≡ refusalOf 44 a
+    pub crashes-44 : (found : Bool) → found ≡ anyBelow (deadApart boards b) n → found ≡ true → r ≡ refusalOf 44 0 a
         → Crashes boards-many processes channels sender reader ins arity rows mails logs heads boards totals waits a rows mails boards totals waits r
-    unfolding refusalNumber
+    unfolding refusalNumber refusalCause
     crashes-44 found f-is d e = record {
       answered = λ t port entries c command reach wired addressed eb ep ec h f ha.
           let its : b ≡ a = is-b (let z = reach .accepted .boards-high in omega arith) in
@@ -84,9 +85,9 @@ module _ (boards-many processes channels : ℕ) (sender reader ins arity : List 
         → (found : Bool) → found ≡ anyBelow (deadApart boards b) n → found ≡ false
         → (rows′ mails′ : List (List ℕ)) (queues queues′ totals′ waits′ row : List ℕ)
         → Dropped k reader rows mails totals queues → Zeroed (lostWords sender rows a) k queues queues′ → Zeroed (runsOn rows a) p waits waits′ → AllCrashed p ins arity rows mails logs heads a rows′ mails′
-        → Added k reader rows′ mails′ queues′ totals′ → row ≡ deadRow (getD boards b []) → r ≡ answerOf 0 0 0
+        → Added k reader rows′ mails′ queues′ totals′ → row ≡ deadRow (getD boards b []) → r ≡ answerOf 0 2 0 0
         → Crashes boards-many processes channels sender reader ins arity rows mails logs heads boards totals waits a rows′ mails′ (set boards b row) totals′ waits′ r
-    unfolding numbers
+    unfolding numbers causeOf
     crashes-done p k is-p is-k found f-is d rows′ mails′ queues queues′ totals′ waits′ row dropped words flags all added is-row e = record {
       answered = λ t port entries c command reach wired addressed eb ep ec h f ha.
           let its : b ≡ a = is-b (let z = reach .accepted .boards-high in omega arith) in
@@ -103,5 +104,5 @@ module _ (boards-many processes channels : ℕ) (sender reader ins arity : List 
           (sym (ap (λ (x : List ℕ). set boards b x) is-row ∙ ap (λ (i : ℕ). set boards i (deadRow (getD boards i []))) its)) cab in
           let after : Store = storeOf rows′ mails′ logs heads (set boards b row) totals′ waits′ in
           subst (λ (z : Answer). Answered t after entries c command (crash t c a) z) (sym e)
-          (subst (λ (z : Result). Answered t after entries c command z (answerOf 0 0 0)) (sym so) (record { answer-is = refl; holds = there }));
+          (subst (λ (z : Result). Answered t after entries c command z (answerOf 0 2 0 0)) (sym so) (record { answer-is = refl; cause-is = refl; holds = there }));
     }

@@ -40,10 +40,10 @@ pub fn crash(
 {
     let b = index16(a);
     if boards[b][DEAD] != 0 {
-        return refusal(34, a);
+        return refusal(34, 1, a);
     }
     if other_dead(most16(boards_many), boards, b) {
-        return refusal(44, a);
+        return refusal(44, 0, a);
     }
     let p = most16(processes);
     let k = most32(channels);
@@ -55,6 +55,7 @@ pub fn crash(
     die(&mut boards[b]);
     Answer {
         code: 0,
+        cause: 2,
         a: 0,
         word: 0,
     }

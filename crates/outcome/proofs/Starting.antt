@@ -16,7 +16,7 @@ use Rattle.backup.specs.Replica.{fit, savedOn}
 use Rattle.backup.specs.Place.{viewIn, tallyIn, Sound}
 use Rattle.process.specs.Row.{rowLength, machineOf, standbyOf, processOf, Kept}
 use Rattle.process.proofs.Rows.{Words, stored}
-use Rattle.rules.specs.Table.{Table, Placement, placementAt, channelAt}
+use Rattle.rules.specs.Table.{Table, Placement, nowhere, placementAt, channelAt}
 use Rattle.rules.specs.Judge.{Accepted}
 use Rattle.rules.specs.Machine.{Mail, booted}
 use Rattle.rules.specs.Cabinet as rules
@@ -91,9 +91,6 @@ module _ (t : Table) (ok : Accepted t) (rows′ mails logs heads boards : List (
   process-at p h =
       (λ i. processOf (row-at p h i) (one-of mails (zeros logMost) mails-is p (below p h) i) (one-of logs (zeros logMost) logs-is p (below p h) i) (one-of heads (zeros 11) heads-is p (below p h) i))
       ∙ seated-is (placementAt t p)
-
-  abbrev nowhere : Placement
-  nowhere = record { primary = 0; standby = 0; code = [] }
 
   all-processes : started t .processes ≡ listed (processIn s) (length (t .processes))
   unfolding started

@@ -1,6 +1,6 @@
 -- A schedule as the code judges and reads it, and the rules' commands.
 use mathlib.Core.Path.{_≡_}
-use mathlib.Core.Bool.{cond}
+use mathlib.Core.Bool.{cond, _&&_}
 use mathlib.Core.List.{List}
 use Prim.Native.Nat.{ℕ, _*_}
 use lib.Dec.{eqb, leb}
@@ -18,7 +18,7 @@ commandOf c = command (c .mv) (c .a) (c .word)
 
 -- the rules' lengths of the lent buffers
 abbrev pub lengthsIn : Lengths → run.Lengths
-lengthsIn l = record { answers = l .answers; report = l .report }
+lengthsIn l = record { answers = l .answers; reasons = l .reasons; report = l .report }
 
 -- what judging a schedule finds: its number, and how many commands it has, none where it is refused
 pub record ScheduleJudged (schedule : List ℕ) (r : Judged) : Type 0 where
@@ -31,6 +31,6 @@ unfoldable pub judgedRun : ℕ → ℕ → Judged → Lengths → ℕ
 judgedRun number processes judged lengths =
     orNumber (eqb number 0) number
     (orNumber (eqb (judged .number) 0) (judged .number)
-    (orNumber (leb (6 * judged .records) (lengths .answers)) 11
+    (orNumber (leb (6 * judged .records) (lengths .answers) && leb (judged .records) (lengths .reasons)) 11
     (orNumber (leb (20 * processes) (lengths .report)) 12
     0)))

@@ -28,6 +28,7 @@ pub struct Command {
 // How long the lent buffers are.
 pub struct Lengths {
     pub answers: usize,
+    pub reasons: usize,
     pub report: usize,
 }
 
@@ -76,13 +77,15 @@ pub fn command_at(schedule: &[u8], i: usize) -> Command
 }
 
 // 0, or the number that refuses a run, lowest first: those of the table, those of the schedule, then
-// "11 answer buffer under six bytes a record; 12 report buffer under 20 bytes a process".
+// "11 answer buffer under six bytes a record; 12 report buffer under 20 bytes a process"; W-206: 11 also for a buffer of reasons under one
+// byte a record.
 pub fn judge_run(table_number: u8, processes: usize, schedule: Judged, lengths: Lengths) -> u8
     ensures { λ r. ⌜ r ≡ judgedRun «table_number» processes schedule lengths ⌝ }
 {
     let schedule_number = schedule.number;
     let records = schedule.records;
     let answers = lengths.answers;
+    let reasons = lengths.reasons;
     let report = lengths.report;
     if table_number != 0 {
         return table_number;
@@ -91,6 +94,9 @@ pub fn judge_run(table_number: u8, processes: usize, schedule: Judged, lengths: 
         return schedule_number;
     }
     if answers / 6 < records {
+        return 11;
+    }
+    if reasons < records {
         return 11;
     }
     if report / 20 < processes {

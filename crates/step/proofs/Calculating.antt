@@ -12,6 +12,7 @@ use Rattle.rules.specs.Table.{Table, codeOf}
 use Rattle.rules.specs.Machine.{Machine, internal}
 use Rattle.rules.specs.Cabinet.{Cabinet, Process, processAt}
 use Rattle.rules.specs.Moves.{guard, refuse, accept, instructionsFull, stepDone, refusalNumber, numbers, advanced, counting, oneDone, step, stepFrom, withProcess}
+use Rattle.rules.specs.Reasons.{refusalCause, causeOf}
 use Rattle.rules.proofs.Steps.{Steps, step-left}
 use Rattle.state.specs.declared.entry.Entry.{Entry}
 use Rattle.state.specs.declared.moved.Moved.{Moved}
@@ -69,18 +70,18 @@ calculate-at-its-index {rows} {rows′} {code} {register} {operand} {r} p a is-p
 }
 
 module _ (rows : List (List ℕ)) (p code register operand : ℕ) (r : Moved) where
-  pub calculate-37 : overrunIn (getD rows p []) ≡ true → r ≡ refusedWith 37 p → CalculateTurns rows p code register operand rows r
-  unfolding refusalNumber
+  pub calculate-37 : overrunIn (getD rows p []) ≡ true → r ≡ refusedWith 37 1 p → CalculateTurns rows p code register operand rows r
+  unfolding refusalNumber refusalCause
   calculate-37 e g = record {
     turned = λ t mails logs heads boards totals waits entries c command n reach i h f hp.
         turned-down command p instructionsFull h (calculate-refused h p hp n code register operand i e) f g;
   }
 
-  pub calculate-done : (row′ : List ℕ) → overrunIn (getD rows p []) ≡ false → Computes (getD rows p []) code register operand row′ → r ≡ aloneOf (answerOf 0 0 0)
+  pub calculate-done : (row′ : List ℕ) → overrunIn (getD rows p []) ≡ false → Computes (getD rows p []) code register operand row′ → r ≡ aloneOf (answerOf 0 0 0 0)
       → CalculateTurns rows p code register operand (set rows p row′) r
-  unfolding numbers
+  unfolding numbers causeOf
   calculate-done row′ e became g = record {
     turned = λ t mails logs heads boards totals waits entries c command n reach i h f hp.
-        turned-to entries command (aloneOf (answerOf 0 0 0)) _ stepDone (calculate-accepted h p hp n code register operand i e) g refl
+        turned-to entries command (aloneOf (answerOf 0 0 0 0)) _ stepDone (calculate-accepted h p hp n code register operand i e) g refl refl
         (calculate-holds h p hp n code register operand i reach row′ became);
   }

@@ -17,6 +17,7 @@ use Rattle.rules.specs.Table.{Table}
 use Rattle.rules.specs.Cabinet as rules
 use Rattle.rules.specs.Cabinet.{isCheckpointOf, Cabinet, Process, outboxMost, processAt, outboxAt, protected, waiting}
 use Rattle.rules.specs.Moves.{Command, Result, refuse, accept, guard, noBackup, syncWaits, syncBlocked, refusalNumber, issue, issued, snapshot, withProcess, enqueue, issueDone, numbers}
+use Rattle.rules.specs.Reasons.{refusalCause, causeOf}
 use Rattle.state.specs.declared.entry.Entry.{Entry}
 use Rattle.state.specs.declared.entry.Item.the-variants.{Sync}
 use Rattle.state.specs.declared.moved.Moved.{Moved}
@@ -155,12 +156,12 @@ at-its-index {rows} {boards} {rows′} {boards′} {waits} {waits′} {r} p a is
 }
 
 module _ (rows boards : List (List ℕ)) (waits : List ℕ) (p : ℕ) (r : Moved) where
-  pub issues-40 : getD (getD rows p []) 12 0 ≡ 0 → r ≡ refusedWith 40 p → Issues rows boards waits p rows boards waits r
-  unfolding refusalNumber
+  pub issues-40 : getD (getD rows p []) 12 0 ≡ 0 → r ≡ refusedWith 40 0 p → Issues rows boards waits p rows boards waits r
+  unfolding refusalNumber refusalCause
   issues-40 z e = record { turned = λ t mails logs heads totals entries c command reach h f hp. turned-down command p noBackup h (refused-40 reach h p hp z) f e }
 
-  pub issues-41 : (getD (getD rows p []) 12 0 ≡ 0 → ⊥) → (getD waits p 0 ≡ 0 → ⊥) → r ≡ refusedWith 41 p → Issues rows boards waits p rows boards waits r
-  unfolding refusalNumber
+  pub issues-41 : (getD (getD rows p []) 12 0 ≡ 0 → ⊥) → (getD waits p 0 ≡ 0 → ⊥) → r ≡ refusedWith 41 0 p → Issues rows boards waits p rows boards waits r
+  unfolding refusalNumber refusalCause
   issues-41 n w e = record { turned = λ t mails logs heads totals entries c command reach h f hp. turned-down command p syncWaits h (refused-41 reach h p hp n w) f e }
 
   module _ (b : ℕ) (is-b : getD (getD rows p []) 0 0 < 16 → b ≡ getD (getD rows p []) 0 0) where
@@ -169,9 +170,9 @@ module _ (rows boards : List (List ℕ)) (waits : List ℕ) (p : ℕ) (r : Moved
         → Holds t (storeOf rows mails logs heads boards totals waits) entries c → p < length (t .processes) → b ≡ getD (getD rows p []) 0 0
     the-board reach h hp = is-b (let a = board-there reach h p hp in let z = reach .accepted .boards-high in omega arith)
 
-    pub issues-38 : (getD (getD rows p []) 12 0 ≡ 0 → ⊥) → getD waits p 0 ≡ 0 → outboxMost ≤ getD (getD boards b []) 1 0 → r ≡ refusedWith 38 p
+    pub issues-38 : (getD (getD rows p []) 12 0 ≡ 0 → ⊥) → getD waits p 0 ≡ 0 → outboxMost ≤ getD (getD boards b []) 1 0 → r ≡ refusedWith 38 1 p
         → Issues rows boards waits p rows boards waits r
-    unfolding refusalNumber
+    unfolding refusalNumber refusalCause
     issues-38 n w l e = record {
       turned = λ t mails logs heads totals entries c command reach h f hp.
           turned-down command p syncBlocked h (refused-38 reach h p hp n w (rw (← the-board reach h hp) l)) f e;
@@ -179,9 +180,9 @@ module _ (rows boards : List (List ℕ)) (waits : List ℕ) (p : ℕ) (r : Moved
 
     pub issues-done : (row′ : List ℕ) (k : code.Checkpoint) → (getD (getD rows p []) 12 0 ≡ 0 → ⊥) → getD waits p 0 ≡ 0 → getD (getD boards b []) 1 0 < outboxMost
         → RowBecame (getD rows p []) row′ issued → ((mail log head : List ℕ) → checkpointOf k ≡ snapshot (processOf (getD rows p []) mail log head))
-        → placeOf (getD boards b []) b < 512 → r ≡ record { answer = answerOf 0 0 0; at = placeOf (getD boards b []) b; entry = record { item = Sync p k } }
+        → placeOf (getD boards b []) b < 512 → r ≡ record { answer = answerOf 0 1 0 0; at = placeOf (getD boards b []) b; entry = record { item = Sync p k } }
         → Issues rows boards waits p (set rows p row′) (set boards b (pushedIn (getD boards b []))) (set waits p 1) r
-    unfolding numbers
+    unfolding numbers causeOf
     issues-done row′ k n w l became snap below e = record {
       turned = λ t mails logs heads totals entries c command reach h f hp.
           let s : Store = storeOf rows mails logs heads boards totals waits in
@@ -202,6 +203,6 @@ module _ (rows boards : List (List ℕ)) (waits : List ℕ) (p : ℕ) (r : Moved
           (set entries (placeOf (getD boards i []) i) x) (withProcess p y (enqueue (processAt c p .board) (rules.checkpoint p (snapshot (processAt c p))) c))) (sym bb) its-board in
           let after : Store = storeOf (set rows p row′) mails logs heads (set boards b (pushedIn (getD boards b []))) totals (set waits p 1) in
           subst (λ (z : Moved). Turned t after entries c command (issue t c p) z) (sym e)
-          (subst (λ (z : Result). Turned t after entries c command z (record { answer = answerOf 0 0 0; at = placeOf (getD boards b []) b; entry = x })) (sym so)
-          (record { answer-is = refl; holds = rw (lt-ltb (placeOf (getD boards b []) b) 512 below) there }));
+          (subst (λ (z : Result). Turned t after entries c command z (record { answer = answerOf 0 1 0 0; at = placeOf (getD boards b []) b; entry = x })) (sym so)
+          (record { answer-is = refl; cause-is = refl; holds = rw (lt-ltb (placeOf (getD boards b []) b) 512 below) there }));
     }

@@ -1,5 +1,5 @@
 // A step that computes: a SET, an ADD or a JUMP. "SET, ADD and JUMP always succeed", but for W-204: "a sync after 64 instructions [..]. Every
-// kind of instruction then answers 37".
+// kind of instruction then answers 37", and W-206: the instructions are always to blame for it.
 ghost use Rattle.step.specs.Parts.{CalculateTurns};
 use crate::guards::overrun;
 use instruction::instruction::compute;
@@ -22,11 +22,12 @@ pub fn calculate(
 {
     let p = index16(a);
     if overrun(&rows[p]) {
-        return refused(37, a);
+        return refused(37, 1, a);
     }
     compute(&mut rows[p], code, register, operand);
     alone(Answer {
         code: 0,
+        cause: 0,
         a: 0,
         word: 0,
     })

@@ -27,14 +27,14 @@ pub fn issue(
 {
     let p = index16(a);
     if rows[p][PROTECTED] == 0 {
-        return refused(40, a);
+        return refused(40, 0, a);
     }
     if waits[p] != 0 {
-        return refused(41, a);
+        return refused(41, 0, a);
     }
     let b = index16(rows[p][BOARD]);
     if boards[b][COUNT] >= QUEUE {
-        return refused(38, a);
+        return refused(38, 1, a);
     }
     let at = place(&boards[b], b);
     let c = checkpoint::snapshot(&rows[p]);
@@ -44,6 +44,7 @@ pub fn issue(
     Moved {
         answer: Answer {
             code: 0,
+            cause: 1,
             a: 0,
             word: 0,
         },

@@ -1,6 +1,7 @@
 // A step that sends a word: "A SEND with hold-back above 0 lowers it by one and sends nothing. Otherwise the word joins its board's
 // queue." "For a SEND not held back: 37 likewise, 38 queue full, 39 held."
 ghost use Rattle.step.specs.Parts.{SendTurns};
+use crate::guards::blame;
 use crate::guards::owing;
 use instruction::instruction::queue_send;
 use instruction::instruction::suppress_send;
@@ -28,31 +29,33 @@ pub fn send(
     rows: &mut [[u32; ROW]; 16],
     boards: &mut [[u32; BOARD_ROW]; 16],
     totals: &mut [u32; 32],
+    limit: u32,
     a: u32,
     channel: u32,
     word: u32,
 ) -> Moved
-    ensures { λ r. ⌜ SendTurns (now (reader .entry)) (now (rows .entry)) (now (boards .entry)) (now (totals .entry)) a channel word (now (rows .exit)) (now (boards .exit)) (now (totals .exit)) r ⌝ }
+    ensures { λ r. ⌜ SendTurns (now (reader .entry)) (now (rows .entry)) (now (boards .entry)) (now (totals .entry)) limit a channel word (now (rows .exit)) (now (boards .exit)) (now (totals .exit)) r ⌝ }
 {
     let p = index16(a);
     if rows[p][SUPPRESS] > 0 {
         suppress_send(&mut rows[p]);
         return alone(Answer {
             code: 3,
+            cause: 0,
             a: channel,
             word: word,
         });
     }
-    if owing(&rows[p]) {
-        return refused(37, a);
+    if owing(&rows[p], limit) {
+        return refused(37, blame(&rows[p], limit), a);
     }
     let b = index16(rows[p][BOARD]);
     if boards[b][COUNT] >= QUEUE {
-        return refused(38, a);
+        return refused(38, 0, a);
     }
     let k = index32(channel);
     if held(reader[k], totals[k]) {
-        return refused(39, a);
+        return refused(39, 0, a);
     }
     let at = place(&boards[b], b);
     queue_send(&mut rows[p]);
@@ -61,6 +64,7 @@ pub fn send(
     Moved {
         answer: Answer {
             code: 2,
+            cause: 0,
             a: channel,
             word: word,
         },

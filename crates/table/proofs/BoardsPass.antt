@@ -100,12 +100,12 @@ module _ (bytes : List ℕ) (f : Framed bytes) where
         (subst₂ (λ (b : ℕ) (rest : List ℕ). PlacedIn version b rest r) same (part-rest bytes at ∙ ap (λ (i : ℕ). drop i bytes) (x .here)) found)
 
     -- it lies within the table
-    pub placing-within : at + r .size ≤ length bytes
+    placing-within : at + r .size ≤ length bytes
     placing-within = let z = record-within bytes (f .extent-ok) p h .fits in let e = g .size-is in let y = x .here in omega arith
 
-    pub placing-start-fits : at + r .program ≤ 2 + tableMost
-    placing-start-fits =
-        let a = placing-within in let b = g .size-is in let c = framed-short bytes (f .length-ok) in let d = g .program-is in omega arith
+    pub placing-fits : (at + r .program ≤ 2 + tableMost) × (at + r .size ≤ 2 + tableMost)
+    placing-fits =
+        let a = placing-within in let b = g .size-is in let c = framed-short bytes (f .length-ok) in let d = g .program-is in (omega arith, omega arith)
 
     this : r .ok ≡ placementPasses bytes p
     unfolding placementPasses

@@ -94,29 +94,37 @@ module _ (bytes : List ℕ) (ok : extentOk bytes ≡ true) where
   pub going-end : (at p : ℕ) → Going bytes at p → processesIn bytes ≤ p → true ≡ instructionsOk (decodeTable bytes)
   going-end at p g h = walk-end (processPasses bytes) (processesIn bytes) p (g .walked) h ∙ table-is bytes ok
 
-  module _ (at p : ℕ) (g : Going bytes at p) (h : p < processesIn bytes) where
+  module _ (at p version : ℕ) (told : version ≡ versionIn bytes) (g : Going bytes at p) (h : p < processesIn bytes) where
     -- the table's rest that the code hands on
     abbrev lent : List ℕ
     lent = take (length bytes - at) (drop at bytes)
 
+    -- its record's length
+    lent-length : recordLength version lent ≡ recordLength (versionIn bytes) (drop at bytes)
+    lent-length = ap₂ recordLength told (part-rest bytes at)
+
     pub going-within : at + recordLength (versionIn bytes) (drop at bytes) ≤ length bytes
     going-within = rw (g .place) (record-within bytes ok p h .fits)
 
-    pub lent-fits : recordLength (versionIn bytes) lent ≤ length lent
-    lent-fits = rw (part-rest bytes at) (let a = going-within in let b = length-drop at bytes in omega arith)
+    pub lent-fits : recordLength version lent ≤ length lent
+    lent-fits =
+        let a = going-within in let b = length-drop at bytes in let d : length lent ≡ length (drop at bytes) = ap length (part-rest bytes at) in
+        let e = lent-length in omega arith
 
-    pub lent-size : (size : ℕ) → size ≡ recordLength (versionIn bytes) lent → at + size ≤ length bytes
-    lent-size size s = let e = s ∙ ap (recordLength (versionIn bytes)) (part-rest bytes at) in let a = going-within in omega arith
+    pub lent-size : (size : ℕ) → size ≡ recordLength version lent → at + size ≤ length bytes
+    lent-size size s = let e = s ∙ lent-length in let a = going-within in omega arith
 
-    module _ (r : Bool) (found : r ≡ recordOk (decodeTable bytes) (versionIn bytes) p lent) where
+    module _ (r : Bool) (found : r ≡ recordOk (decodeTable bytes) version p lent) where
       here : r ≡ processPasses bytes p
-      here = found ∙ ap (recordOk (decodeTable bytes) (versionIn bytes) p) (part-rest bytes at ∙ ap (λ (i : ℕ). drop i bytes) (g .place))
+      here =
+          found
+          ∙ ap₂ (λ (v : ℕ) (rest : List ℕ). recordOk (decodeTable bytes) v p rest) told (part-rest bytes at ∙ ap (λ (i : ℕ). drop i bytes) (g .place))
 
       pub going-fails : not r ≡ true → false ≡ instructionsOk (decodeTable bytes)
       going-fails n = walk-fails (processPasses bytes) (processesIn bytes) p r h here n ∙ table-is bytes ok
 
-      pub going-on : not r ≡ false → (size : ℕ) → size ≡ recordLength (versionIn bytes) lent → Going bytes (at + size) (p + 1)
+      pub going-on : not r ≡ false → (size : ℕ) → size ≡ recordLength version lent → Going bytes (at + size) (p + 1)
       going-on n size s = record {
-        place = rw add-one (ap₂ (λ (i m : ℕ). i + m) (g .place) (s ∙ ap (recordLength (versionIn bytes)) (part-rest bytes at ∙ ap (λ (i : ℕ). drop i bytes) (g .place))));
+        place = rw add-one (ap₂ (λ (i m : ℕ). i + m) (g .place) (s ∙ lent-length ∙ ap (λ (i : ℕ). recordLength (versionIn bytes) (drop i bytes)) (g .place)));
         walked = walk-on (processPasses bytes) (processesIn bytes) p r (g .walked) h here n;
       }

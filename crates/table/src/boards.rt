@@ -2,6 +2,7 @@
 // its part of the plan, and 47 looks at the limits there.
 ghost use mathlib.Core.Path.{_≡_};
 ghost use Prim.Native.Nat.{_≤_};
+ghost use Rattle.rules.specs.Judge.{limitOk};
 ghost use Rattle.rules.specs.Format.{processesMost};
 ghost use Rattle.table.specs.Parts.{twoBoards, PlacedIn, PlacementsRead, limitsPass, Framed};
 use crate::extent::records_start;
@@ -112,17 +113,21 @@ pub fn judge_boards(table: &[u8]) -> Placements
     }
 }
 
-// 47: the limits of so many processes, each 1 to 16.
+// A limit, 1 to 16.
+fn limit_ok(limit: u32) -> bool
+    ensures { λ r. ⌜ r ≡ limitOk limit ⌝ }
+{
+    limit >= LIMIT_LEAST && limit <= LIMIT_MOST
+}
+
+// 47: the limits of so many processes.
 pub fn limits_ok(limits: &[u32; PROCESSES_MOST], processes: usize) -> bool
     requires { ⌜ processes ≤ processesMost ⌝ }
     ensures { λ r. ⌜ r ≡ limitsPass (now (limits .entry)) processes ⌝ }
 {
     let mut p = 0;
     while p < processes {
-        if limits[p] < LIMIT_LEAST {
-            return false;
-        }
-        if limits[p] > LIMIT_MOST {
+        if !limit_ok(limits[p]) {
             return false;
         }
         p += 1;

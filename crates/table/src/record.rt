@@ -41,5 +41,9 @@ pub fn record_length(version: u8, rest: &[u8]) -> usize
 pub fn limit_of(version: u8, rest: &[u8]) -> u8
     ensures { λ r. ⌜ r ≡ limitSaid version (byteAt (now (rest .entry)) 2) ⌝ }
 {
-    if version == WITH_LIMITS { byte(rest, LIMIT) } else { LIMIT_BEFORE }
+    if version == WITH_LIMITS {
+        byte(rest, LIMIT)
+    } else {
+        LIMIT_BEFORE
+    }
 }

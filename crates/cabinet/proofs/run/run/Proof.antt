@@ -22,8 +22,8 @@ judge-run-requires c κs = search needs
 
 returns : tie.Need-returns
 returns c =
-    let s = c .before .before .before .before .before .before .before .before .before .args in
-    refuses (s .table .now) (s .schedule .now) (buffersOf (s .answers .now) (s .report .now)) (c .before .before .before .before .decode .result) (c .before .before .before .judge-schedule .result) (c .before .before .before .before .decode .ensures) (c .before .before .before .judge-schedule .ensures)
+    let s = c .before .before .before .before .before .before .before .before .before .before .args in
+    refuses (s .table .now) (s .schedule .now) (buffersOf (s .answers .now) (s .reasons .now) (s .report .now)) (c .before .before .before .before .decode .result) (c .before .before .before .judge-schedule .result) (c .before .before .before .before .decode .ensures) (c .before .before .before .judge-schedule .ensures)
     (c .before .judge-run .result) (c .before .judge-run .ensures) (c .if1 .taken)
 
 conduct-requires : tie.Need-conduct-requires
@@ -35,11 +35,14 @@ same-length c = search needs
 same-length-2 : tie.Need-same-length-2
 same-length-2 c = search needs
 
+same-length-3 : tie.Need-same-length-3
+same-length-3 c = search needs
+
 returns-2 : tie.Need-returns-2
 returns-2 c =
-    let s = c .before .before .before .before .before .before .before .before .before .before .before .before .before .before .before .before .args in
-    accepts (s .table .now) (s .schedule .now) (buffersOf (s .answers .now) (s .report .now)) (c .before .before .before .before .before .before .before .before .before .before .before .decode .result) (c .before .before .before .before .before .before .before .before .before .before .judge-schedule .result) (c .before .before .before .before .before .before .before .before .before .before .before .decode .ensures) (c .before .before .before .before .before .before .before .before .before .before .judge-schedule .ensures)
-    (c .before .before .before .before .before .before .before .before .judge-run .result) (c .before .before .before .before .before .before .before .before .judge-run .ensures) (c .before .before .before .before .before .before .before .if1 .left) (c .before .before .before .before .conduct .result) _ (c .before .before .before .before .conduct .ensures)
+    let s = c .before .before .before .before .before .before .before .before .before .before .before .before .before .before .before .before .before .before .before .before .args in
+    accepts (s .table .now) (s .schedule .now) (buffersOf (s .answers .now) (s .reasons .now) (s .report .now)) (c .before .before .before .before .before .before .before .before .before .before .before .before .before .before .decode .result) (c .before .before .before .before .before .before .before .before .before .before .before .before .before .judge-schedule .result) (c .before .before .before .before .before .before .before .before .before .before .before .before .before .before .decode .ensures) (c .before .before .before .before .before .before .before .before .before .before .before .before .before .judge-schedule .ensures)
+    (c .before .before .before .before .before .before .before .before .before .before .before .judge-run .result) (c .before .before .before .before .before .before .before .before .before .before .before .judge-run .ensures) (c .before .before .before .before .before .before .before .before .before .before .if1 .left) (c .before .before .before .before .before .before .conduct .result) _ (c .before .before .before .before .before .before .conduct .ensures)
 
 pub run-spec : {M : Type 1} → statement M
 run-spec =
@@ -52,4 +55,5 @@ run-spec =
     conduct-requires
     same-length
     same-length-2
+    same-length-3
     returns-2)

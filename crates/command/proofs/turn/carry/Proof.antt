@@ -13,11 +13,14 @@ use Rattle.state.proofs.moved.refusal.Reads as refusal-reads
 judge-requires : tie.Need-judge-requires
 judge-requires c κs = search needs
 
+cause-requires : tie.Need-cause-requires
+cause-requires c κs = search needs
+
 refusal-requires : tie.Need-refusal-requires
 refusal-requires c κs = search needs
 
 returns : tie.Need-returns
-returns c = let s = c .before .before .before .args in let j = c .before .before .judge in carry-refused (s .boards-many) (s .processes) (s .channels) (s .sender .now) (s .reader .now) (s .port .now) (storeOf (s .rows .now) (s .mails .now) (s .logs .now) (s .heads .now) (s .boards .now) (s .totals .now) (s .waits .now)) (s .a) (s .word) (s .oldest) (j .result) (j .ensures) _ (c .before .if1 .taken) (c .refusal .ensures)
+returns c = let s = c .before .before .before .before .args in let j = c .before .before .before .judge in carry-refused (s .boards-many) (s .processes) (s .channels) (s .sender .now) (s .reader .now) (s .port .now) (storeOf (s .rows .now) (s .mails .now) (s .logs .now) (s .heads .now) (s .boards .now) (s .totals .now) (s .waits .now)) (s .a) (s .word) (s .oldest) (j .result) (j .ensures) _ (c .before .before .if1 .taken) _ (c .before .cause .ensures) (c .refusal .ensures)
 
 transmit-requires : tie.Need-transmit-requires
 transmit-requires c κs = search needs
@@ -27,4 +30,4 @@ returns-2 c = let s = c .before .before .before .before .before .before .before 
 
 pub carry-spec : {M : Type 1} → statement M
 carry-spec =
-    tie.close (tie.spec judge-requires refusal-requires returns transmit-requires returns-2)
+    tie.close (tie.spec judge-requires cause-requires refusal-requires returns transmit-requires returns-2)

@@ -71,7 +71,7 @@ same-length c = search needs
 returns-2 : tie.Need-returns-2
 returns-2 c =
     let s = c .before .before .before .before .before .before .before .before .before .before .before .args in
-    puts-six (s .answers .now) (s .i) (s .r) _ _ _ _ _ _ (c .before .before .before .before .before .before .struct-known .given .1 .1 .0 .fits) (c .before .before .before .before .before .before .before .before .low .ensures) (c .before .before .before .before .before .before .before .low2 .ensures) (c .before .before .before .before .before .low3 .ensures) (c .before .before .before .low4 .ensures) (c .before .low5 .ensures) (c .low6 .ensures)
+    puts-six (s .answers .now) (s .i) (s .r) _ _ _ _ _ _ (c .before .before .before .before .before .before .struct-known .given .1 .1 .1 .0 .fits) (c .before .before .before .before .before .before .before .before .low .ensures) (c .before .before .before .before .before .before .before .low2 .ensures) (c .before .before .before .before .before .low3 .ensures) (c .before .before .before .low4 .ensures) (c .before .low5 .ensures) (c .low6 .ensures)
 
 pub put-spec : {M : Type 1} → statement M
 put-spec =

@@ -137,7 +137,7 @@ returns-4 c =
     (issues-done (s .args .rows .now) (s .args .boards .now) (s .args .waits .now) (p .result) _ (b .result) (b .ensures .1)
     (c .before .before .issue .last .0) (k .result) (c .before .before .before .before .before .before .before .before .before .before .before .before .before .before .if1 .left) (c .before .before .before .before .before .before .before .before .before .before .before .before .if2 .left) (c .before .before .before .before .before .before .before .before .if3 .left) (c .before .before .issue .ensures) (k .ensures)
     (rw (← at .ensures .1 (b .ensures .0)) (at .ensures .0))
-    (λ i. record { answer = record { code = 0; a = 0; word = 0 }; at = at .ensures .1 (b .ensures .0) i; entry = record { item = Sync (e i) (k .result) } })))
+    (λ i. record { answer = record { code = 0; cause = 1; a = 0; word = 0 }; at = at .ensures .1 (b .ensures .0) i; entry = record { item = Sync (e i) (k .result) } })))
 
 pub issue-spec : {M : Type 1} → statement M
 issue-spec =

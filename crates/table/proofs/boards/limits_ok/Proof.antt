@@ -1,59 +1,46 @@
+use Prim.Native.Nat.{_-_}
+use lib.ListN.{getD}
+use Rattle.facts.specs.Walks.{Walked, walk-start, walk-on, walk-fails, walk-end}
+use Rattle.rules.specs.Judge.{limitOk}
+use Rattle.table.specs.Parts.{limitsPass}
 use borrow.Author.Needs.{needs}
-use native.Mathlib.Omega.{arith}
 use Rattle.table.proofs.boards.limits_ok.Statement.{statement}
 use Rattle.table.proofs.boards.limits_ok.Tie as tie
-use Rattle.table.proofs.boards.limits_ok.Reads as reads
-use Rattle.table.proofs.boards.limits_ok.Lts as lts
 
 abbrev Inv-loop : tie.InvT-loop
-Inv-loop limits processes p₀ p = ?
+Inv-loop limits processes p₀ p = Walked (λ q. limitOk (getD limits q 0)) processes p
 
 abbrev μ-loop : tie.MeasureT-loop
-μ-loop limits processes p₀ p = ?
+μ-loop limits processes p₀ p = processes - p
 
--- src/boards.rt:121:5
 loop-holds : tie.Need-loop-holds Inv-loop μ-loop
-loop-holds c = search needs
+loop-holds c = walk-start _ _
 
--- src/boards.rt:122:12
-mul-if1 : tie.Need-mul-if1 Inv-loop μ-loop
-mul-if1 c = search needs
+mul-limit-ok : tie.Need-mul-limit-ok Inv-loop μ-loop
+mul-limit-ok c = search needs
 
--- src/boards.rt:122:12
-element-copy-out-if1 : tie.Need-element-copy-out-if1 Inv-loop μ-loop
-element-copy-out-if1 c = search needs
+element-copy-out-limit-ok : tie.Need-element-copy-out-limit-ok Inv-loop μ-loop
+element-copy-out-limit-ok c = search needs
 
--- src/boards.rt:123:13
+limit-ok-requires : tie.Need-limit-ok-requires Inv-loop μ-loop
+limit-ok-requires c κs = search needs
+
 returns : tie.Need-returns Inv-loop μ-loop
-returns c = search needs
+unfolding limitsPass
+returns c = walk-fails _ _ (c .before .before .before .before .loop .p) _ (c .before .before .before .loop-test .taken) (c .before .limit-ok .ensures) (c .if1 .taken)
 
--- src/boards.rt:125:12
-mul-if2 : tie.Need-mul-if2 Inv-loop μ-loop
-mul-if2 c = search needs
-
--- src/boards.rt:125:12
-element-copy-out-if2 : tie.Need-element-copy-out-if2 Inv-loop μ-loop
-element-copy-out-if2 c = search needs
-
--- src/boards.rt:126:13
-returns-2 : tie.Need-returns-2 Inv-loop μ-loop
-returns-2 c = search needs
-
--- src/boards.rt:128:9
 add-p : tie.Need-add-p Inv-loop μ-loop
 add-p c = search needs
 
--- src/boards.rt:121:5
 loop-less : tie.Need-loop-less Inv-loop μ-loop
 loop-less c = search needs
 
--- src/boards.rt:121:5
 loop-again : tie.Need-loop-again Inv-loop μ-loop
-loop-again c = search needs
+loop-again c = walk-on _ _ (c .before .before .before .before .loop .p) _ (c .before .before .before .before .loop .inv) (c .before .before .before .loop-test .taken) (c .before .limit-ok .ensures) (c .if1 .left)
 
--- src/boards.rt:116:1
-returns-3 : tie.Need-returns-3 Inv-loop μ-loop
-returns-3 c = search needs
+returns-2 : tie.Need-returns-2 Inv-loop μ-loop
+unfolding limitsPass
+returns-2 c = walk-end _ _ (c .before .loop .p) (c .before .loop .inv) (c .loop-test .left)
 
 pub limits-ok-spec : {M : Type 1} → statement M
 limits-ok-spec =
@@ -62,13 +49,11 @@ limits-ok-spec =
     Inv-loop
     μ-loop
     loop-holds
-    mul-if1
-    element-copy-out-if1
+    mul-limit-ok
+    element-copy-out-limit-ok
+    limit-ok-requires
     returns
-    mul-if2
-    element-copy-out-if2
-    returns-2
     add-p
     loop-less
     loop-again
-    returns-3)
+    returns-2)

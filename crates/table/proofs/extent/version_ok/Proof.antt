@@ -1,17 +1,12 @@
-use borrow.Author.Needs.{needs}
-use native.Mathlib.Omega.{arith}
+use borrow.Author.Tests.{eq-eqb, ne-eqb}
 use Rattle.table.proofs.extent.version_ok.Statement.{statement}
 use Rattle.table.proofs.extent.version_ok.Tie as tie
-use Rattle.table.proofs.extent.version_ok.Reads as reads
-use Rattle.table.proofs.extent.version_ok.Lts as lts
 
--- src/extent.rt:36:1
 returns : tie.Need-returns
-returns c = search needs
+returns c = rw (eq-eqb _ _ (c .if1 .taken))
 
--- src/extent.rt:36:1
 returns-2 : tie.Need-returns-2
-returns-2 c = search needs
+returns-2 c = rw (ne-eqb _ _ (c .if1 .left))
 
 pub version-ok-spec : {M : Type 1} → statement M
 version-ok-spec = tie.close (tie.spec returns returns-2)

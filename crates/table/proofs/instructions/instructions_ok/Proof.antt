@@ -1,91 +1,70 @@
+use Prim.Native.Nat.{_-_}
+use Rattle.table.proofs.Programs.{starts-within}
+use Rattle.table.proofs.Walk.{Going, going-start, going-end, going-within, going-fails, going-on, lent-fits, lent-size}
 use borrow.Author.Needs.{needs}
 use native.Mathlib.Omega.{arith}
 use Rattle.table.proofs.instructions.instructions_ok.Statement.{statement}
 use Rattle.table.proofs.instructions.instructions_ok.Tie as tie
-use Rattle.table.proofs.instructions.instructions_ok.Reads as reads
-use Rattle.table.proofs.instructions.instructions_ok.Lts as lts
-use Rattle.records.proofs.bytes.byte.Reads as byte-reads
-use Rattle.records.proofs.bytes.wide.Reads as wide-reads
-use Rattle.table.proofs.instructions.record_ok.Reads as record-ok-reads
-use Rattle.table.proofs.record.record_length.Reads as record-length-reads
 
 abbrev Inv-loop : tie.InvT-loop
-Inv-loop table version processes at₀ p₀ at p = ?
+Inv-loop table version processes at₀ p₀ at p = Going table at p
 
 abbrev μ-loop : tie.MeasureT-loop
-μ-loop table version processes at₀ p₀ at p = ?
+μ-loop table version processes at₀ p₀ at p = processes - p
 
--- src/instructions.rt:118:9
 byte-requires : tie.Need-byte-requires Inv-loop μ-loop
 byte-requires c κs = search needs
 
--- src/instructions.rt:119:21
 shared-slice-read-processes : tie.Need-shared-slice-read-processes Inv-loop μ-loop
-shared-slice-read-processes c = search needs
+shared-slice-read-processes c = omega (arith, starts-within _ (c .before .before .before .pre))
 
--- src/instructions.rt:120:36
 shared-slice-read-wide : tie.Need-shared-slice-read-wide Inv-loop μ-loop
-shared-slice-read-wide c = search needs
+shared-slice-read-wide c = omega (arith, starts-within _ (c .before .before .before .before .pre))
 
--- src/instructions.rt:120:31
 wide-requires : tie.Need-wide-requires Inv-loop μ-loop
 wide-requires c κs = search needs
 
--- src/instructions.rt:120:27
 mul-at : tie.Need-mul-at Inv-loop μ-loop
-mul-at c = search needs
+mul-at c = omega (arith, c .wide .ensures, starts-within _ (c .before .before .before .before .before .pre))
 
--- src/instructions.rt:120:18
 add-at : tie.Need-add-at Inv-loop μ-loop
-add-at c = search needs
+add-at c = omega (arith, c .wide .ensures, starts-within _ (c .before .before .before .before .before .pre))
 
--- src/instructions.rt:122:5
 loop-holds : tie.Need-loop-holds Inv-loop μ-loop
-loop-holds c = search needs
+loop-holds c = going-start (c .before .before .before .before .before .args .table .now) (c .wide .result) (c .wide .ensures)
 
--- src/instructions.rt:123:20
 sub-rest : tie.Need-sub-rest Inv-loop μ-loop
-sub-rest c = search needs
+sub-rest c = omega (arith, going-within (c .before .before .before .before .before .before .before .args .table .now) (c .before .before .before .before .before .before .before .pre) (c .before .loop .at) (c .before .loop .p) (c .before .before .before .before .before .byte .result) (c .before .before .before .before .before .byte .ensures) (c .before .loop .inv) (c .loop-test .taken))
 
--- src/instructions.rt:123:20
 part-rest-start : tie.Need-part-rest-start Inv-loop μ-loop
-part-rest-start c = search needs
+part-rest-start c = omega (arith, going-within (c .before .before .before .before .before .before .before .args .table .now) (c .before .before .before .before .before .before .before .pre) (c .before .loop .at) (c .before .loop .p) (c .before .before .before .before .before .byte .result) (c .before .before .before .before .before .byte .ensures) (c .before .loop .inv) (c .loop-test .taken))
 
--- src/instructions.rt:123:20
 part-rest-end : tie.Need-part-rest-end Inv-loop μ-loop
 part-rest-end c = search needs
 
--- src/instructions.rt:124:13
 record-ok-requires : tie.Need-record-ok-requires Inv-loop μ-loop
-record-ok-requires c κs = search needs
+record-ok-requires c κs = (starts-within _ (c .before .before .before .before .before .before .before .before .pre), lent-fits (c .before .before .before .before .before .before .before .before .args .table .now) (c .before .before .before .before .before .before .before .before .pre) (c .before .before .loop .at) (c .before .before .loop .p) (c .before .before .before .before .before .before .byte .result) (c .before .before .before .before .before .before .byte .ensures) (c .before .before .loop .inv) (c .before .loop-test .taken))
 
--- src/instructions.rt:125:13
 returns : tie.Need-returns Inv-loop μ-loop
-returns c = search needs
+returns c = going-fails (c .before .before .before .before .before .before .before .before .before .before .args .table .now) (c .before .before .before .before .before .before .before .before .before .before .pre) (c .before .before .before .before .loop .at) (c .before .before .before .before .loop .p) (c .before .before .before .before .before .before .before .before .byte .result) (c .before .before .before .before .before .before .before .before .byte .ensures) (c .before .before .before .before .loop .inv) (c .before .before .before .loop-test .taken) _ (c .before .record-ok .ensures) (c .if1 .taken)
 
--- src/instructions.rt:127:15
 record-length-requires : tie.Need-record-length-requires Inv-loop μ-loop
 record-length-requires c κs = search needs
 
--- src/instructions.rt:127:9
 add-at-2 : tie.Need-add-at-2 Inv-loop μ-loop
-add-at-2 c = search needs
+add-at-2 c = omega (arith, lent-size (c .before .before .before .before .before .before .before .before .before .before .before .args .table .now) (c .before .before .before .before .before .before .before .before .before .before .before .pre) (c .before .before .before .before .before .loop .at) (c .before .before .before .before .before .loop .p) (c .before .before .before .before .before .before .before .before .before .byte .result) (c .before .before .before .before .before .before .before .before .before .byte .ensures) (c .before .before .before .before .before .loop .inv) (c .before .before .before .before .loop-test .taken) (c .record-length .result) (c .record-length .ensures))
 
--- src/instructions.rt:128:9
 add-p : tie.Need-add-p Inv-loop μ-loop
-add-p c = search needs
+add-p c = omega (arith, c .before .before .before .before .before .before .before .before .shared-slice-known2 .given 4)
 
--- src/instructions.rt:122:5
 loop-less : tie.Need-loop-less Inv-loop μ-loop
 loop-less c = search needs
 
--- src/instructions.rt:122:5
 loop-again : tie.Need-loop-again Inv-loop μ-loop
-loop-again c = search needs
+loop-again c = going-on (c .before .before .before .before .before .before .before .before .before .before .before .args .table .now) (c .before .before .before .before .before .before .before .before .before .before .before .pre) (c .before .before .before .before .before .loop .at) (c .before .before .before .before .before .loop .p) (c .before .before .before .before .before .before .before .before .before .byte .result) (c .before .before .before .before .before .before .before .before .before .byte .ensures) (c .before .before .before .before .before .loop .inv) (c .before .before .before .before .loop-test .taken) _ (c .before .before .record-ok .ensures) (c .before .if1 .left) _ (c .record-length .ensures)
 
--- src/instructions.rt:114:1
 returns-2 : tie.Need-returns-2 Inv-loop μ-loop
-returns-2 c = search needs
+returns-2 c = going-end (c .before .before .before .before .before .before .before .args .table .now) (c .before .before .before .before .before .before .before .pre) (c .before .loop .at) (c .before .loop .p) (c .before .loop .inv) (c .loop-test .left)
 
 pub instructions-ok-spec : {M : Type 1} → statement M
 instructions-ok-spec =
