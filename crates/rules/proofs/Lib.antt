@@ -42,14 +42,15 @@ pub mod Quiet
 pub mod Transparency
 -- The bounds of every state that is reached, and what a crash there leaves to do again.
 pub mod Reached
--- W-210 of every state that is reached: the record of a resync.
+pub mod RollForward
+-- W-210 of every state that is reached: the record of a resync, what waits, what arrives meanwhile, the totals, and where a process's halves are.
 pub mod CopyCalls
 pub mod Pending
 pub mod Arrivals
 pub mod Totals
+pub mod Homes
 -- W-211: backed again, and nothing again.
 pub mod Recovery
-pub mod RollForward
 -- Tables and runs in bytes.
 pub mod Valid
 pub mod FirstVersion
@@ -58,12 +59,12 @@ pub mod Encoding
 pub mod Apart
 pub mod AcceptedRun
 pub mod Buffers
-pub mod Homes
 -- Cases, computed: M1 to M13, then those that only a case can tell.
 pub mod Cases
 pub mod Marked
 pub mod MoveCases
 pub mod LongCases
+pub mod RejoinCases
 pub mod ReasonCases
 pub mod FormatCases
 pub mod PageCases
@@ -74,3 +75,5 @@ pub mod BusOrder
 pub mod OneCause
 -- Demand 3 of every accepted run.
 pub mod Theorem
+-- W-211, computed.
+pub mod CrashAfterCrash
