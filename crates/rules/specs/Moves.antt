@@ -10,8 +10,9 @@ use Rattle.backup.specs.Replica.{Message, Replica, Checkpoint, Reply, FailOver,
 use Rattle.rules.specs.Table.{Table, Instruction, SET, ADD, TAKE, FIRST, SEND, JUMP, NONE, environment, channelAt, codeOf, limitOf, portOf, channelOn}
 use Rattle.rules.specs.Machine.{Mail, Machine, Act, internal, took, sent, Outcome, halted, noMail, moved, instructionAt, localStep, delivered}
 use Rattle.rules.specs.Cabinet.{outboxMost, Standby, Since, Process, Item, message, checkpoint, transfer, isComplete, Cabinet, noneSince, nobody, processAt, outboxAt, deadAt, protected, limited, otherBoard, someUnbacked, exhausted, overrun, owing, full, crowded, waiting}
-pub mod Answers
-unfoldable pub use Answers.*
+pub use Rattle.rules.specs.Answers.{Command, Refusal, unknownMove, strayWord, noProcess, noBoard, noChannel, transmitDead, crashDead, isHalted, noWordToTake, noWordForFirst, eventsFull, instructionsFull, sendBlocked, syncBlocked, rebackupBlocked, sendHeld, injectHeld, syncWaits, rebackupWaits, noBackup, outboxEmpty, notOutside, notBacked, boardLive, unready, hasBackup}
+pub use Rattle.rules.specs.Answers.{Answer, stepDone, issueDone, crashDone, rejoinDone, rebackupDone, received, queued, suppressed, transmitted, injected, syncKept, syncLost, transferKept, refused, Numbers, numbered}
+unfoldable pub use Rattle.rules.specs.Answers.{refusalNumber, numbers}
 
 -- what a move comes to: a refusal, or the cabinet afterwards and the answer
 pub data Result : Type 0 where

@@ -13,5 +13,4 @@ pub mod Arrivals
 pub mod Owners
 pub mod Counters
 pub mod Waits
-pub mod Unharmed
 pub mod Held
