@@ -13,4 +13,5 @@ pub mod Arrivals
 pub mod Owners
 pub mod Counters
 pub mod Waits
+pub mod Joining
 pub mod Held
