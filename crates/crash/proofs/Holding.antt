@@ -294,6 +294,7 @@ module _ {t : Table} {s : Store} {entries : List Entry} {c : Cabinet} {sender re
     outboxes = outboxes-then;
     dead = dead-then;
     kept = λ p l. became p l .kept-again;
+    seated = λ p l. became p l .seated-again _ _ (h .seated p l);
     first-small = λ i l. by-eq i b (λ e. rw (e, here, is-first) (h .first-small b hb)) (λ n. rw (there i n) (h .first-small i l));
     count-small = λ i l. by-eq i b (λ e. rw (e, here, is-count) (omega arith)) (λ n. rw (there i n) (h .count-small i l));
     board-length = λ i l. by-eq i b (λ e. rw (e, here) three) (λ n. rw (there i n) (h .board-length i l));
