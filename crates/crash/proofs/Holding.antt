@@ -27,13 +27,12 @@ use Rattle.rules.proofs.Counting.{flight-total, flight-lost}
 use Rattle.state.specs.declared.entry.Entry.{Entry}
 use Rattle.state.specs.Store.{Store, storeOf, Totalled, Holds, processIn, outboxIn, deadIn, flag}
 use Rattle.state.specs.Moved.{Reachable}
-use Rattle.state.specs.Wired.{Wired}
+use Rattle.state.specs.Wired.{Wired, Addressed}
 use Rattle.state.proofs.Reading.{at-process, how-many, how-many-boards}
 use Rattle.state.proofs.Totals.{unread-few}
 use Rattle.state.proofs.Reaching.{channel-bounds}
 use Rattle.state.proofs.Ends.{sender-inside, reader-inside}
 use Rattle.state.proofs.Owners.{waiting-elsewhere, queued-elsewhere, fed-not-queued}
-use Rattle.crash.specs.Crashes.{Addressed}
 use Rattle.crash.specs.Losses.{runsOn, lostWords, Zeroed, deadRow}
 use Rattle.crash.specs.Processes.{inputIn, inputsIn, AllCrashed}
 use Rattle.crash.specs.Recount.{unreadHere, unreadIn, Dropped, Added}

@@ -14,4 +14,5 @@ pub mod Owners
 pub mod Counters
 pub mod Waits
 pub mod Joining
+pub mod Searching
 pub mod Held

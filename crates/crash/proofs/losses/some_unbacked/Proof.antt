@@ -2,7 +2,7 @@ use mathlib.Core.Logic.{⊎-elim}
 use mathlib.Core.Path.{_∙_, sym}
 use Prim.Native.Nat.{_-_}
 use Rattle.crash.specs.Losses.{unbackedIn}
-use Rattle.crash.proofs.Losing.{Searching, searching-start, searching-hit, searching-miss, searching-end}
+use Rattle.state.proofs.Searching.{Searching, searching-start, searching-hit, searching-miss, searching-end}
 use borrow.Author.Needs.{needs}
 use native.Mathlib.Omega.{arith}
 use Rattle.crash.proofs.losses.some_unbacked.Statement.{statement}
