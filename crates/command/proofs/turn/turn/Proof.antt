@@ -1,3 +1,6 @@
+use Rattle.state.specs.Store.{storeOf}
+use Rattle.command.specs.Plan.{lentOf}
+use Rattle.command.proofs.Turning.{turn-refused, turn-unknown, turn-steps, turn-issues, turn-injects, turn-crashes, turn-rejoins, turn-rebacks}
 use native.Mathlib.Omega.{arith}
 use borrow.Author.Needs.{needs}
 use Rattle.command.proofs.turn.turn.Statement.{statement}
@@ -15,89 +18,108 @@ use Rattle.state.proofs.moved.refused.Reads as refused-reads
 use Rattle.step.proofs.issue.issue.Reads as issue-reads
 use Rattle.step.proofs.step.step.Reads as step-reads
 
--- src/turn.rt:117:9
 judge-requires : tie.Need-judge-requires
 judge-requires c κs = search needs
 
--- src/turn.rt:119:32
 cause-requires : tie.Need-cause-requires
 cause-requires c κs = search needs
 
--- src/turn.rt:119:9
 refused-requires : tie.Need-refused-requires
 refused-requires c κs = search needs
 
--- src/turn.rt:119:9
 returns : tie.Need-returns
-returns c = search needs
+returns c =
+    let s = c .before .before .before .before .before .args in
+    let j = c .before .before .before .judge in
+    turn-refused (lentOf (s .table .now) (s .boards-many) (s .processes) (s .channels) (s .start .now) (s .lengths .now) (s .limits .now) (s .sender .now) (s .reader .now) (s .port .now) (s .ins .now) (s .arity .now))
+    (storeOf (s .rows .now) (s .mails .now) (s .logs .now) (s .heads .now) (s .boards .now) (s .totals .now) (s .waits .now))
+    (s .mv) (s .a) (s .word) (j .result) (j .ensures) _ (c .before .before .if1 .taken) _ (c .before .cause .ensures) (c .refused .ensures)
 
--- src/turn.rt:122:14
 step-requires : tie.Need-step-requires
 step-requires c κs = search needs
 
--- src/turn.rt:135:14
 issue-requires : tie.Need-issue-requires
 issue-requires c κs = search needs
 
--- src/turn.rt:136:20
 inject-requires : tie.Need-inject-requires
 inject-requires c κs = search needs
 
--- src/turn.rt:136:14
 alone-requires : tie.Need-alone-requires
 alone-requires c κs = search needs
 
--- src/turn.rt:148:20
 crash-requires : tie.Need-crash-requires
 crash-requires c κs = search needs
 
--- src/turn.rt:148:14
 alone-requires-2 : tie.Need-alone-requires-2
 alone-requires-2 c κs = search needs
 
--- src/turn.rt:164:20
 rejoin-requires : tie.Need-rejoin-requires
 rejoin-requires c κs = search needs
 
--- src/turn.rt:164:14
 alone-requires-3 : tie.Need-alone-requires-3
 alone-requires-3 c κs = search needs
 
--- src/turn.rt:165:14
 rebackup-requires : tie.Need-rebackup-requires
 rebackup-requires c κs = search needs
 
--- src/turn.rt:178:14
 refused-requires-2 : tie.Need-refused-requires-2
 refused-requires-2 c κs = search needs
 
--- src/turn.rt:91:1
 returns-2 : tie.Need-returns-2
-returns-2 c = search needs
+returns-2 c =
+    let s = c .before .before .before .before .before .before .before .before .before .args in
+    let j = c .before .before .before .before .before .before .before .judge in
+    turn-steps (lentOf (s .table .now) (s .boards-many) (s .processes) (s .channels) (s .start .now) (s .lengths .now) (s .limits .now) (s .sender .now) (s .reader .now) (s .port .now) (s .ins .now) (s .arity .now))
+    (storeOf (s .rows .now) (s .mails .now) (s .logs .now) (s .heads .now) (s .boards .now) (s .totals .now) (s .waits .now))
+    (s .mv) (s .a) (s .word) (j .result) (j .ensures) _ _ _ _ _ (c .before .before .before .before .before .before .if1 .left) (c .before .before .before .before .before .match .keys1) (c .step .ensures)
 
--- src/turn.rt:91:1
 returns-3 : tie.Need-returns-3
-returns-3 c = search needs
+returns-3 c =
+    let s = c .before .before .before .before .before .before .before .before .args in
+    let j = c .before .before .before .before .before .before .judge in
+    turn-issues (lentOf (s .table .now) (s .boards-many) (s .processes) (s .channels) (s .start .now) (s .lengths .now) (s .limits .now) (s .sender .now) (s .reader .now) (s .port .now) (s .ins .now) (s .arity .now))
+    (storeOf (s .rows .now) (s .mails .now) (s .logs .now) (s .heads .now) (s .boards .now) (s .totals .now) (s .waits .now))
+    (s .mv) (s .a) (s .word) (j .result) (j .ensures) _ _ _ _ (c .before .before .before .before .before .if1 .left) (c .before .before .before .before .match .keys2) (c .issue .ensures)
 
--- src/turn.rt:91:1
 returns-4 : tie.Need-returns-4
-returns-4 c = search needs
+returns-4 c =
+    let s = c .before .before .before .before .before .before .before .before .before .before .before .args in
+    let j = c .before .before .before .before .before .before .before .before .before .judge in
+    turn-injects (lentOf (s .table .now) (s .boards-many) (s .processes) (s .channels) (s .start .now) (s .lengths .now) (s .limits .now) (s .sender .now) (s .reader .now) (s .port .now) (s .ins .now) (s .arity .now))
+    (storeOf (s .rows .now) (s .mails .now) (s .logs .now) (s .heads .now) (s .boards .now) (s .totals .now) (s .waits .now))
+    (s .mv) (s .a) (s .word) (j .result) (j .ensures) _ _ _ _ _ _ _ (c .before .before .before .before .before .before .before .before .if1 .left) (c .before .before .before .before .before .before .before .match .keys3) (c .alone .ensures) (c .before .inject .ensures)
 
--- src/turn.rt:91:1
 returns-5 : tie.Need-returns-5
-returns-5 c = search needs
+returns-5 c =
+    let s = c .before .before .before .before .before .before .before .before .before .before .before .before .before .args in
+    let j = c .before .before .before .before .before .before .before .before .before .before .before .judge in
+    turn-crashes (lentOf (s .table .now) (s .boards-many) (s .processes) (s .channels) (s .start .now) (s .lengths .now) (s .limits .now) (s .sender .now) (s .reader .now) (s .port .now) (s .ins .now) (s .arity .now))
+    (storeOf (s .rows .now) (s .mails .now) (s .logs .now) (s .heads .now) (s .boards .now) (s .totals .now) (s .waits .now))
+    (s .mv) (s .a) (s .word) (j .result) (j .ensures) _ _ _ _ _ _ _ (c .before .before .before .before .before .before .before .before .before .before .if1 .left) (c .before .before .before .before .before .before .before .before .before .match .keys4) (c .alone2 .ensures) (c .before .crash .ensures)
 
--- src/turn.rt:91:1
 returns-6 : tie.Need-returns-6
-returns-6 c = search needs
+returns-6 c =
+    let s = c .before .before .before .before .before .before .before .args in
+    let j = c .before .before .before .before .before .judge in
+    turn-rejoins (lentOf (s .table .now) (s .boards-many) (s .processes) (s .channels) (s .start .now) (s .lengths .now) (s .limits .now) (s .sender .now) (s .reader .now) (s .port .now) (s .ins .now) (s .arity .now))
+    (storeOf (s .rows .now) (s .mails .now) (s .logs .now) (s .heads .now) (s .boards .now) (s .totals .now) (s .waits .now))
+    (s .mv) (s .a) (s .word) (j .result) (j .ensures) _ _ _ (c .before .before .before .before .if1 .left) (c .before .before .before .match .keys5) (c .alone3 .ensures) (c .before .rejoin .ensures)
 
--- src/turn.rt:91:1
 returns-7 : tie.Need-returns-7
-returns-7 c = search needs
+returns-7 c =
+    let s = c .before .before .before .before .before .before .before .before .before .before .before .before .args in
+    let j = c .before .before .before .before .before .before .before .before .before .before .judge in
+    turn-rebacks (lentOf (s .table .now) (s .boards-many) (s .processes) (s .channels) (s .start .now) (s .lengths .now) (s .limits .now) (s .sender .now) (s .reader .now) (s .port .now) (s .ins .now) (s .arity .now))
+    (storeOf (s .rows .now) (s .mails .now) (s .logs .now) (s .heads .now) (s .boards .now) (s .totals .now) (s .waits .now))
+    (s .mv) (s .a) (s .word) (j .result) (j .ensures) _ _ _ _ _ _ (c .before .before .before .before .before .before .before .before .before .if1 .left) (c .before .before .before .before .before .before .before .before .match .keys6) (c .rebackup .ensures)
 
--- src/turn.rt:91:1
 returns-8 : tie.Need-returns-8
-returns-8 c = search needs
+returns-8 c =
+    let s = c .before .before .before .before .before .args in
+    let j = c .before .before .before .judge in
+    turn-unknown (lentOf (s .table .now) (s .boards-many) (s .processes) (s .channels) (s .start .now) (s .lengths .now) (s .limits .now) (s .sender .now) (s .reader .now) (s .port .now) (s .ins .now) (s .arity .now))
+    (storeOf (s .rows .now) (s .mails .now) (s .logs .now) (s .heads .now) (s .boards .now) (s .totals .now) (s .waits .now))
+    (s .mv) (s .a) (s .word) (j .result) (j .ensures) _ _ (c .before .before .if1 .left) (c .before .match .rest .0 .0 .0 .0 .0 .1) (c .before .match .rest .0 .0 .0 .0 .1) (c .before .match .rest .0 .0 .0 .1) (c .before .match .rest .0 .0 .1) (c .before .match .rest .0 .1) (c .before .match .rest .1)
 
 pub turn-spec : {M : Type 1} → statement M
 turn-spec =
