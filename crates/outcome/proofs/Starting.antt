@@ -16,7 +16,7 @@ use Rattle.facts.specs.Indexing.{getD-map, getD-replicate-any}
 use Rattle.facts.specs.Rings.{ring}
 use Rattle.backup.specs.Limits.{logMost, ports}
 use Rattle.backup.specs.Replica.{Replica}
-use Rattle.backup.specs.Place.{Fresh}
+use Rattle.backup.specs.Place as place
 use Rattle.backup.specs.PlaceLaws.{fresh-in}
 use Rattle.process.specs.Row.{rowLength, machineOf, standbyOf, processOf, Kept, Seated}
 use Rattle.process.proofs.Rows.{Words, stored}
@@ -43,7 +43,7 @@ listed-one {A} a (suc n) = ap (λ (l : List A). a ∷ l) (listed-one a n)
 abbrev pub zeros : ℕ → List ℕ
 zeros n = replicate n 0
 
-fresh : Fresh (zeros logMost) (zeros 11)
+fresh : place.Fresh (zeros logMost) (zeros 11)
 fresh = fresh-in (zeros logMost) refl
 
 abbrev seatedRow : ℕ → ℕ → List ℕ
