@@ -70,8 +70,35 @@ static struct piece first_records(size_t records) {
     return p;
 }
 
-static uint64_t run(struct piece t, struct piece schedule, struct piece answers, struct piece report) {
-    return ks_run(t.at, t.len, schedule.at, schedule.len, answers.at, answers.len, report.at, report.len);
+/* What a run of so many records on so many processes is lent to write to. */
+struct lent {
+    struct piece answers, reasons, report;
+};
+
+static struct lent lend(size_t records, size_t processes) {
+    struct lent l = {piece(KS_RECORD * records), piece(KS_REASON * records), piece(KS_REPORT * processes)};
+    return l;
+}
+
+static void give_back(struct lent l) {
+    free(l.answers.at);
+    free(l.reasons.at);
+    free(l.report.at);
+}
+
+static uint64_t run(struct piece t, struct piece schedule, struct lent l) {
+    return ks_run(t.at, t.len, schedule.at, schedule.len, l.answers.at, l.answers.len, l.reasons.at, l.reasons.len, l.report.at,
+                  l.report.len);
+}
+
+static uint64_t label_run(uint32_t first, struct piece schedule, struct lent l) {
+    return ks_label_run(first, schedule.at, schedule.len, l.answers.at, l.answers.len, l.reasons.at, l.reasons.len, l.report.at,
+                        l.report.len);
+}
+
+/* How a run would be judged with buffers shorter by so many bytes. */
+static uint32_t judge(struct piece t, struct piece schedule, struct lent l, size_t answers, size_t reasons, size_t report) {
+    return ks_judge(t.at, t.len, schedule.at, schedule.len, l.answers.len - answers, l.reasons.len - reasons, l.report.len - report);
 }
 
 static void show_record(const char *name, const uint32_t *state) {
@@ -106,18 +133,19 @@ static void board_programmer(void) {
 /* A table and a schedule are judged before they are run, and then run: the page. */
 static void driver_bench(void) {
     struct piece sound = table_of_version(1), other = table_of_version(9), schedule = first_records(20);
-    struct piece answers = piece(KS_RECORD * 20), report = piece(KS_REPORT);
-    printf("driver bench\njudged %u", ks_judge(sound.at, sound.len, schedule.at, schedule.len, answers.len, report.len));
-    printf(" %u", ks_judge(other.at, other.len, schedule.at, schedule.len, answers.len, report.len));
-    printf(" %u", ks_judge(sound.at, sound.len, schedule.at, schedule.len, answers.len - 1, report.len));
-    printf(" %u\n", ks_judge(sound.at, sound.len, schedule.at, schedule.len, answers.len, report.len - 1));
-    printf("refused %u\n", (unsigned)ks_number(run(other, schedule, answers, report)));
-    uint64_t result = run(sound, schedule, answers, report);
+    struct lent l = lend(20, 1);
+    printf("driver bench\njudged %u", judge(sound, schedule, l, 0, 0, 0));
+    printf(" %u", judge(other, schedule, l, 0, 0, 0));
+    printf(" %u", judge(sound, schedule, l, 1, 0, 0));
+    printf(" %u", judge(sound, schedule, l, 0, 1, 0));
+    printf(" %u\n", judge(sound, schedule, l, 0, 0, 1));
+    printf("refused %u\n", (unsigned)ks_number(run(other, schedule, l)));
+    uint64_t result = run(sound, schedule, l);
     printf("records %u\n", ks_records(result));
     for (size_t i = 0; i < ks_records(result); i++) {
-        printf("%zu %u %u %u\n", i + 1, (unsigned)ks_code(answers.at, i), ks_a(answers.at, i), ks_answer_word(answers.at, i));
+        printf("%zu %u %u %u\n", i + 1, (unsigned)ks_code(l.answers.at, i), ks_a(l.answers.at, i), ks_answer_word(l.answers.at, i));
     }
-    const uint8_t *lines = report.at;
+    const uint8_t *lines = l.report.at;
     printf("process 0 %u %u %u %u", ks_board(lines, 0), ks_place(lines, 0), ks_unread(lines, 0), ks_hold_back(lines, 0));
     for (size_t r = 0; r < 4; r++) {
         printf(" %u", ks_register(lines, 0, r));
@@ -126,27 +154,32 @@ static void driver_bench(void) {
     free(sound.at);
     free(other.at);
     free(schedule.at);
-    free(answers.at);
-    free(report.at);
+    give_back(l);
 }
 
-/* A board is pulled: what is on the bus until then, and with how much unread and held back the stand-by begins. */
+/* A board is pulled: what is on the bus until then, fed or carried, why each answer is what it is, and with how much unread and held back the
+ * stand-by begins. */
 static void service_desk(void) {
     struct piece sound = table_of_version(1), schedule = first_records(11);
-    struct piece answers = piece(KS_RECORD * 11), report = piece(KS_REPORT);
-    uint64_t result = run(sound, schedule, answers, report);
+    struct lent l = lend(11, 1);
+    uint64_t result = run(sound, schedule, l);
     printf("service desk\non the bus");
     for (size_t i = 0; i < ks_records(result); i++) {
-        if (ks_code(answers.at, i) == KS_ON_THE_BUS) {
-            printf(" %u:%u", ks_a(answers.at, i), ks_answer_word(answers.at, i));
+        if (ks_code(l.answers.at, i) == KS_ON_THE_BUS) {
+            printf(" %u:%u", ks_a(l.answers.at, i), ks_answer_word(l.answers.at, i));
+            printf("%s", ks_cause(l.reasons.at, i) == KS_CAUSE_FED ? " (fed)" : "");
         }
     }
-    printf("\nprocess 0 on board %u at place %u, unread %u, hold-back %u, quiet %d\n", ks_board(report.at, 0), ks_place(report.at, 0),
-           ks_unread(report.at, 0), ks_hold_back(report.at, 0), ks_quiet(result));
+    printf("\nreasons");
+    for (size_t i = 0; i < ks_records(result); i++) {
+        printf(" %u", (unsigned)ks_cause(l.reasons.at, i));
+    }
+    const uint8_t *report = l.report.at;
+    printf("\nprocess 0 on board %u at place %u, unread %u, hold-back %u, quiet %d\n", ks_board(report, 0), ks_place(report, 0),
+           ks_unread(report, 0), ks_hold_back(report, 0), ks_quiet(result));
     free(sound.at);
     free(schedule.at);
-    free(answers.at);
-    free(report.at);
+    give_back(l);
 }
 
 /* A carton is fed to the label line, numbered and printed: its code and its serial are at the outlet. A first serial can be too high. */
@@ -155,7 +188,8 @@ static void label_line(void) {
                                       {KS_CARRY, 0}, {KS_CARRY, 0}, {KS_STEP, 1}, {KS_STEP, 1}, {KS_STEP, 1}, {KS_CARRY, 1}, {KS_STEP, 1},
                                       {KS_STEP, 1}, {KS_STEP, 1}, {KS_CARRY, 1}};
     const size_t records = sizeof made / sizeof made[0], length = 1 + KS_RECORD * records;
-    struct piece schedule = piece(2 + length), answers = piece(KS_RECORD * records), report = piece(2 * KS_REPORT), line = piece(KS_LABEL_TABLE);
+    struct piece schedule = piece(2 + length), line = piece(KS_LABEL_TABLE);
+    struct lent l = lend(records, 2);
     schedule.at[1] = (uint8_t)length;
     schedule.at[2] = 1;
     for (size_t i = 0; i < records; i++) {
@@ -164,19 +198,17 @@ static void label_line(void) {
     schedule.at[8] = 77; /* the carton's code */
     printf("label line\ntables %u", ks_label_table(4294957295u, line.at));
     printf(" %u\n", ks_label_table(4294957296u, line.at));
-    uint64_t result = ks_label_run(1000, schedule.at, schedule.len, answers.at, answers.len, report.at, report.len);
+    uint64_t result = label_run(1000, schedule, l);
     printf("outlet");
     for (size_t i = 0; i < ks_records(result); i++) {
-        if (ks_code(answers.at, i) == KS_ON_THE_BUS && ks_a(answers.at, i) == KS_OUTLET) {
-            printf(" %u", ks_answer_word(answers.at, i));
+        if (ks_code(l.answers.at, i) == KS_ON_THE_BUS && ks_a(l.answers.at, i) == KS_OUTLET) {
+            printf(" %u", ks_answer_word(l.answers.at, i));
         }
     }
-    result = ks_label_run(UINT32_MAX, schedule.at, schedule.len, answers.at, answers.len, report.at, report.len);
-    printf("\nrefused %u\n", (unsigned)ks_number(result));
+    printf("\nrefused %u\n", (unsigned)ks_number(label_run(UINT32_MAX, schedule, l)));
     free(schedule.at);
-    free(answers.at);
-    free(report.at);
     free(line.at);
+    give_back(l);
 }
 
 int main(void) {

@@ -29,6 +29,7 @@ extern "C" {
 #define KS_PLACEMENTS_MOST 48
 #define KS_INSTRUCTIONS_MOST 3072
 #define KS_RECORD 6             /* a schedule's record, and an answer: code, a, word */
+#define KS_REASON 1             /* of each record in the list of reasons: the answer's code times 4, plus its cause */
 #define KS_REPORT 20            /* of each process */
 #define KS_LABEL_TABLE 84       /* a label line's table */
 #define KS_STATE 103            /* a backup record, in numbers of 32 bits */
@@ -55,7 +56,7 @@ enum ks_refusal {
     KS_INSTRUCTION = 8,
     KS_SCHEDULE_LENGTH = 9,   /* schedule under 3 bytes, wrong length field, broken record or over 10,000 */
     KS_SCHEDULE_VERSION = 10,
-    KS_ANSWERS_SHORT = 11,    /* answer buffer under six bytes a record */
+    KS_ANSWERS_SHORT = 11,    /* answer buffer under six bytes a record, or buffer of reasons under one */
     KS_REPORT_SHORT = 12,     /* report buffer under 20 bytes a process */
     KS_FIRST_SERIAL = 46      /* of the label line: a first serial above 4,294,957,295 */
 };
@@ -92,6 +93,42 @@ enum ks_answer {
     KS_OTHER_CRASHED = 44     /* another board has crashed */
 };
 
+/* ---- why it is that answer: a byte of the list of reasons, the answer's code times 4, plus its cause */
+
+enum ks_cause {
+    KS_CAUSE_CALCULATED = 0,            /* done: calculated */
+    KS_CAUSE_SYNC_ISSUED = 1,           /* done: sync issued */
+    KS_CAUSE_BOARD_CRASHED = 2,         /* done: board crashed */
+    KS_CAUSE_TOOK = 4,                  /* took */
+    KS_CAUSE_QUEUED = 8,                /* queued */
+    KS_CAUSE_HELD_BACK = 12,            /* held back */
+    KS_CAUSE_CARRIED = 16,              /* on the bus: carried */
+    KS_CAUSE_FED = 17,                  /* on the bus: fed */
+    KS_CAUSE_SYNC_CARRIED = 20,         /* sync carried */
+    KS_CAUSE_SYNC_UNBACKED = 24,        /* sync carried, no backup left */
+    KS_CAUSE_NO_SUCH_MOVE = 128,        /* bad record: no such move */
+    KS_CAUSE_WORD_NOT_ZERO = 129,       /* bad record: its word should be 0 */
+    KS_CAUSE_NO_SUCH_PROCESS = 132,     /* not in this table: the process */
+    KS_CAUSE_NO_SUCH_BOARD = 133,       /* not in this table: the board */
+    KS_CAUSE_NO_SUCH_CHANNEL = 134,     /* not in this table: the channel */
+    KS_CAUSE_CARRY_OF_DEAD = 136,       /* board dead: nothing is carried from it */
+    KS_CAUSE_CRASH_OF_DEAD = 137,       /* board dead: it can't crash again */
+    KS_CAUSE_HALTED = 140,              /* halted */
+    KS_CAUSE_NO_WORD_FOR_TAKE = 144,    /* no such word: for TAKE */
+    KS_CAUSE_NO_WORD_FOR_FIRST = 145,   /* no such word: for FIRST */
+    KS_CAUSE_OWES_FOR_ACTS = 148,       /* owes a sync: 8 acts */
+    KS_CAUSE_OWES_FOR_INSTRUCTIONS = 149, /* owes a sync: 64 instructions */
+    KS_CAUSE_QUEUE_FULL_FOR_SEND = 152, /* queue full: for SEND */
+    KS_CAUSE_QUEUE_FULL_FOR_SYNC = 153, /* queue full: for a sync */
+    KS_CAUSE_HELD_FOR_SEND = 156,       /* channel held: for SEND */
+    KS_CAUSE_HELD_FOR_FEED = 157,       /* channel held: for a feed */
+    KS_CAUSE_NO_BACKUP = 160,           /* no backup */
+    KS_CAUSE_SYNC_WAITING = 164,        /* a sync waits already */
+    KS_CAUSE_QUEUE_EMPTY = 168,         /* queue empty */
+    KS_CAUSE_NOT_FROM_OUTSIDE = 172,    /* sender not the outside */
+    KS_CAUSE_OTHER_CRASHED = 176        /* another board has crashed */
+};
+
 /* ---- what the backup record replies */
 
 enum ks_backup_reply {
@@ -110,13 +147,13 @@ enum ks_asked { KS_NEW = 0, KS_ARRIVE = 1, KS_COUNT = 2, KS_BACKUP_SYNC = 3, KS_
 /* ---- the calls */
 
 /* The run of a schedule on a table. The result is unpacked by ks_number, ks_quiet and ks_records. An accepted run writes six bytes a record
- * to answers and 20 bytes a process to report, and nothing beyond those; a refused one writes nothing at all. */
+ * to answers, one byte a record to reasons and 20 bytes a process to report, and nothing beyond those; a refused one writes nothing at all. */
 uint64_t ks_run(const uint8_t *table, size_t table_len, const uint8_t *schedule, size_t schedule_len, uint8_t *answers, size_t answers_len,
-                uint8_t *report, size_t report_len);
+                uint8_t *reasons, size_t reasons_len, uint8_t *report, size_t report_len);
 
 /* By which number a run of these would be refused with buffers of these lengths, or 0. Nothing is run. */
 uint32_t ks_judge(const uint8_t *table, size_t table_len, const uint8_t *schedule, size_t schedule_len, size_t answers_len,
-                  size_t report_len);
+                  size_t reasons_len, size_t report_len);
 
 /* A call of the backup record. state is KS_STATE numbers: how many words are saved, count, place, four registers, then 48 pairs of slot and
  * word. call is KS_CALL numbers, its own and its arguments:
@@ -148,8 +185,8 @@ uint32_t ks_label_table(uint32_t first, uint8_t table[KS_LABEL_TABLE]);
 
 /* The run of a schedule on that table: what ks_run would return, or KS_FIRST_SERIAL. The outlet gets each carton's code and then its serial:
  * the words of the answers KS_ON_THE_BUS on KS_OUTLET. */
-uint64_t ks_label_run(uint32_t first, const uint8_t *schedule, size_t schedule_len, uint8_t *answers, size_t answers_len, uint8_t *report,
-                      size_t report_len);
+uint64_t ks_label_run(uint32_t first, const uint8_t *schedule, size_t schedule_len, uint8_t *answers, size_t answers_len, uint8_t *reasons,
+                      size_t reasons_len, uint8_t *report, size_t report_len);
 
 /* ---- helpers */
 
@@ -166,6 +203,9 @@ static inline uint32_t ks_word(const uint8_t *bytes) {
 static inline enum ks_answer ks_code(const uint8_t *answers, size_t i) { return (enum ks_answer)answers[KS_RECORD * i]; }
 static inline uint8_t ks_a(const uint8_t *answers, size_t i) { return answers[KS_RECORD * i + 1]; }
 static inline uint32_t ks_answer_word(const uint8_t *answers, size_t i) { return ks_word(answers + KS_RECORD * i + 2); }
+
+/* Why record i, from 0, has its answer. */
+static inline enum ks_cause ks_cause(const uint8_t *reasons, size_t i) { return (enum ks_cause)reasons[KS_REASON * i]; }
 
 /* What the report says of process p. */
 static inline uint8_t ks_board(const uint8_t *report, size_t p) { return report[KS_REPORT * p]; }

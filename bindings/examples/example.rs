@@ -1,6 +1,8 @@
 //! The proved calls from Rust, as board programmers, the driver bench, the service desk and the label line use them. examples/example.c is
 //! the same in C; both print examples/example.out.
-use kunzeastylus::{judge, label_run, label_table, labels, run, Backup, BackupRefusal, Code, Record, Refusal, Snapshot, Synced, SCANNER};
+use kunzeastylus::{
+    judge, label_run, label_table, labels, run, Backup, BackupRefusal, Cause, Code, Record, Refusal, Snapshot, Synced, SCANNER,
+};
 
 /// Document 01's sample table.
 const TABLE: [u8; 37] = [
@@ -64,17 +66,18 @@ fn driver_bench() {
     let mut other = TABLE;
     other[2] = 9;
     let judged = [
-        judge(&TABLE, &schedule, 120, 20),
-        judge(&other, &schedule, 120, 20),
-        judge(&TABLE, &schedule, 119, 20),
-        judge(&TABLE, &schedule, 120, 19),
+        judge(&TABLE, &schedule, 120, 20, 20),
+        judge(&other, &schedule, 120, 20, 20),
+        judge(&TABLE, &schedule, 119, 20, 20),
+        judge(&TABLE, &schedule, 120, 19, 20),
+        judge(&TABLE, &schedule, 120, 20, 19),
     ];
     print!("driver bench\njudged");
     judged.iter().for_each(|judged| print!(" {}", judged.map_or_else(Refusal::number, |()| 0)));
     println!();
-    let (mut answers, mut report) = ([0; 120], [0; 20]);
-    println!("refused {}", run(&other, &schedule, &mut answers, &mut report).unwrap_err().number());
-    let run = run(&TABLE, &schedule, &mut answers, &mut report).unwrap();
+    let (mut answers, mut reasons, mut report) = ([0; 120], [0; 20], [0; 20]);
+    println!("refused {}", run(&other, &schedule, &mut answers, &mut reasons, &mut report).unwrap_err().number());
+    let run = run(&TABLE, &schedule, &mut answers, &mut reasons, &mut report).unwrap();
     println!("records {}", run.records());
     for (i, answer) in run.answers().enumerate() {
         println!("{} {} {} {}", i + 1, answer.code.number(), answer.a, answer.word);
@@ -86,13 +89,18 @@ fn driver_bench() {
     println!("quiet {}", run.quiet as u8);
 }
 
-/// A board is pulled: what is on the bus until then, and with how much unread and held back the stand-by begins.
+/// A board is pulled: what is on the bus until then, fed or carried, why each answer is what it is, and with how much unread and held back the
+/// stand-by begins.
 fn service_desk() {
     let schedule = Record::schedule(&records()[..11]);
-    let (mut answers, mut report) = ([0; 120], [0; 20]);
-    let run = run(&TABLE, &schedule, &mut answers, &mut report).unwrap();
+    let (mut answers, mut reasons, mut report) = ([0; 120], [0; 20], [0; 20]);
+    let run = run(&TABLE, &schedule, &mut answers, &mut reasons, &mut report).unwrap();
     print!("service desk\non the bus");
-    run.answers().filter(|answer| answer.code == Code::OnTheBus).for_each(|answer| print!(" {}:{}", answer.a, answer.word));
+    for answer in run.answers().filter(|answer| answer.code == Code::OnTheBus) {
+        print!(" {}:{}{}", answer.a, answer.word, if answer.cause == Cause::Fed { " (fed)" } else { "" });
+    }
+    print!("\nreasons");
+    run.answers().for_each(|answer| print!(" {}", answer.cause.number()));
     println!();
     for (p, end) in run.processes().enumerate() {
         let (board, place, unread, hold_back) = (end.board, end.place, end.unread, end.hold_back);
@@ -115,11 +123,11 @@ fn label_line() {
     let schedule = Record::schedule(&records);
     let number = |refused: Option<Refusal>| refused.map_or(0, Refusal::number);
     println!("label line\ntables {} {}", number(label_table(4_294_957_295).err()), number(label_table(4_294_957_296).err()));
-    let (mut answers, mut report) = ([0; 96], [0; 40]);
-    let run = label_run(1000, &schedule, &mut answers, &mut report).unwrap();
+    let (mut answers, mut reasons, mut report) = ([0; 96], [0; 16], [0; 40]);
+    let run = label_run(1000, &schedule, &mut answers, &mut reasons, &mut report).unwrap();
     print!("outlet");
     labels(run.answers()).iter().for_each(|label| print!(" {} {}", label.code, label.serial.unwrap()));
-    println!("\nrefused {}", number(label_run(u32::MAX, &schedule, &mut answers, &mut report).err()));
+    println!("\nrefused {}", number(label_run(u32::MAX, &schedule, &mut answers, &mut reasons, &mut report).err()));
 }
 
 fn main() {

@@ -1,5 +1,5 @@
-//! The answer to a record: document 01, "What each move replies".
-use crate::numbers::numbers;
+//! The answer to a record: document 01, "What each move replies"; and why it is that one: document 02, W-206.
+use crate::numbers::{numbers, worded};
 
 numbers! {
     /// An answer's code: what was done (0 to 6), or why the record was refused (32 to 44).
@@ -47,19 +47,65 @@ impl Code {
     }
 }
 
-/// "One six-byte answer a record: code, a, word."
+worded! {
+    /// Why an answer is what it is. The number is the byte in the list of reasons: the answer's code times 4, plus its cause.
+    Cause {
+        Calculated = 0 => "done: calculated",
+        SyncIssued = 1 => "done: sync issued",
+        BoardCrashed = 2 => "done: board crashed",
+        Took = 4 => "took",
+        Queued = 8 => "queued",
+        HeldBack = 12 => "held back",
+        Carried = 16 => "on the bus: carried",
+        Fed = 17 => "on the bus: fed",
+        SyncCarried = 20 => "sync carried",
+        SyncUnbacked = 24 => "sync carried, no backup left",
+        NoSuchMove = 128 => "bad record: no such move",
+        WordNotZero = 129 => "bad record: its word should be 0",
+        NoSuchProcess = 132 => "not in this table: the process",
+        NoSuchBoard = 133 => "not in this table: the board",
+        NoSuchChannel = 134 => "not in this table: the channel",
+        CarryOfDead = 136 => "board dead: nothing is carried from it",
+        CrashOfDead = 137 => "board dead: it can't crash again",
+        Halted = 140 => "halted",
+        NoWordForTake = 144 => "no such word: for TAKE",
+        NoWordForFirst = 145 => "no such word: for FIRST",
+        OwesForActs = 148 => "owes a sync: 8 acts",
+        OwesForInstructions = 149 => "owes a sync: 64 instructions",
+        QueueFullForSend = 152 => "queue full: for SEND",
+        QueueFullForSync = 153 => "queue full: for a sync",
+        HeldForSend = 156 => "channel held: for SEND",
+        HeldForFeed = 157 => "channel held: for a feed",
+        NoBackup = 160 => "no backup",
+        SyncWaiting = 164 => "a sync waits already",
+        QueueEmpty = 168 => "queue empty",
+        NotFromOutside = 172 => "sender not the outside",
+        OtherCrashed = 176 => "another board has crashed",
+    }
+}
+
+impl Cause {
+    /// The code of an answer with this cause.
+    pub fn code(self) -> Code {
+        Code::of(self.number() / 4).expect("a cause is of some code")
+    }
+}
+
+/// "One six-byte answer a record: code, a, word", and its cause from the list of reasons.
 #[derive(Clone, Copy, Debug, PartialEq, Eq, Hash)]
 pub struct Answer {
     pub code: Code,
     pub a: u8,
     pub word: u32,
+    pub cause: Cause,
 }
 
 impl Answer {
-    /// The answer that six bytes stand for.
-    pub(crate) fn of(bytes: &[u8]) -> Answer {
+    /// The answer that six bytes stand for, and one byte of reasons.
+    pub(crate) fn of(bytes: &[u8], reason: u8) -> Answer {
         let code = Code::of(bytes[0]).expect("a run writes document 01's codes alone");
-        Answer { code, a: bytes[1], word: word(&bytes[2..6]) }
+        let cause = Cause::of(reason).expect("a run writes document 02's reasons alone");
+        Answer { code, a: bytes[1], word: word(&bytes[2..6]), cause }
     }
 }
 

@@ -15,6 +15,8 @@ mod raw {
             schedule_len: usize,
             answers: *mut u8,
             answers_len: usize,
+            reasons: *mut u8,
+            reasons_len: usize,
             report: *mut u8,
             report_len: usize,
         ) -> u64;
@@ -25,6 +27,7 @@ mod raw {
             schedule: *const u8,
             schedule_len: usize,
             answers: usize,
+            reasons: usize,
             report: usize,
         ) -> u32;
 
@@ -46,6 +49,8 @@ mod raw {
             schedule_len: usize,
             answers: *mut u8,
             answers_len: usize,
+            reasons: *mut u8,
+            reasons_len: usize,
             report: *mut u8,
             report_len: usize,
         ) -> u64;
@@ -78,9 +83,8 @@ mod raw {
 }
 
 /// The number by which a run is refused or 0, plus 256 times quiet, plus 2^32 times the records.
-pub fn ks_run(table: &[u8], schedule: &[u8], answers: &mut [u8], report: &mut [u8]) -> u64 {
-    let (answers_len, report_len) = (answers.len(), report.len());
-    // SAFETY: four slices that don't overlap, each with its own length; the first two are only read. The call asks nothing else.
+pub fn ks_run(table: &[u8], schedule: &[u8], answers: &mut [u8], reasons: &mut [u8], report: &mut [u8]) -> u64 {
+    // SAFETY: five slices that don't overlap, each with its own length; the first two are only read. The call asks nothing else.
     unsafe {
         raw::ks_run(
             table.as_ptr(),
@@ -88,17 +92,19 @@ pub fn ks_run(table: &[u8], schedule: &[u8], answers: &mut [u8], report: &mut [u
             schedule.as_ptr(),
             schedule.len(),
             answers.as_mut_ptr(),
-            answers_len,
+            answers.len(),
+            reasons.as_mut_ptr(),
+            reasons.len(),
             report.as_mut_ptr(),
-            report_len,
+            report.len(),
         )
     }
 }
 
 /// The number by which a run is refused, or 0.
-pub fn ks_judge(table: &[u8], schedule: &[u8], answers: usize, report: usize) -> u32 {
+pub fn ks_judge(table: &[u8], schedule: &[u8], answers: usize, reasons: usize, report: usize) -> u32 {
     // SAFETY: two slices, each with its own length; the call only reads them and asks nothing else.
-    unsafe { raw::ks_judge(table.as_ptr(), table.len(), schedule.as_ptr(), schedule.len(), answers, report) }
+    unsafe { raw::ks_judge(table.as_ptr(), table.len(), schedule.as_ptr(), schedule.len(), answers, reasons, report) }
 }
 
 /// The backup record's number, or 0.
@@ -114,18 +120,19 @@ pub fn ks_label_table(first: u32, table: &mut [u8; LABEL_TABLE]) -> u32 {
 }
 
 /// As `ks_run` of the table of a first serial, or 46.
-pub fn ks_label_run(first: u32, schedule: &[u8], answers: &mut [u8], report: &mut [u8]) -> u64 {
-    let (answers_len, report_len) = (answers.len(), report.len());
-    // SAFETY: three slices that don't overlap, each with its own length; the first is only read. The call asks nothing else.
+pub fn ks_label_run(first: u32, schedule: &[u8], answers: &mut [u8], reasons: &mut [u8], report: &mut [u8]) -> u64 {
+    // SAFETY: four slices that don't overlap, each with its own length; the first is only read. The call asks nothing else.
     unsafe {
         raw::ks_label_run(
             first,
             schedule.as_ptr(),
             schedule.len(),
             answers.as_mut_ptr(),
-            answers_len,
+            answers.len(),
+            reasons.as_mut_ptr(),
+            reasons.len(),
             report.as_mut_ptr(),
-            report_len,
+            report.len(),
         )
     }
 }

@@ -26,9 +26,15 @@ pub fn label_table(first: u32) -> Result<[u8; LABEL_TABLE], Refusal> {
 }
 
 /// Runs a schedule on the table of a first serial, as `run` does on any.
-pub fn label_run<'b>(first: u32, schedule: &[u8], answers: &'b mut [u8], report: &'b mut [u8]) -> Result<Run<'b>, Refusal> {
-    let result = calls::ks_label_run(first, schedule, answers, report);
-    Run::of(result, || 2, answers, report)
+pub fn label_run<'b>(
+    first: u32,
+    schedule: &[u8],
+    answers: &'b mut [u8],
+    reasons: &'b mut [u8],
+    report: &'b mut [u8],
+) -> Result<Run<'b>, Refusal> {
+    let result = calls::ks_label_run(first, schedule, answers, reasons, report);
+    Run::of(result, || 2, answers, reasons, report)
 }
 
 /// The labels at the outlet, in order.

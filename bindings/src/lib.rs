@@ -14,7 +14,7 @@ mod record;
 mod run;
 mod table;
 
-pub use answer::{Answer, Code};
+pub use answer::{Answer, Cause, Code};
 pub use backup::{Backup, BackupRefusal, Snapshot, Synced, STATE};
 pub use label::{label_run, label_table, labels, Label, LABEL_TABLE, OUTLET, SCANNER};
 pub use record::{Instruction, Move, Record, OUTSIDE};

@@ -30,4 +30,23 @@ macro_rules! numbers {
     };
 }
 
-pub(crate) use numbers;
+/// The same, each case with its words, which docs/NUMBERS.md has too.
+macro_rules! worded {
+    ($(#[$about:meta])* $name:ident { $($case:ident = $number:literal => $words:literal,)+ }) => {
+        $crate::numbers::numbers! {
+            $(#[$about])*
+            $name { $(#[doc = $words] $case = $number,)+ }
+        }
+
+        impl $name {
+            /// In the words of docs/NUMBERS.md.
+            pub fn words(self) -> &'static str {
+                match self {
+                    $($name::$case => $words,)+
+                }
+            }
+        }
+    };
+}
+
+pub(crate) use {numbers, worded};

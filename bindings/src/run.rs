@@ -1,33 +1,24 @@
 //! The run of a schedule on a table, and the judging of its input.
 use crate::answer::{word, Answer};
 use crate::calls;
-use crate::numbers::numbers;
+use crate::numbers::worded;
 
-numbers! {
+worded! {
     /// Why a run is refused, the lowest number first.
     Refusal {
-        /// The table is under 6 bytes, or its length field over 6,260 or not the true one.
-        TableLength = 1,
-        TableVersion = 2,
-        /// Boards, processes or channels.
-        TableCounts = 3,
-        /// n over 64, or pairs and records not ending exactly with the table.
-        TableExtent = 4,
-        ChannelEnds = 5,
-        /// More than four channels read.
-        ChannelsRead = 6,
-        /// A board not below B, or primary equal to backup.
-        Boards = 7,
-        Instruction = 8,
-        /// The schedule is under 3 bytes, or has a wrong length field, a broken record or over 10,000.
-        ScheduleLength = 9,
-        ScheduleVersion = 10,
-        /// The answer buffer is under six bytes a record.
-        AnswersShort = 11,
-        /// The report buffer is under 20 bytes a process.
-        ReportShort = 12,
-        /// Of the label line: a first serial above 4,294,957,295.
-        FirstSerial = 46,
+        TableLength = 1 => "the table has under 6 bytes, or its length field is over 6,260 or not the true length",
+        TableVersion = 2 => "the table's version (byte 2) is not 1",
+        TableCounts = 3 => "boards not 2 to 16, processes not 1 to 16, or channels not 1 to 32",
+        TableExtent = 4 => "a process has over 64 instructions, or the pairs and process records don't end exactly with the table",
+        ChannelEnds = 5 => "a channel's end is neither a process of the table nor 255, or both are 255",
+        ChannelsRead = 6 => "a process reads more than four channels",
+        Boards = 7 => "a process's board or backup board is not below B, or they are the same",
+        Instruction = 8 => "an instruction: no such code, a register over 3 (over 2 for FIRST), a channel that the process doesn't read (TAKE, FIRST) or isn't the sender of (SEND), a mask of no or more than four bits, a jump beyond n",
+        ScheduleLength = 9 => "the schedule has under 3 bytes, a wrong length field, a broken record or over 10,000 records",
+        ScheduleVersion = 10 => "the schedule's version (byte 2) is not 1",
+        AnswersShort = 11 => "the answer buffer has under six bytes a record, or the buffer of reasons under one",
+        ReportShort = 12 => "the report buffer has under 20 bytes a process",
+        FirstSerial = 46 => "of the label line alone: a first serial above 4,294,957,295; then no table is made",
     }
 }
 
@@ -37,6 +28,7 @@ pub struct Run<'b> {
     /// Whether it ended quiet.
     pub quiet: bool,
     answers: &'b [u8],
+    reasons: &'b [u8],
     report: &'b [u8],
 }
 
@@ -52,12 +44,23 @@ pub struct ProcessEnd {
 
 impl<'b> Run<'b> {
     /// What a call returned, number + 256 quiet + 2^32 records, and wrote, for a table of so many processes.
-    pub(crate) fn of(result: u64, processes: impl Fn() -> u8, answers: &'b [u8], report: &'b [u8]) -> Result<Run<'b>, Refusal> {
+    pub(crate) fn of(
+        result: u64,
+        processes: impl Fn() -> u8,
+        answers: &'b [u8],
+        reasons: &'b [u8],
+        report: &'b [u8],
+    ) -> Result<Run<'b>, Refusal> {
         if let Some(refusal) = refusal(result as u32 & 255) {
             return Err(refusal);
         }
         let records = (result >> 32) as usize;
-        Ok(Run { quiet: result >> 8 & 1 == 1, answers: &answers[..6 * records], report: &report[..20 * processes() as usize] })
+        Ok(Run {
+            quiet: result >> 8 & 1 == 1,
+            answers: &answers[..6 * records],
+            reasons: &reasons[..records],
+            report: &report[..20 * processes() as usize],
+        })
     }
 
     pub fn records(&self) -> usize {
@@ -66,7 +69,7 @@ impl<'b> Run<'b> {
 
     /// An answer for each record, in order.
     pub fn answers(&self) -> impl ExactSizeIterator<Item = Answer> + 'b {
-        self.answers.chunks_exact(6).map(Answer::of)
+        self.answers.chunks_exact(6).zip(self.reasons).map(|(bytes, &reason)| Answer::of(bytes, reason))
     }
 
     /// What became of each process, in order.
@@ -86,14 +89,20 @@ pub(crate) fn refusal(number: u32) -> Option<Refusal> {
     (number != 0).then(|| u8::try_from(number).ok().and_then(Refusal::of).expect("a call returns 0 or one of these"))
 }
 
-/// Runs a schedule on a table. `answers` needs six bytes a record and `report` 20 bytes a process; bytes beyond those are untouched, and a
-/// refused run touches none.
-pub fn run<'b>(table: &[u8], schedule: &[u8], answers: &'b mut [u8], report: &'b mut [u8]) -> Result<Run<'b>, Refusal> {
-    let result = calls::ks_run(table, schedule, answers, report);
-    Run::of(result, || table[4], answers, report)
+/// Runs a schedule on a table. `answers` needs six bytes a record, `reasons` one byte a record and `report` 20 bytes a process; bytes beyond
+/// those are untouched, and a refused run touches none.
+pub fn run<'b>(
+    table: &[u8],
+    schedule: &[u8],
+    answers: &'b mut [u8],
+    reasons: &'b mut [u8],
+    report: &'b mut [u8],
+) -> Result<Run<'b>, Refusal> {
+    let result = calls::ks_run(table, schedule, answers, reasons, report);
+    Run::of(result, || table[4], answers, reasons, report)
 }
 
 /// Whether a run of these with buffers of these lengths would be accepted. Nothing is run.
-pub fn judge(table: &[u8], schedule: &[u8], answers: usize, report: usize) -> Result<(), Refusal> {
-    refusal(calls::ks_judge(table, schedule, answers, report)).map_or(Ok(()), Err)
+pub fn judge(table: &[u8], schedule: &[u8], answers: usize, reasons: usize, report: usize) -> Result<(), Refusal> {
+    refusal(calls::ks_judge(table, schedule, answers, reasons, report)).map_or(Ok(()), Err)
 }

@@ -1,7 +1,7 @@
 //! The enums have document 01's numbers, all of them and no others, here and in include/kunzeastylus.h; docs/NUMBERS.md explains each; and
 //! the calls hand them on.
 use kunzeastylus::{
-    judge, run, take_apart, write_table, Backup, BackupRefusal, Code, End, Instruction, Move, Operation, Record, Refusal,
+    judge, run, take_apart, write_table, Backup, BackupRefusal, Cause, Code, End, Instruction, Move, Operation, Record, Refusal,
     Snapshot, Synced, Table, TableRefusal, STATE,
 };
 
@@ -10,6 +10,12 @@ const NUMBERS: &str = include_str!("../../docs/NUMBERS.md");
 
 /// A process with no instructions, which reads a channel from the outside.
 const TABLE: [u8; 11] = [0, 9, 1, 2, 1, 1, 255, 0, 0, 1, 0];
+
+/// The bytes that a list of reasons can have: of each code its causes, which are 0 but where W-206 says otherwise.
+const REASONS: [u8; 31] = [
+    0, 1, 2, 4, 8, 12, 16, 17, 20, 24, 128, 129, 132, 133, 134, 136, 137, 140, 144, 145, 148, 149, 152, 153, 156, 157, 160, 164,
+    168, 172, 176,
+];
 
 /// The numbers of an enum of the header, ascending.
 fn header(name: &str) -> Vec<u8> {
@@ -40,10 +46,12 @@ macro_rules! numbered {
 fn numbers() {
     numbered!(Refusal, "ks_refusal", (1..=12).chain([46]));
     numbered!(Code, "ks_answer", (0..=6).chain(32..=44));
+    numbered!(Cause, "ks_cause", REASONS.into_iter());
     numbered!(BackupRefusal, "ks_backup_reply", 20..=26);
     numbered!(Move, "ks_move", 1..=5);
     numbered!(Instruction, "ks_instruction", 1..=6);
     assert!(Code::ALL.iter().all(|code| code.refused() == (code.number() >= 32)));
+    assert!(Cause::ALL.iter().all(|cause| cause.code().number() == cause.number() / 4));
 }
 
 /// Each has its line in docs/NUMBERS.md, in the section of its kind.
@@ -54,9 +62,32 @@ fn explained() {
         assert!(section(title).lines().any(|line| line.starts_with(&format!("| {number} |"))), "{title}: no line for {number}");
     };
     Refusal::ALL.iter().for_each(|refusal| has_line("Of a run", refusal.number()));
-    Code::ALL.iter().for_each(|code| has_line("Of a record", code.number()));
+    Code::ALL.iter().for_each(|code| has_line("Of a record: its answer", code.number()));
     BackupRefusal::ALL.iter().for_each(|refusal| has_line("Of the backup record", refusal.number()));
     has_line("Of the writer of tables", TableRefusal::NoRoom.number());
+}
+
+/// The words are those of docs/NUMBERS.md, for every byte of reasons and for every refused run, and no line there is without them.
+#[test]
+fn in_words() {
+    let lines = |title: &str| -> Vec<&str> {
+        let section = NUMBERS.split("\n## ").find(|section| section.starts_with(title)).expect("a section");
+        section.lines().filter(|line| line.starts_with("| ") && line.as_bytes()[2].is_ascii_digit()).collect()
+    };
+    let cause = |cause: &Cause| {
+        let (byte, code) = (cause.number(), cause.code().number());
+        format!("| {byte} | {code} | {} | {} |", byte - 4 * code, cause.words())
+    };
+    assert_eq!(lines("Of a record: why"), Cause::ALL.iter().map(cause).collect::<Vec<_>>());
+    let commented = |cause: &Cause| {
+        let (number, words) = (format!("= {}", cause.number()), format!("/* {} */", cause.words()));
+        HEADER.lines().any(|line| line.contains("KS_CAUSE_") && line.contains(&number) && line.ends_with(&words))
+    };
+    Cause::ALL.iter().for_each(|cause| assert!(commented(cause), "the header doesn't say {}", cause.words()));
+    let refused: Vec<&str> = lines("Of a run").into_iter().filter(|line| !line.starts_with("| 0 |")).collect();
+    let begins = |refusal: &Refusal| format!("| {} | {} |", refusal.number(), refusal.words());
+    assert_eq!(refused.len(), Refusal::ALL.len());
+    refused.iter().zip(Refusal::ALL).for_each(|(line, refusal)| assert!(line.starts_with(&begins(refusal)), "{line}"));
 }
 
 #[test]
@@ -68,27 +99,28 @@ fn records_as_bytes() {
     // However many there are, too many are too many.
     for records in [10_001, 10_922, 10_923, 20_000] {
         let schedule = Record::schedule(&vec![Record::step(0); records]);
-        assert_eq!(judge(&TABLE, &schedule, usize::MAX, usize::MAX), Err(Refusal::ScheduleLength));
+        assert_eq!(judge(&TABLE, &schedule, usize::MAX, usize::MAX, usize::MAX), Err(Refusal::ScheduleLength));
     }
 }
 
 #[test]
 fn a_refused_run_writes_nothing() {
     let schedule = Record::schedule(&[Record::feed(0, 9), Record::step(0)]);
-    let (mut answers, mut report) = ([0xEE; 14], [0xEE; 22]);
-    assert_eq!(run(&TABLE, &[], &mut answers, &mut report), Err(Refusal::ScheduleLength));
-    assert_eq!(run(&[], &schedule, &mut [], &mut []), Err(Refusal::TableLength));
-    assert_eq!(run(&TABLE, &schedule, &mut answers[..11], &mut report), Err(Refusal::AnswersShort));
-    assert_eq!(run(&TABLE, &schedule, &mut answers, &mut report[..19]), Err(Refusal::ReportShort));
-    assert!(answers.iter().chain(&report).all(|&byte| byte == 0xEE));
-    let accepted = run(&TABLE, &schedule, &mut answers, &mut report).unwrap();
+    let (mut answers, mut reasons, mut report) = ([0xEE; 14], [0xEE; 3], [0xEE; 22]);
+    assert_eq!(run(&TABLE, &[], &mut answers, &mut reasons, &mut report), Err(Refusal::ScheduleLength));
+    assert_eq!(run(&[], &schedule, &mut [], &mut [], &mut []), Err(Refusal::TableLength));
+    assert_eq!(run(&TABLE, &schedule, &mut answers[..11], &mut reasons, &mut report), Err(Refusal::AnswersShort));
+    assert_eq!(run(&TABLE, &schedule, &mut answers, &mut reasons[..1], &mut report), Err(Refusal::AnswersShort));
+    assert_eq!(run(&TABLE, &schedule, &mut answers, &mut reasons, &mut report[..19]), Err(Refusal::ReportShort));
+    assert!(answers.iter().chain(&reasons).chain(&report).all(|&byte| byte == 0xEE));
+    let accepted = run(&TABLE, &schedule, &mut answers, &mut reasons, &mut report).unwrap();
     assert_eq!(
-        accepted.answers().map(|answer| (answer.code, answer.a, answer.word)).collect::<Vec<_>>(),
-        [(Code::OnTheBus, 0, 9), (Code::Halted, 0, 0)]
+        accepted.answers().map(|answer| (answer.code, answer.cause, answer.a, answer.word)).collect::<Vec<_>>(),
+        [(Code::OnTheBus, Cause::Fed, 0, 9), (Code::Halted, Cause::Halted, 0, 0)]
     );
     assert_eq!(accepted.processes().map(|end| (end.board, end.unread, end.registers)).collect::<Vec<_>>(), [(0, 1, [0; 4])]);
     assert!(accepted.quiet && accepted.records() == 2);
-    assert!(answers[12..].iter().chain(&report[20..]).all(|&byte| byte == 0xEE));
+    assert!(answers[12..].iter().chain(&reasons[2..]).chain(&report[20..]).all(|&byte| byte == 0xEE));
 }
 
 #[test]
@@ -129,7 +161,7 @@ fn tables() {
     table.process(0, 1, &program);
     let bytes = table.bytes().expect("a table");
     assert_eq!((bytes.len(), Table::of(&bytes).as_ref()), (31, Ok(&table)));
-    assert_eq!(judge(&bytes, &[0, 1, 1], 0, 20), Ok(()));
+    assert_eq!(judge(&bytes, &[0, 1, 1], 0, 0, 20), Ok(()));
     let lists = table.lists();
     let mut short = [0xEE; 30];
     assert_eq!(write_table(&lists, &mut short), Err(TableRefusal::NoRoom));

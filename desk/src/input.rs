@@ -39,10 +39,23 @@ pub fn text(file: &str) -> Result<String, Failure> {
     String::from_utf8(bytes).map_err(|_| Failure::Unasked(format!("{}: is no UTF-8 text", name(file))))
 }
 
+/// How a file is to be taken.
+#[derive(Clone, Copy, Debug, PartialEq, Eq)]
+pub enum Kind {
+    AsItLooks,
+    Hex,
+    Bytes,
+}
+
 /// The bytes of a file, or those that it has as hex text: as `tools/hex` tells the two apart.
 pub fn bytes(file: &str) -> Result<Vec<u8>, Failure> {
+    bytes_as(Kind::AsItLooks, file)
+}
+
+/// The bytes of a file that is taken for hex text, or for bytes, whatever it looks like.
+pub fn bytes_as(kind: Kind, file: &str) -> Result<Vec<u8>, Failure> {
     let bytes = read(file)?;
-    if !hex::is_text(&bytes) {
+    if kind == Kind::Bytes || kind == Kind::AsItLooks && !hex::is_text(&bytes) {
         return Ok(bytes);
     }
     short(file, &bytes)?;

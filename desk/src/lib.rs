@@ -1,6 +1,8 @@
-//! What the fronts share: how they end and what they say, and how they read what they are given.
+//! What the fronts share: how they end and what they say, how they read what they are given, and a run in words.
 #![forbid(unsafe_code)]
 
+pub mod explain;
+pub mod follow;
 pub mod front;
 pub mod hex;
 pub mod input;

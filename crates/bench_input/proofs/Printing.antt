@@ -10,12 +10,12 @@ use Rattle.facts.specs.Tests.{by-lt}
 use Rattle.facts.specs.Lists.{part-rest}
 use Rattle.rules.specs.Bytes.{byteAt}
 use Rattle.rules.specs.Format.{lengthField, processesIn}
-use Rattle.rules.specs.Run.{Buffers, Ran, run}
-use Rattle.rules.specs.Page.{pageOf, tableIn, scheduleIn, benchBuffers, benchPage}
+use Rattle.rules.specs.Run.{Buffers, Ran, ranOf, run}
+use Rattle.rules.specs.Page.{acceptedPage, pageOf, tableIn, scheduleIn, benchBuffers, benchPage}
 use Rattle.cabinet.specs.Runs.{ranBy, Runs}
 use Rattle.cabinet.specs.declared.run.Verdict.{Verdict}
 use Rattle.cabinet.proofs.Running.{run-few}
-use Rattle.page.specs.Written.{Written}
+use Rattle.page.specs.Written.{Written, shownOf}
 use Rattle.bench_input.specs.Benched.{pageRoom, Benched}
 use Rattle.bench_input.specs.Parts.{partsPage, Printed, RunPrinted}
 use Rattle.bench_input.proofs.Reading.{parts-page, enough}
@@ -32,11 +32,22 @@ printed ran hn processes sa sr out r out′ w = record {
   room = λ hp hr. page-long processes ran (record { at = sa }) (record { at = sr }) hn hp hr;
 }
 
+-- the page of a run is that of what it shows
+shown-whole : (processes number records : ℕ) (quiet : Bool) (b : Buffers)
+    → pageOf processes (ranOf number records quiet (shownOf (b .answers) (b .report))) ≡ pageOf processes (ranOf number records quiet b)
+unfolding pageOf acceptedPage
+shown-whole processes number records quiet b = refl
+
 pub run-page : (table schedule : List ℕ) (v : Verdict) (after : Buffers) → Runs table schedule benchBuffers v after
     → (processes : ℕ) → processes ≡ processesIn table → (out : List ℕ) (r : ℕ) (out′ : List ℕ)
-    → Printed processes (ranBy v after) out r out′ → RunPrinted table schedule out r out′
+    → Printed processes (ranOf (v .number) (v .records) (v .quiet) (shownOf (after .answers) (after .report))) out r out′ → RunPrinted table schedule out r out′
 unfolding partsPage
-run-page table schedule v after ran processes e out r out′ w =
+run-page table schedule v after ran processes e out r out′ shown =
+    let same = shown-whole processes (v .number) (v .records) (v .quiet) after in
+    let w : Printed processes (ranBy v after) out r out′ = record {
+      wrote = subst (λ (l : List ℕ). Written l out r out′) same (shown .wrote);
+      room = λ hp hr. subst (λ (l : List ℕ). length l ≤ pageRoom) same (shown .room hp hr);
+    } in
     let p : Printed (processesIn table) (run table schedule benchBuffers) out r out′ =
     subst (λ (x : Ran). Printed (processesIn table) x out r out′) (ran .ran) (subst (λ (n : ℕ). Printed n (ranBy v after) out r out′) e w) in
     record { wrote = p .wrote; room = p .room (few-processes table schedule benchBuffers) (run-few table schedule benchBuffers) }

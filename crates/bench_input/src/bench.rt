@@ -2,7 +2,8 @@
 // from standard input. Input that ends early is run as it is."
 ghost use mathlib.Core.Path.{_≡_};
 ghost use Prim.Native.Nat.{_≤_, min};
-ghost use Rattle.rules.specs.Run.{buffersOf, ranOf};
+ghost use Rattle.rules.specs.Run.{ranOf};
+ghost use Rattle.page.specs.Written.{shownOf};
 ghost use Rattle.bench_input.specs.Benched.{Benched};
 ghost use Rattle.bench_input.specs.Parts.{Printed, RunPrinted};
 use crate::bytes::length_field;
@@ -24,18 +25,19 @@ fn print(
     report: &[u8],
     out: &mut [u8],
 ) -> usize
-    ensures { λ r. ⌜ Printed processes (ranOf number records quiet (buffersOf (now (answers .entry)) (now (report .entry)))) (now (out .entry)) r (now (out .exit)) ⌝ }
+    ensures { λ r. ⌜ Printed processes (ranOf number records quiet (shownOf (now (answers .entry)) (now (report .entry)))) (now (out .entry)) r (now (out .exit)) ⌝ }
 {
     write_page(number, records, quiet, answers, processes, report, out)
 }
 
-// A run with buffers for 10,000 answers and 16 processes, and its page.
+// A run with buffers for 10,000 records and 16 processes, and its page.
 fn run_page(table: &[u8], schedule: &[u8], out: &mut [u8]) -> usize
     ensures { λ r. ⌜ RunPrinted (now (table .entry)) (now (schedule .entry)) (now (out .entry)) r (now (out .exit)) ⌝ }
 {
     let mut answers = [0u8; 60000];
+    let mut reasons = [0u8; 10000];
     let mut report = [0u8; 320];
-    let v = run(table, schedule, &mut answers, &mut report);
+    let v = run(table, schedule, &mut answers, &mut reasons, &mut report);
     let number = v.number;
     let records = v.records;
     let quiet = v.quiet;

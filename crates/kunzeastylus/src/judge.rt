@@ -7,8 +7,14 @@ use table::decode;
 
 // 0, or the number from 1 to 12 by which document 01 refuses the run of a table and a schedule with buffers of these lengths.
 #[no_mangle]
-pub extern "C" fn ks_judge(table: &[u8], schedule: &[u8], answers: usize, report: usize) -> u32
-    ensures { λ n. ⌜ Judges (now (table .entry)) (now (schedule .entry)) answers report n ⌝ }
+pub extern "C" fn ks_judge(
+    table: &[u8],
+    schedule: &[u8],
+    answers: usize,
+    reasons: usize,
+    report: usize,
+) -> u32
+    ensures { λ n. ⌜ Judges (now (table .entry)) (now (schedule .entry)) answers reasons report n ⌝ }
 {
     let d = decode(table);
     let number = d.number;
@@ -16,6 +22,7 @@ pub extern "C" fn ks_judge(table: &[u8], schedule: &[u8], answers: usize, report
     let s = judge_schedule(schedule);
     let lengths = Lengths {
         answers: answers,
+        reasons: reasons,
         report: report,
     };
     judge_run(number, processes, s, lengths) as u32

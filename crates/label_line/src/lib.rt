@@ -113,9 +113,15 @@ pub fn make_table(first: u32) -> MadeTable
 }
 
 // A schedule on the table of a first serial.
-pub fn run_line(first: u32, schedule: &[u8], answers: &mut [u8], report: &mut [u8]) -> Verdict
-    ensures { λ r. ⌜ RunsLine first (now (schedule .entry)) (buffersOf (now (answers .entry)) (now (report .entry))) r
-        (buffersOf (now (answers .exit)) (now (report .exit))) ⌝ }
+pub fn run_line(
+    first: u32,
+    schedule: &[u8],
+    answers: &mut [u8],
+    reasons: &mut [u8],
+    report: &mut [u8],
+) -> Verdict
+    ensures { λ r. ⌜ RunsLine first (now (schedule .entry)) (buffersOf (now (answers .entry)) (now (reasons .entry)) (now (report .entry))) r
+        (buffersOf (now (answers .exit)) (now (reasons .exit)) (now (report .exit))) ⌝ }
 {
     let made = make_table(first);
     let number = made.number;
@@ -127,5 +133,5 @@ pub fn run_line(first: u32, schedule: &[u8], answers: &mut [u8], report: &mut [u
             quiet: false,
         };
     }
-    run(&table, schedule, answers, report)
+    run(&table, schedule, answers, reasons, report)
 }

@@ -1,9 +1,14 @@
 -- A page written into a lent buffer, or answered with 0 where it has no room.
 use mathlib.Core.Path.{_≡_}
-use mathlib.Core.List.{List}
+use mathlib.Core.List.{List, []}
 use Prim.Native.Nat.{ℕ, _≤_, _<_}
 use lib.ListN.{length}
 use Rattle.rules.specs.Bytes.{written}
+use Rattle.rules.specs.Run.{Buffers, buffersOf}
+
+-- what a page shows of a run's buffers: nothing of the reasons
+abbrev pub shownOf : List ℕ → List ℕ → Buffers
+shownOf answers report = buffersOf answers [] report
 
 -- The page, the buffer before, what was returned, the buffer after.
 pub record Written (page out : List ℕ) (r : ℕ) (out′ : List ℕ) : Type 0 where

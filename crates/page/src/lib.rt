@@ -2,10 +2,10 @@
 ghost use mathlib.Core.Path.{_≡_};
 ghost use mathlib.Core.Bool.{cond};
 ghost use Prim.Native.Nat.{_+_, _*_, _<_};
-ghost use Rattle.rules.specs.Run.{buffersOf, ranOf};
+ghost use Rattle.rules.specs.Run.{ranOf};
 ghost use Rattle.rules.specs.Page.{acceptedPage, pageOf, refusedLine};
 ghost use Rattle.page.specs.Put.{most, Put};
-ghost use Rattle.page.specs.Written.{Written};
+ghost use Rattle.page.specs.Written.{shownOf, Written};
 
 mod lines;
 mod read;
@@ -42,7 +42,7 @@ fn put_accepted(
 ) -> usize
     requires { ⌜ 6 * records + 6 < most ⌝ }
     requires { ⌜ 20 * processes + 20 < most ⌝ }
-    ensures { λ r. ⌜ Put (acceptedPage processes (ranOf 0 records quiet (buffersOf (now (answers .entry)) (now (report .entry))))) (now (out .entry)) 0 r (now (out .exit)) ⌝ }
+    ensures { λ r. ⌜ Put (acceptedPage processes (ranOf 0 records quiet (shownOf (now (answers .entry)) (now (report .entry))))) (now (out .entry)) 0 r (now (out .exit)) ⌝ }
 {
     let a = put_text(out, 0, b"records ", 0);
     let b = put_number(out, a, records as u64, LINE_FEED);
@@ -72,7 +72,7 @@ fn write_accepted(
     report: &[u8],
     out: &mut [u8],
 ) -> usize
-    ensures { λ r. ⌜ Written (acceptedPage processes (ranOf 0 records quiet (buffersOf (now (answers .entry)) (now (report .entry))))) (now (out .entry)) r (now (out .exit)) ⌝ }
+    ensures { λ r. ⌜ Written (acceptedPage processes (ranOf 0 records quiet (shownOf (now (answers .entry)) (now (report .entry))))) (now (out .entry)) r (now (out .exit)) ⌝ }
 {
     if records > out.len() / 8 {
         return 0;
@@ -99,7 +99,7 @@ pub fn write_page(
     report: &[u8],
     out: &mut [u8],
 ) -> usize
-    ensures { λ r. ⌜ Written (pageOf processes (ranOf number records quiet (buffersOf (now (answers .entry)) (now (report .entry))))) (now (out .entry)) r (now (out .exit)) ⌝ }
+    ensures { λ r. ⌜ Written (pageOf processes (ranOf number records quiet (shownOf (now (answers .entry)) (now (report .entry))))) (now (out .entry)) r (now (out .exit)) ⌝ }
 {
     if number != 0 {
         return write_refused(number, out);

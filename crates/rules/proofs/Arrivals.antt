@@ -1,9 +1,9 @@
 -- "When that entry is carried, its other table board holds a new record with those words, then all that have arrived since issue, and count 0":
 -- while a record is being made, a command adds to it the word that arrived, if one did, and changes nothing else; the carry of its resync
 -- changes only whether it is complete. So any part of a run adds, in order, the words that arrived in it.
-use mathlib.Core.Path.{_≡_, refl, ap, sym, _∙_, subst, subst₂}
-use mathlib.Core.Bool.{Bool, true, false, cond, _||_}
-use mathlib.Core.Option.{Option, none, some}
+use mathlib.Core.Path.{_≡_, refl, ap, sym, _∙_, subst}
+use mathlib.Core.Bool.{Bool, true, false, cond}
+use mathlib.Core.Option.{Option, some}
 use mathlib.Core.List.{List, [], _∷_, _++_, map, append-assoc, append-nil}
 use Prim.Native.Nat.{ℕ, _<_}
 use native.Mathlib.Omega.{arith}
@@ -17,8 +17,8 @@ use Rattle.backup.specs.Replica.{Message, Replica, Checkpoint, arrive, count, s
 use Rattle.rules.specs.Table.{Table, channelAt, portOf}
 use Rattle.rules.specs.Machine.{Mail}
 use Rattle.rules.specs.Reference.{Reference}
-use Rattle.rules.specs.Cabinet.{Standby, Process, Item, message, Cabinet, nobody, processAt, outboxAt, isComplete, protected, otherBoard, waiting, someUnbacked, started}
-use Rattle.rules.specs.Moves.{Command, Refusal, Answer, refused, numbers, syncKept, syncLost, droppedFrom, onBackup, advanced, issued, receive, deliver, counts, keeps, completed, rebacked, copied, rebacking, rebackup, rebackupDone, accept, guard, perform, judged, Turn, turn, runFrom}
+use Rattle.rules.specs.Cabinet.{Standby, Process, Cabinet, nobody, processAt, outboxAt, isComplete, protected, otherBoard, waiting, started}
+use Rattle.rules.specs.Moves.{Command, Answer, numbers, syncKept, syncLost, droppedFrom, onBackup, advanced, issued, receive, deliver, counts, keeps, completed, rebacked, copied, rebacking, rebackup, rebackupDone, accept, guard, perform, judged, Turn, turn, runFrom}
 use Rattle.rules.specs.Judge.{Accepted}
 use Rattle.rules.specs.Transparent.{traceOf}
 use Rattle.rules.specs.Schedule.{command}

@@ -19,7 +19,7 @@ use Rattle.rules.specs.Bounds.{mails, issuedTakes, BackupBounds, Bounds}
 use Rattle.rules.proofs.Runs.{_then_, tally}
 use Rattle.rules.proofs.Ahead.{up-to-issue}
 use Rattle.rules.proofs.Tables.{few-ports, limit-high}
-use Rattle.rules.proofs.Good.{stateOf, Link, settled, coming, Good, backed, alone, late, Backed, Kept, good-backed, good-span, good-small, backed-sent, good-kept, good-suppress}
+use Rattle.rules.proofs.Good.{stateOf, Link, trailing, coming, Good, backed, alone, late, Backed, Kept, good-backed, good-span, good-small, backed-sent, good-kept, good-suppress}
 use Rattle.rules.proofs.Links.{coming-no-checkpoint}
 use Rattle.rules.proofs.Backups.{run-low, arrive-number, count-number, counted-kept, sync-number, takes-over}
 use Rattle.rules.proofs.Invariant.{Invariant, mine, mine-same, machineAt, owner}
@@ -38,7 +38,7 @@ module _ (t : Table) (ok : Accepted t) (c : Cabinet) (s : Reference) (inv : Inva
   oldest-syncs {q} {y} {m} {x} h = go (h .link)
     where
       go : Link t p (h .standby) (checkpoint p x ∷ q) m (h .since) (y .machine) → syncNumber (h .standby .replica) x ≡ 0
-      go (settled l) =
+      go (trailing l) =
           let v = up-to-issue (l .ahead) in
           let same : x ≡ record { pc = v .mid .pc; registers = v .mid .registers; taken = tally t p (l .before ++ v .acts) } = (let a = v .is-snapshot in cc) in
           let few : h .standby .replica .sent < sentMost = (let a = backed-sent h in let b = limit-high t ok p in omega arith) in

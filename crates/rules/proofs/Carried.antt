@@ -14,7 +14,7 @@ use Rattle.rules.specs.Judge.{Accepted}
 use Rattle.rules.proofs.Steps.{Steps}
 use Rattle.rules.proofs.Runs.{Run, _then_, Silent, tally}
 use Rattle.rules.proofs.Ahead.{Ahead, checkpoints, up-to-send, up-to-issue}
-use Rattle.rules.proofs.Good.{stateOf, Settled, Coming, Link, settled, coming, Backed, Good, backed, alone, late}
+use Rattle.rules.proofs.Good.{stateOf, Trailing, Coming, Link, trailing, coming, Backed, Good, backed, alone, late}
 use Rattle.rules.proofs.Links.{coming-no-checkpoint}
 use Rattle.rules.proofs.Replays.{replay-on, replay-none}
 use Rattle.rules.proofs.Backups.{called-backup, not-called, counts-it, counted-kept, syncs, synced-state, synced-kept}
@@ -44,10 +44,10 @@ module _ {t : Table} (ok : Accepted t) {p : ℕ} (hp : p < length (t .processes)
   -- ---- a word
 
   -- a complete backup counts it
-  counts-settled : {items : List Item} {x : Process} {m : Machine} (mail : Mail) (h : Backed t p (message mail ∷ items) x m)
-      → Settled t p (h .standby) (message mail ∷ items) m (h .since) (x .machine) → Transmitted t p items mail (counts x) m
+  counts-trailing : {items : List Item} {x : Process} {m : Machine} (mail : Mail) (h : Backed t p (message mail ∷ items) x m)
+      → Trailing t p (h .standby) (message mail ∷ items) m (h .since) (x .machine) → Transmitted t p items mail (counts x) m
   unfolding counts
-  counts-settled mail h l =
+  counts-trailing mail h l =
       let v = up-to-send (l .ahead) in
       let r : Replica = h .standby .replica in
       record {
@@ -61,7 +61,7 @@ module _ {t : Table} (ok : Accepted t) {p : ℕ} (hp : p < length (t .processes)
           kept = counted-kept t ok p hp r (h .kept) (sent-fits ok h);
           no-suppress = h .no-suppress;
           since = h .since;
-          link = settled record {
+          link = trailing record {
             complete = l .complete;
             before = l .before ++ (v .acts ++ (sent mail ∷ []));
             replay = (unfold stateOf in replay-on (l .replay) (v .to-mid) (v .silent-there) (v .sends-it));
@@ -120,7 +120,7 @@ module _ {t : Table} (ok : Accepted t) {p : ℕ} (hp : p < length (t .processes)
   good-counts {items} {x} {m} mail (backed h) = go (h .link)
     where
       go : Link t p (h .standby) (message mail ∷ items) m (h .since) (x .machine) → Transmitted t p items mail (counts x) m
-      go (settled l) = counts-settled mail h l
+      go (trailing l) = counts-trailing mail h l
       go (coming l) = counts-coming mail h l
   good-counts mail (alone h) =
       let v = up-to-send (h .ahead) in
@@ -143,10 +143,10 @@ module _ {t : Table} (ok : Accepted t) {p : ℕ} (hp : p < length (t .processes)
 
   -- ---- a checkpoint
 
-  keeps-settled : {items : List Item} {x : Process} {m : Machine} (s : Checkpoint) (h : Backed t p (checkpoint p s ∷ items) x m)
-      → Settled t p (h .standby) (checkpoint p s ∷ items) m (h .since) (x .machine) → Synced t p items (keeps s x) m
+  keeps-trailing : {items : List Item} {x : Process} {m : Machine} (s : Checkpoint) (h : Backed t p (checkpoint p s ∷ items) x m)
+      → Trailing t p (h .standby) (checkpoint p s ∷ items) m (h .since) (x .machine) → Synced t p items (keeps s x) m
   unfolding keeps
-  keeps-settled s h l =
+  keeps-trailing s h l =
       let v = up-to-issue (l .ahead) in
       let r : Replica = h .standby .replica in
       let ran = l .replay .ran then v .to-mid in
@@ -163,7 +163,7 @@ module _ {t : Table} (ok : Accepted t) {p : ℕ} (hp : p < length (t .processes)
           kept = synced-kept t ok p hp r (h .kept) (sent-fits ok h) ran s is-pc is-registers is-taken;
           no-suppress = h .no-suppress;
           since = h .since;
-          link = settled record {
+          link = trailing record {
             complete = l .complete;
             before = [];
             replay = replay-none (synced-state t ok p hp r (h .kept) (sent-fits ok h) ran s is-pc is-registers is-taken);
@@ -181,7 +181,7 @@ module _ {t : Table} (ok : Accepted t) {p : ℕ} (hp : p < length (t .processes)
   good-keeps {items} {x} {m} s (backed h) = go (h .link)
     where
       go : Link t p (h .standby) (checkpoint p s ∷ items) m (h .since) (x .machine) → Synced t p items (keeps s x) m
-      go (settled l) = keeps-settled s h l
+      go (trailing l) = keeps-trailing s h l
       go (coming l) = absurd (coming-no-checkpoint l)
   good-keeps s (alone h) =
       let v = up-to-issue (h .ahead) in

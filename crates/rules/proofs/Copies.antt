@@ -3,12 +3,12 @@
 use mathlib.Core.Logic.{_≢_}
 use mathlib.Core.Path.{_≡_, refl, ap}
 use mathlib.Core.List.{List, [], _∷_, map}
-use Prim.Native.Nat.{ℕ, suc, _+_, _≤_, _<_}
+use Prim.Native.Nat.{ℕ, _≤_, _<_}
 use native.Mathlib.Omega.{arith}
 use lib.Dec.{eqb}
 use lib.ListN.{length, length-map}
 use Rattle.facts.specs.Tests.{by-eq}
-use Rattle.facts.specs.Counts.{same, same-yes, cond-more}
+use Rattle.facts.specs.Counts.{same-yes, cond-more}
 use Rattle.backup.specs.Limits.{logMost}
 use Rattle.backup.specs.Replica.{Message}
 use Rattle.rules.specs.Table.{Table, channelAt, codeOf, inputs, portOf}

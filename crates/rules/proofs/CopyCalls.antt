@@ -1,10 +1,10 @@
 -- The record of a resync is made by calls of the record alone, none of which is refused, in every state that commands reach.
-use mathlib.Core.Path.{_≡_, refl, ap, sym, _∙_, subst}
+use mathlib.Core.Path.{_≡_, ap, sym, _∙_, subst}
 use mathlib.Core.List.{List, [], _∷_, _++_, map, append-assoc, append-nil}
 use Prim.Native.Nat.{ℕ, suc, _+_, _≤_, _<_}
 use native.Mathlib.Omega.{arith}
 use lib.ListN.{length, length-append, length-map}
-use Rattle.backup.specs.Limits.{logMost, sentMost}
+use Rattle.backup.specs.Limits.{logMost}
 use Rattle.backup.specs.Replica.{Message, Replica, initial, arrived, synced, arriveNumber, syncNumber}
 use Rattle.backup.specs.Accepts as accepts
 use Rattle.rules.specs.Table.{Table, codeOf, portOf}

@@ -11,7 +11,6 @@ use lib.ListN.{length, replicate, take}
 use Rattle.backup.specs.Report.{syncReport}
 use Rattle.backup.specs.Replica.{fit, arriveNumber, countNumber, syncNumber}
 use Rattle.rules.specs.Table.{TAKE, ADD, SEND, JUMP}
-use Rattle.rules.specs.Machine.{Mail}
 use Rattle.rules.specs.Reference.{Reference, Action, inject, referenceStart, referenceRun}
 use Rattle.rules.specs.Cabinet.{Process, processAt, protected}
 use Rattle.rules.specs.Moves.{guard, Command, Numbers, runFrom}
@@ -21,7 +20,7 @@ use Rattle.rules.specs.Recovery.{Repairs}
 use Rattle.rules.specs.Format.{decodeTable, processesIn}
 use Rattle.rules.specs.Run.{Buffers, buffersOf, run, accepted}
 use Rattle.rules.specs.Transparency.{FailureTransparency, answersIn}
-use Rattle.rules.proofs.Cases.{step, carry, feed, crash, rejoin, rebackup, times, scheduleBytes, channel, placement, cabinet, tableBytes, runOf, pageOf}
+use Rattle.rules.proofs.Cases.{step, carry, feed, crash, rejoin, rebackup, times, scheduleBytes, channel, placement, cabinet, tableBytes, runOf}
 use Rattle.rules.proofs.ReferenceCases.{mail}
 use Rattle.rules.proofs.Theorem.{failure-transparency}
 

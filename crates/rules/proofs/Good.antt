@@ -48,7 +48,7 @@ pub record Replay (code : List Instruction) (a : Machine) (n : ℕ) (acts : List
 -- `since` the acts since the last checkpoint or transfer was issued.
 
 -- a complete backup is behind m, which stands right after the last word transmitted since the backup's state, and m is behind b
-pub record Settled (t : Table) (p : ℕ) (s : Standby) (items : List Item) (m : Machine) (since : List Act) (b : Machine) : Type 0 where
+pub record Trailing (t : Table) (p : ℕ) (s : Standby) (items : List Item) (m : Machine) (since : List Act) (b : Machine) : Type 0 where
   pub complete : s .complete ≡ true
   pub before : List Act
   pub replay : Replay (codeOf t p) (stateOf t p (s .replica)) (s .replica .sent) before m
@@ -70,7 +70,7 @@ pub record Coming (t : Table) (p : ℕ) (s : Standby) (items : List Item) (m : M
   pub none-else : checkpoints old + checkpoints new ≡ 0
 
 pub data Link (t : Table) (p : ℕ) (s : Standby) (items : List Item) (m : Machine) (since : List Act) (b : Machine) : Type 0 where
-  settled : Settled t p s items m since b → Link t p s items m since b
+  trailing : Trailing t p s items m since b → Link t p s items m since b
   coming : Coming t p s items m since b → Link t p s items m since b
 
 -- with a backup, or one that is being made
@@ -111,12 +111,12 @@ pub data Good (t : Table) (p : ℕ) (items : List Item) (x : Process) (m : Machi
 -- ---- what follows for the sizes
 
 -- where it is complete
-pub backed-settled : {t : Table} {p : ℕ} {items : List Item} {x : Process} {m : Machine} (h : Backed t p items x m) → protected x ≡ true
-    → Settled t p (h .standby) items m (h .since) (x .machine)
-backed-settled {t} {p} {items} {x} {m} h safe = go (h .link)
+pub backed-trailing : {t : Table} {p : ℕ} {items : List Item} {x : Process} {m : Machine} (h : Backed t p items x m) → protected x ≡ true
+    → Trailing t p (h .standby) items m (h .since) (x .machine)
+backed-trailing {t} {p} {items} {x} {m} h safe = go (h .link)
   where
-    go : Link t p (h .standby) items m (h .since) (x .machine) → Settled t p (h .standby) items m (h .since) (x .machine)
-    go (settled l) = l
+    go : Link t p (h .standby) items m (h .since) (x .machine) → Trailing t p (h .standby) items m (h .since) (x .machine)
+    go (trailing l) = l
     go (coming l) = absurd (no-way (let a = l .incomplete in let b = ap isComplete (h .is-standby) in cc))
 
 -- a process with a standby is backed by it
@@ -143,7 +143,7 @@ backed-span : {t : Table} {p : ℕ} {items : List Item} {x : Process} {m : Machi
 backed-span {t} {p} {items} {x} {m} h = go (h .link)
   where
     go : Link t p (h .standby) items m (h .since) (x .machine) → Span t p x (h .standby)
-    go (settled l) =
+    go (trailing l) =
         let v = ahead-total (l .ahead) in
         let c = l .one in
         let o = once (limitOf t p) (checkpoints items) c in
@@ -176,7 +176,7 @@ pub backed-sent : {t : Table} {p : ℕ} {items : List Item} {x : Process} {m : M
 backed-sent {t} {p} {items} {x} {m} h = go (h .link)
   where
     go : Link t p (h .standby) items m (h .since) (x .machine) → h .standby .replica .sent ≤ limitOf t p
-    go (settled l) =
+    go (trailing l) =
         let a = ahead-left (l .ahead) (h .few) .events in
         let b = sends-busy (l .before) in
         let c = l .replay .sent-so in

@@ -18,7 +18,7 @@ use Rattle.rules.proofs.Steps.{Steps}
 use Rattle.rules.proofs.Runs.{Run, here, more, _then_, isSend, count1, countOf, Allows, within-snoc}
 use Rattle.rules.proofs.Tables.{step-low, limit-high}
 use Rattle.rules.proofs.Ahead.{Ahead, level, checkpoints, checkpoints-append, ahead-later, ahead-silent, ahead-send, ahead-issue, UpToEnd, up-to-end, ahead-total}
-use Rattle.rules.proofs.Good.{stateOf, Replay, Link, settled, coming, Backed, Alone, Late, Good, backed, alone, late, backed-sent, backed-settled, good-backed}
+use Rattle.rules.proofs.Good.{stateOf, Replay, Link, trailing, coming, Backed, Alone, Late, Good, backed, alone, late, backed-sent, backed-trailing, good-backed}
 use Rattle.rules.proofs.Links.{link-later, link-silent, link-send, coming-some}
 use Rattle.rules.proofs.Tally.{count-snoc}
 use Rattle.rules.proofs.Replays.{replay-later, replay-silent, replay-send, replay-zero}
@@ -197,14 +197,14 @@ module _ {t : Table} (ok : Accepted t) {p : ℕ} (hp : p < length (t .processes)
       → Good t p (items ++ (checkpoint p (snapshot x) ∷ [])) (issued x) m
   unfolding issued
   good-issued {items = items} {x = x} {m = m} (backed h) y z =
-      let l = backed-settled h y in
+      let l = backed-trailing h y in
       backed record {
         standby = h .standby;
         is-standby = h .is-standby;
         kept = h .kept;
         no-suppress = h .no-suppress;
         since = [];
-        link = settled record {
+        link = trailing record {
           complete = l .complete;
           before = l .before;
           replay = l .replay;
@@ -224,7 +224,7 @@ module _ {t : Table} (ok : Accepted t) {p : ℕ} (hp : p < length (t .processes)
   late-promoted : {items : List Item} {x : Process} {m : Machine} (h : Backed t p items x m) → protected x ≡ true → Late t p [] (promoted t p (h .standby)) m
   unfolding promoted stateOf
   late-promoted {m = m} h safe =
-      let l = backed-settled h safe in
+      let l = backed-trailing h safe in
       let r : Replica = h .standby .replica in
       let machine-is : recovered t p (failOver r) ≡ stateOf t p r = recovers t ok p hp r (h .kept) (sent-fits ok h) in
       let sent-is : failOver r .sent ≡ r .sent = ap (λ (f : FailOver). f .sent) (takes-over t ok p hp r (h .kept) (sent-fits ok h)) in
@@ -245,7 +245,7 @@ module _ {t : Table} (ok : Accepted t) {p : ℕ} (hp : p < length (t .processes)
   alone-unprotected : {items : List Item} {x : Process} {m : Machine} → Backed t p items x m → protected x ≡ true → Alone t p items (unprotected x) m
   unfolding unprotected stateOf
   alone-unprotected h safe =
-      let l = backed-settled h safe in
+      let l = backed-trailing h safe in
       record {
         no-standby = refl;
         no-suppress = h .no-suppress;
@@ -268,7 +268,7 @@ pub good-quiet : {t : Table} {p : ℕ} {x : Process} {m : Machine} → Good t p 
 good-quiet {t} {p} {x} {m} (backed h) stuck = go (h .link)
   where
     go : Link t p (h .standby) [] m (h .since) (x .machine) → UpToEnd (codeOf t p) m (x .machine)
-    go (settled l) = up-to-end (l .ahead)
+    go (trailing l) = up-to-end (l .ahead)
     go (coming l) = absurd (coming-some l)
 good-quiet (alone h) stuck = up-to-end (h .ahead)
 good-quiet {t} {p} {x = x} {m = m} (late h) stuck = go (h .replay .ran) stuck

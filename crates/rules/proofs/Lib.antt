@@ -64,6 +64,7 @@ pub mod Cases
 pub mod Marked
 pub mod MoveCases
 pub mod LongCases
+pub mod LimitCases
 pub mod RejoinCases
 pub mod ReasonCases
 pub mod FormatCases

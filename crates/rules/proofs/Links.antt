@@ -1,5 +1,5 @@
 -- How a backup, the reference machine and the running machine stay linked, whether the backup is complete or being made.
-use mathlib.Core.Path.{_≡_, refl, ap, sym, _∙_, subst}
+use mathlib.Core.Path.{_≡_, ap, _∙_}
 use mathlib.Core.Bool.{false}
 use mathlib.Core.List.{List, [], _∷_, _++_, append-assoc}
 use Prim.Native.Nat.{ℕ, _+_}
@@ -11,8 +11,8 @@ use Rattle.rules.specs.Machine.{Mail, Machine, Act, sent, delivered}
 use Rattle.rules.specs.Cabinet.{Standby, Item, message, checkpoint, transfer}
 use Rattle.rules.proofs.Steps.{Steps}
 use Rattle.rules.proofs.Runs.{isSend}
-use Rattle.rules.proofs.Ahead.{Ahead, checkpoints, checkpoints-append, ahead-later, ahead-silent, ahead-send, UpToEnd, up-to-end}
-use Rattle.rules.proofs.Good.{stateOf, Replay, Settled, Coming, Link, settled, coming}
+use Rattle.rules.proofs.Ahead.{checkpoints, checkpoints-append, ahead-later, ahead-silent, ahead-send}
+use Rattle.rules.proofs.Good.{stateOf, Coming, Link, trailing, coming}
 use Rattle.rules.proofs.Replays.{replay-later}
 
 module _ {t : Table} {p : ℕ} {s : Standby} {items : List Item} {m : Machine} {since : List Act} {b : Machine} where
@@ -20,8 +20,8 @@ module _ {t : Table} {p : ℕ} {s : Standby} {items : List Item} {m : Machine} {
   pub link-later : (mail : Mail) (r : Replica) → stateOf t p r ≡ delivered mail (stateOf t p (s .replica)) → r .sent ≡ s .replica .sent
       → Link t p s items m since b
       → Link t p (record { board = s .board; replica = r; complete = s .complete }) items (delivered mail m) since (delivered mail b)
-  link-later mail r now same (settled l) =
-      settled record {
+  link-later mail r now same (trailing l) =
+      trailing record {
         complete = l .complete;
         before = l .before;
         replay = rw (now, same) (replay-later mail (l .replay));
@@ -45,8 +45,8 @@ module _ {t : Table} {p : ℕ} {s : Standby} {items : List Item} {m : Machine} {
   -- the running machine goes on
   pub link-silent : {k : Act} {c : Machine} → Link t p s items m since b → Steps (codeOf t p) b k c → isSend k ≡ false
       → Link t p s items m (since ++ (k ∷ [])) c
-  link-silent (settled l) e h =
-      settled record { complete = l .complete; before = l .before; replay = l .replay; ahead = ahead-silent (l .ahead) e h; one = l .one }
+  link-silent (trailing l) e h =
+      trailing record { complete = l .complete; before = l .before; replay = l .replay; ahead = ahead-silent (l .ahead) e h; one = l .one }
   link-silent (coming l) e h =
       coming record {
         incomplete = l .incomplete;
@@ -63,8 +63,8 @@ module _ {t : Table} {p : ℕ} {s : Standby} {items : List Item} {m : Machine} {
 
   pub link-send : {mail : Mail} {c : Machine} → Link t p s items m since b → Steps (codeOf t p) b (sent mail) c
       → Link t p s (items ++ (message mail ∷ [])) m (since ++ (sent mail ∷ [])) c
-  link-send {mail} (settled l) e =
-      settled record {
+  link-send {mail} (trailing l) e =
+      trailing record {
         complete = l .complete;
         before = l .before;
         replay = l .replay;

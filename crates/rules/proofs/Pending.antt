@@ -18,7 +18,7 @@ use Rattle.rules.specs.Moves.{Command, runFrom}
 use Rattle.rules.specs.Judge.{Accepted}
 use Rattle.rules.specs.Rebackup.{BeingMade, pendingOf}
 use Rattle.rules.proofs.Ahead.{checkpoints, checkpoints-append, no-transfer}
-use Rattle.rules.proofs.Good.{Link, settled, coming, Good, backed, alone, late, good-backed}
+use Rattle.rules.proofs.Good.{Link, trailing, coming, Good, backed, alone, late, good-backed}
 use Rattle.rules.proofs.Invariant.{Invariant, mine, mine-same, ownerOf, machineAt, owner}
 use Rattle.rules.proofs.Start.{reached}
 
@@ -62,16 +62,16 @@ waits-there p (y ∷ old) new = go (isCheckpointOf p y) (waits-there p old new)
 
 link-made : {t : Table} {p : ℕ} {s : Standby} {items : List Item} {m b : Machine} {since : List Act} {r : ℕ} → Link t p s (transfer r ∷ items) m since b
     → (s .complete ≡ false) × (s .replica .sent ≡ 0)
-link-made (settled l) = absurd (no-transfer (l .ahead))
+link-made (trailing l) = absurd (no-transfer (l .ahead))
 link-made (coming l) = (l .incomplete, l .uncounted)
 
 link-waits : {t : Table} {p : ℕ} {s : Standby} {items : List Item} {m b : Machine} {since : List Act} → Link t p s items m since b
     → s .complete ≡ false → waiting p items ≡ true
-link-waits (settled l) e = absurd (no-way (let a = l .complete in cc))
+link-waits (trailing l) e = absurd (no-way (let a = l .complete in cc))
 link-waits {p = p} (coming l) e = ap (waiting p) (l .is-items) ∙ waits-there p (l .old) (l .new)
 
 link-one : {t : Table} {p : ℕ} {s : Standby} {items : List Item} {m b : Machine} {since : List Act} → Link t p s items m since b → checkpoints items ≤ 1
-link-one (settled l) = l .one
+link-one (trailing l) = l .one
 link-one {p = p} (coming l) =
     let a = ap checkpoints (l .is-items) in
     let b = checkpoints-append (l .old) (transfer p ∷ l .new) in

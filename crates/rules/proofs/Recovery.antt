@@ -3,7 +3,7 @@
 use mathlib.Core.Path.{_≡_, refl, ap, sym, _∙_, subst}
 use mathlib.Core.Bool.{Bool, true, false, not, cond, _||_}
 use mathlib.Core.Option.{Option, none, some}
-use mathlib.Core.List.{List, [], _∷_, _++_, map}
+use mathlib.Core.List.{List, [], _∷_, _++_}
 use Prim.Native.Nat.{ℕ, _<_}
 use lib.Dec.{eqb}
 use lib.ListN.{length, getD, set}
@@ -14,8 +14,8 @@ use Rattle.backup.specs.Replica.{Replica, Reply, Checkpoint, arrive, count, syn
 use Rattle.rules.specs.Table.{Table, channelAt, portOf}
 use Rattle.rules.specs.Machine.{Mail}
 use Rattle.rules.specs.Reference.{Reference, referenceStart}
-use Rattle.rules.specs.Cabinet.{Standby, Process, Item, transfer, Cabinet, nobody, processAt, outboxAt, deadAt, isComplete, protected, someUnbacked, started}
-use Rattle.rules.specs.Moves.{Command, Refusal, Answer, crashDone, refused, accept, guard, withProcess, withOutbox, onReplica, onBackup, advanced, issued, receive, deliver, counts, keeps, completed, rebacked, rebacking, syncKept, syncLost, landed, crash, turn, runFrom}
+use Rattle.rules.specs.Cabinet.{Standby, Process, Cabinet, nobody, processAt, deadAt, isComplete, protected, someUnbacked}
+use Rattle.rules.specs.Moves.{Command, Answer, crashDone, accept, guard, withProcess, withOutbox, onReplica, onBackup, advanced, issued, receive, deliver, counts, keeps, completed, rebacked, rebacking, syncKept, syncLost, crash, turn, runFrom}
 use Rattle.rules.specs.Judge.{Accepted}
 use Rattle.rules.specs.Transparent.{finished}
 use Rattle.rules.specs.Rebackup.{completesFor, anyCompletes, BeingMade}
@@ -180,6 +180,16 @@ module _ {t : Table} (ok : Accepted t) (before after : List Command) where
         traced-on = g .traced;
         fed-on = g .injected;
       }
+
+-- the two parts are the whole: its cabinet is the second's, its answers are both's
+pub run-parts : (t : Table) (c : Cabinet) (before after : List Command)
+    → runFrom t c (before ++ after) ≡ record {
+      cabinet = runFrom t (runFrom t c before .cabinet) after .cabinet;
+      answers = runFrom t c before .answers ++ runFrom t (runFrom t c before .cabinet) after .answers;
+    }
+unfolding runFrom
+run-parts t c [] after = refl
+run-parts t c (r ∷ rs) after = rw (run-parts t (turn t c r .cabinet) rs after)
 
 -- "so the next crash is accepted": of any live board, where every process has a backup
 pub next-crash : (t : Table) (c : Cabinet) (b : ℕ) → someUnbacked c ≡ false → deadAt c b ≡ false → crash t c b ≡ accept (crashedBy t b c) crashDone

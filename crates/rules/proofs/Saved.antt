@@ -18,7 +18,7 @@ use Rattle.rules.specs.Cabinet.{Standby, Process, Item, message, checkpo
 use Rattle.rules.specs.Bounds.{mails, issuedTakes}
 use Rattle.rules.proofs.Runs.{Run, here, more, _then_, tally, busy}
 use Rattle.rules.proofs.Ahead.{Ahead, level, silent, sending, issuing, taken-at, checkpoints}
-use Rattle.rules.proofs.Good.{mailOf, stateOf, PortsBelow, Link, settled, coming, Backed}
+use Rattle.rules.proofs.Good.{mailOf, stateOf, PortsBelow, Link, trailing, coming, Backed}
 use Rattle.rules.proofs.Tally.{run-logged, remaining-ports, none-dropped, none-taken}
 use Rattle.rules.proofs.Invariant.{mine, ownerOf}
 
@@ -97,7 +97,7 @@ module _ (t : Table) (p : ℕ) (few : length (inputs t p) ≤ ports) where
   link-saved : (q : List Item) (s : Standby) {m b : Machine} {v : List Act} → PortsBelow (length (inputs t p)) (s .replica .log) → Link t p s (mine t p q) m v b
       → mails t p (remaining (tally t p v) (remaining (issuedTakes p q) (s .replica .log))) ≡ b .mailbox
   unfolding stateOf
-  link-saved q s {v = v} below (settled l) =
+  link-saved q s {v = v} below (trailing l) =
       ap (λ (n : List ℕ). mails t p (remaining (tally t p v) (remaining n (s .replica .log)))) (sym (issued-mine t p q))
       ∙ ahead-saved (stateOf t p (s .replica)) (s .replica .log) refl below (l .replay .ran) (l .ahead) (l .one)
   link-saved q s {v = v} below (coming l) =

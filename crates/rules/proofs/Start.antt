@@ -17,7 +17,7 @@ use Rattle.rules.specs.Judge.{Accepted}
 use Rattle.rules.proofs.Runs.{here}
 use Rattle.rules.proofs.Ahead.{level}
 use Rattle.rules.proofs.Tables.{primary-ok, standby-ok, apart-ok}
-use Rattle.rules.proofs.Good.{stateOf, no-ports, settled, Good, backed}
+use Rattle.rules.proofs.Good.{stateOf, no-ports, trailing, Good, backed}
 use Rattle.rules.proofs.Invariant.{mine, machineAt, Live, Seated, Invariant}
 use Rattle.rules.proofs.Keep.{start-room}
 use Rattle.rules.proofs.Turn.{FollowsRun, run-follows}
@@ -32,7 +32,7 @@ good-placed t p x =
       kept = record { on-inputs = no-ports; short = omega arith; low = omega arith };
       no-suppress = refl;
       since = [];
-      link = settled record { complete = refl; before = []; replay = record { ran = here; sent-so = refl; sealed = refl }; ahead = level; one = omega arith };
+      link = trailing record { complete = refl; before = []; replay = record { ran = here; sent-so = refl; sealed = refl }; ahead = level; one = omega arith };
       is-since = refl;
       few = record { instructions = omega arith; events = omega arith };
     }

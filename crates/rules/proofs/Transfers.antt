@@ -11,7 +11,7 @@ use Rattle.rules.specs.Machine.{Machine, Act}
 use Rattle.rules.specs.Cabinet.{Standby, Process, Item, transfer, isComplete, protected}
 use Rattle.rules.specs.Moves.{completed, rebacked, copied, rebacking}
 use Rattle.rules.proofs.Ahead.{Ahead, level, checkpoints, checkpoints-append, no-transfer, up-to-end}
-use Rattle.rules.proofs.Good.{stateOf, Kept, Replay, Coming, Link, settled, coming, Backed, Alone, Good, backed, alone, late}
+use Rattle.rules.proofs.Good.{stateOf, Kept, Replay, Coming, Link, trailing, coming, Backed, Alone, Good, backed, alone, late}
 use Rattle.rules.proofs.Replays.{replay-none}
 use Rattle.rules.proofs.GoodMoves.{alone-of-late}
 use Rattle.rules.proofs.Carried.{Synced}
@@ -21,7 +21,7 @@ use Rattle.rules.proofs.Carried.{Synced}
 -- none is being made where no transfer waits
 link-complete : {t : Table} {p : ℕ} {items : List Item} {m : Machine} {s : Standby} {since : List Act} {b : Machine} → checkpoints items ≡ 0
     → Link t p s items m since b → s .complete ≡ true
-link-complete none-waits (settled l) = l .complete
+link-complete none-waits (trailing l) = l .complete
 link-complete {p = p} none-waits (coming l) =
     absurd (let a = ap checkpoints (l .is-items) in let b = checkpoints-append (l .old) (transfer p ∷ l .new) in omega arith)
 
@@ -84,7 +84,7 @@ module _ {t : Table} {p : ℕ} {items : List Item} {x : Process} {m : Machine} w
               kept = h .kept;
               no-suppress = h .no-suppress;
               since = h .since;
-              link = settled record {
+              link = trailing record {
                 complete = refl;
                 before = [];
                 replay = subst (λ (n : ℕ). Replay (codeOf t p) (stateOf t p (h .standby .replica)) n [] (stateOf t p (h .standby .replica))) (sym (l .uncounted)) (replay-none refl);
@@ -100,7 +100,7 @@ module _ {t : Table} {p : ℕ} {items : List Item} {x : Process} {m : Machine} w
   good-rebacked (backed h) = go (h .link)
     where
       go : Link t p (h .standby) (transfer p ∷ items) m (h .since) (x .machine) → Synced t p items (rebacked x) m
-      go (settled l) = absurd (no-transfer (l .ahead))
+      go (trailing l) = absurd (no-transfer (l .ahead))
       go (coming l) = completes h l
   good-rebacked (alone h) = absurd (no-transfer (h .ahead))
   good-rebacked (late h) = absurd (no-way (let e = h .no-items in cc))

@@ -100,8 +100,8 @@ missing (JUMP a n) = noWordToTake
 missing NONE = noWordToTake
 
 -- "Step: 35 halted. For TAKE and FIRST: 36 no such word, then 37 if backed and acts are 8. [..] SET, ADD and JUMP always succeed." W-207:
--- the limit of the process's placement is asked for, not 8. W-204: after 64 instructions "every kind of instruction then answers 37, TAKE and FIRST still answering 36 first when no word is there. This
--- amends the sentence that SET, ADD and JUMP always succeed."
+-- the limit of the process's placement is asked for, not 8. W-204: after 64 instructions "every kind of instruction then answers 37, TAKE and
+-- FIRST still answering 36 first when no word is there. This amends the sentence that SET, ADD and JUMP always succeed."
 unfoldable pub stepFrom : Table → Cabinet → ℕ → Process → Outcome → Result
 unfolding send advanced exhausted overrun owing missing
 stepFrom t c p x halted = refuse isHalted

@@ -2,15 +2,15 @@
 -- Definitions only; proofs/CopyCalls, Pending, Homes and Arrivals prove them.
 use mathlib.Core.Logic.{_≢_}
 use mathlib.Core.Path.{_≡_}
-use mathlib.Core.Bool.{Bool, true, false, cond, _||_}
+use mathlib.Core.Bool.{Bool, false, cond, _||_}
 use mathlib.Core.Option.{some}
 use mathlib.Core.List.{List, [], _∷_, _++_}
-use Prim.Native.Nat.{ℕ, suc, _≤_}
+use Prim.Native.Nat.{ℕ, suc}
 use lib.Dec.{eqb}
 use Rattle.backup.specs.Replica.{Message, Replica, Checkpoint, initial, arrived, synced, arriveNumber, syncNumber}
 use Rattle.rules.specs.Table.{Table, placementAt, channelAt, portOf}
 use Rattle.rules.specs.Machine.{Mail, Machine}
-use Rattle.rules.specs.Cabinet.{Standby, Process, Item, Cabinet, noTakes, processAt, outboxAt, otherBoard, isCheckpointOf, waiting, occupancy}
+use Rattle.rules.specs.Cabinet.{Standby, Process, Item, Cabinet, noTakes, processAt, otherBoard, isCheckpointOf, occupancy}
 use Rattle.rules.specs.Moves.{Answer, stepDone, issueDone, crashDone, rejoinDone, rebackupDone, received, queued, suppressed, transmitted, injected, syncKept, syncLost, transferKept, refused, numbers, copied}
 use Rattle.rules.specs.Transparent.{traceOf}
 
@@ -39,7 +39,8 @@ copiedSoFar t p m words = allArrived t p (synced initial (snapshotOf m)) words
 -- none of these calls is refused, and they make the record of a resync
 pub record CopyCalls (t : Table) (p : ℕ) (m : Machine) : Type 0 where
   pub syncs : syncNumber initial (snapshotOf m) ≡ 0
-  pub arrives : (sofar rest : List Mail) (x : Mail) → m .mailbox ≡ sofar ++ (x ∷ rest) → arriveNumber (copiedSoFar t p m sofar) (portOf t p (x .channel)) ≡ 0
+  pub arrives : (sofar rest : List Mail) (x : Mail) → m .mailbox ≡ sofar ++ (x ∷ rest)
+      → arriveNumber (copiedSoFar t p m sofar) (portOf t p (x .channel)) ≡ 0
   pub makes : copiedSoFar t p m (m .mailbox) ≡ copied t p m
 
 -- ---- what waits

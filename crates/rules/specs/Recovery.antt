@@ -7,7 +7,6 @@ use mathlib.Core.List.{List, [], _∷_, _++_, map}
 use Prim.Native.Nat.{ℕ, _<_}
 use lib.ListN.{length}
 use Rattle.rules.specs.Table.{Table}
-use Rattle.rules.specs.Machine.{Mail}
 use Rattle.rules.specs.Reference.{Reference, Action, referenceStart, referenceRun, injections}
 use Rattle.rules.specs.Cabinet.{Cabinet, processAt, protected}
 use Rattle.rules.specs.Moves.{Command, Answer, stepDone, issueDone, crashDone, rejoinDone, rebackupDone, received, queued, suppressed, transmitted, injected, syncKept, syncLost, transferKept, refused, numbers, runFrom}

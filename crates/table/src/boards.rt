@@ -17,10 +17,10 @@ use crate::record::limit_of;
 use crate::record::program_length;
 use crate::record::record_head;
 use crate::record::record_length;
+use crate::record::version_of;
 use records::bytes::byte;
 use records::bytes::wide;
 use records::bytes::word;
-use records::head::VERSION;
 
 // The record of one process: whether its boards are right, and its numbers.
 struct Placed {
@@ -52,7 +52,7 @@ fn boards_ok(boards: u8, primary: u8, standby: u8) -> bool
 }
 
 // The record that begins the table's rest.
-fn placement_of(version: u8, rest: &[u8], boards: u8) -> Placed
+fn placement_of(version: u32, rest: &[u8], boards: u8) -> Placed
     ensures { λ r. ⌜ PlacedIn version boards (now (rest .entry)) r ⌝ }
 {
     let primary = byte(rest, PRIMARY);
@@ -73,7 +73,7 @@ pub fn judge_boards(table: &[u8]) -> Placements
     requires { ⌜ Framed (now table) ⌝ }
     ensures { λ r. ⌜ PlacementsRead (now (table .entry)) r ⌝ }
 {
-    let version = byte(table, VERSION);
+    let version = version_of(table);
     let boards = byte(table, BOARDS);
     let processes = wide(byte(table, PROCESSES));
     let mut start = [0u32; PROCESSES_MOST];

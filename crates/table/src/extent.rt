@@ -1,22 +1,21 @@
 // Numbers 1 to 4 of a table: its length, its version, its counts, and where its pairs and records end.
 ghost use mathlib.Core.Path.{_≡_};
-ghost use Rattle.rules.specs.Format.{recordsStart, lengthOk, versionOk, countsOk, extentOk};
+ghost use Rattle.rules.specs.Format.{recordsStart, lengthOk, countsOk, extentOk};
 ghost use Rattle.table.specs.Parts.{recordIn, framing};
 use crate::counts::counts_fit;
+use crate::counts::version_ok;
 use crate::format::BOARDS;
 use crate::format::CHANNELS;
 use crate::format::HEAD;
 use crate::format::PROCESSES;
 use crate::format::PROGRAM_MOST;
 use crate::format::TABLE_MOST;
-use crate::format::WITH_LIMITS;
-use crate::format::WITHOUT_LIMITS;
 use crate::record::program_length;
 use crate::record::record_length;
+use crate::record::version_of;
 use records::bytes::byte;
 use records::bytes::pair;
 use records::bytes::wide;
-use records::head::VERSION;
 
 // 1: at least a head, and a length field that is at most 6,276 and the true one.
 fn length_ok(table: &[u8]) -> bool
@@ -30,13 +29,6 @@ fn length_ok(table: &[u8]) -> bool
         return false;
     }
     2 + field == table.len()
-}
-
-// 2: the version.
-fn version_ok(version: u8) -> bool
-    ensures { λ r. ⌜ r ≡ versionOk version ⌝ }
-{
-    version == WITHOUT_LIMITS || version == WITH_LIMITS
 }
 
 // 3: the counts of boards, processes and channels.
@@ -58,7 +50,7 @@ pub fn records_start(table: &[u8]) -> usize
 }
 
 // The length of the record that begins a rest, or 0 where it has over 64 instructions or the rest ends within it.
-fn record_in(version: u8, rest: &[u8]) -> usize
+fn record_in(version: u32, rest: &[u8]) -> usize
     ensures { λ r. ⌜ r ≡ recordIn version (now (rest .entry)) ⌝ }
 {
     if wide(program_length(version, rest)) > PROGRAM_MOST {
@@ -79,7 +71,7 @@ fn extent_ok(table: &[u8]) -> bool
     if at > table.len() {
         return false;
     }
-    let version = byte(table, VERSION);
+    let version = version_of(table);
     let processes = wide(byte(table, PROCESSES));
     let mut p = 0;
     while p < processes {
@@ -100,7 +92,7 @@ pub fn judge_extent(table: &[u8]) -> u8
     if !length_ok(table) {
         return 1;
     }
-    if !version_ok(byte(table, VERSION)) {
+    if !version_ok(version_of(table)) {
         return 2;
     }
     if !counts_ok(table) {

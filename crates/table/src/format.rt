@@ -22,9 +22,9 @@ pub const STANDBY: usize = 1;
 pub const LIMIT: usize = 2;
 
 // The version whose records have no limit, and the one whose records have.
-pub const WITHOUT_LIMITS: u8 = 1;
+pub const WITHOUT_LIMITS: u32 = 1;
 
-pub const WITH_LIMITS: u8 = 2;
+pub const WITH_LIMITS: u32 = 2;
 
 // The largest length field, the counts' bounds, and the most instructions of a process.
 pub const TABLE_MOST: usize = 6276;

@@ -13,11 +13,10 @@ use crate::format::SENDER;
 use crate::record::program_length;
 use crate::record::record_head;
 use crate::record::record_length;
-use records::bytes::byte;
+use crate::record::version_of;
 use records::bytes::wide;
 use records::fetch::Instruction;
 use records::fetch::fetch;
-use records::head::VERSION;
 
 fn wider(x: u32) -> usize
     ensures { λ r. ⌜ r ≡ x ⌝ }
@@ -101,7 +100,7 @@ fn program_ok(table: &[u8], p: u8, n: usize, program: &[u8]) -> bool
 }
 
 // The program of the record that begins the table's rest.
-fn record_ok(table: &[u8], version: u8, p: u8, rest: &[u8]) -> bool
+fn record_ok(table: &[u8], version: u32, p: u8, rest: &[u8]) -> bool
     requires { ⌜ (recordsStart (now table) ≤ length (now table)) × (recordLength version (now rest) ≤ length (now rest)) ⌝ }
     ensures { λ r. ⌜ r ≡ recordOk (decodeTable (now (table .entry))) version p (now (rest .entry)) ⌝ }
 {
@@ -115,7 +114,7 @@ pub fn instructions_ok(table: &[u8]) -> bool
     requires { ⌜ extentOk (now table) ≡ true ⌝ }
     ensures { λ r. ⌜ r ≡ instructionsOk (decodeTable (now (table .entry))) ⌝ }
 {
-    let version = byte(table, VERSION);
+    let version = version_of(table);
     let processes = table[PROCESSES];
     let mut at = SENDER + 2 * wide(table[CHANNELS]);
     let mut p = 0;

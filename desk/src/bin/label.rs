@@ -31,8 +31,9 @@ fn line(label: &Label) -> String {
 
 /// The labels that come out of a schedule, one a line, and how many are still to come.
 fn printed(first: u32, schedule: &[u8]) -> Result<String, Failure> {
-    let (mut answers, mut report) = (vec![0; schedule.len()], [0; 40]);
-    let run = label_run(first, schedule, &mut answers, &mut report).map_err(|refusal| Failure::Refused(refusal.number()))?;
+    let (mut answers, mut reasons, mut report) = (vec![0; schedule.len()], vec![0; schedule.len()], [0; 40]);
+    let run = label_run(first, schedule, &mut answers, &mut reasons, &mut report);
+    let run = run.map_err(|refusal| Failure::Refused(refusal.number()))?;
     let fed = run.answers().filter(|answer| (answer.code, answer.a) == (Code::OnTheBus, SCANNER)).count();
     let labels = labels(run.answers());
     let complete = labels.iter().filter(|label| label.serial.is_some()).count();

@@ -1,4 +1,5 @@
 //! The proved library's exported call.
+use outside::rules::lent::Lent;
 
 mod raw {
     #[link(name = "kunzeastylus", kind = "static")]
@@ -11,6 +12,8 @@ mod raw {
             schedule_len: usize,
             answers: *mut u8,
             answers_len: usize,
+            reasons: *mut u8,
+            reasons_len: usize,
             report: *mut u8,
             report_len: usize,
         ) -> u64;
@@ -18,9 +21,9 @@ mod raw {
 }
 
 /// The run of any schedule on any table with any lent buffers: it asks nothing of its caller.
-pub fn ks_run(table: &[u8], schedule: &[u8], answers: &mut [u8], report: &mut [u8]) -> u64 {
-    let (answers_len, report_len) = (answers.len(), report.len());
-    // SAFETY: four slices that don't overlap, each with its own length; the first two are only read.
+pub fn ks_run(table: &[u8], schedule: &[u8], lent: Lent<&mut [u8]>) -> u64 {
+    let Lent { answers, reasons, report } = lent;
+    // SAFETY: five slices that don't overlap, each with its own length; the first two are only read.
     unsafe {
         raw::ks_run(
             table.as_ptr(),
@@ -28,9 +31,11 @@ pub fn ks_run(table: &[u8], schedule: &[u8], answers: &mut [u8], report: &mut [u
             schedule.as_ptr(),
             schedule.len(),
             answers.as_mut_ptr(),
-            answers_len,
+            answers.len(),
+            reasons.as_mut_ptr(),
+            reasons.len(),
             report.as_mut_ptr(),
-            report_len,
+            report.len(),
         )
     }
 }

@@ -1,10 +1,11 @@
-//! One run by the proved call and by the simulator, compared: the number returned, every byte of both lent buffers, and bytes on both
+//! One run by the proved call and by the simulator, compared: the number returned, every byte of the lent buffers, and bytes on both
 //! sides of them which were not lent.
 use crate::call::ks_run;
 use crate::seen::Seen;
 use outside::random::Random;
+use outside::rules::lent::{Lent, NAMES, PIECES};
 use outside::rules::reader::record;
-use outside::rules::run::{run, Outcome, Run};
+use outside::rules::run::{run, Run};
 
 /// How many bytes on each side of a buffer are not lent.
 const MARGIN: usize = 32;
@@ -13,11 +14,6 @@ pub struct Comparison {
     /// For what lies in buffers before a run.
     filler: Random,
     pub seen: Seen,
-}
-
-/// What the call returns for an outcome: its number, 256 times quiet, and 2^32 times its records.
-fn returned(outcome: Outcome) -> u64 {
-    outcome.number as u64 + 256 * outcome.quiet as u64 + ((outcome.records as u64) << 32)
 }
 
 /// Any bytes, `length` of them lent, and a margin on either side.
@@ -48,30 +44,28 @@ impl Comparison {
     }
 
     /// One run by both with buffers of these lengths; all differences end the program.
-    pub fn run(&mut self, kind: &'static str, table: &[u8], schedule: &[u8], answers: usize, report: usize) -> Run {
-        let wanted = run(table, schedule, answers, report);
+    pub fn run(&mut self, kind: &'static str, table: &[u8], schedule: &[u8], buffers: Lent<usize>) -> Run {
+        let wanted = run(table, schedule, buffers);
         let mut given = [surrounded(&mut self.filler, table), surrounded(&mut self.filler, schedule)];
-        let before = [filled(&mut self.filler, answers), filled(&mut self.filler, report)];
+        let before = buffers.map(|length| filled(&mut self.filler, length));
         let mut after = before.clone();
         let [given_table, given_schedule] = &mut given;
-        let [lent_answers, lent_report] = &mut after;
-        let number = ks_run(lent(given_table), lent(given_schedule), lent(lent_answers), lent(lent_report));
+        let number = ks_run(lent(given_table), lent(given_schedule), after.each_mut().map(|bytes| lent(bytes)));
 
-        // What a refused run may write is nothing, and an accepted one writes its answers and its report.
-        let mut expected = before;
-        let written = match wanted.outcome.number {
-            0 => [6 * wanted.outcome.records, 20 * table[4] as usize],
-            _ => [0, 0],
-        };
-        lent(&mut expected[0])[..written[0]].copy_from_slice(&wanted.answers[..written[0]]);
-        lent(&mut expected[1])[..written[1]].copy_from_slice(&wanted.report[..written[1]]);
+        // What a refused run may write is nothing, and an accepted one writes its answers, its reasons and its report.
+        let written = wanted.outcome.written(table.get(4).map_or(0, |&processes| processes as usize));
+        let expected = before.with(wanted.lent.each().with(written)).map(|(mut bytes, (wanted, n))| {
+            lent(&mut bytes)[..n].copy_from_slice(&wanted[..n]);
+            bytes
+        });
         self.seen.runs += 1;
-        if number != returned(wanted.outcome) || after != expected {
-            println!("{kind}, run {}, buffers of {answers} and {report} bytes", self.seen.runs);
+        if number != wanted.outcome.returned() || after != expected {
+            println!("{kind}, run {}, {buffers:?}", self.seen.runs);
             println!("table {}\nschedule {}", hex(table), hex(schedule));
-            println!("returned {number:#x}, by the simulator {:#x} ({:?})", returned(wanted.outcome), wanted.outcome);
-            differences("answers", 6, &after[0], &expected[0]);
-            differences("report", 20, &after[1], &expected[1]);
+            println!("returned {number:#x}, by the simulator {:#x} ({:?})", wanted.outcome.returned(), wanted.outcome);
+            for ((name, piece), (bytes, expected)) in NAMES.with(PIECES).with(after.with(expected)).list() {
+                differences(name, piece, &bytes, &expected);
+            }
             println!("cabinet: FAILED after {} runs", self.seen.runs);
             std::process::exit(1);
         }

@@ -1,10 +1,13 @@
 //! The service desk's cases of a pulled board: the last lines of each page, written by hand from document 01, beside those that the
-//! proved call's bytes give. The simulator has no part in this.
+//! proved call's bytes give; and its reasons, every one of them, beside those that are written by hand from document 02. The simulator has
+//! no part in this.
 use crate::call::ks_run;
 use outside::rules::generate::{encode_schedule, encode_table};
+use outside::rules::lent::Lent;
 use outside::rules::page::lines;
 use outside::rules::reader::Instruction::{Add, First, Jump, Send, Set, Take};
 use outside::rules::reader::{Channel, Instruction, Process, Record, Table, OUTSIDE};
+use outside::rules::reasons::by_hand;
 use outside::rules::run::{Outcome, Run};
 use outside::rules::sample::{carry, crash, feed, sample_schedule, step, sync, SAMPLE};
 
@@ -281,19 +284,31 @@ pub fn cases() -> Vec<Case> {
 /// The page that the proved call's bytes give.
 fn page(case: &Case) -> String {
     let processes = case.table[4] as usize;
-    let mut run = Run {
-        outcome: Outcome { number: 0, records: 0, quiet: false },
-        answers: vec![0xEE; 6 * case.records.len()],
-        report: vec![0xEE; 20 * processes],
-    };
-    let number = ks_run(&case.table, &encode_schedule(&case.records), &mut run.answers, &mut run.report);
-    run.outcome = Outcome { number: number as u8, records: (number >> 32) as usize, quiet: number >> 8 & 1 == 1 };
-    lines(&run, processes)
+    let mut lent = Lent::needed(case.records.len(), processes).filled(0xEE);
+    let number = ks_run(&case.table, &encode_schedule(&case.records), lent.lend());
+    let outcome = Outcome { number: number as u8, records: (number >> 32) as usize, quiet: number >> 8 & 1 == 1 };
+    lines(&Run { outcome, lent }, processes)
+}
+
+/// The reasons that the proved call writes, where they are written by hand; false if one differs.
+fn reasons() -> bool {
+    let mut all = true;
+    for case in by_hand() {
+        let mut lent = Lent::needed(case.records.len(), case.table.processes.len()).filled(0xEE);
+        let number = ks_run(&encode_table(&case.table), &encode_schedule(&case.records), lent.lend());
+        let given = &lent.reasons[case.records.len() - case.last.len()..];
+        let wanted: Vec<u8> = case.last.iter().map(|(code, cause)| 4 * code + cause).collect();
+        let equal = number as u8 == 0 && given == wanted;
+        let differs = if equal { String::new() } else { format!(", DIFFERENT, by hand {wanted:?}") };
+        println!("service desk: reasons: {}: {given:?}{differs}", case.name);
+        all &= equal;
+    }
+    all
 }
 
 /// Runs every case and shows the lines compared; false if one differs.
 pub fn check() -> bool {
-    let mut all = true;
+    let mut all = reasons();
     for case in cases() {
         let page = page(&case);
         let page: Vec<&str> = page.lines().collect();

@@ -5,19 +5,21 @@ use outside::random::Random;
 use outside::rules::busy::busy;
 use outside::rules::damage::{damage_schedule, damage_table, Damage, DAMAGES};
 use outside::rules::generate::{any_word, continued, encode_schedule, encode_table, largest, schedule, table};
+use outside::rules::lent::Lent;
 use outside::rules::loops::loops;
 use outside::rules::reader::{Record, Table};
 use outside::rules::sample::crash;
 use outside::rules::simulator::Cabinet;
 
 /// What the largest schedule needs, and more.
-const ENOUGH: (usize, usize) = (60_012, 400);
+fn enough() -> Lent<usize> {
+    Lent::needed(10_000, 16).and(12)
+}
 
 /// A run with buffers as long as needed, or longer.
 fn compare(comparison: &mut Comparison, random: &mut Random, kind: &'static str, table: &[u8], records: &[Record]) {
-    let beyond = random.pick(&[0, 0, 1, 7, 40]);
-    let needed = (6 * records.len(), 20 * table[4] as usize);
-    comparison.run(kind, table, &encode_schedule(records), needed.0 + beyond, needed.1 + random.pick(&[0, 0, 1, 19, 20]));
+    let buffers = Lent::needed(records.len(), table[4] as usize).map(|needed| needed + random.pick(&[0, 0, 1, 7, 19, 20, 40]));
+    comparison.run(kind, table, &encode_schedule(records), buffers);
 }
 
 /// A sound table: any, the largest, or one whose programs go round for ever.
@@ -117,9 +119,10 @@ pub fn damaged(comparison: &mut Comparison, random: &mut Random) {
     for how in DAMAGES.into_iter().filter(|&how| how != Damage::None) {
         let table = damage_table(random, sound.clone(), how);
         let schedule = damage_schedule(random, records.clone(), how);
-        comparison.run("damaged table", &table, &records, ENOUGH.0, ENOUGH.1);
-        comparison.run("damaged schedule", &sound, &schedule, ENOUGH.0, ENOUGH.1);
-        comparison.run("both damaged", &table, &schedule, buffer(random, records.len()), buffer(random, 20 * sound[4] as usize));
+        comparison.run("damaged table", &table, &records, enough());
+        comparison.run("damaged schedule", &sound, &schedule, enough());
+        let buffers = Lent::needed(length, sound[4] as usize).map(|needed| buffer(random, needed));
+        comparison.run("both damaged", &table, &schedule, buffers);
     }
 }
 
@@ -135,10 +138,13 @@ pub fn buffers(comparison: &mut Comparison, random: &mut Random) {
     let length = random.pick(&[0, 1, 5, 30]);
     let records = encode_schedule(&schedule(random, &sound, length));
     let sound = encode_table(&sound);
-    let (answers, report) = (6 * length, 20 * sound[4] as usize);
-    let lengths = (buffer(random, answers), buffer(random, report));
-    comparison.run("other buffers", &sound, &records, answers, report);
-    comparison.run("other buffers", &sound, &records, lengths.0, report);
-    comparison.run("other buffers", &sound, &records, answers, lengths.1);
-    comparison.run("other buffers", &sound, &records, lengths.0, lengths.1);
+    let needed = Lent::needed(length, sound[4] as usize);
+    let others = needed.map(|needed| buffer(random, needed));
+    let mut run = |buffers| comparison.run("other buffers", &sound, &records, buffers);
+    run(needed);
+    run(others);
+    // Each of them alone.
+    run(Lent { answers: others.answers, ..needed });
+    run(Lent { reasons: others.reasons, ..needed });
+    run(Lent { report: others.report, ..needed });
 }

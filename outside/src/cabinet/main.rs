@@ -1,7 +1,7 @@
 //! The proved run of a schedule against the simulator, on generated tables and schedules: `cabinet [--runs N] [--seed N]`.
 //!
-//! First the service desk's cases, with lines written by hand; then these and document 01's sample, cut after each record and with each
-//! board pulled at each place; then random runs of every kind of input.
+//! First the service desk's cases, with lines and reasons written by hand; then these and document 01's sample, cut after each record and
+//! with each board pulled at each place; then random runs of every kind of input.
 mod call;
 mod compare;
 mod desk;
@@ -10,8 +10,10 @@ mod seen;
 
 use compare::Comparison;
 use outside::random::Random;
-use outside::rules::generate::encode_schedule;
+use outside::rules::generate::{encode_schedule, encode_table};
+use outside::rules::lent::Lent;
 use outside::rules::reader::Record;
+use outside::rules::reasons::by_hand;
 use outside::rules::sample::{crash, sample_schedule, SAMPLE};
 
 const SEED: u64 = 0xA076_1D64_78BD_642F;
@@ -19,12 +21,12 @@ const RUNS: u64 = 60_000;
 
 /// A schedule and each of its beginnings, and the same with a crash of each board put at each place.
 fn pulled(comparison: &mut Comparison, kind: &'static str, table: &[u8], records: &[Record]) {
-    let buffers = (6 * records.len() + 6, 20 * table[4] as usize);
+    let buffers = Lent::needed(records.len() + 1, table[4] as usize);
     for place in 0..=records.len() {
-        comparison.run(kind, table, &encode_schedule(&records[..place]), buffers.0, buffers.1);
+        comparison.run(kind, table, &encode_schedule(&records[..place]), buffers);
         for board in 0..table[3] {
             let crashed = [&records[..place], &[crash(board)], &records[place..]].concat();
-            comparison.run(kind, table, &encode_schedule(&crashed), buffers.0, buffers.1);
+            comparison.run(kind, table, &encode_schedule(&crashed), buffers);
         }
     }
 }
@@ -58,6 +60,10 @@ fn main() {
     pulled(&mut comparison, "sample", &SAMPLE, &sample_schedule());
     for case in desk::cases() {
         pulled(&mut comparison, "service desk", &case.table, &case.records);
+    }
+    for case in by_hand() {
+        let buffers = Lent::needed(case.records.len(), case.table.processes.len());
+        comparison.run("reasons by hand", &encode_table(&case.table), &encode_schedule(&case.records), buffers);
     }
     while comparison.seen.runs < runs {
         round(&mut comparison, &mut random);

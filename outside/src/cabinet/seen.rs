@@ -1,10 +1,8 @@
-//! What the runs met: answers, refusals, kinds of input, and traits of the tables. Everything listed must have been met.
+//! What the runs met: answers with their causes, refusals, kinds of input, and traits of the tables. Everything listed must have been met.
 use outside::rules::reader::{judge_table, Instruction, Table, OUTSIDE};
+use outside::rules::reasons::{reasons, CAUSES};
 use outside::rules::run::Run;
 use std::collections::BTreeMap;
-
-/// The answers of document 01: 0 to 6, and the refusals of a record.
-const ANSWERS: [u8; 20] = [0, 1, 2, 3, 4, 5, 6, 32, 33, 34, 35, 36, 37, 38, 39, 40, 41, 42, 43, 44];
 
 /// The kinds whose schedules are written so that most records are accepted.
 pub const SOUND: [&str; 3] = ["sound", "crash at every place", "10,000 records"];
@@ -55,7 +53,10 @@ fn calculates(instruction: &Instruction) -> bool {
 #[derive(Default)]
 pub struct Seen {
     pub runs: u64,
-    answers: BTreeMap<u8, u64>,
+    /// By the bytes of the list of reasons: each code with each cause.
+    reasons: BTreeMap<u8, u64>,
+    /// Runs refused with 11 for the list of reasons alone.
+    reasons_short: u64,
     numbers: [u64; 13],
     kinds: Vec<Kind>,
     traits: [u64; TRAITS.len()],
@@ -81,6 +82,7 @@ impl Seen {
         self.numbers[run.outcome.number as usize] += 1;
         if run.outcome.number != 0 {
             kind.refused += 1;
+            self.reasons_short += (run.outcome.number == 11 && run.lent.answers.len() >= schedule.len() - 3) as u64;
             return;
         }
         kind.quiet += run.outcome.quiet as u64;
@@ -92,14 +94,14 @@ impl Seen {
             self.silent = table.processes.iter().map(|process| process.program.iter().all(calculates)).collect();
         }
         let mut crashed = false;
-        for (answer, record) in run.answers.chunks_exact(6).zip(schedule[3..].chunks_exact(6)) {
-            *self.answers.entry(answer[0]).or_default() += 1;
+        run.lent.reasons.iter().take(run.outcome.records).for_each(|&reason| *self.reasons.entry(reason).or_default() += 1);
+        for (answer, record) in run.lent.answers.chunks_exact(6).zip(schedule[3..].chunks_exact(6)) {
             kind.accepted += (answer[0] < 32) as u64;
             crashed |= record[0] == 5 && answer[0] == 0;
             self.ran_long += (answer[0] == 37 && self.silent[record[1] as usize]) as u64;
         }
         kind.crashed += crashed as u64;
-        let lines = run.report.chunks_exact(20).take(table[4] as usize);
+        let lines = run.lent.report.chunks_exact(20).take(table[4] as usize);
         kind.hold_back += lines.clone().any(|line| line[3] > 0) as u64;
         self.most_records = self.most_records.max(run.outcome.records);
         self.most_unread = self.most_unread.max(lines.clone().map(|line| line[2]).max().unwrap_or(0));
@@ -133,12 +135,19 @@ impl Seen {
         );
         let tables: Vec<String> = TRAITS.iter().zip(&self.traits).map(|((name, _), n)| format!("{name} {n}")).collect();
         println!("tables with: {}", tables.join(", "));
-        let answers: Vec<String> = self.answers.iter().map(|(code, times)| format!("{code}: {times}")).collect();
-        println!("answers {}", answers.join(", "));
+        let times = |code: u8, cause: u8| self.reasons.get(&(4 * code + cause)).copied().unwrap_or(0);
+        let answers = CAUSES.iter().map(|&(code, causes)| {
+            let each: Vec<String> = causes.iter().map(|&cause| times(code, cause).to_string()).collect();
+            format!("{code}: {}", each.join("/"))
+        });
+        println!("answers, cause by cause {}", answers.collect::<Vec<_>>().join(", "));
         let numbers: Vec<String> = self.numbers.iter().enumerate().map(|(n, times)| format!("{n}: {times}")).collect();
         println!("numbers {}", numbers.join(", "));
         let mut missing: Vec<String> = Vec::new();
-        missing.extend(ANSWERS.iter().filter(|code| !self.answers.contains_key(code)).map(|code| format!("answer {code}")));
+        let named = |reason: u8| format!("answer {} with cause {}", reason / 4, reason % 4);
+        missing.extend(reasons().filter(|reason| !self.reasons.contains_key(reason)).map(named));
+        let unknown = |reason: &&u8| !reasons().any(|known| known == **reason);
+        missing.extend(self.reasons.keys().filter(unknown).map(|&reason| format!("a rule for {}", named(reason))));
         missing.extend((0..13).filter(|&n| self.numbers[n] == 0).map(|n| format!("number {n}")));
         missing.extend(
             TRAITS.iter().zip(&self.traits).filter(|(_, &n)| n == 0).map(|((name, _), _)| format!("a table with {name}")),
@@ -146,6 +155,10 @@ impl Seen {
         println!("37 for instructions alone: {}", self.ran_long);
         if self.ran_long == 0 {
             missing.push("37 of a program that neither reads nor sends".to_string());
+        }
+        println!("11 for the list of reasons alone: {}", self.reasons_short);
+        if self.reasons_short == 0 {
+            missing.push("11 for the list of reasons alone".to_string());
         }
         missing.iter().for_each(|what| println!("never met: {what}"));
         missing.is_empty()

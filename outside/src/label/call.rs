@@ -1,4 +1,5 @@
 //! The proved library's two calls of the label line.
+use outside::rules::lent::Lent;
 
 mod raw {
     #[link(name = "kunzeastylus", kind = "static")]
@@ -12,6 +13,8 @@ mod raw {
             schedule_len: usize,
             answers: *mut u8,
             answers_len: usize,
+            reasons: *mut u8,
+            reasons_len: usize,
             report: *mut u8,
             report_len: usize,
         ) -> u64;
@@ -25,18 +28,20 @@ pub fn ks_label_table(first: u32, table: &mut [u8; 84]) -> u32 {
 }
 
 /// The run of any first serial and any schedule with any lent buffers: it asks nothing of its caller.
-pub fn ks_label_run(first: u32, schedule: &[u8], answers: &mut [u8], report: &mut [u8]) -> u64 {
-    let (answers_len, report_len) = (answers.len(), report.len());
-    // SAFETY: three slices that don't overlap, each with its own length; the first is only read.
+pub fn ks_label_run(first: u32, schedule: &[u8], lent: Lent<&mut [u8]>) -> u64 {
+    let Lent { answers, reasons, report } = lent;
+    // SAFETY: four slices that don't overlap, each with its own length; the first is only read.
     unsafe {
         raw::ks_label_run(
             first,
             schedule.as_ptr(),
             schedule.len(),
             answers.as_mut_ptr(),
-            answers_len,
+            answers.len(),
+            reasons.as_mut_ptr(),
+            reasons.len(),
             report.as_mut_ptr(),
-            report_len,
+            report.len(),
         )
     }
 }

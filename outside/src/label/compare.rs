@@ -2,6 +2,7 @@
 use crate::call::ks_label_run;
 use crate::line::{fault, seen, table, SERIAL_MOST};
 use outside::rules::generate::{encode_schedule, encode_table};
+use outside::rules::lent::Lent;
 use outside::rules::reader::{record, Record};
 use outside::rules::run::{run, Outcome};
 use outside::rules::simulator::Answer;
@@ -21,41 +22,35 @@ pub struct Counts {
 
 fn answer(bytes: &[u8]) -> Answer {
     let record = record(bytes);
-    Answer { code: record.kind, a: record.a, word: record.word }
-}
-
-/// What the call returns for an outcome: its number, 256 times quiet, and 2^32 times its records.
-fn returned(outcome: Outcome) -> u64 {
-    outcome.number as u64 + 256 * outcome.quiet as u64 + ((outcome.records as u64) << 32)
+    Answer::new(record.kind, record.a, record.word)
 }
 
 /// What is wrong with a run, if anything is.
-fn wrong(counts: &mut Counts, first: u32, records: &[Record], buffers: (usize, usize)) -> Option<&'static str> {
+fn wrong(counts: &mut Counts, first: u32, records: &[Record], buffers: Lent<usize>) -> Option<&'static str> {
     let schedule = encode_schedule(records);
     let mut wanted = match first <= SERIAL_MOST {
-        true => run(&encode_table(&table(first)), &schedule, buffers.0, buffers.1),
-        false => run(&[], &[], buffers.0, buffers.1),
+        true => run(&encode_table(&table(first)), &schedule, buffers),
+        false => run(&[], &[], buffers),
     };
     if first > SERIAL_MOST {
         wanted.outcome = Outcome { number: 46, records: 0, quiet: false };
     }
-    let (mut answers, mut report) = (vec![FILLER; buffers.0], vec![FILLER; buffers.1]);
-    let result = ks_label_run(first, &schedule, &mut answers, &mut report);
+    let mut lent = buffers.filled(FILLER);
+    let result = ks_label_run(first, &schedule, lent.lend());
     counts.runs += 1;
-    if result != returned(wanted.outcome) {
+    if result != wanted.outcome.returned() {
         return Some("another number");
     }
-    let written = match wanted.outcome.number {
-        0 => (6 * records.len(), 40),
-        _ => (0, 0),
-    };
-    if answers[..written.0] != wanted.answers[..written.0] || report[..written.1] != wanted.report[..written.1] {
-        return Some("other answers or another report");
+    let written = wanted.outcome.written(2);
+    for ((bytes, wanted), n) in lent.each().with(wanted.lent.each()).with(written).list() {
+        if bytes[..n] != wanted[..n] {
+            return Some("other answers or reasons, or another report");
+        }
+        if bytes[n..].iter().any(|&byte| byte != FILLER) {
+            return Some("a byte beyond them is touched");
+        }
     }
-    if answers[written.0..].iter().chain(&report[written.1..]).any(|&byte| byte != FILLER) {
-        return Some("a byte beyond them is touched");
-    }
-    let answers: Vec<Answer> = answers[..written.0].chunks_exact(6).map(answer).collect();
+    let answers: Vec<Answer> = lent.answers[..written.answers].chunks_exact(6).map(answer).collect();
     let (cartons, outlet) = seen(records, &answers);
     counts.quiet += wanted.outcome.quiet as u64;
     counts.crashed += answers.iter().zip(records).any(|(answer, record)| (record.kind, answer.code) == (5, 0)) as u64;
@@ -65,9 +60,9 @@ fn wrong(counts: &mut Counts, first: u32, records: &[Record], buffers: (usize, u
 }
 
 /// One run by both; a difference ends the program.
-pub fn compare(counts: &mut Counts, first: u32, records: &[Record], buffers: (usize, usize)) {
+pub fn compare(counts: &mut Counts, first: u32, records: &[Record], buffers: Lent<usize>) {
     if let Some(what) = wrong(counts, first, records, buffers) {
-        println!("first {first}, buffers {buffers:?}, schedule {:02X?}", encode_schedule(records));
+        println!("first {first}, {buffers:?}, schedule {:02X?}", encode_schedule(records));
         println!("label: FAILED after {} runs: {what}", counts.runs);
         std::process::exit(1);
     }

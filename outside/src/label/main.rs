@@ -11,6 +11,7 @@ use compare::{compare, Counts};
 use line::{table, SCANNER, SERIAL_MOST};
 use outside::random::Random;
 use outside::rules::generate::{continued, encode_table};
+use outside::rules::lent::Lent;
 use outside::rules::reader::{judge_table, Record, Table};
 use outside::rules::sample::{carry, crash, feed, step};
 use outside::rules::simulator::Cabinet;
@@ -20,7 +21,9 @@ const SERIALS: [u32; 5] = [0, 1, 1000, SERIAL_MOST - 1, SERIAL_MOST];
 const REFUSED: [u32; 3] = [SERIAL_MOST + 1, SERIAL_MOST + 2, u32::MAX];
 
 /// As long as any schedule here needs.
-const ENOUGH: (usize, usize) = (60_012, 44);
+fn enough() -> Lent<usize> {
+    Lent::needed(10_000, 2).and(12)
+}
 
 fn sync(a: u8) -> Record {
     Record { kind: 2, a, word: 0 }
@@ -105,13 +108,13 @@ fn schedules(random: &mut Random, table: &Table) -> Vec<Vec<Record>> {
 
 /// A crash of either board at each place of a schedule: as it stands, and led on until it is quiet.
 fn pulled(counts: &mut Counts, first: u32, table: &Table, records: &[Record]) {
-    compare(counts, first, records, (6 * records.len(), 40));
-    compare(counts, first, &Led::new(table, records).quiet(), ENOUGH);
+    compare(counts, first, records, Lent::needed(records.len(), 2));
+    compare(counts, first, &Led::new(table, records).quiet(), enough());
     for place in 0..=records.len() {
         for board in 0..2 {
             let crashed = [&records[..place], &[crash(board)], &records[place..]].concat();
-            compare(counts, first, &crashed, (6 * crashed.len() + 1, 41));
-            compare(counts, first, &Led::new(table, &crashed).quiet(), ENOUGH);
+            compare(counts, first, &crashed, Lent::needed(crashed.len(), 2).and(1));
+            compare(counts, first, &Led::new(table, &crashed).quiet(), enough());
         }
     }
 }
@@ -129,7 +132,7 @@ fn long(counts: &mut Counts, first: u32, table: &Table, place: usize, board: u8)
         }
         led.round();
     }
-    compare(counts, first, &led.records[..10_000], (60_000, 40));
+    compare(counts, first, &led.records[..10_000], Lent::needed(10_000, 2));
 }
 
 fn main() {
@@ -145,17 +148,19 @@ fn main() {
             pulled(&mut counts, first, &table, &records);
         }
         // Too short by one byte, and 10,000 feeds, of which eight are accepted; then as many as there is time for.
-        compare(&mut counts, first, &[step(0)], (5, 40));
-        compare(&mut counts, first, &[step(0)], (6, 39));
-        compare(&mut counts, first, &vec![feed(SCANNER, 7); 10_000], ENOUGH);
-        compare(&mut counts, first, &vec![feed(SCANNER, 7); 10_001], (70_000, 40));
+        let needed = Lent::needed(1, 2);
+        compare(&mut counts, first, &[step(0)], Lent { answers: 5, ..needed });
+        compare(&mut counts, first, &[step(0)], Lent { reasons: 0, ..needed });
+        compare(&mut counts, first, &[step(0)], Lent { report: 39, ..needed });
+        compare(&mut counts, first, &vec![feed(SCANNER, 7); 10_000], enough());
+        compare(&mut counts, first, &vec![feed(SCANNER, 7); 10_001], Lent::needed(11_000, 2));
         for place in [0, 1, 4999, 5000, 5001, 9999, 10_000] {
             long(&mut counts, first, &table, place, (place % 2) as u8);
         }
     }
     for first in REFUSED {
-        compare(&mut counts, first, &[feed(SCANNER, 7), step(0)], ENOUGH);
-        compare(&mut counts, first, &[], (0, 0));
+        compare(&mut counts, first, &[feed(SCANNER, 7), step(0)], enough());
+        compare(&mut counts, first, &[], Lent::all(0));
     }
     let Counts { runs, quiet, crashed, cartons, labels } = counts;
     assert!(quiet > runs / 3 && crashed > runs / 2 && labels > 500, "too little was met");

@@ -240,7 +240,8 @@ impl<'a, 't> Writing<'a, 't> {
     fn go_on(&mut self, most: usize) {
         let record = likely(self.random, self.table, &self.cabinet, &self.habits);
         for _ in 0..1 + self.random.below(self.habits.row) {
-            if self.cabinet.answer(record).code < 32 {
+            let answer = self.cabinet.answer(record);
+            if answer.code < 32 {
                 self.in_vain = 0;
                 self.schedule.push(record);
             } else {
@@ -248,6 +249,10 @@ impl<'a, 't> Writing<'a, 't> {
                 if self.random.once_in(20) && (8 * self.refused < self.schedule.len() || self.in_vain > 300) {
                     self.refused += 1;
                     self.schedule.push(record);
+                }
+                // A full queue refuses a sync as well, which is seldom tried by itself; it too changes nothing.
+                if answer.code == 38 && self.schedule.len() < most {
+                    self.schedule.push(Record { kind: 2, ..record });
                 }
                 return;
             }

@@ -1,6 +1,7 @@
 //! The marked cases M1 to M13 of document 01, the ninth take, the 65th instruction, buffers, schedules and refused pages.
 use super::backup::{Backup, Message, Snapshot};
 use super::generate::{encode_schedule, encode_table};
+use super::lent::Lent;
 use super::page::page;
 use super::reader::{judge_run, judge_schedule, judge_table, Channel, Instruction, Process, Record, Table, OUTSIDE};
 use super::run::{run, Outcome};
@@ -37,7 +38,7 @@ quiet 1
 fn answers(table: &[u8], records: &[Record]) -> Vec<(u8, u8, u32)> {
     let table = judge_table(table).unwrap();
     let mut cabinet = Cabinet::new(&table);
-    records.iter().map(|&record| cabinet.answer(record)).map(|Answer { code, a, word }| (code, a, word)).collect()
+    records.iter().map(|&record| cabinet.answer(record)).map(|Answer { code, a, word, .. }| (code, a, word)).collect()
 }
 
 /// The number of the sample with one byte changed.
@@ -64,7 +65,7 @@ fn m7() {
     table[13..31].copy_from_slice(&[1, 0, 255, 255, 255, 255, 1, 1, 0, 0, 0, 1, 2, 0, 0, 0, 0, 1]);
     let table = judge_table(&table).unwrap();
     let mut cabinet = Cabinet::new(&table);
-    (0..3).for_each(|_| assert_eq!(cabinet.answer(step(0)), Answer { code: 0, a: 0, word: 0 }));
+    (0..3).for_each(|_| assert_eq!(cabinet.answer(step(0)), Answer { code: 0, a: 0, word: 0, cause: 0 }));
     assert_eq!(cabinet.processes[0].registers, [0, 1, 0, 0]);
 }
 
@@ -143,21 +144,28 @@ fn no_word_comes_first() {
     let mut records = vec![feed(0, 9)];
     records.extend([step(0); 65]);
     records.extend([feed(0, 9), step(0), sync(0), step(0)]);
-    assert_eq!(answers(&encode_table(&table), &records)[64..], [(0, 0, 0), (36, 0, 0), (4, 0, 9), (37, 0, 0), (0, 0, 0), (1, 0, 9)]);
+    assert_eq!(
+        answers(&encode_table(&table), &records)[64..],
+        [(0, 0, 0), (36, 0, 0), (4, 0, 9), (37, 0, 0), (0, 0, 0), (1, 0, 9)]
+    );
 }
 
 #[test]
 fn buffers() {
     let schedule = encode_schedule(&sample_schedule());
-    let number = |answers, report| judge_run(&SAMPLE, &schedule, answers, report).err().unwrap_or(0);
-    assert_eq!([number(120, 20), number(119, 20), number(120, 19), number(119, 19)], [0, 11, 12, 11]);
+    let lengths = |answers, reasons, report| Lent { answers, reasons, report };
+    let number = |lengths| judge_run(&SAMPLE, &schedule, lengths).err().unwrap_or(0);
+    assert_eq!(Lent::needed(20, 1), lengths(120, 20, 20));
+    assert_eq!([lengths(120, 20, 20), lengths(119, 20, 20), lengths(120, 19, 20)].map(number), [0, 11, 11]);
+    assert_eq!([lengths(120, 20, 19), lengths(119, 20, 19), lengths(120, 19, 19)].map(number), [12, 11, 11]);
     // Bytes beyond are untouched, and a refused run writes nothing.
-    let accepted = run(&SAMPLE, &schedule, 126, 23);
+    let accepted = run(&SAMPLE, &schedule, lengths(126, 22, 23));
     assert_eq!(accepted.outcome, Outcome { number: 0, records: 20, quiet: true });
-    assert_eq!((&accepted.answers[114..], &accepted.report[18..]), (&[0; 12][..], &[0; 5][..]));
-    let refused = run(&SAMPLE, &schedule, 120, 19);
+    assert_eq!((&accepted.lent.answers[114..], &accepted.lent.report[18..]), (&[0; 12][..], &[0; 5][..]));
+    assert_eq!(accepted.lent.reasons[18..], [16, 0, 0, 0]);
+    let refused = run(&SAMPLE, &schedule, lengths(120, 20, 19));
     assert_eq!(refused.outcome, Outcome { number: 12, records: 0, quiet: false });
-    assert!(refused.answers.iter().chain(&refused.report).all(|&byte| byte == 0));
+    assert!(refused.lent.list().concat().iter().all(|&byte| byte == 0));
 }
 
 #[test]

@@ -1,14 +1,16 @@
-//! Document 01 in Rust, written from its text and from nothing else: no line here was taken from the proved code or its definitions.
-//! Names are the document's own, so that each line can be held against its sentence.
+//! Documents 01 and 02 in Rust, written from their text and from nothing else: no line here was taken from the proved code or its
+//! definitions. Names are the documents' own, so that each line can be held against its sentence.
 
 pub mod backup;
 pub mod busy;
 pub mod damage;
 pub mod generate;
+pub mod lent;
 pub mod loops;
 pub mod page;
 pub mod plain;
 pub mod reader;
+pub mod reasons;
 pub mod run;
 pub mod sample;
 pub mod simulator;

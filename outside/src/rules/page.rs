@@ -1,4 +1,5 @@
 //! The bench program's page: document 01, "The bench program's page".
+use super::lent::Lent;
 use super::reader::record;
 use super::run::{run, Run};
 use std::fmt::Write;
@@ -12,7 +13,7 @@ pub fn page(input: &[u8]) -> String {
         return "refused 1\n".to_string();
     }
     let (table, schedule) = input.split_at(input.len().min(2 + length));
-    lines(&run(table, schedule, 60_000, 320), table.get(4).map_or(0, |&processes| processes as usize))
+    lines(&run(table, schedule, Lent::needed(10_000, 16)), table.get(4).map_or(0, |&processes| processes as usize))
 }
 
 /// The page of a run on a table of so many processes, from what it returned and what it wrote.
@@ -24,11 +25,11 @@ pub fn lines(run: &Run, processes: usize) -> String {
     // board, place, unread, hold-back, registers), and `quiet` with 1 or 0; all decimal, one space between"
     let mut page = String::new();
     writeln!(page, "records {}", run.outcome.records).unwrap();
-    for (i, bytes) in run.answers.chunks(6).take(run.outcome.records).enumerate() {
+    for (i, bytes) in run.lent.answers.chunks(6).take(run.outcome.records).enumerate() {
         let answer = record(bytes);
         writeln!(page, "{} {} {} {}", i + 1, answer.kind, answer.a, answer.word).unwrap();
     }
-    for (p, bytes) in run.report.chunks(20).take(processes).enumerate() {
+    for (p, bytes) in run.lent.report.chunks(20).take(processes).enumerate() {
         write!(page, "process {p}").unwrap();
         bytes[..4].iter().for_each(|byte| write!(page, " {byte}").unwrap());
         bytes[4..].chunks(4).for_each(|word| write!(page, " {}", u32::from_be_bytes(word.try_into().unwrap())).unwrap());

@@ -1,6 +1,7 @@
 //! Tables and schedules, judged and read: document 01, "The table", the first paragraph on schedules, and refusals 1 to 12.
 //!
 //! "A refused one, lowest number first": each number is looked for in the whole table before the next one.
+use super::lent::Lent;
 
 /// "255 for the outside"
 pub const OUTSIDE: u8 = 255;
@@ -186,16 +187,10 @@ pub fn judge_schedule(bytes: &[u8]) -> Result<Vec<Record>, u8> {
     Ok(judge_records(bytes)?.chunks_exact(6).map(record).collect())
 }
 
-/// What a run is made of, the records still as bytes, or the number from 1 to 12 by which it is refused.
-pub fn judge_run<'s>(table: &[u8], schedule: &'s [u8], answers: usize, report: usize) -> Result<(Table, &'s [u8]), u8> {
+/// What a run is made of, the records still as bytes, or the number from 1 to 12 by which it is refused with buffers of these lengths.
+pub fn judge_run<'s>(table: &[u8], schedule: &'s [u8], buffers: Lent<usize>) -> Result<(Table, &'s [u8]), u8> {
     let table = judge_table(table)?;
     let records = judge_records(schedule)?;
-    // "11 answer buffer under six bytes a record; 12 report buffer under 20 bytes a process"
-    if answers < records.len() {
-        return Err(11);
-    }
-    if report < 20 * table.processes.len() {
-        return Err(12);
-    }
+    buffers.judge(Lent::needed(records.len() / 6, table.processes.len()))?;
     Ok((table, records))
 }

@@ -1,4 +1,5 @@
 //! A whole run, from bytes to bytes: document 01, the end of "What each move replies".
+use super::lent::Lent;
 use super::reader::{judge_run, record};
 use super::simulator::Cabinet;
 
@@ -11,17 +12,20 @@ pub struct Outcome {
     pub quiet: bool,
 }
 
-/// A run on lent buffers: a refused one "writes to no lent buffer", and an accepted one to no byte beyond its answers and its report.
-pub fn run_into(table: &[u8], schedule: &[u8], answers: &mut [u8], report: &mut [u8]) -> Outcome {
-    let (table, records) = match judge_run(table, schedule, answers.len(), report.len()) {
+/// A run on lent buffers: a refused one "writes to no lent buffer", and an accepted one to no byte beyond its answers, its reasons and its
+/// report.
+pub fn run_into(table: &[u8], schedule: &[u8], lent: Lent<&mut [u8]>) -> Outcome {
+    let (table, records) = match judge_run(table, schedule, lent.each().map(|buffer| buffer.len())) {
         Ok(judged) => judged,
         Err(number) => return Outcome { number, records: 0, quiet: false },
     };
     let mut cabinet = Cabinet::new(&table);
-    for (bytes, answer) in records.chunks_exact(6).zip(answers.chunks_exact_mut(6)) {
-        answer.copy_from_slice(&cabinet.answer(record(bytes)).bytes());
+    for ((bytes, answer), reason) in records.chunks_exact(6).zip(lent.answers.chunks_exact_mut(6)).zip(lent.reasons) {
+        let given = cabinet.answer(record(bytes));
+        answer.copy_from_slice(&given.bytes());
+        *reason = given.reason();
     }
-    cabinet.report(report);
+    cabinet.report(lent.report);
     Outcome { number: 0, records: records.len() / 6, quiet: cabinet.quiet() }
 }
 
@@ -29,14 +33,27 @@ pub fn run_into(table: &[u8], schedule: &[u8], answers: &mut [u8], report: &mut 
 #[derive(Clone, Debug, PartialEq, Eq)]
 pub struct Run {
     pub outcome: Outcome,
-    pub answers: Vec<u8>,
-    pub report: Vec<u8>,
+    pub lent: Lent<Vec<u8>>,
 }
 
 /// A run on buffers of these lengths, all 0 before.
-pub fn run(table: &[u8], schedule: &[u8], answers: usize, report: usize) -> Run {
-    let mut run =
-        Run { outcome: Outcome { number: 0, records: 0, quiet: false }, answers: vec![0; answers], report: vec![0; report] };
-    run.outcome = run_into(table, schedule, &mut run.answers, &mut run.report);
-    run
+pub fn run(table: &[u8], schedule: &[u8], buffers: Lent<usize>) -> Run {
+    let mut lent = buffers.filled(0);
+    let outcome = run_into(table, schedule, lent.lend());
+    Run { outcome, lent }
+}
+
+impl Outcome {
+    /// What the proved calls return for it: its number, 256 times quiet, and 2^32 times its records.
+    pub fn returned(self) -> u64 {
+        self.number as u64 + 256 * self.quiet as u64 + ((self.records as u64) << 32)
+    }
+
+    /// How many bytes such a run on so many processes writes to each buffer: a refused one, none.
+    pub fn written(self, processes: usize) -> Lent<usize> {
+        match self.number {
+            0 => Lent::needed(self.records, processes),
+            _ => Lent::all(0),
+        }
+    }
 }

@@ -1,9 +1,10 @@
-//! Generated tables are sound, damaged ones meet every number, and generated runs meet every answer, keep demand 3 and end quiet.
+//! Generated tables are sound, damaged ones meet every number, and generated runs meet every answer with every cause, keep demand 3 and end quiet.
 use super::damage::{damage_schedule, damage_table, DAMAGES};
 use super::generate::{encode_schedule, encode_table, largest, schedule, table};
 use super::loops::loops;
 use super::plain::transparent;
 use super::reader::{judge_schedule, judge_table};
+use super::reasons::reasons;
 use super::simulator::Cabinet;
 use crate::random::Random;
 
@@ -41,7 +42,7 @@ fn damaged_meets_every_number() {
 #[test]
 fn runs_are_transparent() {
     let mut random = Random::new(SEED);
-    let mut seen = [0; 45];
+    let mut seen = [0; 256];
     let mut quiet = 0;
     for _ in 0..3_000 {
         let table = if random.once_in(4) { loops(&mut random) } else { table(&mut random) };
@@ -49,12 +50,12 @@ fn runs_are_transparent() {
         let records = random.pick(&[5, 20, 60, 300]);
         let schedule = schedule(&mut random, &table, records);
         let run: Vec<_> = schedule.into_iter().map(|record| (record, cabinet.answer(record))).collect();
-        run.iter().for_each(|(_, answer)| seen[answer.code as usize] += 1);
+        run.iter().for_each(|(_, answer)| seen[answer.reason() as usize] += 1);
         quiet += cabinet.quiet() as u32;
         transparent(&table, &run, &cabinet).unwrap_or_else(|fault| panic!("{fault}: {table:?} {run:?}"));
     }
-    println!("answers {seen:?}, quiet {quiet}");
-    let answers = (0..=6).chain(32..=44);
-    answers.for_each(|code| assert!(seen[code] > 0, "no answer {code}"));
+    println!("reasons {seen:?}, quiet {quiet}");
+    reasons().for_each(|reason| assert!(seen[reason as usize] > 0, "no answer {} with cause {}", reason / 4, reason % 4));
+    assert_eq!(seen.iter().filter(|&&n| n > 0).count(), reasons().count(), "a reason that there isn't");
     assert!(quiet > 100, "only {quiet} runs end quiet");
 }

@@ -5,21 +5,36 @@ use super::backup::{Backup, Message, Snapshot};
 use super::reader::{self, Instruction, Record, Table, OUTSIDE};
 use std::collections::VecDeque;
 
-/// "One six-byte answer a record: code, a, word."
+/// "One six-byte answer a record: code, a, word", and W-206's cause.
 #[derive(Clone, Copy, Debug, PartialEq, Eq)]
 pub struct Answer {
     pub code: u8,
     pub a: u8,
     pub word: u32,
+    pub cause: u8,
 }
 
 /// "0 done (0, 0)"
-const DONE: Answer = Answer { code: 0, a: 0, word: 0 };
+const DONE: Answer = Answer::new(0, 0, 0);
 
 impl Answer {
+    /// W-206: "The cause is 0 except here." Where it isn't, `because` says so.
+    pub const fn new(code: u8, a: u8, word: u32) -> Answer {
+        Answer { code, a, word, cause: 0 }
+    }
+
     /// "Refusals repeat a with word 0"
     fn refused(code: u8, a: usize) -> Answer {
-        Answer { code, a: a as u8, word: 0 }
+        Answer::new(code, a as u8, 0)
+    }
+
+    fn because(self, cause: u8) -> Answer {
+        Answer { cause, ..self }
+    }
+
+    /// W-206: "one byte a record: the answer's code times 4, plus a cause"
+    pub fn reason(self) -> u8 {
+        4 * self.code + self.cause
     }
 
     pub fn bytes(self) -> [u8; 6] {
@@ -95,9 +110,11 @@ impl<'t> Process<'t> {
         self.backup.is_some() && self.instructions >= 64
     }
 
-    /// "37 if backed and acts are 8", or for its instructions
-    fn must_sync(&self) -> bool {
-        self.ran_long() || self.backup.is_some() && self.acts >= 8
+    /// "37 if backed and acts are 8", or for its instructions, with the cause. W-206: "Code 37: 1 when only the 64 instructions are to
+    /// blame".
+    fn must_sync(&self) -> Option<u8> {
+        let acted = self.backup.is_some() && self.acts >= 8;
+        (acted || self.ran_long()).then_some(if acted { 0 } else { 1 })
     }
 
     /// Removes an unread word.
@@ -145,18 +162,20 @@ impl<'t> Cabinet<'t> {
     pub fn answer(&mut self, record: Record) -> Answer {
         let a = record.a as usize;
         let refused = |code| Answer::refused(code, a);
-        // "32 for an unknown move or a word that should be 0; 33 if a is no process, board or channel of this table"
-        let among = match record.kind {
-            1 | 2 => self.processes.len(),
-            3 | 5 => self.queues.len(),
-            4 => self.wires.len(),
+        // "32 for an unknown move or a word that should be 0; 33 if a is no process, board or channel of this table". W-206: "Code 33: 1
+        // for a board, 2 for a channel."
+        let (among, cause) = match record.kind {
+            1 | 2 => (self.processes.len(), 0),
+            3 | 5 => (self.queues.len(), 1),
+            4 => (self.wires.len(), 2),
             _ => return refused(32),
         };
         if record.kind != 4 && record.word != 0 {
-            return refused(32);
+            // W-206: "Code 32: 1 when the move is known and the word is at fault."
+            return refused(32).because(1);
         }
         if a >= among {
-            return refused(33);
+            return refused(33).because(cause);
         }
         match record.kind {
             1 => self.step(a),
@@ -180,7 +199,8 @@ impl<'t> Cabinet<'t> {
         let answer = match instruction {
             // W-204: "Every kind of instruction then answers 37"
             Instruction::Set { .. } | Instruction::Add { .. } | Instruction::Jump { .. } if process.ran_long() => {
-                return refused(37);
+                // W-206: "always so for SET, ADD and JUMP"
+                return refused(37).because(1);
             }
             Instruction::Set { a, word } => {
                 process.registers[a as usize] = word;
@@ -192,34 +212,35 @@ impl<'t> Cabinet<'t> {
             }
             Instruction::Take { a, channel } => {
                 let Some(at) = process.oldest(1 << channel) else { return refused(36) };
-                if process.must_sync() {
-                    return refused(37);
+                if let Some(cause) = process.must_sync() {
+                    return refused(37).because(cause);
                 }
                 let message = process.take(at);
                 self.totals[channel as usize] -= 1;
                 process.registers[a as usize] = message.word;
-                Answer { code: 1, a: channel, word: message.word }
+                Answer::new(1, channel, message.word)
             }
             Instruction::First { a, mask } => {
-                let Some(at) = process.oldest(mask) else { return refused(36) };
-                if process.must_sync() {
-                    return refused(37);
+                // W-206: "Code 36: 1 for FIRST."
+                let Some(at) = process.oldest(mask) else { return refused(36).because(1) };
+                if let Some(cause) = process.must_sync() {
+                    return refused(37).because(cause);
                 }
                 let message = process.take(at);
                 self.totals[message.channel as usize] -= 1;
                 process.registers[a as usize] = message.word;
                 process.registers[a as usize + 1] = message.channel as u32;
-                Answer { code: 1, a: message.channel, word: message.word }
+                Answer::new(1, message.channel, message.word)
             }
             Instruction::Send { a, channel } => {
                 let word = process.registers[a as usize];
                 if process.hold_back > 0 {
                     process.hold_back -= 1;
-                    Answer { code: 3, a: channel, word }
+                    Answer::new(3, channel, word)
                 } else {
                     let board = process.board as usize;
-                    if process.must_sync() {
-                        return refused(37);
+                    if let Some(cause) = process.must_sync() {
+                        return refused(37).because(cause);
                     }
                     if self.queues[board].len() >= 32 {
                         return refused(38);
@@ -230,7 +251,7 @@ impl<'t> Cabinet<'t> {
                     self.queues[board].push_back(Entry::Word { channel, word });
                     self.totals[channel as usize] += 1;
                     self.processes[p].acts += 1;
-                    Answer { code: 2, a: channel, word }
+                    Answer::new(2, channel, word)
                 }
             }
             Instruction::Jump { a, place } => {
@@ -250,7 +271,7 @@ impl<'t> Cabinet<'t> {
     fn sync(&mut self, p: usize) -> Answer {
         let process = &mut self.processes[p];
         let queue = &mut self.queues[process.board as usize];
-        // "Sync: 40 no backup, 41 one waiting, 38 queue full."
+        // "Sync: 40 no backup, 41 one waiting, 38 queue full." W-206: "Code 38: 1 for a sync."
         if process.backup.is_none() {
             return Answer::refused(40, p);
         }
@@ -258,7 +279,7 @@ impl<'t> Cabinet<'t> {
             return Answer::refused(41, p);
         }
         if queue.len() >= 32 {
-            return Answer::refused(38, p);
+            return Answer::refused(38, p).because(1);
         }
         let snapshot = Snapshot { registers: process.registers, place: process.place, taken: process.taken };
         queue.push_back(Entry::Sync { process: p as u8, snapshot });
@@ -266,7 +287,8 @@ impl<'t> Cabinet<'t> {
         process.acts = 0;
         process.instructions = 0;
         process.taken = [0; 4];
-        DONE
+        // W-206: "Code 0: 1 for a sync, 2 for a crash."
+        DONE.because(1)
     }
 
     fn carry(&mut self, board: usize) -> Answer {
@@ -286,7 +308,7 @@ impl<'t> Cabinet<'t> {
                     backup.count += 1;
                     debug_assert!(backup.count <= 16, "a count over 16");
                 }
-                Answer { code: 4, a: channel, word }
+                Answer::new(4, channel, word)
             }
             Some(Entry::Sync { process, snapshot }) => {
                 let of = &mut self.processes[process as usize];
@@ -296,29 +318,30 @@ impl<'t> Cabinet<'t> {
                     Some(backup) => (5, backup.sync(snapshot)),
                     None => (6, 0),
                 };
-                Answer { code, a: process, word }
+                Answer::new(code, process, word)
             }
         }
     }
 
     fn feed(&mut self, channel: usize, word: u32) -> Answer {
         let wire = self.wires[channel];
-        // "Feed: 43 sender not outside, 39 held."
+        // "Feed: 43 sender not outside, 39 held." W-206: "Code 39: 1 for a feed."
         if wire.sender != OUTSIDE {
             return Answer::refused(43, channel);
         }
         if self.held(channel) {
-            return Answer::refused(39, channel);
+            return Answer::refused(39, channel).because(1);
         }
         self.processes[wire.reader as usize].arrive(Message { channel: channel as u8, slot: wire.slot, word });
         self.totals[channel] += 1;
-        Answer { code: 4, a: channel as u8, word }
+        // W-206: "Code 4: 1 for a feed."
+        Answer::new(4, channel as u8, word).because(1)
     }
 
     fn crash(&mut self, board: usize) -> Answer {
-        // "Crash: 34 already dead, 44 another board has crashed."
+        // "Crash: 34 already dead, 44 another board has crashed." W-206: "Code 34: 1 for a crash."
         match self.crashed {
-            Some(dead) if dead as usize == board => return Answer::refused(34, board),
+            Some(dead) if dead as usize == board => return Answer::refused(34, board).because(1),
             Some(_) => return Answer::refused(44, board),
             None => self.crashed = Some(board as u8),
         }
@@ -354,7 +377,7 @@ impl<'t> Cabinet<'t> {
                 backup: None,
             };
         }
-        DONE
+        DONE.because(2)
     }
 
     /// "Quiet: each process is halted or would answer 36, and no queue has an entry."

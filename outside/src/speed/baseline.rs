@@ -1,7 +1,13 @@
 //! The bench once more in Rust, with growing lists and nothing proved, written to be quick: what the proved run's time is held against.
-//! It reads the same bytes and writes the same answers and report into lent buffers; a channel's total of unread and queued words is kept.
+//! It reads the same bytes and writes the same answers, reasons and report into lent buffers; a channel's total of unread and queued words is kept.
+use outside::rules::lent::Lent;
 use outside::rules::reader::{judge_run, Instruction, Table, OUTSIDE};
 use std::collections::VecDeque;
+
+/// An answer's code times 4: what a cause is added to, for the list of reasons.
+const fn code(code: u8) -> u8 {
+    4 * code
+}
 
 /// "at most 32 entries", "8 or more together", "acts are 8", "64 instructions done"
 const QUEUE: usize = 32;
@@ -87,14 +93,18 @@ impl Process<'_> {
         }
     }
 
-    fn must_sync(&self) -> bool {
-        (self.acts >= ACTS || self.instructions >= INSTRUCTIONS) && self.backup.is_some()
+    /// What a TAKE, a FIRST or a SEND asks.
+    fn must_not_sync(&self) -> Result<(), u8> {
+        if self.acts >= ACTS && self.backup.is_some() {
+            return Err(code(37));
+        }
+        self.ran_long()
     }
 
     /// What a SET, an ADD or a JUMP asks.
     fn ran_long(&self) -> Result<(), u8> {
         if self.instructions >= INSTRUCTIONS && self.backup.is_some() {
-            return Err(37);
+            return Err(code(37) + 1);
         }
         Ok(())
     }
@@ -103,13 +113,11 @@ impl Process<'_> {
         self.inbox.iter().position(|message| mask >> message.channel & 1 == 1)
     }
 
-    /// Removes the oldest unread word on one of these channels, or gives the refusal.
-    fn take(&mut self, mask: u32) -> Result<Message, u8> {
-        let at = self.oldest(mask).ok_or(36)?;
-        if self.must_sync() {
-            return Err(37);
-        }
-        let message = if at == 0 { self.inbox.pop_front() } else { self.inbox.remove(at) }.ok_or(36)?;
+    /// Removes the oldest unread word on one of these channels, or gives the refusal, which is `none` where there is no such word.
+    fn take(&mut self, mask: u32, none: u8) -> Result<Message, u8> {
+        let at = self.oldest(mask).ok_or(none)?;
+        self.must_not_sync()?;
+        let message = if at == 0 { self.inbox.pop_front() } else { self.inbox.remove(at) }.ok_or(none)?;
         self.taken[message.slot as usize] = self.taken[message.slot as usize].wrapping_add(1);
         self.act();
         Ok(message)
@@ -145,9 +153,12 @@ impl Channel {
     }
 }
 
-/// An answer's code, a and word, or a refusal's code.
+/// An answer's reason, which has its code, a and word, or a refusal's reason.
 type Answer = Result<(u8, u8, u32), u8>;
-const DONE: Answer = Ok((0, 0, 0));
+
+fn done(cause: u8) -> Answer {
+    Ok((cause, 0, 0))
+}
 
 struct Cabinet<'t> {
     channels: Vec<Channel>,
@@ -187,8 +198,11 @@ impl<'t> Cabinet<'t> {
     }
 
     fn answer(&mut self, kind: u8, a: usize, word: u32) -> Answer {
-        if !(1..=5).contains(&kind) || (word != 0 && kind != 4) {
-            return Err(32);
+        if !(1..=5).contains(&kind) {
+            return Err(code(32));
+        }
+        if word != 0 && kind != 4 {
+            return Err(code(32) + 1);
         }
         match kind {
             1 if a < self.processes.len() => self.step(a),
@@ -196,13 +210,15 @@ impl<'t> Cabinet<'t> {
             3 if a < self.queues.len() => self.carry(a),
             4 if a < self.channels.len() => self.feed(a, word),
             5 if a < self.queues.len() => self.crash(a),
-            _ => Err(33),
+            1 | 2 => Err(code(33)),
+            3 | 5 => Err(code(33) + 1),
+            _ => Err(code(33) + 2),
         }
     }
 
     fn step(&mut self, p: usize) -> Answer {
         let process = &mut self.processes[p];
-        let Some(&instruction) = process.program.get(process.place as usize) else { return Err(35) };
+        let Some(&instruction) = process.program.get(process.place as usize) else { return Err(code(35)) };
         let answer = match instruction {
             Instruction::Set { a, word } => {
                 process.ran_long()?;
@@ -215,46 +231,44 @@ impl<'t> Cabinet<'t> {
                 (0, 0, 0)
             }
             Instruction::Take { a, channel } => {
-                let message = process.take(1 << channel)?;
+                let message = process.take(1 << channel, code(36))?;
                 process.registers[a as usize] = message.word;
                 self.channels[channel as usize].total -= 1;
-                (1, channel, message.word)
+                (code(1), channel, message.word)
             }
             Instruction::First { a, mask } => {
-                let message = process.take(mask)?;
+                let message = process.take(mask, code(36) + 1)?;
                 process.registers[a as usize] = message.word;
                 process.registers[a as usize + 1] = message.channel as u32;
                 self.channels[message.channel as usize].total -= 1;
-                (1, message.channel, message.word)
+                (code(1), message.channel, message.word)
             }
             Instruction::Send { a, channel } => {
                 let word = process.registers[a as usize];
                 if process.hold_back > 0 {
                     process.hold_back -= 1;
-                    (3, channel, word)
+                    (code(3), channel, word)
                 } else {
                     let queue = &mut self.queues[process.board as usize];
                     let to = &mut self.channels[channel as usize];
-                    if process.must_sync() {
-                        return Err(37);
-                    }
+                    process.must_not_sync()?;
                     if queue.len() >= QUEUE {
-                        return Err(38);
+                        return Err(code(38));
                     }
                     if to.held() {
-                        return Err(39);
+                        return Err(code(39));
                     }
                     queue.push_back(Entry::Word { channel, word });
                     to.total += 1;
                     process.act();
-                    (2, channel, word)
+                    (code(2), channel, word)
                 }
             }
             Instruction::Jump { a, place } => {
                 process.ran_long()?;
                 process.place = if process.registers[a as usize] != 0 { place } else { process.place + 1 };
                 process.instructions += 1;
-                return DONE;
+                return done(0);
             }
         };
         process.place += 1;
@@ -266,13 +280,13 @@ impl<'t> Cabinet<'t> {
         let process = &mut self.processes[p];
         let queue = &mut self.queues[process.board as usize];
         if process.backup.is_none() {
-            return Err(40);
+            return Err(code(40));
         }
         if process.waiting {
-            return Err(41);
+            return Err(code(41));
         }
         if queue.len() >= QUEUE {
-            return Err(38);
+            return Err(code(38) + 1);
         }
         let snapshot = Snapshot { registers: process.registers, taken: process.taken, place: process.place };
         queue.push_back(Entry::Sync { process: p as u8, snapshot });
@@ -280,15 +294,15 @@ impl<'t> Cabinet<'t> {
         process.acts = 0;
         process.instructions = 0;
         process.taken = [0; 4];
-        DONE
+        done(1)
     }
 
     fn carry(&mut self, board: usize) -> Answer {
         if self.crashed == Some(board) {
-            return Err(34);
+            return Err(code(34));
         }
         match self.queues[board].pop_front() {
-            None => Err(42),
+            None => Err(code(42)),
             Some(Entry::Word { channel: k, word }) => {
                 let channel = &mut self.channels[k as usize];
                 match self.processes.get_mut(channel.reader as usize) {
@@ -298,13 +312,13 @@ impl<'t> Cabinet<'t> {
                 if let Some(backup) = &mut self.processes[channel.sender as usize].backup {
                     backup.count += 1;
                 }
-                Ok((4, k, word))
+                Ok((code(4), k, word))
             }
             Some(Entry::Sync { process: p, snapshot }) => {
                 let process = &mut self.processes[p as usize];
                 process.waiting = false;
-                let Some(backup) = &mut process.backup else { return Ok((6, p, 0)) };
-                Ok((5, p, backup.sync(&snapshot)))
+                let Some(backup) = &mut process.backup else { return Ok((code(6), p, 0)) };
+                Ok((code(5), p, backup.sync(&snapshot)))
             }
         }
     }
@@ -312,20 +326,20 @@ impl<'t> Cabinet<'t> {
     fn feed(&mut self, k: usize, word: u32) -> Answer {
         let channel = &mut self.channels[k];
         if channel.sender != OUTSIDE {
-            return Err(43);
+            return Err(code(43));
         }
         if channel.held() {
-            return Err(39);
+            return Err(code(39) + 1);
         }
         channel.total += 1;
         self.processes[channel.reader as usize].arrive(Message { word, channel: k as u8, slot: channel.slot });
-        Ok((4, k as u8, word))
+        Ok((code(4) + 1, k as u8, word))
     }
 
     fn crash(&mut self, board: usize) -> Answer {
         match self.crashed {
-            Some(dead) if dead == board => return Err(34),
-            Some(_) => return Err(44),
+            Some(dead) if dead == board => return Err(code(34) + 1),
+            Some(_) => return Err(code(44)),
             None => self.crashed = Some(board),
         }
         for entry in self.queues[board].drain(..) {
@@ -347,7 +361,7 @@ impl<'t> Cabinet<'t> {
                 process.waiting = false;
             }
         }
-        DONE
+        done(2)
     }
 
     fn quiet(&self) -> bool {
@@ -365,19 +379,20 @@ impl<'t> Cabinet<'t> {
 }
 
 /// The whole run, returned as the proved call returns it.
-pub fn run(table: &[u8], schedule: &[u8], answers: &mut [u8], report: &mut [u8]) -> u64 {
-    let (table, records) = match judge_run(table, schedule, answers.len(), report.len()) {
+pub fn run(table: &[u8], schedule: &[u8], lent: Lent<&mut [u8]>) -> u64 {
+    let (table, records) = match judge_run(table, schedule, lent.each().map(|buffer| buffer.len())) {
         Ok(judged) => judged,
         Err(number) => return number as u64,
     };
     let mut cabinet = Cabinet::new(&table);
-    for (record, bytes) in records.chunks_exact(6).zip(answers.chunks_exact_mut(6)) {
+    for ((record, bytes), reason) in records.chunks_exact(6).zip(lent.answers.chunks_exact_mut(6)).zip(lent.reasons) {
         let &[kind, a, w0, w1, w2, w3] = record else { unreachable!("six bytes") };
         let answer = cabinet.answer(kind, a as usize, u32::from_be_bytes([w0, w1, w2, w3]));
-        let (code, a, word) = answer.unwrap_or_else(|code| (code, a, 0));
+        let (given, a, word) = answer.unwrap_or_else(|refused| (refused, a, 0));
         let [w0, w1, w2, w3] = word.to_be_bytes();
-        bytes.copy_from_slice(&[code, a, w0, w1, w2, w3]);
+        bytes.copy_from_slice(&[given / 4, a, w0, w1, w2, w3]);
+        *reason = given;
     }
-    cabinet.report(report);
+    cabinet.report(lent.report);
     (records.len() as u64 / 6) << 32 | (cabinet.quiet() as u64) << 8
 }

@@ -1,7 +1,7 @@
 //! How long the proved run of a schedule takes, beside a plain one in Rust: `speed [--repetitions N] [--seed N]`.
 //!
 //! Both are called in turn on the same bytes in one process; who is first changes. Before each run, outside the time taken, the lent
-//! buffers are filled with other bytes; after each, number, answers and report of both are compared.
+//! buffers are filled with other bytes; after each, number, answers, reasons and report of both are compared.
 mod baseline;
 #[path = "../cabinet/call.rs"]
 mod call;
@@ -10,33 +10,32 @@ mod mixes;
 use mixes::{empty, inputs, Input, PROCESSES, RECORDS};
 use outside::random::Random;
 use outside::rules::generate::{encode_schedule, encode_table, schedule, table};
+use outside::rules::lent::Lent;
 use std::time::Instant;
 
 const SEED: u64 = 0xE703_7ED1_A0B4_28DB;
 const REPETITIONS: u64 = 400;
 
-type Call = fn(&[u8], &[u8], &mut [u8], &mut [u8]) -> u64;
+type Call = fn(&[u8], &[u8], Lent<&mut [u8]>) -> u64;
 const CALLS: [Call; 2] = [call::ks_run, baseline::run];
 
 /// What one call lends, and how long each of its runs took, in nanoseconds.
 struct Timed {
-    answers: Vec<u8>,
-    report: Vec<u8>,
+    lent: Lent<Vec<u8>>,
     returned: u64,
     times: Vec<u64>,
 }
 
 impl Timed {
     fn new() -> Timed {
-        let report = vec![0; 20 * PROCESSES as usize];
-        Timed { answers: vec![0; 6 * RECORDS], report, returned: 0, times: Vec::new() }
+        Timed { lent: Lent::needed(RECORDS, PROCESSES as usize).filled(0), returned: 0, times: Vec::new() }
     }
 
     fn run(&mut self, call: Call, input: &Input, filler: u8) {
-        self.answers.fill(filler);
-        self.report.fill(filler);
+        self.lent.each_mut().map(|buffer| buffer.fill(filler));
+        let lent = self.lent.lend();
         let start = Instant::now();
-        self.returned = call(&input.table, &input.schedule, &mut self.answers, &mut self.report);
+        self.returned = call(&input.table, &input.schedule, lent);
         self.times.push(start.elapsed().as_nanos() as u64);
     }
 
@@ -56,7 +55,7 @@ fn time(input: &Input, repetitions: u64) -> [[f64; 2]; 2] {
             timed[who].run(CALLS[who], input, i as u8);
         }
         let [ours, plain] = &timed;
-        let same = ours.returned == plain.returned && ours.answers == plain.answers && ours.report == plain.report;
+        let same = ours.returned == plain.returned && ours.lent == plain.lent;
         let accepted = ours.returned as u8 == 0 && ours.returned >> 32 == input.schedule.len() as u64 / 6;
         assert!(same && accepted, "{}: the runs differ", input.name);
         if i < 10 {
@@ -72,14 +71,11 @@ fn check_plain(random: &mut Random) {
         let table = table(random);
         let schedule = encode_schedule(&schedule(random, &table, 200));
         let table = encode_table(&table);
-        let wanted = outside::rules::run::run(&table, &schedule, 1200, 320);
-        let (mut answers, mut report) = (vec![0; 1200], vec![0; 320]);
-        let returned = baseline::run(&table, &schedule, &mut answers, &mut report);
-        assert!(
-            returned >> 32 == 200 && returned as u32 == 256 * wanted.outcome.quiet as u32,
-            "the plain run returns {returned:#x}"
-        );
-        assert!(answers == wanted.answers && report == wanted.report, "the plain run is none");
+        let wanted = outside::rules::run::run(&table, &schedule, Lent::needed(200, 16));
+        let mut lent = Lent::needed(200, 16).filled(0);
+        let returned = baseline::run(&table, &schedule, lent.lend());
+        assert!(returned == wanted.outcome.returned() && returned as u8 == 0, "the plain run returns {returned:#x}");
+        assert!(lent == wanted.lent, "the plain run is none");
     }
 }
 
@@ -94,7 +90,7 @@ fn main() {
     let seed = option("--seed").unwrap_or(SEED);
     check_plain(&mut Random::new(seed));
     println!("{RECORDS} records on {PROCESSES} processes, {repetitions} repetitions, seed {seed}; buffers filled before each run, untimed");
-    println!("nanoseconds a record, whole calls (table and schedule judged, answers and report written)");
+    println!("nanoseconds a record, whole calls (table and schedule judged, answers, reasons and report written)");
     println!(
         "{:<22}|{:>6}{:>6}{:>7}{:>6}{:>10} |{:>8}{:>8} |{:>8}{:>8} |{:>7}{:>7}",
         "mix", "step", "sync", "carry", "feed", "accepted", "min", "median", "plain", "median", "ratio", "median"
@@ -113,7 +109,7 @@ fn main() {
     let [ours, plain] = time(&empty(), repetitions).map(|[least, _]| least * RECORDS as f64 / 1000.0);
     println!("with no records at all a call takes {ours:.1} microseconds, plain {plain:.1}");
     println!(
-        "every run's number, answers and report were equal; the largest ratio is {:.2} (of medians {:.2})",
+        "every run's number, answers, reasons and report were equal; the largest ratio is {:.2} (of medians {:.2})",
         worst[0], worst[1]
     );
 }

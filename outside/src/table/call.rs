@@ -1,4 +1,5 @@
 //! The proved library's exported call.
+use outside::rules::lent::Lent;
 
 mod raw {
     #[link(name = "kunzeastylus", kind = "static")]
@@ -10,13 +11,15 @@ mod raw {
             schedule: *const u8,
             schedule_len: usize,
             answers: usize,
+            reasons: usize,
             report: usize,
         ) -> u32;
     }
 }
 
 /// The call on any bytes and on buffers of any lengths: it asks nothing of its caller.
-pub fn ks_judge(table: &[u8], schedule: &[u8], answers: usize, report: usize) -> u32 {
+pub fn ks_judge(table: &[u8], schedule: &[u8], buffers: Lent<usize>) -> u32 {
+    let Lent { answers, reasons, report } = buffers;
     // SAFETY: two slices, each with its own length; the call only reads them.
-    unsafe { raw::ks_judge(table.as_ptr(), table.len(), schedule.as_ptr(), schedule.len(), answers, report) }
+    unsafe { raw::ks_judge(table.as_ptr(), table.len(), schedule.as_ptr(), schedule.len(), answers, reasons, report) }
 }

@@ -8,6 +8,7 @@ use call::ks_judge;
 use outside::random::Random;
 use outside::rules::damage::{damage_schedule, damage_table, Damage, DAMAGES};
 use outside::rules::generate::{encode_schedule, encode_table, largest, schedule, table};
+use outside::rules::lent::Lent;
 use outside::rules::reader::judge_run;
 use outside::rules::sample::{sample_schedule, SAMPLE};
 
@@ -22,11 +23,11 @@ struct Seen(Vec<(String, [u32; NUMBERS])>);
 
 impl Seen {
     /// One judgement by both, counted under its kind.
-    fn compare(&mut self, kind: &str, table: &[u8], schedule: &[u8], answers: usize, report: usize) {
-        let wanted = judge_run(table, schedule, answers, report).err().unwrap_or(0);
-        let number = ks_judge(table, schedule, answers, report);
+    fn compare(&mut self, kind: &str, table: &[u8], schedule: &[u8], buffers: Lent<usize>) {
+        let wanted = judge_run(table, schedule, buffers).err().unwrap_or(0);
+        let number = ks_judge(table, schedule, buffers);
         if number != wanted as u32 {
-            println!("{kind}: judged {number}, {wanted} by the reader, with buffers of {answers} and {report} bytes");
+            println!("{kind}: judged {number}, {wanted} by the reader, with {buffers:?}");
             println!("table {}\nschedule {}", hex(table), hex(schedule));
             println!("table: FAILED");
             std::process::exit(1);
@@ -90,8 +91,8 @@ fn variants(bytes: &[u8], mut each: impl FnMut(&str, &[u8])) {
 /// Document 01's sample, all variants of its table and of its schedule.
 fn sample(seen: &mut Seen) {
     let schedule = encode_schedule(&sample_schedule());
-    variants(&SAMPLE, |kind, table| seen.compare(&format!("sample {kind}"), table, &schedule, 120, 20));
-    variants(&schedule, |kind, schedule| seen.compare(&format!("sample {kind}"), &SAMPLE, schedule, 246, 20));
+    variants(&SAMPLE, |kind, table| seen.compare(&format!("sample {kind}"), table, &schedule, Lent::needed(20, 1)));
+    variants(&schedule, |kind, schedule| seen.compare(&format!("sample {kind}"), &SAMPLE, schedule, Lent::needed(41, 1)));
 }
 
 /// A buffer's length where `enough` are needed.
@@ -106,22 +107,23 @@ fn round(random: &mut Random, seen: &mut Seen) {
     let sound = if random.once_in(100) { largest(random) } else { table(random) };
     let records = random.pick(&[0, 1, 5, 30]);
     let (sound, records) = (encode_table(&sound), schedule(random, &sound, records));
-    let (answers, report) = (6 * records.len(), 20 * sound[4] as usize);
+    let needed = Lent::needed(records.len(), sound[4] as usize);
     let records = encode_schedule(&records);
     for how in DAMAGES {
         let table = damage_table(random, sound.clone(), how);
         let schedule = damage_schedule(random, records.clone(), how);
-        let enough = (answers + 60_012, report + 400);
+        let enough = Lent::needed(10_002, 20);
+        let others = needed.map(|needed| buffer(random, needed));
         if how == Damage::None {
-            let lengths = (buffer(random, answers), buffer(random, report));
-            seen.compare("sound", &sound, &records, enough.0, enough.1);
-            seen.compare("buffers", &sound, &records, lengths.0, report);
-            seen.compare("buffers", &sound, &records, answers, lengths.1);
-            seen.compare("buffers", &sound, &records, lengths.0, lengths.1);
+            seen.compare("sound", &sound, &records, enough);
+            seen.compare("buffers", &sound, &records, others);
+            seen.compare("answers' buffer", &sound, &records, Lent { answers: others.answers, ..needed });
+            seen.compare("reasons' buffer", &sound, &records, Lent { reasons: others.reasons, ..needed });
+            seen.compare("report's buffer", &sound, &records, Lent { report: others.report, ..needed });
         } else {
-            seen.compare(&format!("table {how:?}"), &table, &records, enough.0, enough.1);
-            seen.compare(&format!("schedule {how:?}"), &sound, &schedule, enough.0, enough.1);
-            seen.compare("both", &table, &schedule, buffer(random, answers), buffer(random, report));
+            seen.compare(&format!("table {how:?}"), &table, &records, enough);
+            seen.compare(&format!("schedule {how:?}"), &sound, &schedule, enough);
+            seen.compare("both", &table, &schedule, others);
         }
     }
 }
@@ -139,7 +141,7 @@ fn main() {
     let mut random = Random::new(seed);
     let mut seen = Seen(Vec::new());
     sample(&mut seen);
-    let each = 4 + 3 * (DAMAGES.len() as u32 - 1);
+    let each = 5 + 3 * (DAMAGES.len() as u32 - 1);
     (0..runs.div_ceil(each)).for_each(|_| round(&mut random, &mut seen));
     if !seen.report() {
         println!("table: FAILED, not everything was seen");

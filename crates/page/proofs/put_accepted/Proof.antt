@@ -1,5 +1,5 @@
 use mathlib.Core.Path.{refl}
-use Rattle.rules.specs.Run.{buffersOf}
+use Rattle.page.specs.Written.{shownOf}
 use Rattle.page.proofs.Paging.{accepted-put}
 use native.Mathlib.Omega.{arith}
 use borrow.Author.Needs.{needs}
@@ -44,7 +44,7 @@ same-length : tie.Need-same-length
 same-length c = search needs
 
 returns : tie.Need-returns
-returns c = let s = c .before .before .before .before .before .before .before .before .before .before .before .before .before .before .before .before .before .before .before .before .before .before .before .before .before .before .before .before .before .before .args in accepted-put (s .records) (s .processes) _ _ (s .quiet) (buffersOf (s .answers .now) (s .report .now)) (s .out .now) _ _ _ _ _ _ _ _ _ _ _ _ refl (c .before .before .before .flag .ensures) (c .before .before .before .before .before .before .before .before .before .before .before .before .before .before .before .before .before .before .before .before .before .before .before .before .put-text .ensures) (c .before .before .before .before .before .before .before .before .before .before .before .before .before .before .before .before .before .before .before .before .put-number .ensures) (c .before .before .before .before .before .before .before .before .before .before .before .before .before .before .before .before .put-answers .ensures) (c .before .before .before .before .before .before .before .before .before .before .before .before .put-processes .ensures) (c .before .before .before .before .before .before .before .put-text2 .ensures) (c .before .before .put-number2 .ensures)
+returns c = let s = c .before .before .before .before .before .before .before .before .before .before .before .before .before .before .before .before .before .before .before .before .before .before .before .before .before .before .before .before .before .before .args in accepted-put (s .records) (s .processes) _ _ (s .quiet) (shownOf (s .answers .now) (s .report .now)) (s .out .now) _ _ _ _ _ _ _ _ _ _ _ _ refl (c .before .before .before .flag .ensures) (c .before .before .before .before .before .before .before .before .before .before .before .before .before .before .before .before .before .before .before .before .before .before .before .before .put-text .ensures) (c .before .before .before .before .before .before .before .before .before .before .before .before .before .before .before .before .before .before .before .before .put-number .ensures) (c .before .before .before .before .before .before .before .before .before .before .before .before .before .before .before .before .put-answers .ensures) (c .before .before .before .before .before .before .before .before .before .before .before .before .put-processes .ensures) (c .before .before .before .before .before .before .before .put-text2 .ensures) (c .before .before .put-number2 .ensures)
 
 pub put-accepted-spec : {M : Type 1} → statement M
 put-accepted-spec =

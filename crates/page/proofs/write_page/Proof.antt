@@ -1,4 +1,4 @@
-use Rattle.rules.specs.Run.{buffersOf}
+use Rattle.page.specs.Written.{shownOf}
 use Rattle.page.proofs.Paging.{page-refused, page-accepted}
 use native.Mathlib.Omega.{arith}
 use borrow.Author.Needs.{needs}
@@ -16,7 +16,7 @@ same-length : tie.Need-same-length
 same-length c = search needs
 
 returns : tie.Need-returns
-returns c = let s = c .before .before .before .before .before .before .before .before .args in page-refused (s .number) (s .records) (s .processes) _ (s .quiet) (buffersOf (s .answers .now) (s .report .now)) (s .out .now) _ (c .before .before .before .before .if1 .taken) (c .before .before .write-refused .ensures)
+returns c = let s = c .before .before .before .before .before .before .before .before .args in page-refused (s .number) (s .records) (s .processes) _ (s .quiet) (shownOf (s .answers .now) (s .report .now)) (s .out .now) _ (c .before .before .before .before .if1 .taken) (c .before .before .write-refused .ensures)
 
 write-accepted-requires : tie.Need-write-accepted-requires
 write-accepted-requires c κs = search needs
@@ -25,7 +25,7 @@ same-length-2 : tie.Need-same-length-2
 same-length-2 c = search needs
 
 returns-2 : tie.Need-returns-2
-returns-2 c = let s = c .before .before .before .before .before .before .before .before .args in page-accepted (s .number) (s .records) (s .processes) _ (s .quiet) (buffersOf (s .answers .now) (s .report .now)) (s .out .now) _ (c .before .before .before .before .if1 .left) (c .before .before .write-accepted .ensures)
+returns-2 c = let s = c .before .before .before .before .before .before .before .before .args in page-accepted (s .number) (s .records) (s .processes) _ (s .quiet) (shownOf (s .answers .now) (s .report .now)) (s .out .now) _ (c .before .before .before .before .if1 .left) (c .before .before .write-accepted .ensures)
 
 pub write-page-spec : {M : Type 1} → statement M
 write-page-spec =

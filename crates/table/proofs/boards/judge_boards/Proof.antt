@@ -15,14 +15,14 @@ Inv-loop table version boards processes start₀ length₀ primary₀ standby₀
 abbrev μ-loop : tie.MeasureT-loop
 μ-loop table version boards processes start₀ length₀ primary₀ standby₀ limit₀ at₀ p₀ start length primary standby limit at p = processes - p
 
+version-of-requires : tie.Need-version-of-requires Inv-loop μ-loop
+version-of-requires c κs = search needs
+
 byte-requires : tie.Need-byte-requires Inv-loop μ-loop
 byte-requires c κs = search needs
 
 byte-requires-2 : tie.Need-byte-requires-2 Inv-loop μ-loop
 byte-requires-2 c κs = search needs
-
-byte-requires-3 : tie.Need-byte-requires-3 Inv-loop μ-loop
-byte-requires-3 c κs = search needs
 
 wide-requires : tie.Need-wide-requires Inv-loop μ-loop
 wide-requires c κs = search needs
@@ -34,7 +34,7 @@ loop-holds : tie.Need-loop-holds Inv-loop μ-loop
 loop-holds c =
     let t = c .before .before .before .before .before .before .args .table .now in
     let f = c .before .before .before .before .before .before .pre in (
-      (let e = c .before .wide .ensures in let d = c .before .before .byte3 .ensures in let g = counted t (f .counts-ok) .processes-high in omega arith),
+      (let e = c .before .wide .ensures in let d = c .before .before .byte2 .ensures in let g = counted t (f .counts-ok) .processes-high in omega arith),
       placing-start t f _ (c .records-start .ensures)
           record { starts = filled-none _ _; sizes = filled-none _ _; primaries = filled-none _ _; standbys = filled-none _ _; limits = filled-none _ _ },
     )
@@ -56,16 +56,16 @@ returns c =
     let t = c .before .before .before .before .before .before .before .before .before .before .before .before .args .table .now in
     let l = c .before .before .before .before .before .loop in
     let r = c .before .before .placement-of in
-    let few : l .p < processesIn t = let a = c .before .before .before .before .loop-test .taken in let b = c .before .before .before .before .before .before .before .wide .ensures in let d = c .before .before .before .before .before .before .before .before .byte3 .ensures in omega arith in
-    placing-refused t (c .before .before .before .before .before .before .before .before .before .before .before .before .pre) (l .at) (l .p) (c .before .before .before .before .before .before .before .before .before .before .byte .result) (c .before .before .before .before .before .before .before .before .before .byte2 .result) (l .inv .1) few (c .before .before .before .before .before .before .before .before .before .before .byte .ensures) (c .before .before .before .before .before .before .before .before .before .byte2 .ensures) (r .result) (r .ensures) (c .if1 .taken) _ refl
+    let few : l .p < processesIn t = let a = c .before .before .before .before .loop-test .taken in let b = c .before .before .before .before .before .before .before .wide .ensures in let d = c .before .before .before .before .before .before .before .before .byte2 .ensures in omega arith in
+    placing-refused t (c .before .before .before .before .before .before .before .before .before .before .before .before .pre) (l .at) (l .p) (c .before .before .before .before .before .before .before .before .before .before .version-of .result) (c .before .before .before .before .before .before .before .before .before .byte .result) (l .inv .1) few (c .before .before .before .before .before .before .before .before .before .before .version-of .ensures) (c .before .before .before .before .before .before .before .before .before .byte .ensures) (r .result) (r .ensures) (c .if1 .taken) _ refl
 
 add-start : tie.Need-add-start Inv-loop μ-loop
 add-start c =
     let t = c .before .before .before .before .before .before .before .before .before .before .before .before .before .args .table .now in
     let l = c .before .before .before .before .before .before .loop in
     let r = c .before .before .before .placement-of in
-    let few : l .p < processesIn t = let a = c .before .before .before .before .before .loop-test .taken in let b = c .before .before .before .before .before .before .before .before .wide .ensures in let d = c .before .before .before .before .before .before .before .before .before .byte3 .ensures in omega arith in
-    let a = placing-fits t (c .before .before .before .before .before .before .before .before .before .before .before .before .before .pre) (l .at) (l .p) (c .before .before .before .before .before .before .before .before .before .before .before .byte .result) (c .before .before .before .before .before .before .before .before .before .before .byte2 .result) (l .inv .1) few (c .before .before .before .before .before .before .before .before .before .before .before .byte .ensures) (c .before .before .before .before .before .before .before .before .before .before .byte2 .ensures) (r .result) (r .ensures) in
+    let few : l .p < processesIn t = let a = c .before .before .before .before .before .loop-test .taken in let b = c .before .before .before .before .before .before .before .before .wide .ensures in let d = c .before .before .before .before .before .before .before .before .before .byte2 .ensures in omega arith in
+    let a = placing-fits t (c .before .before .before .before .before .before .before .before .before .before .before .before .before .pre) (l .at) (l .p) (c .before .before .before .before .before .before .before .before .before .before .before .version-of .result) (c .before .before .before .before .before .before .before .before .before .before .byte .result) (l .inv .1) few (c .before .before .before .before .before .before .before .before .before .before .before .version-of .ensures) (c .before .before .before .before .before .before .before .before .before .before .byte .ensures) (r .result) (r .ensures) in
     omega (arith, a)
 
 cast-start : tie.Need-cast-start Inv-loop μ-loop
@@ -73,8 +73,8 @@ cast-start c =
     let t = c .before .before .before .before .before .before .before .before .before .before .before .before .before .args .table .now in
     let l = c .before .before .before .before .before .before .loop in
     let r = c .before .before .before .placement-of in
-    let few : l .p < processesIn t = let a = c .before .before .before .before .before .loop-test .taken in let b = c .before .before .before .before .before .before .before .before .wide .ensures in let d = c .before .before .before .before .before .before .before .before .before .byte3 .ensures in omega arith in
-    let a = placing-fits t (c .before .before .before .before .before .before .before .before .before .before .before .before .before .pre) (l .at) (l .p) (c .before .before .before .before .before .before .before .before .before .before .before .byte .result) (c .before .before .before .before .before .before .before .before .before .before .byte2 .result) (l .inv .1) few (c .before .before .before .before .before .before .before .before .before .before .before .byte .ensures) (c .before .before .before .before .before .before .before .before .before .before .byte2 .ensures) (r .result) (r .ensures) in
+    let few : l .p < processesIn t = let a = c .before .before .before .before .before .loop-test .taken in let b = c .before .before .before .before .before .before .before .before .wide .ensures in let d = c .before .before .before .before .before .before .before .before .before .byte2 .ensures in omega arith in
+    let a = placing-fits t (c .before .before .before .before .before .before .before .before .before .before .before .before .before .pre) (l .at) (l .p) (c .before .before .before .before .before .before .before .before .before .before .before .version-of .result) (c .before .before .before .before .before .before .before .before .before .before .byte .result) (l .inv .1) few (c .before .before .before .before .before .before .before .before .before .before .before .version-of .ensures) (c .before .before .before .before .before .before .before .before .before .before .byte .ensures) (r .result) (r .ensures) in
     omega (arith, a)
 
 mul-start : tie.Need-mul-start Inv-loop μ-loop
@@ -112,8 +112,8 @@ add-at c =
     let t = c .before .before .before .before .before .before .before .before .before .before .before .before .before .before .args .table .now in
     let l = c .before .before .before .before .before .before .before .loop in
     let r = c .before .before .before .before .placement-of in
-    let few : l .p < processesIn t = let a = c .before .before .before .before .before .before .loop-test .taken in let b = c .before .before .before .before .before .before .before .before .before .wide .ensures in let d = c .before .before .before .before .before .before .before .before .before .before .byte3 .ensures in omega arith in
-    let a = placing-fits t (c .before .before .before .before .before .before .before .before .before .before .before .before .before .before .pre) (l .at) (l .p) (c .before .before .before .before .before .before .before .before .before .before .before .before .byte .result) (c .before .before .before .before .before .before .before .before .before .before .before .byte2 .result) (l .inv .1) few (c .before .before .before .before .before .before .before .before .before .before .before .before .byte .ensures) (c .before .before .before .before .before .before .before .before .before .before .before .byte2 .ensures) (r .result) (r .ensures) in
+    let few : l .p < processesIn t = let a = c .before .before .before .before .before .before .loop-test .taken in let b = c .before .before .before .before .before .before .before .before .before .wide .ensures in let d = c .before .before .before .before .before .before .before .before .before .before .byte2 .ensures in omega arith in
+    let a = placing-fits t (c .before .before .before .before .before .before .before .before .before .before .before .before .before .before .pre) (l .at) (l .p) (c .before .before .before .before .before .before .before .before .before .before .before .before .version-of .result) (c .before .before .before .before .before .before .before .before .before .before .before .byte .result) (l .inv .1) few (c .before .before .before .before .before .before .before .before .before .before .before .before .version-of .ensures) (c .before .before .before .before .before .before .before .before .before .before .before .byte .ensures) (r .result) (r .ensures) in
     omega (arith, a)
 
 add-p : tie.Need-add-p Inv-loop μ-loop
@@ -127,14 +127,14 @@ loop-again c =
     let t = c .before .before .before .before .before .before .before .before .before .before .before .before .before .before .args .table .now in
     let l = c .before .before .before .before .before .before .before .loop in
     let r = c .before .before .before .before .placement-of in
-    let few : l .p < processesIn t = let a = c .before .before .before .before .before .before .loop-test .taken in let b = c .before .before .before .before .before .before .before .before .before .wide .ensures in let d = c .before .before .before .before .before .before .before .before .before .before .byte3 .ensures in omega arith in
-    let n = c .before .before .before .before .before .before .before .before .before .wide .ensures ∙ c .before .before .before .before .before .before .before .before .before .before .byte3 .ensures in
-    (l .inv .0, placing-on t (c .before .before .before .before .before .before .before .before .before .before .before .before .before .before .pre) (l .at) (l .p) (c .before .before .before .before .before .before .before .before .before .before .before .before .byte .result) (c .before .before .before .before .before .before .before .before .before .before .before .byte2 .result) (l .inv .1) few (c .before .before .before .before .before .before .before .before .before .before .before .before .byte .ensures) (c .before .before .before .before .before .before .before .before .before .before .before .byte2 .ensures) (r .result) (r .ensures) (let a = l .inv .0 in omega arith) (c .before .before .if1 .left))
+    let few : l .p < processesIn t = let a = c .before .before .before .before .before .before .loop-test .taken in let b = c .before .before .before .before .before .before .before .before .before .wide .ensures in let d = c .before .before .before .before .before .before .before .before .before .before .byte2 .ensures in omega arith in
+    let n = c .before .before .before .before .before .before .before .before .before .wide .ensures ∙ c .before .before .before .before .before .before .before .before .before .before .byte2 .ensures in
+    (l .inv .0, placing-on t (c .before .before .before .before .before .before .before .before .before .before .before .before .before .before .pre) (l .at) (l .p) (c .before .before .before .before .before .before .before .before .before .before .before .before .version-of .result) (c .before .before .before .before .before .before .before .before .before .before .before .byte .result) (l .inv .1) few (c .before .before .before .before .before .before .before .before .before .before .before .before .version-of .ensures) (c .before .before .before .before .before .before .before .before .before .before .before .byte .ensures) (r .result) (r .ensures) (let a = l .inv .0 in omega arith) (c .before .before .if1 .left))
 
 returns-2 : tie.Need-returns-2 Inv-loop μ-loop
 returns-2 c =
     placing-end (c .before .before .before .before .before .before .before .before .args .table .now) (c .before .before .before .before .before .before .before .before .pre) _ _ _ refl (c .before .loop .inv .1)
-    (let a = c .loop-test .left in let b = c .before .before .before .wide .ensures in let d = c .before .before .before .before .byte3 .ensures in omega arith)
+    (let a = c .loop-test .left in let b = c .before .before .before .wide .ensures in let d = c .before .before .before .before .byte2 .ensures in omega arith)
 
 pub judge-boards-spec : {M : Type 1} → statement M
 judge-boards-spec =
@@ -142,9 +142,9 @@ judge-boards-spec =
     (tie.spec
     Inv-loop
     μ-loop
+    version-of-requires
     byte-requires
     byte-requires-2
-    byte-requires-3
     wide-requires
     records-start-requires
     loop-holds

@@ -20,11 +20,11 @@ records-start-requires c κs = search needs
 returns : tie.Need-returns Inv-loop μ-loop
 returns c = no-pairs (c .before .before .before .args .table .now) (c .before .records-start .result) (c .before .records-start .ensures) (c .if1 .taken)
 
+version-of-requires : tie.Need-version-of-requires Inv-loop μ-loop
+version-of-requires c κs = search needs
+
 byte-requires : tie.Need-byte-requires Inv-loop μ-loop
 byte-requires c κs = search needs
-
-byte-requires-2 : tie.Need-byte-requires-2 Inv-loop μ-loop
-byte-requires-2 c κs = search needs
 
 wide-requires : tie.Need-wide-requires Inv-loop μ-loop
 wide-requires c κs = search needs
@@ -50,9 +50,9 @@ returns-2 c =
     let l = c .before .before .before .before .loop in
     let s = c .before .before .before .before .before .before .before .before .before .records-start in
     let n = c .before .before .before .before .before .wide in
-    sym (extent-says t (s .result) (n .result) (s .ensures) (c .before .before .before .before .before .before .before .before .if1 .left) (n .ensures ∙ c .before .before .before .before .before .before .byte2 .ensures)
+    sym (extent-says t (s .result) (n .result) (s .ensures) (c .before .before .before .before .before .before .before .before .if1 .left) (n .ensures ∙ c .before .before .before .before .before .before .byte .ensures)
     ∙ extending-refused t (n .result) (l .at) (l .p) (c .before .record-in .result) (l .inv) (c .before .before .before .loop-test .taken)
-    (c .before .record-in .ensures ∙ ap₂ recordIn (c .before .before .before .before .before .before .before .byte .ensures) (part-rest t (l .at))) (c .if2 .taken))
+    (c .before .record-in .ensures ∙ ap₂ recordIn (c .before .before .before .before .before .before .before .version-of .ensures) (part-rest t (l .at))) (c .if2 .taken))
 
 add-at : tie.Need-add-at Inv-loop μ-loop
 add-at c =
@@ -60,7 +60,7 @@ add-at c =
     let l = c .before .before .before .before .loop in
     let x =
     extending-on t _ (l .at) (l .p) (c .before .record-in .result) (l .inv) (c .before .before .before .loop-test .taken)
-    (c .before .record-in .ensures ∙ ap₂ recordIn (c .before .before .before .before .before .before .before .byte .ensures) (part-rest t (l .at))) (c .if2 .left) in
+    (c .before .record-in .ensures ∙ ap₂ recordIn (c .before .before .before .before .before .before .before .version-of .ensures) (part-rest t (l .at))) (c .if2 .left) in
     omega (arith, x .within)
 
 add-p : tie.Need-add-p Inv-loop μ-loop
@@ -74,7 +74,7 @@ loop-again c =
     let t = c .before .before .before .before .before .before .before .before .before .before .before .args .table .now in
     let l = c .before .before .before .before .loop in
     extending-on t _ (l .at) (l .p) (c .before .record-in .result) (l .inv) (c .before .before .before .loop-test .taken)
-    (c .before .record-in .ensures ∙ ap₂ recordIn (c .before .before .before .before .before .before .before .byte .ensures) (part-rest t (l .at))) (c .if2 .left)
+    (c .before .record-in .ensures ∙ ap₂ recordIn (c .before .before .before .before .before .before .before .version-of .ensures) (part-rest t (l .at))) (c .if2 .left)
 
 returns-3 : tie.Need-returns-3 Inv-loop μ-loop
 returns-3 c =
@@ -82,7 +82,7 @@ returns-3 c =
     let l = c .before .loop in
     let s = c .before .before .before .before .before .before .records-start in
     let n = c .before .before .wide in
-    sym (extent-says t (s .result) (n .result) (s .ensures) (c .before .before .before .before .before .if1 .left) (n .ensures ∙ c .before .before .before .byte2 .ensures)
+    sym (extent-says t (s .result) (n .result) (s .ensures) (c .before .before .before .before .before .if1 .left) (n .ensures ∙ c .before .before .before .byte .ensures)
     ∙ extending-end t (n .result) (l .at) (l .p) (l .inv) (c .loop-test .left))
 
 pub extent-ok-spec : {M : Type 1} → statement M
@@ -93,8 +93,8 @@ extent-ok-spec =
     μ-loop
     records-start-requires
     returns
+    version-of-requires
     byte-requires
-    byte-requires-2
     wide-requires
     loop-holds
     sub-record-in

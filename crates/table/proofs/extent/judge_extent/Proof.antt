@@ -12,8 +12,8 @@ length-ok-requires c κs = search needs
 returns : tie.Need-returns
 returns c = framing-from (c .before .before .before .args .table .now) (sym (not-true _ (c .if1 .taken)) ∙ c .before .length-ok .ensures) refl refl refl
 
-byte-requires : tie.Need-byte-requires
-byte-requires c κs = search needs
+version-of-requires : tie.Need-version-of-requires
+version-of-requires c κs = search needs
 
 version-ok-requires : tie.Need-version-ok-requires
 version-ok-requires c κs = search needs
@@ -21,7 +21,7 @@ version-ok-requires c κs = search needs
 returns-2 : tie.Need-returns-2
 returns-2 c =
     framing-from (c .before .before .before .before .before .before .args .table .now) (sym (not-false _ (c .before .before .before .if1 .left)) ∙ c .before .before .before .before .length-ok .ensures)
-    (sym (not-true _ (c .if2 .taken)) ∙ c .before .version-ok .ensures ∙ ap versionOk (c .before .before .byte .ensures)) refl refl
+    (sym (not-true _ (c .if2 .taken)) ∙ c .before .version-ok .ensures ∙ ap versionOk (c .before .before .version-of .ensures)) refl refl
 
 counts-ok-requires : tie.Need-counts-ok-requires
 counts-ok-requires c κs = search needs
@@ -29,7 +29,7 @@ counts-ok-requires c κs = search needs
 returns-3 : tie.Need-returns-3
 returns-3 c =
     framing-from (c .before .before .before .before .before .before .before .before .args .table .now) (sym (not-false _ (c .before .before .before .before .before .if1 .left)) ∙ c .before .before .before .before .before .before .length-ok .ensures)
-    (sym (not-false _ (c .before .before .if2 .left)) ∙ c .before .before .before .version-ok .ensures ∙ ap versionOk (c .before .before .before .before .byte .ensures))
+    (sym (not-false _ (c .before .before .if2 .left)) ∙ c .before .before .before .version-ok .ensures ∙ ap versionOk (c .before .before .before .before .version-of .ensures))
     (sym (not-true _ (c .if3 .taken)) ∙ c .before .counts-ok .ensures) refl
 
 extent-ok-requires : tie.Need-extent-ok-requires
@@ -38,13 +38,13 @@ extent-ok-requires c κs = search needs
 returns-4 : tie.Need-returns-4
 returns-4 c =
     framing-from (c .before .before .before .before .before .before .before .before .before .before .args .table .now) (sym (not-false _ (c .before .before .before .before .before .before .before .if1 .left)) ∙ c .before .before .before .before .before .before .before .before .length-ok .ensures)
-    (sym (not-false _ (c .before .before .before .before .if2 .left)) ∙ c .before .before .before .before .before .version-ok .ensures ∙ ap versionOk (c .before .before .before .before .before .before .byte .ensures))
+    (sym (not-false _ (c .before .before .before .before .if2 .left)) ∙ c .before .before .before .before .before .version-ok .ensures ∙ ap versionOk (c .before .before .before .before .before .before .version-of .ensures))
     (sym (not-false _ (c .before .before .if3 .left)) ∙ c .before .before .before .counts-ok .ensures) (sym (not-true _ (c .if4 .taken)) ∙ c .before .extent-ok .ensures)
 
 returns-5 : tie.Need-returns-5
 returns-5 c =
     framing-from (c .before .before .before .before .before .before .before .before .before .before .args .table .now) (sym (not-false _ (c .before .before .before .before .before .before .before .if1 .left)) ∙ c .before .before .before .before .before .before .before .before .length-ok .ensures)
-    (sym (not-false _ (c .before .before .before .before .if2 .left)) ∙ c .before .before .before .before .before .version-ok .ensures ∙ ap versionOk (c .before .before .before .before .before .before .byte .ensures))
+    (sym (not-false _ (c .before .before .before .before .if2 .left)) ∙ c .before .before .before .before .before .version-ok .ensures ∙ ap versionOk (c .before .before .before .before .before .before .version-of .ensures))
     (sym (not-false _ (c .before .before .if3 .left)) ∙ c .before .before .before .counts-ok .ensures) (sym (not-false _ (c .if4 .left)) ∙ c .before .extent-ok .ensures)
 
 pub judge-extent-spec : {M : Type 1} → statement M
@@ -53,7 +53,7 @@ judge-extent-spec =
     (tie.spec
     length-ok-requires
     returns
-    byte-requires
+    version-of-requires
     version-ok-requires
     returns-2
     counts-ok-requires

@@ -1,6 +1,6 @@
 use borrow.Author.Tests.{eq-eqb, ne-eqb}
-use Rattle.table.proofs.extent.version_ok.Statement.{statement}
-use Rattle.table.proofs.extent.version_ok.Tie as tie
+use Rattle.table.proofs.counts.version_ok.Statement.{statement}
+use Rattle.table.proofs.counts.version_ok.Tie as tie
 
 returns : tie.Need-returns
 returns c = rw (eq-eqb _ _ (c .if1 .taken))

@@ -1,0 +1,77 @@
+//! Where each process stands before each record of an accepted run, so that a step can be named by its instruction.
+//!
+//! Why it is right: a process's place and registers change with its own steps alone, by document 01's instructions, and what a step takes is in its
+//! answer; with every other record but a crash both stay. After a crash they are those of the report of the run up to there. At the end
+//! they must be those of the report. So a run costs one run more for each crash, and what the stand-bys hold is nobody's business here.
+use kunzeastylus::{Answer, Move, Operation, ProcessEnd, Table};
+
+/// A process's place and registers.
+#[derive(Clone, Copy, Debug, Default, PartialEq, Eq)]
+pub struct Standing {
+    pub place: usize,
+    pub registers: [u32; 4],
+}
+
+impl From<ProcessEnd> for Standing {
+    fn from(end: ProcessEnd) -> Standing {
+        Standing { place: end.place.into(), registers: end.registers }
+    }
+}
+
+impl Standing {
+    /// The instruction is done, with this answer.
+    fn step(&mut self, operation: Operation, answer: Answer) {
+        let registers = &mut self.registers;
+        self.place += 1;
+        match operation {
+            Operation::Set { register, word } => registers[register as usize] = word,
+            Operation::Add { register, other } => {
+                registers[register as usize] = registers[register as usize].wrapping_add(registers[other as usize]);
+            }
+            Operation::Take { register, .. } => registers[register as usize] = answer.word,
+            Operation::First { register, .. } => {
+                registers[register as usize] = answer.word;
+                registers[register as usize + 1] = answer.a.into();
+            }
+            Operation::Send { .. } => (),
+            Operation::Jump { register, place } if registers[register as usize] != 0 => self.place = place as usize,
+            Operation::Jump { .. } => (),
+        }
+    }
+}
+
+/// The processes of a table, while a run is followed.
+pub struct Followed<'t> {
+    table: &'t Table,
+    standing: Vec<Standing>,
+}
+
+impl<'t> Followed<'t> {
+    /// All places and registers are 0 at first.
+    pub fn new(table: &'t Table) -> Followed<'t> {
+        Followed { table, standing: vec![Standing::default(); table.processes.len()] }
+    }
+
+    /// The instruction that a process does next; none where it has halted, or where there is no such process.
+    pub fn next(&self, process: u8) -> Option<Operation> {
+        let standing = self.standing.get(usize::from(process))?;
+        self.table.processes[usize::from(process)].program.get(standing.place).copied()
+    }
+
+    /// One record, by its move and `a`, with its answer; `report` gives the report of the run up to and with this record.
+    pub fn record(&mut self, kind: Option<Move>, a: u8, answer: Answer, report: impl FnOnce() -> Vec<Standing>) {
+        match kind {
+            _ if answer.code.refused() => (),
+            Some(Move::Step) => {
+                let operation = self.next(a).expect("a step that is done has an instruction");
+                self.standing[usize::from(a)].step(operation, answer);
+            }
+            Some(Move::Crash) => self.standing = report(),
+            Some(Move::Sync | Move::Carry | Move::Feed) | None => (),
+        }
+    }
+
+    pub fn standing(&self) -> &[Standing] {
+        &self.standing
+    }
+}

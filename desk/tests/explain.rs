@@ -1,0 +1,186 @@
+//! `./explain`: two samples in words, as stored beside them; a pulled board; what is said where it can't; and that the places it follows are
+//! those of the report, after every record of generated runs.
+use desk::explain::{explain, Asked, Input, Pull};
+use desk::follow::{Followed, Standing};
+use desk::hex;
+use kunzeastylus::{run, Move, Table};
+use outside::random::Random;
+use outside::rules::generate::{encode_schedule, encode_table, schedule, table};
+use outside::rules::lent::Lent;
+use outside::rules::loops::loops;
+use std::io::Write;
+use std::process::{Command, Output, Stdio};
+
+const ROOT: &str = concat!(env!("CARGO_MANIFEST_DIR"), "/..");
+const SEED: u64 = 0x94D0_49BB_1331_11EB;
+const ALL: Asked = Asked { from: 1, to: usize::MAX, pull: None };
+
+fn file(name: &str) -> String {
+    std::fs::read_to_string(format!("{ROOT}/samples/{name}")).expect("a sample")
+}
+
+fn sample(name: &str) -> Input {
+    Input::of(hex::bytes(file(&format!("{name}.hex")).as_bytes()).expect("hex text"))
+}
+
+fn called(arguments: &[&str], input: &[u8]) -> Output {
+    let mut program = Command::new(env!("CARGO_BIN_EXE_explain"))
+        .args(arguments)
+        .current_dir(ROOT)
+        .stdin(Stdio::piped())
+        .stdout(Stdio::piped())
+        .stderr(Stdio::piped())
+        .spawn()
+        .expect("the program");
+    // A program that reads nothing may be gone already.
+    let _ = program.stdin.take().expect("its input").write_all(input);
+    program.wait_with_output().expect("its end")
+}
+
+fn printed(arguments: &[&str], input: &[u8]) -> String {
+    let ended = called(arguments, input);
+    assert_eq!((ended.status.code(), ended.stderr.len()), (Some(0), 0), "{arguments:?}");
+    String::from_utf8(ended.stdout).expect("text")
+}
+
+fn complains(arguments: &[&str], input: &[u8], code: i32, shown: &str, about: &str) {
+    let ended = called(arguments, input);
+    let (out, said) = (String::from_utf8_lossy(&ended.stdout), String::from_utf8_lossy(&ended.stderr));
+    assert!(
+        ended.status.code() == Some(code) && out == shown && said.contains(about),
+        "{arguments:?} prints {out} and says {said}"
+    );
+}
+
+#[test]
+fn samples() {
+    for name in ["lost_queue", "held"] {
+        let words = file(&format!("{name}.words"));
+        assert_eq!(explain(&sample(name), ALL).as_deref(), Ok(&words[..]), "{name}");
+        assert_eq!(printed(&[&format!("samples/{name}.hex")], &[]), words, "{name}");
+    }
+}
+
+/// What README.md shows.
+#[test]
+fn shown() {
+    let readme = include_str!("../../README.md");
+    let (command, after) = readme.split_once("$ ./explain ").and_then(|(_, after)| after.split_once('\n')).expect("an example");
+    let lines: Vec<&str> = after.lines().map_while(|line| line.strip_prefix("    ")).collect();
+    assert_eq!(printed(&command.split(' ').collect::<Vec<_>>(), &[]).lines().collect::<Vec<_>>(), lines);
+}
+
+/// The lines, parted by white space alone.
+fn lines(text: &str) -> Vec<String> {
+    text.lines().map(|line| line.split_whitespace().collect::<Vec<_>>().join(" ")).collect()
+}
+
+#[test]
+fn some_lines() {
+    let whole = lines(&file("lost_queue.words"));
+    let (records, ends) = (&whole[1..16], &whole[16..]);
+    let asked = |arguments: &[&str]| lines(&printed(&[arguments, &["samples/lost_queue.hex"]].concat(), &[]));
+    for (arguments, range) in [
+        (&["--from", "3", "--to", "5"][..], 2..5),
+        (&["--to", "1"], 0..1),
+        (&["--from", "15"], 14..15),
+        (&["--from", "16"], 15..15),
+        (&["--to", "99999", "--from", "14"], 13..15),
+    ] {
+        assert_eq!(asked(arguments), [&whole[..1], &records[range], ends].concat(), "{arguments:?}");
+    }
+}
+
+#[test]
+fn pulled() {
+    let pull = |at: &str, more: &[&str]| lines(&printed(&[&["--pull", at], more, &["samples/sample.hex"]].concat(), &[]));
+    // The first record of the run, between two of them, and behind the last. The records keep their numbers.
+    let first = pull("0@1", &["--to", "3"]);
+    assert_eq!(
+        first[1..3],
+        ["pull crash board 0 done: board crashed", "1 feed channel 0, word 5 on the bus: fed (channel 0, word 5)"]
+    );
+    let between = pull("1@6", &["--from", "6", "--to", "6"]);
+    assert_eq!(
+        between[1..3],
+        ["pull crash board 1 done: board crashed", "6 carry board 0 on the bus: carried (channel 1, word 5)"]
+    );
+    assert_eq!(between[0], "21 records on 2 boards with 1 process and 2 channels");
+    let last = pull("1@21", &["--from", "20"]);
+    assert_eq!(last[1], "20 step process 0, JUMP to place 0 by register 0 done: calculated");
+    assert_eq!(last[2], "pull crash board 1 refused 44, another board has crashed");
+    // No such board is the library's to say.
+    assert_eq!(pull("2@1", &["--to", "1"])[1], "pull crash board 2 refused 33, not in this table: the board");
+}
+
+#[test]
+fn complaints() {
+    let sample = "samples/sample.hex";
+    for arguments in
+        [&[][..], &["--hex"], &[sample, sample], &["--what", sample], &["--from", sample], &["--to"], &["--help", sample]]
+    {
+        complains(arguments, &[], 2, "", if arguments == ["--from", sample] { "--from" } else { "usage: ./explain" });
+    }
+    complains(&["--from", "1", "--from", "2", sample], &[], 2, "", "usage: ./explain");
+    complains(&["--from", "0", sample], &[], 2, "", "--from 0: records are numbered from 1");
+    complains(&["--to", "x", sample], &[], 2, "", "--to x: records are numbered from 1");
+    complains(&["--from", "9", "--to", "3", sample], &[], 2, "", "--from 9 is behind --to 3");
+    for pull in ["0", "0@", "@1", "0@0", "256@1", "-1@1", "0@1@2"] {
+        complains(&["--pull", pull, sample], &[], 2, "", &format!("--pull {pull}: BOARD@N is wanted"));
+    }
+    complains(&["--pull", "0@22", sample], &[], 2, "", "--pull 0@22: the schedule has 20 records, so N is 1 to 21");
+    complains(&["missing"], &[], 2, "", "missing: no such file");
+    complains(&["-"], b"00 0", 2, "", "standard input: line 1");
+    complains(&["-"], &[], 3, "refused 1\n", "standard input: the table, its first 0 bytes: the table has under 6 bytes");
+    complains(&["--bytes", sample], &[], 3, "refused 1\n", "the table");
+    complains(&["-"], b"00 09 01 02 01 01 FF 00 00 01 00", 3, "refused 9\n", "the schedule, 0 bytes behind the table's 11");
+    // 10,000 records have no room for a crash.
+    let most =
+        [&[0, 9, 1, 2, 1, 1, 255, 0, 0, 1, 0][..], &kunzeastylus::Record::schedule(&[kunzeastylus::Record::step(0); 10_000])]
+            .concat();
+    complains(&["--pull", "0@1", "-"], &most, 3, "refused 9\n", "with the crash that --pull puts in: the schedule has");
+    assert_eq!(printed(&["-"], &most).lines().count(), 10_003);
+    let help = called(&["--help"], &[]);
+    assert!(help.status.code() == Some(0) && help.stdout.starts_with(b"usage: ./explain") && help.stderr.is_empty());
+}
+
+/// A schedule and its records one by one: what is followed is what the report of the run up to there says.
+fn follows(table: &[u8], schedule: &[u8]) {
+    let decoded = Table::of(table).expect("a sound table");
+    let mut followed = Followed::new(&decoded);
+    let report = |records: usize| -> Vec<Standing> {
+        let mut beginning = schedule[..3 + 6 * records].to_vec();
+        beginning.splice(..2, ((1 + 6 * records) as u16).to_be_bytes());
+        let (mut answers, mut reasons, mut report) = (vec![0; 6 * records], vec![0; records], [0; 320]);
+        let run = run(table, &beginning, &mut answers, &mut reasons, &mut report).expect("a sound run");
+        run.processes().map(Standing::from).collect()
+    };
+    let records = schedule.len() / 6;
+    let (mut answers, mut reasons, mut ends) = (vec![0; 6 * records], vec![0; records], [0; 320]);
+    let whole = run(table, schedule, &mut answers, &mut reasons, &mut ends).expect("a sound run");
+    let simulated = outside::rules::run::run(table, schedule, Lent::needed(records, 16)).lent.reasons;
+    assert_eq!(whole.answers().map(|answer| answer.cause.number()).collect::<Vec<_>>(), simulated);
+    for (i, (record, answer)) in schedule[3..].chunks_exact(6).zip(whole.answers()).enumerate() {
+        followed.record(Move::of(record[0]), record[1], answer, || report(i + 1));
+        assert_eq!(followed.standing(), report(i + 1), "after record {}: {table:02X?} {schedule:02X?}", i + 1);
+    }
+    // The same in words, with each board pulled somewhere.
+    for board in 0..table[3] {
+        let mut input = Input { table: table.to_vec(), schedule: schedule.to_vec() };
+        let pull = Pull { board, before: 1 + usize::from(board) * 7 % (records + 1) };
+        input.pull(pull);
+        let text = explain(&input, Asked { pull: Some(pull), ..ALL }).expect("a sound run");
+        assert_eq!(text.lines().count(), 1 + records + 1 + usize::from(table[4]) + 1);
+    }
+}
+
+#[test]
+fn followed_as_reported() {
+    let mut random = Random::new(SEED);
+    for i in 0..150 {
+        let table = if i % 3 == 0 { loops(&mut random) } else { table(&mut random) };
+        let records = random.pick(&[0, 1, 20, 60, 150]);
+        let schedule = schedule(&mut random, &table, records);
+        follows(&encode_table(&table), &encode_schedule(&schedule));
+    }
+}
