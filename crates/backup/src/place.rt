@@ -46,6 +46,9 @@ pub const SAVED3: usize = 10;
 
 pub const HEAD: usize = 11;
 
+// What each of them is in a record as it starts.
+const FRESH: u32 = 0;
+
 // A process at the moment a checkpoint was issued: program counter, registers, and the receives on each port since the last one.
 pub struct Checkpoint {
     pub pc: u32,
@@ -122,17 +125,17 @@ pub fn new_in(head: &mut [u32; HEAD])
     ensures { λ _. ⌜ (length (now (head .entry)) ≡ headLength → now (head .exit) ≡ freshHead) ⌝ }
     ensures { λ _. ⌜ ((log : List ℕ) → length log ≡ logMost → length (now (head .entry)) ≡ headLength → Fresh log (now (head .exit))) ⌝ }
 {
-    head[LEN] = 0;
-    head[SENT] = 0;
-    head[PC] = 0;
-    head[R0] = 0;
-    head[R1] = 0;
-    head[R2] = 0;
-    head[R3] = 0;
-    head[SAVED0] = 0;
-    head[SAVED1] = 0;
-    head[SAVED2] = 0;
-    head[SAVED3] = 0;
+    head[LEN] = FRESH;
+    head[SENT] = FRESH;
+    head[PC] = FRESH;
+    head[R0] = FRESH;
+    head[R1] = FRESH;
+    head[R2] = FRESH;
+    head[R3] = FRESH;
+    head[SAVED0] = FRESH;
+    head[SAVED1] = FRESH;
+    head[SAVED2] = FRESH;
+    head[SAVED3] = FRESH;
 }
 
 // A message arrived: 0, or 21 or 22.

@@ -7,11 +7,7 @@ use process::transfer::complete;
 use state::board::index16;
 use state::moved::Answer;
 
-pub fn transmit_transfer(
-    rows: &mut [[u32; ROW]; 16],
-    waits: &mut [u32; 16],
-    process: u32,
-) -> Answer
+pub fn transmit_transfer(rows: &mut [[u32; ROW]; 16], waits: &mut [u32; 16], process: u32) -> Answer
     ensures { λ r. ⌜ Transfers (now (rows .entry)) (now (waits .entry)) process (now (rows .exit)) (now (waits .exit)) r ⌝ }
 {
     let p = index16(process);

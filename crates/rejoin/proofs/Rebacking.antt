@@ -73,9 +73,10 @@ module _ {t : Table} {s : Store} {entries : List Entry} {c : Cabinet} (reach : R
       let k : ℕ = mailIn (getD mail i 0) .channel in
       let its = reads-it i l in
       let inside : k < length (t .channels) = read-inside (reach .accepted) k (rw its hp) in
-      let small : k % 32 ≡ k = (let z = reach .accepted .channels-high in omega arith) in
-      (ap (λ (j : ℕ). getD port j 0) small ∙ wired .port-at k inside (rw its hp) ∙ ap (λ (q : ℕ). portOf t q k) its,
-      (let e = input t (reach .accepted) k p hp its .below in let f = few-ports t (reach .accepted) p hp in omega arith))
+      let small : k % 32 ≡ k = (let z = reach .accepted .channels-high in omega arith) in (
+        ap (λ (j : ℕ). getD port j 0) small ∙ wired .port-at k inside (rw its hp) ∙ ap (λ (q : ℕ). portOf t q k) its,
+        (let e = input t (reach .accepted) k p hp its .below in let f = few-ports t (reach .accepted) p hp in omega arith),
+      )
 
   low : getD row 1 0 ≤ pcMost
   unfolding processOf machineOf
@@ -152,15 +153,29 @@ module _ {t : Table} {s : Store} {entries : List Entry} {c : Cabinet} (reach : R
             pub refused-38 : outboxMost ≤ countIn (s .boards) (getD row 0 0) → rebackup t c p ≡ refuse rebackupBlocked
             unfolding rebackup guard
             refused-38 l =
-                rw (unbacked, alive, held-back, eq-eqb (getD row 6 0) 0 free, crowded-is d ∙ few, waits-off reach h p hp none,
-                le-leb outboxMost (length (outboxAt c (processAt c p .board))) (rw (queue-has reach h p hp) l))
+                rw (
+                  unbacked,
+                  alive,
+                  held-back,
+                  eq-eqb (getD row 6 0) 0 free,
+                  crowded-is d ∙ few,
+                  waits-off reach h p hp none,
+                  le-leb outboxMost (length (outboxAt c (processAt c p .board))) (rw (queue-has reach h p hp) l),
+                )
 
             pub accepted-so : countIn (s .boards) (getD row 0 0) < outboxMost
                 → rebackup t c p ≡ accept (withProcess p (rebacking t p (processAt c p)) (enqueue (processAt c p .board) (rules.transfer p) c)) rebackupDone
             unfolding rebackup guard
             accepted-so l =
-                rw (unbacked, alive, held-back, eq-eqb (getD row 6 0) 0 free, crowded-is d ∙ few, waits-off reach h p hp none,
-                lt-leb outboxMost (length (outboxAt c (processAt c p .board))) (rw (queue-has reach h p hp) l))
+                rw (
+                  unbacked,
+                  alive,
+                  held-back,
+                  eq-eqb (getD row 6 0) 0 free,
+                  crowded-is d ∙ few,
+                  waits-off reach h p hp none,
+                  lt-leb outboxMost (length (outboxAt c (processAt c p .board))) (rw (queue-has reach h p hp) l),
+                )
 
   -- ---- the transfer joins
 

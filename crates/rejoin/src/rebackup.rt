@@ -103,13 +103,7 @@ pub fn rebackup(
         return refused(38, 3, a);
     }
     let at = place(&boards[b], b);
-    reback(
-        &mut rows[p],
-        &mails[p],
-        &mut logs[p],
-        &mut heads[p],
-        port,
-    );
+    reback(&mut rows[p], &mails[p], &mut logs[p], &mut heads[p], port);
     push(&mut boards[b]);
     waits[p] = 1;
     Moved {
