@@ -1,5 +1,5 @@
--- One pass over a log, in two loops: what is true between two of its rounds.
-use mathlib.Core.Path.{_≡_, refl, ap, sym, _∙_}
+-- One pass over a log, in three loops: what is true between two of its rounds.
+use mathlib.Core.Path.{_≡_, refl, ap, sym, _∙_, subst}
 use mathlib.Core.Bool.{Bool, true, false}
 use mathlib.Core.List.{List, [], _∷_, _++_, map, map-append, append-assoc, append-nil}
 use Prim.Native.Nat.{ℕ, zero, suc, _+_, _-_, _%_, _≤_, _<_}
@@ -7,13 +7,13 @@ use native.Mathlib.Omega.{arith}
 use native.Mathlib.Numerals.{add-one}
 use lib.Dec.{ltb}
 use lib.ListN.{length, getD, set, drop, length-set, length-map, length-drop, List·getD-map, List·getD-eq-default}
-use lib.Seq.{getD-set-other, getD-drop, ext-getD, drop-cons, drop-length}
+use lib.Seq.{getD-set-other, set-getD, getD-drop, ext-getD, drop-cons, drop-length}
 use borrow.Author.Tests.{ltb-true}
 use Rattle.facts.specs.Tests.{all-at, by-lt}
-use Rattle.facts.specs.Lists.{prefix, length-prefix, prefix-push, getD-prefix}
+use Rattle.facts.specs.Lists.{prefix, length-prefix, prefix-push, getD-prefix, listed-same, prefix-listed}
 use Rattle.backup.specs.Limits.{logMost, ports}
 use Rattle.backup.specs.Replica.{Message, onPorts, takenOn, oneLess, remaining}
-use Rattle.backup.specs.Laws.{stays, goes, none-taken}
+use Rattle.backup.specs.Laws.{stays, goes, by-taken, none-taken}
 use Rattle.backup.specs.Place.{portIn, unpack, messages, Compacted}
 use Rattle.backup.specs.Rounds.{allTaken, allTaken-less, allTaken-none}
 
@@ -48,15 +48,6 @@ module _ {H : Type 0} {goal : List Message} {log₀ : List ℕ} {len : ℕ} {log
 
   split : drop i (messages len log₀) ≡ this ∷ drop (i + 1) (messages len log₀)
   split = rw add-one (drop-cons (messages len log₀) i (unpack 0) (rw (messages-length len log₀) h) ∙ ap (λ (m : Message). m ∷ drop (suc i) (messages len log₀)) this-at)
-
-  -- its lane is its port, where all are on ports
-  pub passing-lane : onPorts (messages len log₀) ≡ true → portIn (getD log i 0) % 4 ≡ portIn (getD log i 0)
-  unfolding this
-  passing-lane k =
-      let a : getD (messages len log₀) i (unpack 0) .port < ports =
-      ltb-true _ ports (all-at (λ (m : Message). ltb (m .port) ports) (messages len log₀) i (unpack 0) k (rw (messages-length len log₀) h)) in
-      let b : getD (messages len log₀) i (unpack 0) .port ≡ portIn (getD log i 0) = ap (λ (m : Message). m .port) this-at in
-      omega arith
 
   -- takes of its port are left: it goes
   pub passing-goes : (s : ℕ) → (H → s ≡ portIn (getD log i 0)) → 0 < getD left s 0 → Passing H goal log₀ len log (set left s (getD left s 0 - 1)) (i + 1) kept
@@ -95,42 +86,103 @@ module _ {H : Type 0} {goal : List Message} {log₀ : List ℕ} {len : ℕ} {log
         ∙ p .whole k;
   }
 
--- ---- the first loop: it looks for what goes
+-- a store behind what stays changes nothing
+passing-spare : {H : Type 0} {goal : List Message} {log₀ : List ℕ} {len : ℕ} {log left : List ℕ} {i kept : ℕ} → Passing H goal log₀ len log left i kept → (x : ℕ) → kept < i
+    → Passing H goal log₀ len (set log kept x) left i kept
+passing-spare {log₀ = log₀} {len = len} {log = log} {left = left} {i = i} {kept = kept} p x h = record {
+  looked = p .looked;
+  few = p .few;
+  same-length = length-set log kept x ∙ p .same-length;
+  ahead = λ j l. getD-set-other log kept j x 0 (λ c. omega arith) ∙ p .ahead j l;
+  whole = λ k. ap (λ (f : List ℕ). map unpack f ++ remaining left (drop i (messages len log₀))) same-front ∙ p .whole k;
+}
+  where
+    same-front : prefix kept (set log kept x) ≡ prefix kept log
+    same-front =
+        prefix-listed kept (set log kept x)
+        ∙ listed-same (λ j. getD (set log kept x) j 0) (λ j. getD log j 0) kept (λ j l. getD-set-other log kept j x 0 (λ c. omega arith))
+        ∙ sym (prefix-listed kept log)
 
--- what a drop of messages on their ports in an array of the right length supposes
-abbrev pub Placed : List ℕ → ℕ → Type 0
-Placed log len = (length log ≡ logMost) × (onPorts (messages len log) ≡ true)
+-- ---- the first and the second loop: they look for what goes
 
--- due is what is still to go, and each message looked at was a round
-pub record Sifting (log₀ : List ℕ) (len : ℕ) (taken log left : List ℕ) (due i kept rounds : ℕ) : Type 0 where
-  pub passing : Passing (Placed log₀ len) (remaining taken (messages len log₀)) log₀ len log left i kept
+-- what a drop supposes: an array of the right length, and messages on their ports from i on
+abbrev pub Placed : List ℕ → ℕ → ℕ → Type 0
+Placed log len i = (length log ≡ logMost) × ((j : ℕ) → i ≤ j → j < len → portIn (getD log j 0) < ports)
+
+-- Such a loop began at i₁, with kept₁ messages that stay and rounds₁ rounds, to drop left₁: due is what is still to go, and each message looked
+-- at was a round.
+pub record Sifting (log₁ : List ℕ) (len i₁ kept₁ rounds₁ : ℕ) (left₁ log left : List ℕ) (due i kept rounds : ℕ) : Type 0 where
+  pub passing : Passing (Placed log₁ len i₁) (messages kept₁ log₁ ++ remaining left₁ (drop i₁ (messages len log₁))) log₁ len log left i kept
+  pub began : i₁ ≤ i
   pub four : length left ≡ ports
   pub owed : due ≡ allTaken left
-  pub metered : rounds ≡ i
+  pub metered : rounds + i₁ ≡ rounds₁ + i
 
-pub sifting-start : (log : List ℕ) (len : ℕ) (taken : List ℕ) → length taken ≡ ports → Sifting log len taken log taken (allTaken taken) 0 0 0
-sifting-start log len taken h = record { passing = passing-start log len taken 0 0 (omega arith) (omega arith); four = h; owed = refl; metered = refl }
+pub sifting-start : (log : List ℕ) (len : ℕ) (left : List ℕ) (due i kept rounds : ℕ) → i ≤ len → kept ≤ i → length left ≡ ports → due ≡ allTaken left
+    → Sifting log len i kept rounds left log left due i kept rounds
+sifting-start log len left due i kept rounds l k h e =
+    record { passing = passing-start log len left i kept l k; began = omega arith; four = h; owed = e; metered = refl }
 
-module _ {log₀ : List ℕ} {len : ℕ} {taken log left : List ℕ} {due i kept rounds : ℕ}
-    (f : Sifting log₀ len taken log left due i kept rounds) (h : i < len)
+module _ {log₁ : List ℕ} {len i₁ kept₁ rounds₁ : ℕ} {left₁ log left : List ℕ} {due i kept rounds : ℕ}
+    (f : Sifting log₁ len i₁ kept₁ rounds₁ left₁ log left due i kept rounds) (h : i < len)
     (s : ℕ) (e : s ≡ portIn (getD log i 0) % 4) where
-  pub sifting-goes : 0 < getD left s 0 → Sifting log₀ len taken log (set left s (getD left s 0 - 1)) (due - 1) (i + 1) kept (rounds + 1)
+  -- the lane of this round's message is its port, where it is on one
+  lane-is : Placed log₁ len i₁ → s ≡ portIn (getD log i 0)
+  lane-is k =
+      let a : portIn (getD log₁ i 0) < ports = k .1 i (f .began) h in
+      let b : portIn (getD log i 0) ≡ portIn (getD log₁ i 0) = ap portIn (f .passing .ahead i (omega arith)) in
+      omega arith
+
+  -- one that goes is due
+  pub sifting-due : 0 < getD left s 0 → 0 < due
+  sifting-due g = let a = f .owed in let b = allTaken-less left s (omega arith) g in omega arith
+
+  pub sifting-goes : 0 < getD left s 0 → Sifting log₁ len i₁ kept₁ rounds₁ left₁ log (set left s (getD left s 0 - 1)) (due - 1) (i + 1) kept (rounds + 1)
   sifting-goes g = record {
-    passing = passing-goes (f .passing) h s (λ k. e ∙ passing-lane (f .passing) h (k .1)) g;
+    passing = passing-goes (f .passing) h s lane-is g;
+    began = (let a = f .began in omega arith);
     four = length-set left s (getD left s 0 - 1) ∙ f .four;
     owed = (let a = f .owed in let b = allTaken-less left s (omega arith) g in omega arith);
-    metered = ap (λ (n : ℕ). n + 1) (f .metered);
+    metered = (let a = f .metered in omega arith);
   }
 
-  pub sifting-stays : getD left s 0 ≡ 0 → len ≤ logMost → Sifting log₀ len taken (set log kept (getD log i 0)) left due (i + 1) (kept + 1) (rounds + 1)
+  pub sifting-stays : getD left s 0 ≡ 0 → len ≤ logMost
+      → Sifting log₁ len i₁ kept₁ rounds₁ left₁ (set log kept (getD log i 0)) left due (i + 1) (kept + 1) (rounds + 1)
   sifting-stays z small = record {
-    passing = passing-stays (f .passing) h (λ k. k .0) (λ k. ap (takenOn left) (sym (e ∙ passing-lane (f .passing) h (k .1))) ∙ z) small;
+    passing = passing-stays (f .passing) h (λ k. k .0) (λ k. ap (takenOn left) (sym (lane-is k)) ∙ z) small;
+    began = (let a = f .began in omega arith);
     four = f .four;
     owed = f .owed;
-    metered = ap (λ (n : ℕ). n + 1) (f .metered);
+    metered = (let a = f .metered in omega arith);
   }
 
--- ---- the second loop: what stands behind moves up
+  -- what goes, 1 or 0, is due
+  pub sifting-owed : (m gone : ℕ) → m ≡ getD left s 0 - 1 → gone ≡ getD left s 0 - m → gone ≤ due
+  sifting-owed m gone a b = by-taken left s (λ z. omega arith) (λ g. let d = sifting-due g in omega arith)
+
+  -- both at once: with m takes left of this port, 1 or 0 goes; where the message goes, its copy stands behind what stays
+  pub sifting-swept : (m gone : ℕ) → m ≡ getD left s 0 - 1 → gone ≡ getD left s 0 - m → len ≤ logMost
+      → Sifting log₁ len i₁ kept₁ rounds₁ left₁ (set log kept (getD log i 0)) (set left s m) (due - gone) (i + 1) (kept + (1 - gone)) (rounds + 1)
+  sifting-swept m gone a b small =
+      by-taken left s
+      (λ z.
+      let y : set left s m ≡ left = ap (set left s) (let w : m ≡ getD left s 0 = omega arith in w) ∙ set-getD left s 0 in
+      let d : due - gone ≡ due = omega arith in
+      let k : kept + (1 - gone) ≡ kept + 1 = omega arith in
+      rw (y, d, k) (sifting-stays z small))
+      (λ g.
+      let d : due - gone ≡ due - 1 = omega arith in
+      let k : kept + (1 - gone) ≡ kept = omega arith in
+      let t = sifting-goes g in
+      rw (a, d, k) (record {
+        passing = passing-spare (t .passing) (getD log i 0) (let w = f .passing .few in omega arith);
+        began = t .began;
+        four = t .four;
+        owed = t .owed;
+        metered = t .metered;
+      }))
+
+-- ---- the third loop: what stands behind moves up
 
 pub record Moving (log₁ : List ℕ) (len i₁ kept₁ rounds₁ : ℕ) (log : List ℕ) (i kept rounds : ℕ) : Type 0 where
   pub passing : Passing (length log₁ ≡ logMost) (messages kept₁ log₁ ++ remaining [] (drop i₁ (messages len log₁))) log₁ len log [] i kept
@@ -156,37 +208,59 @@ same-behind log log′ len i h =
 drop-all : (len : ℕ) (log : List ℕ) → drop len (messages len log) ≡ []
 drop-all len log = ap (λ (n : ℕ). drop n (messages len log)) (sym (messages-length len log)) ∙ drop-length (messages len log)
 
--- the two loops together: nothing was due any more, or nothing stood behind
-pub passed : {log₀ : List ℕ} {len : ℕ} {taken log₁ left : List ℕ} {due i₁ kept₁ rounds₁ : ℕ} {log₂ : List ℕ} {kept rounds : ℕ}
-    → Sifting log₀ len taken log₁ left due i₁ kept₁ rounds₁ → (i₁ < len → due ≡ 0) → Moving log₁ len i₁ kept₁ rounds₁ log₂ len kept rounds
-    → Compacted log₀ len taken kept log₂
-passed {log₀} {len} {taken} {log₁} {left} {due} {i₁} {kept₁} {log₂ = log₂} {kept = kept} f z m = record {
+-- what a loop leaves to do, said of the log that it leaves
+left-over : {H : Type 0} {goal : List Message} {log₀ : List ℕ} {len : ℕ} {log left : List ℕ} {i kept : ℕ} → Passing H goal log₀ len log left i kept → H
+    → messages kept log ++ remaining left (drop i (messages len log)) ≡ goal
+left-over {log₀ = log₀} {len = len} {log = log} {left = left} {i = i} {kept = kept} p h =
+    ap (λ (r : List Message). messages kept log ++ remaining left r) (same-behind log log₀ len i (p .ahead)) ∙ p .whole h
+
+-- nothing is due: nothing goes
+none-due : (left : List ℕ) (l : List Message) → length left ≡ ports → allTaken left ≡ 0 → remaining left l ≡ l
+none-due left l f z = none-taken left l (λ p. by-lt p ports (allTaken-none left z p) (λ q. List·getD-eq-default left 0 {n = p} (omega arith)))
+
+-- the messages of a log are on their ports
+placed-whole : (log : List ℕ) (len : ℕ) → length log ≡ logMost → onPorts (messages len log) ≡ true → Placed log len 0
+placed-whole log len h k = (
+  h,
+  λ j _ l.
+      let a : getD (messages len log) j (unpack 0) .port < ports =
+      ltb-true _ ports (all-at (λ (m : Message). ltb (m .port) ports) (messages len log) j (unpack 0) k (rw (messages-length len log) l)) in
+      let b : getD (messages len log) j (unpack 0) .port ≡ portIn (getD log j 0) = ap (λ (m : Message). m .port) (message-at len log j l) in
+      omega arith,
+)
+
+-- the three loops together: nothing was due any more after the second, or nothing stood behind
+pub passed : {log₀ : List ℕ} {len : ℕ} {taken log₁ left₁ : List ℕ} {due₁ i₁ kept₁ rounds₁ : ℕ} {log₂ left₂ : List ℕ} {due₂ i₂ kept₂ rounds₂ : ℕ}
+    {log₃ : List ℕ} {kept rounds : ℕ}
+    → Sifting log₀ len 0 0 0 taken log₁ left₁ due₁ i₁ kept₁ rounds₁ → Sifting log₁ len i₁ kept₁ rounds₁ left₁ log₂ left₂ due₂ i₂ kept₂ rounds₂
+    → (i₂ < len → due₂ ≡ 0) → Moving log₂ len i₂ kept₂ rounds₂ log₃ len kept rounds
+    → Compacted log₀ len taken kept log₃
+passed {log₀} {len} {taken} {log₁} {left₁} {i₁ = i₁} {log₂ = log₂} {left₂ = left₂} {due₂ = due₂} {i₂ = i₂} {kept₂ = kept₂} {log₃ = log₃} {kept = kept} f g z m = record {
   no-more = m .passing .few;
-  same-length = m .passing .same-length ∙ f .passing .same-length;
+  same-length = m .passing .same-length ∙ g .passing .same-length ∙ f .passing .same-length;
   rest = λ h k.
-      let a : messages kept log₂ ++ remaining [] (drop len (messages len log₁)) ≡ messages kept log₂ =
-      ap (λ (r : List Message). messages kept log₂ ++ remaining [] r) (drop-all len log₁) ∙ append-nil (messages kept log₂) in
-      sym a ∙ m .passing .whole (f .passing .same-length ∙ h)
-      ∙ ap (λ (r : List Message). messages kept₁ log₁ ++ r)
-      (ap (remaining []) (same-behind log₁ log₀ len i₁ (f .passing .ahead)) ∙ none-taken [] (drop i₁ (messages len log₀)) (λ p. refl) ∙ sym behind)
-      ∙ f .passing .whole (h, k);
+      let p : Placed log₀ len 0 = placed-whole log₀ len h k in
+      let q : Placed log₁ len i₁ = (
+        f .passing .same-length ∙ h,
+        λ j a b. (let c = p .1 j (omega arith) b in let d = ap portIn (f .passing .ahead j a) in omega arith),
+      ) in
+      let a : messages kept log₃ ++ remaining [] (drop len (messages len log₂)) ≡ messages kept log₃ =
+      ap (λ (r : List Message). messages kept log₃ ++ remaining [] r) (drop-all len log₂) ∙ append-nil (messages kept log₃) in
+      sym a ∙ m .passing .whole (g .passing .same-length ∙ q .0)
+      ∙ ap (λ (r : List Message). messages kept₂ log₂ ++ r) (none-taken [] (drop i₂ (messages len log₂)) (λ p. refl) ∙ sym behind)
+      ∙ left-over (g .passing) q
+      ∙ left-over (f .passing) p;
 }
   where
-    behind : remaining left (drop i₁ (messages len log₀)) ≡ drop i₁ (messages len log₀)
+    behind : remaining left₂ (drop i₂ (messages len log₂)) ≡ drop i₂ (messages len log₂)
     behind =
-        by-lt i₁ len
-        (λ l. none-taken left (drop i₁ (messages len log₀)) (λ p. by-lt p ports
-        (λ q. allTaken-none left (let a = f .owed in let b = z l in omega arith) p q)
-        (λ q. List·getD-eq-default left 0 {n = p} (let a = f .four in omega arith))))
+        by-lt i₂ len
+        (λ l. none-due left₂ (drop i₂ (messages len log₂)) (g .four) (let a = g .owed in let b = z l in omega arith))
         (λ l.
-        let e : i₁ ≡ len = (let a = f .passing .looked in omega arith) in
-        let d : drop i₁ (messages len log₀) ≡ [] = ap (λ (n : ℕ). drop n (messages len log₀)) e ∙ drop-all len log₀ in
-        ap (remaining left) d ∙ sym d)
+        let e : i₂ ≡ len = (let a = g .passing .looked in omega arith) in
+        let d : drop i₂ (messages len log₂) ≡ [] = ap (λ (n : ℕ). drop n (messages len log₂)) e ∙ drop-all len log₂ in
+        ap (remaining left₂) d ∙ sym d)
 
 -- nothing was taken: the log as it is
 pub compacted-none : (log : List ℕ) (len : ℕ) (taken : List ℕ) → length taken ≡ ports → allTaken taken ≡ 0 → Compacted log len taken len log
-compacted-none log len taken f z = record {
-  no-more = omega arith;
-  same-length = refl;
-  rest = λ h k. sym (none-taken taken (messages len log) (λ p. by-lt p ports (allTaken-none taken z p) (λ q. List·getD-eq-default taken 0 {n = p} (omega arith))));
-}
+compacted-none log len taken f z = record { no-more = omega arith; same-length = refl; rest = λ h k. sym (none-due taken (messages len log) f z) }

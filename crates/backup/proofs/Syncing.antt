@@ -10,15 +10,16 @@ use borrow.Author.Tests.{lt-ltb, le-ltb}
 use Rattle.facts.specs.Tests.{any-same}
 use Rattle.facts.specs.Lists.{listed, listed-same, written-out}
 use Rattle.backup.specs.Limits.{logMost, ports, pcMost}
-use Rattle.backup.specs.Replica.{Message, Replica, savedOn, takenOn, lacking, sync, syncNumber, synced}
-use Rattle.backup.specs.Laws.{saved-remaining}
+use Rattle.backup.specs.Replica.{Message, Replica, savedOn, takenOn, remaining, lacking, sync, syncNumber, synced}
+use Rattle.backup.specs.Laws.{saved-remaining, length-remaining}
 use Rattle.backup.specs.Accepts.{fit-parts, enough, answer-number, answer-done, sync-accepted, synced-fit}
 use Rattle.backup.specs.Place.{messages, viewIn, tallyIn, headLength, Sound, Called, takenOf, checkpointOf, lacksIn, Compacted, restatedIn, reportOf, refusedOf, landedIn, Reports}
 use Rattle.backup.specs.Report.{syncReport}
 use Rattle.backup.specs.ReportLaws.{syncReport-accepted, syncReport-refused, gone-taken}
-use Rattle.backup.specs.Rounds.{allTaken, syncRounds, syncRounds-none, syncRounds-some, OnePass, onePass-by}
+use Rattle.backup.specs.Rounds.{allTaken, syncRounds, syncRounds-none, syncRounds-all, syncRounds-some, OnePass, onePass-by}
 use Rattle.backup.specs.declared.place.Checkpoint.{Checkpoint}
 use Rattle.backup.proofs.InPlace.{refused-so, accepted-so, same-replica, view-length}
+use Rattle.backup.proofs.Compacting.{messages-length}
 
 -- of a sound backup the tallies tell what the definition asks of the log
 lacks-same : (log head taken : List ℕ) → Sound log head → lacking taken (viewIn log head .log) ≡ lacksIn head taken
@@ -73,23 +74,55 @@ module _ (log head : List ℕ) (c : Checkpoint) where
   sync-20 h = refused-so log head 20 (λ v. sync v (checkpointOf c))
       (λ s. absurd (let f = fit-parts (viewIn log head) (s .is-fit) .few in let l = view-length log head in omega arith))
 
-  pub sync-done : (kept : ℕ) (log′ : List ℕ) → c .pc ≤ pcMost → lacksIn head (takenOf c) ≡ false → Compacted log (getD head 0 0) (takenOf c) kept log′
-      → Called log head log′ (restatedIn head kept c) 0 (λ v. sync v (checkpointOf c))
-  unfolding viewIn
-  sync-done kept log′ h k m =
-      accepted-so log head log′ (restatedIn head kept c) (λ v. sync v (checkpointOf c)) (synced (viewIn log head) (checkpointOf c))
+  -- done: of a sound backup the log's first numbers are what a drop as taken leaves
+  sync-left : (log′ : List ℕ) → c .pc ≤ pcMost → lacksIn head (takenOf c) ≡ false → length log′ ≡ length log
+      → (Sound log head → messages (getD head 0 0 - allTaken (takenOf c)) log′ ≡ remaining (takenOf c) (viewIn log head .log))
+      → Called log head log′ (restatedIn head (getD head 0 0 - allTaken (takenOf c)) c) 0 (λ v. sync v (checkpointOf c))
+  sync-left log′ h k same r =
+      accepted-so log head log′ (restatedIn head (getD head 0 0 - allTaken (takenOf c)) c) (λ v. sync v (checkpointOf c)) (synced (viewIn log head) (checkpointOf c))
       (λ s. sync-accepted (viewIn log head) (checkpointOf c) (s .is-fit) h (enough (takenOf c) (viewIn log head .log) (lacks-same log head (takenOf c) s ∙ k)))
-      (λ s.
-      let r = m .rest (s .log-length) (fit-parts (viewIn log head) (s .is-fit) .on-ports) in
-      record {
-        log-length = m .same-length ∙ s .log-length;
-        head-length = length-restated head kept c ∙ s .head-length;
-        view = view-restated log′ head kept c (s .head-length) ∙ same-replica r refl refl refl;
+      (λ s. record {
+        log-length = same ∙ s .log-length;
+        head-length = length-restated head (getD head 0 0 - allTaken (takenOf c)) c ∙ s .head-length;
+        view = view-restated log′ head (getD head 0 0 - allTaken (takenOf c)) c (s .head-length) ∙ same-replica (r s) refl refl refl;
         is-fit = synced-fit (viewIn log head) (checkpointOf c) (s .is-fit) h;
         tallies = λ p l.
-            tally-restated head kept c (s .head-length) p l ∙ ap (λ (n : ℕ). n - takenOn (takenOf c) p) (s .tallies p l)
+            tally-restated head (getD head 0 0 - allTaken (takenOf c)) c (s .head-length) p l ∙ ap (λ (n : ℕ). n - takenOn (takenOf c) p) (s .tallies p l)
             ∙ sym (saved-remaining p (takenOf c) (viewIn log head .log));
       })
+
+  -- what stays and what was taken make the log
+  stays-of : lacksIn head (takenOf c) ≡ false → Sound log head → length (remaining (takenOf c) (viewIn log head .log)) + allTaken (takenOf c) ≡ getD head 0 0
+  stays-of k s =
+      length-remaining (takenOf c) (viewIn log head .log) (fit-parts (viewIn log head) (s .is-fit) .on-ports)
+      (enough (takenOf c) (viewIn log head .log) (lacks-same log head (takenOf c) s ∙ k))
+      ∙ view-length log head
+
+  -- by a pass over the log
+  pub sync-done : (kept : ℕ) (log′ : List ℕ) → c .pc ≤ pcMost → lacksIn head (takenOf c) ≡ false → Compacted log (getD head 0 0) (takenOf c) kept log′
+      → Called log head log′ (restatedIn head (getD head 0 0 - allTaken (takenOf c)) c) 0 (λ v. sync v (checkpointOf c))
+  unfolding viewIn
+  sync-done kept log′ h k m =
+      sync-left log′ h k (m .same-length)
+      (λ s.
+      let r : messages kept log′ ≡ remaining (takenOf c) (viewIn log head .log) = m .rest (s .log-length) (fit-parts (viewIn log head) (s .is-fit) .on-ports) in
+      let n : kept ≡ length (remaining (takenOf c) (viewIn log head .log)) = sym (messages-length kept log′) ∙ ap length r in
+      let e : getD head 0 0 - allTaken (takenOf c) ≡ kept = (let a = stays-of k s in omega arith) in
+      ap (λ (x : ℕ). messages x log′) e ∙ r)
+
+  -- where no less was taken than is saved, nothing stays
+  pub sync-emptied : c .pc ≤ pcMost → lacksIn head (takenOf c) ≡ false → getD head 0 0 ≤ allTaken (takenOf c)
+      → Called log head log (restatedIn head (getD head 0 0 - allTaken (takenOf c)) c) 0 (λ v. sync v (checkpointOf c))
+  sync-emptied h k a =
+      sync-left log h k refl
+      (λ s.
+      let e : getD head 0 0 - allTaken (takenOf c) ≡ 0 = omega arith in
+      ap (λ (x : ℕ). messages x log) e
+      ∙ sym (none-left (remaining (takenOf c) (viewIn log head .log)) (let n = stays-of k s in omega arith)))
+    where
+      none-left : (l : List Message) → length l ≡ 0 → l ≡ []
+      none-left [] z = refl
+      none-left (m ∷ l) z = absurd (omega arith)
 
 -- ---- the rounds
 
@@ -103,10 +136,17 @@ module _ (log head : List ℕ) (c : Checkpoint) where
   pub rounds-none : allTaken (takenOf c) ≡ 0 → OnePass (viewIn log head) (checkpointOf c) 0 0
   rounds-none z = onePass-by (viewIn log head) (checkpointOf c) 0 0 (sym (syncRounds-none (viewIn log head) (checkpointOf c) z))
 
+  -- no less taken than saved: none
+  pub rounds-emptied : (allTaken (takenOf c) ≡ 0 → ⊥) → getD head 0 0 ≤ allTaken (takenOf c) → OnePass (viewIn log head) (checkpointOf c) 0 0
+  rounds-emptied n a =
+      onePass-by (viewIn log head) (checkpointOf c) 0 0 (sym (syncRounds-all (viewIn log head) (checkpointOf c) n (let l = view-length log head in omega arith)))
+
   -- one for each message that the head says there are
-  pub rounds-all : (rounds : ℕ) → (allTaken (takenOf c) ≡ 0 → ⊥) → rounds ≡ getD head 0 0 → OnePass (viewIn log head) (checkpointOf c) 0 rounds
-  rounds-all rounds n e =
-      onePass-by (viewIn log head) (checkpointOf c) 0 rounds (e ∙ sym (view-length log head) ∙ sym (syncRounds-some (viewIn log head) (checkpointOf c) n))
+  pub rounds-all : (rounds : ℕ) → (allTaken (takenOf c) ≡ 0 → ⊥) → allTaken (takenOf c) < getD head 0 0 → rounds ≡ getD head 0 0
+      → OnePass (viewIn log head) (checkpointOf c) 0 rounds
+  rounds-all rounds n a e =
+      onePass-by (viewIn log head) (checkpointOf c) 0 rounds
+      (e ∙ sym (view-length log head) ∙ sym (syncRounds-some (viewIn log head) (checkpointOf c) n (let l = view-length log head in omega arith)))
 
 -- ---- the report
 

@@ -1,5 +1,6 @@
 -- The backup record as a value, and each of its calls as a total function: document 01, "The backup record".
--- "A value: up to 48 saved words with slots, count, place, registers."
+-- "A value: up to 48 saved words with slots, count, place, registers." The sizes are those of Limits, since W-207 64 words and a count of 32;
+-- the sentences below have document 01's.
 use mathlib.Core.Bool.{Bool, true, false, not, cond, _&&_}
 use mathlib.Core.List.{List, [], _∷_, _++_}
 use Prim.Native.Nat.{ℕ, zero, suc, _-_}

@@ -1,13 +1,13 @@
 -- The rounds of a sync's loops. W-205: "one pass over the saved words is enough: apart from the check for 20, the rounds of all loops in a
 -- sync together are at most the words saved, by a count that is proved."
 use mathlib.Core.Path.{_≡_, refl}
-use mathlib.Core.Bool.{Bool, true, false, cond}
+use mathlib.Core.Bool.{Bool, true, false, cond, _||_}
 use mathlib.Core.List.{List}
 use Prim.Native.Nat.{ℕ, zero, suc, _≤_, _<_}
 use native.Mathlib.Omega.{arith}
-use lib.Dec.{eqb}
+use lib.Dec.{eqb, leb}
 use lib.ListN.{length}
-use borrow.Author.Tests.{eq-eqb, ne-eqb}
+use borrow.Author.Tests.{eq-eqb, ne-eqb, le-leb, lt-leb}
 use Rattle.facts.specs.Tests.{by-eq}
 use Rattle.facts.specs.Sums.{sumBelow, sum-same}
 use Rattle.backup.specs.Limits.{ports}
@@ -18,10 +18,14 @@ use Rattle.backup.specs.Laws.{taken-less, taken-other}
 abbrev pub allTaken : List ℕ → ℕ
 allTaken taken = sumBelow (takenOn taken) ports
 
--- The rounds of a sync that answered a number: none where it was refused or nothing was taken, and else one for each saved word, those
--- that go and those that stay.
+-- nothing moves: nothing was taken, or no less than was saved
+abbrev pub nothingMoves : Replica → Checkpoint → Bool
+nothingMoves r c = eqb (allTaken (c .taken)) 0 || leb (length (r .log)) (allTaken (c .taken))
+
+-- The rounds of a sync that answered a number: none where it was refused or nothing moves, and else one for each saved word, those that go and
+-- those that stay.
 unfoldable pub syncRounds : ℕ → Replica → Checkpoint → ℕ
-syncRounds zero r c = cond (eqb (allTaken (c .taken)) 0) 0 (length (r .log))
+syncRounds zero r c = cond (nothingMoves r c) 0 (length (r .log))
 syncRounds (suc n) r c = 0
 
 -- what is promised of the rounds that a sync counted
@@ -33,7 +37,7 @@ pub record OnePass (r : Replica) (c : Checkpoint) (number rounds : ℕ) : Type 0
 
 pub syncRounds-few : (number : ℕ) (r : Replica) (c : Checkpoint) → syncRounds number r c ≤ length (r .log)
 unfolding syncRounds
-syncRounds-few zero r c = go (eqb (allTaken (c .taken)) 0)
+syncRounds-few zero r c = go (nothingMoves r c)
   where
     go : (b : Bool) → cond b 0 (length (r .log)) ≤ length (r .log)
     go true = omega arith
@@ -44,9 +48,13 @@ pub syncRounds-none : (r : Replica) (c : Checkpoint) → allTaken (c .taken) ≡
 unfolding syncRounds
 syncRounds-none r c h = rw (eq-eqb (allTaken (c .taken)) 0 h)
 
-pub syncRounds-some : (r : Replica) (c : Checkpoint) → (allTaken (c .taken) ≡ 0 → ⊥) → syncRounds 0 r c ≡ length (r .log)
+pub syncRounds-all : (r : Replica) (c : Checkpoint) → (allTaken (c .taken) ≡ 0 → ⊥) → length (r .log) ≤ allTaken (c .taken) → syncRounds 0 r c ≡ 0
 unfolding syncRounds
-syncRounds-some r c h = rw (ne-eqb (allTaken (c .taken)) 0 h)
+syncRounds-all r c h a = rw (ne-eqb (allTaken (c .taken)) 0 h, le-leb (length (r .log)) (allTaken (c .taken)) a)
+
+pub syncRounds-some : (r : Replica) (c : Checkpoint) → (allTaken (c .taken) ≡ 0 → ⊥) → allTaken (c .taken) < length (r .log) → syncRounds 0 r c ≡ length (r .log)
+unfolding syncRounds
+syncRounds-some r c h a = rw (ne-eqb (allTaken (c .taken)) 0 h, lt-leb (length (r .log)) (allTaken (c .taken)) a)
 
 pub onePass-by : (r : Replica) (c : Checkpoint) (number rounds : ℕ) → rounds ≡ syncRounds number r c → OnePass r c number rounds
 onePass-by r c number rounds h = record { counted = h; at-most = (let f = syncRounds-few number r c in omega arith) }

@@ -102,8 +102,14 @@ fn bump(head: &mut [u32; HEAD], i: usize)
     head[i] = std::num::wrapping_add_u32(head[i], 1);
 }
 
-// x less n, or 0 where n is more.
+// x less n, or 0 where n is more, in both widths.
 fn minus(x: u32, n: u32) -> u32
+    ensures { λ r. ⌜ r ≡ x - n ⌝ }
+{
+    if n <= x { x - n } else { 0 }
+}
+
+fn less(x: usize, n: usize) -> usize
     ensures { λ r. ⌜ r ≡ x - n ⌝ }
 {
     if n <= x { x - n } else { 0 }
@@ -174,8 +180,9 @@ fn all_taken(c: Checkpoint) -> usize
     together(c.t0, c.t1, c.t2, c.t3)
 }
 
-// Drops the oldest messages of each port, as many as were taken on it, in one pass over the first len, and counts its rounds: the first
-// loop looks for the `due` messages that go, the second moves up what stands behind the last of them.
+// Drops the oldest messages of each port, as many as were taken on it, in one pass over the first len, and counts its rounds. The first loop
+// goes as far as the first message that stays; the second to the last that goes, and takes no branch by what a message does; the third moves
+// up what stands behind.
 fn compact(log: &mut [u64; LOG], len: usize, taken: [u32; 4], all: usize) -> Pass
     requires { ⌜ len ≤ logMost ⌝ }
     requires { ⌜ all ≡ allTaken taken ⌝ }
@@ -187,7 +194,7 @@ fn compact(log: &mut [u64; LOG], len: usize, taken: [u32; 4], all: usize) -> Pas
     let mut i = 0;
     let mut kept = 0;
     let mut rounds = 0;
-    while i < len && due > 0 {
+    while i < len && kept == 0 {
         let x = log[i];
         let s = lane(x);
         let n = left[s];
@@ -198,6 +205,19 @@ fn compact(log: &mut [u64; LOG], len: usize, taken: [u32; 4], all: usize) -> Pas
             log[kept] = x;
             kept += 1;
         }
+        i += 1;
+        rounds += 1;
+    }
+    while i < len && due > 0 {
+        let x = log[i];
+        let s = lane(x);
+        let n = left[s];
+        let m = minus(n, 1);
+        let goes = wide(n - m);
+        left[s] = m;
+        log[kept] = x;
+        due -= goes;
+        kept += 1 - goes;
         i += 1;
         rounds += 1;
     }
@@ -258,29 +278,32 @@ fn report(head: &[u32; HEAD], c: Checkpoint, rounds: usize) -> Metered
     }
 }
 
-// A checkpoint lands, with its rounds counted: 0, or 21 or 23. Where nothing was taken nothing moves, and there is no round.
+// A checkpoint lands, with its rounds counted: 0, or 21 or 23. Where nothing was taken, or all that was saved, nothing moves, and there is no
+// round.
 pub fn metered_sync_in(log: &mut [u64; LOG], head: &mut [u32; HEAD], c: Checkpoint) -> Metered
     ensures { λ r. ⌜ Called (now (log .entry)) (now (head .entry)) (now (log .exit)) (now (head .exit)) (r .landed .number) (λ v. sync v (checkpointOf c)) ⌝ }
     ensures { λ r. ⌜ Reports (now (log .entry)) (now (head .entry)) c (r .landed) ⌝ }
     ensures { λ r. ⌜ OnePass (viewIn (now (log .entry)) (now (head .entry))) (checkpointOf c) (r .landed .number) (r .rounds) ⌝ }
 {
+    let len = wide(head[LEN]);
+    if len > LOG {
+        return refusal(20);
+    }
     if c.pc > PC_MOST {
         return refusal(21);
     }
     if lacks(head, c) {
         return refusal(23);
     }
-    let len = wide(head[LEN]);
-    if len > LOG {
-        return refusal(20);
-    }
     let all = all_taken(c);
+    restate(head, less(len, all) as u32, c);
     if all == 0 {
-        restate(head, len as u32, c);
+        return report(head, c, 0);
+    }
+    if all >= len {
         return report(head, c, 0);
     }
     let p = compact(log, len, [c.t0, c.t1, c.t2, c.t3], all);
-    restate(head, p.kept as u32, c);
     report(head, c, p.rounds)
 }
 

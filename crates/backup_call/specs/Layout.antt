@@ -3,12 +3,13 @@ use mathlib.Core.List.{List, [], _∷_}
 use Prim.Native.Nat.{ℕ, _+_, _*_}
 use lib.ListN.{getD}
 use Rattle.facts.specs.Lists.{listed}
+use Rattle.backup.specs.Limits.{logMost}
 use Rattle.backup.specs.Replica.{Message, Replica}
 use Rattle.backup.specs.declared.place.Checkpoint.{Checkpoint}
 
--- how many numbers a state has, and so a reply; and how many a call has
+-- how many numbers a state has, and so a reply: seven, and a pair for each message; and how many a call has
 abbrev pub stateLength : ℕ
-stateLength = 103
+stateLength = 7 + 2 * logMost
 
 abbrev pub callLength : ℕ
 callLength = 10

@@ -1,5 +1,5 @@
 -- The rounds of the sync in a call on lent numbers. W-205: "apart from the check for 20, the rounds of all loops in a sync together are at
--- most the words saved". The two loops that move a state's 48 pairs into a record and out again are no part of the sync: they are how lent
+-- most the words saved". The two loops that move a state's pairs into a record and out again are no part of the sync: they are how lent
 -- numbers become a record, the same at every call, whether it syncs or not, and a program that holds a record has none of them.
 use mathlib.Core.Path.{_≡_}
 use mathlib.Core.List.{List}

@@ -6,6 +6,7 @@ ghost use Rattle.backup_value.specs.Value.{view, repliedOf, reportedOf};
 ghost use Rattle.backup_call.specs.Layout.{stateLength, callLength, stateView, checkpointAt};
 ghost use Rattle.backup_call.specs.Exported.{Sized, Exported, Stored, Settled, HandedOver, toldIn};
 ghost use Rattle.backup_call.specs.Rounds.{CallPass, roundlessOf};
+use backup::limits::LOG;
 use backup::pack::packed;
 use backup::pack::port_of;
 use backup::pack::word_of;
@@ -21,7 +22,7 @@ use backup_value::metered_sync;
 use backup_value::new;
 
 // Where a state has its numbers: the log's length, the count, the program counter, four registers, then a pair (port, word) for each
-// of 48 messages.
+// of LOG messages.
 const LEN: usize = 0;
 
 const SENT: usize = 1;
@@ -40,9 +41,7 @@ const PORT: usize = 7;
 
 const WORD: usize = 8;
 
-const LOG: usize = 48;
-
-const STATE: usize = 103;
+const STATE: usize = PORT + 2 * LOG;
 
 // How many numbers a call has: its own, and up to nine arguments.
 const CALL: usize = 10;
@@ -235,7 +234,7 @@ pub fn metered_call(state: &mut [u32], call: &[u32], reply: &mut [u32]) -> Meter
     perform(state, call, reply)
 }
 
-// The call. `state` is a backup in 103 numbers, `call` a number and its arguments: 0 new; 1 arrive: port, word; 2 count;
+// The call. `state` is a backup in STATE numbers, `call` a number and its arguments: 0 new; 1 arrive: port, word; 2 count;
 // 3 sync: place, four registers, four takes, which writes into `reply` how many words it dropped on each slot, and then how many remain on
 // each; 4 take over, which writes into `reply` what it hands over, laid out as a state. The result is document 01's number, or 25 for a slice of another length, or 26 for a call of another number.
 pub fn backup_call(state: &mut [u32], call: &[u32], reply: &mut [u32]) -> u32

@@ -1,6 +1,7 @@
-// Cases of the backup record, run and compared with stdout: M12 of document 01, the forty-ninth arrival, every refusal of every call
+// Cases of the backup record, run and compared with stdout: M12 of document 01, the sixty-fifth arrival, every refusal of every call
 // and its place in the order, take over of a full and of an empty record, and syncs that take everything, nothing, or one slot's oldest, with what
 // they report.
+use backup::limits::LOG;
 use backup::place::Checkpoint;
 use backup_value::Backup;
 use backup_value::FailOver;
@@ -34,7 +35,7 @@ fn show(b: Backup) {
     let len = b.len as usize;
     let log = b.log;
     for i in 0..len {
-        if i < 48 {
+        if i < LOG {
             let x = log[i];
             number(backup::pack::port_of(x) as u64);
             number(backup::pack::word_of(x) as u64);
@@ -137,19 +138,19 @@ fn arrivals() {
             backup: three(),
         },
     );
-    reply(b"forty-eight arrivals", filled(48));
-    reply(b"the forty-ninth", filled(49));
+    reply(b"sixty-four arrivals", filled(64));
+    reply(b"the sixty-fifth", filled(65));
     reply(b"slot 4", backup_value::arrive(three(), 4, 9));
     reply(
         b"slot 4 into a full record",
-        backup_value::arrive(filled(48).backup, 4, 9),
+        backup_value::arrive(filled(64).backup, 4, 9),
     );
 }
 
 fn counts() {
     reply(b"count", backup_value::count(three()));
-    reply(b"sixteen counts", counted(16));
-    reply(b"the seventeenth", counted(17));
+    reply(b"thirty-two counts", counted(32));
+    reply(b"the thirty-third", counted(33));
 }
 
 fn syncs() {
@@ -167,7 +168,7 @@ fn syncs() {
     );
     synced(
         b"everything of a full record",
-        backup_value::sync(filled(48).backup, checkpoint(7, 12, 12, 12, 12)),
+        backup_value::sync(filled(64).backup, checkpoint(7, 16, 16, 16, 16)),
     );
     synced(
         b"slot by slot",
@@ -175,7 +176,7 @@ fn syncs() {
     );
     synced(
         b"the count goes to 0",
-        backup_value::sync(counted(16).backup, checkpoint(1, 0, 0, 0, 0)),
+        backup_value::sync(counted(32).backup, checkpoint(1, 0, 0, 0, 0)),
     );
     synced(
         b"place 65",
@@ -219,11 +220,11 @@ fn promotions() {
     );
     promoted(
         b"take over of a full record",
-        backup_value::fail_over(filled(48).backup),
+        backup_value::fail_over(filled(64).backup),
     );
     promoted(
-        b"take over with sixteen counted",
-        backup_value::fail_over(counted(16).backup),
+        b"take over with thirty-two counted",
+        backup_value::fail_over(counted(32).backup),
     );
 }
 
@@ -241,14 +242,14 @@ fn unfit(case: &[u8], b: Backup) {
 
 fn unfits() {
     let mut b = three();
-    b.len = 49;
-    unfit(b"over 48 words:", b);
+    b.len = 65;
+    unfit(b"over 64 words:", b);
     b = three();
     b.log[2] = 4 * 4294967296 + 12;
     unfit(b"slot 4 saved:", b);
     b = three();
-    b.sent = 17;
-    unfit(b"count 17:", b);
+    b.sent = 33;
+    unfit(b"count 33:", b);
     b = three();
     b.pc = 65;
     unfit(b"place 65:", b);

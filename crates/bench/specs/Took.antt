@@ -12,7 +12,7 @@ pub record Filled (buffer : List ℕ) (from to r : ℕ) (buffer′ : List ℕ) :
   pub same-length : length buffer′ ≡ length buffer
   pub in-front : take from buffer′ ≡ take from buffer
 
--- r bytes are at a buffer's front, and never more than are wanted: a "table length over 6,260 [..] reads no further"
+-- r bytes are at a buffer's front, and never more than are wanted: a "table length over 6,260 [..] reads no further", 6,276 since W-207
 pub record Took (r : ℕ) (buffer′ : List ℕ) : Type 0 where
   pub within : r ≤ length buffer′
   pub part : r ≡ length (take r buffer′)

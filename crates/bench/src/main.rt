@@ -48,7 +48,7 @@ fn read_input(input: &mut [u8]) -> usize
 
 fn main() {
     // `inputRoom`: the longest table, and one byte more than the longest schedule.
-    let mut input = [0u8; 66266];
+    let mut input = [0u8; 66282];
     // `pageRoom`: no page is longer.
     let mut page = [0u8; 251158];
     let n = read_input(&mut input);

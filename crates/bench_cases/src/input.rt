@@ -1,9 +1,10 @@
 // The inputs of the cases, each a table and a schedule given byte by byte: a byte is a number that its place makes, so that the same input is
 // soon written in another language.
 
-// The sample, or the largest table; one byte of the input that is changed; the schedule's length field.
+// The sample, or the largest table, of version 1 or 2; one byte of the input that is changed; the schedule's length field.
 pub struct Case {
     pub large: bool,
+    pub limited: bool,
     pub at: usize,
     pub byte: u8,
     pub field: usize,
@@ -117,11 +118,31 @@ fn instruction_byte(p: usize, j: usize, byte: usize) -> u8 {
     }
 }
 
-// 16 boards, 16 processes of 64 instructions, 32 channels: one from the outside to each process, and one from each to the next.
-fn large_byte(i: usize) -> u8 {
+// The record of process p of the largest table, and the same with its limit, p + 1.
+fn process_byte(p: usize, at: usize) -> u8 {
+    match at {
+        0 => low(p),
+        1 => low((p % 16 + 1) % 16),
+        2 => 64,
+        _ => instruction_byte(p, (at - 3) / 6 % 64, (at - 3) % 6),
+    }
+}
+
+fn limited_byte(p: usize, at: usize) -> u8 {
+    match at {
+        0 | 1 => process_byte(p, at),
+        2 => low(p % 16 + 1),
+        _ => process_byte(p, at - 1),
+    }
+}
+
+// 16 boards, 16 processes of 64 instructions, 32 channels: one from the outside to each process, and one from each to the next; in version 1,
+// or in version 2.
+fn large_byte(limited: bool, i: usize) -> u8 {
     if i < 6 {
         let head = [24, 116, 1, 16, 16, 32];
-        return head[i];
+        let limited_head = [24, 132, 2, 16, 16, 32];
+        return if limited { limited_head[i] } else { head[i] };
     }
     if i < 70 {
         let k = (i - 6) / 2;
@@ -129,14 +150,10 @@ fn large_byte(i: usize) -> u8 {
         let reader = if k < 16 { low(k) } else { low((k - 15) % 16) };
         return if i % 2 == 0 { sender } else { reader };
     }
-    let p = (i - 70) / 387 % 16;
-    let at = (i - 70) % 387;
-    match at {
-        0 => low(p),
-        1 => low((p + 1) % 16),
-        2 => 64,
-        _ => instruction_byte(p, (at - 3) / 6 % 64, (at - 3) % 6),
+    if limited {
+        return limited_byte((i - 70) / 388 % 16, (i - 70) % 388);
     }
+    process_byte((i - 70) / 387 % 16, (i - 70) % 387)
 }
 
 // Record r: steps, carries, syncs and feeds by turns that differ, among them some of things that no table has, and now and then a crash.
@@ -188,10 +205,11 @@ fn input_byte(c: Case, i: usize) -> u8 {
         return c.byte;
     }
     if c.large {
-        return if i < 6262 {
-            large_byte(i)
+        let end = if c.limited { 6278 } else { 6262 };
+        return if i < end {
+            large_byte(c.limited, i)
         } else {
-            schedule_byte(c, i - 6262)
+            schedule_byte(c, i - end)
         };
     }
     if i < 37 {

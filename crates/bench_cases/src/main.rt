@@ -79,6 +79,7 @@ fn sample(name: &[u8], field: usize, length: usize) {
 fn changed(name: &[u8], at: usize, byte: u8, field: usize, length: usize) {
     let c = Case {
         large: false,
+        limited: false,
         at: at,
         byte: byte,
         field: field,
@@ -90,6 +91,19 @@ fn changed(name: &[u8], at: usize, byte: u8, field: usize, length: usize) {
 fn largest(name: &[u8], at: usize, byte: u8, field: usize, length: usize) {
     let c = Case {
         large: true,
+        limited: false,
+        at: at,
+        byte: byte,
+        field: field,
+    };
+    case(name, c, length);
+}
+
+// The same with the largest table of version 2.
+fn limited(name: &[u8], at: usize, byte: u8, field: usize, length: usize) {
+    let c = Case {
+        large: true,
+        limited: true,
         at: at,
         byte: byte,
         field: field,
@@ -122,10 +136,17 @@ fn lengths() {
 
 fn too_long() {
     largest(b"length 6261", 1, 117, 61, 6325);
-    largest(b"length 6261 and no more", 1, 117, 61, 2);
-    largest(b"length 6260 and no more", NOWHERE, 0, 61, 2);
+    largest(b"length 6276 of version 1", 1, 132, 61, 6341);
+    limited(b"length 6277", 1, 133, 61, 6341);
+    limited(b"length 6277 and no more", 1, 133, 61, 2);
+    limited(b"length 6276 and no more", NOWHERE, 0, 61, 2);
     changed(b"length 65280", 0, 255, 61, 100);
+}
+
+fn versions() {
     changed(b"version 9", 2, 9, 61, 100);
+    changed(b"version 2 with a head of 3", 2, 2, 61, 100);
+    limited(b"version 1 with a head of 4", 2, 1, 61, 6341);
 }
 
 fn schedules() {
@@ -149,12 +170,29 @@ fn large() {
     largest(b"and a word more", NOWHERE, 0, 60007, 66271);
 }
 
+fn limits() {
+    limited(b"limits 1 to 16", NOWHERE, 0, 1, 6281);
+    limited(
+        b"limits 1 to 16 and 10000 records",
+        NOWHERE,
+        0,
+        60001,
+        66281,
+    );
+    limited(b"limits 1 to 16 and a byte more", NOWHERE, 0, 60001, 66282);
+    limited(b"limit 0", 72, 0, 61, 6341);
+    limited(b"limit 17", 5892, 17, 61, 6341);
+    limited(b"limit 17 and 60004 bytes", 5892, 17, 60002, 66282);
+}
+
 fn main() {
     early();
     short();
     lengths();
     too_long();
+    versions();
     schedules();
     over();
     large();
+    limits();
 }

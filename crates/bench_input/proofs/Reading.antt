@@ -38,7 +38,7 @@ field-cut input =
     let b = getD-take n input 1 0 (omega arith) in
     rw (a, b)
 
--- ---- a table whose length field is over 6,260 is refused with 1
+-- ---- a table whose length field is over 6,276 is refused with 1
 
 and-false : (a b : Bool) → b ≡ false → (a && b) ≡ false
 and-false true b h = h
@@ -106,7 +106,7 @@ settled have more h =
     let l = length-append have more in
     rw (le-ltb (length (have ++ more)) 2 (omega arith), le-ltb (length have) 2 h, field-append have more h)
 
--- a table with a length field over 6,260: two bytes are enough
+-- a table with a length field over 6,276: two bytes are enough
 over-bench : (input : List ℕ) → tableMost < lengthField input → benchPage input ≡ refusedLine 1
 unfolding benchPage
 over-bench input h = ap (λ (b : Bool). cond b (refusedLine 1) (pageOf (processesIn (tableIn input)) (run (tableIn input) (scheduleIn input) benchBuffers))) (lt-ltb tableMost (lengthField input) h)

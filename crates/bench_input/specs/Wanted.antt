@@ -1,5 +1,6 @@
 -- How much of standard input the program reads, and that the rest is without effect (document 01: "A table length over 6,260 prints
--- `refused 1` and reads no further; over 60,003 bytes of schedule is 9 unless a lower number applies.").
+-- `refused 1` and reads no further; over 60,003 bytes of schedule is 9 unless a lower number applies."; W-207: "The table's length limit becomes
+-- 6,276", and 47 is "checked after 8 and before 9").
 use mathlib.Core.Path.{_≡_}
 use mathlib.Core.Bool.{cond}
 use mathlib.Core.List.{List, _++_}

@@ -1,8 +1,8 @@
 // A word reaches its reader, a process: "to the reader's inbox, the reader's backup record".
 ghost use Rattle.bus.specs.Delivers.{Delivers};
+use backup::limits::LOG;
 use backup::place::HEAD;
 use process::delivery::receive;
-use process::mail::MAIL;
 use process::row::ROW;
 use state::board::index16;
 use state::channel::index32;
@@ -11,8 +11,8 @@ pub fn deliver(
     reader: &[u32; 32],
     port: &[u32; 32],
     rows: &mut [[u32; ROW]; 16],
-    mails: &mut [[u64; MAIL]; 16],
-    logs: &mut [[u64; MAIL]; 16],
+    mails: &mut [[u64; LOG]; 16],
+    logs: &mut [[u64; LOG]; 16],
     heads: &mut [[u32; HEAD]; 16],
     channel: u32,
     word: u32,

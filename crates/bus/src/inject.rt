@@ -1,8 +1,8 @@
 // Move 4: a word comes in from outside. "Feed: 43 sender not outside, 39 held."
 ghost use Rattle.bus.specs.Injects.{Injects};
 use crate::delivery::deliver;
+use backup::limits::LOG;
 use backup::place::HEAD;
-use process::mail::MAIL;
 use process::row::ROW;
 use state::channel::ENVIRONMENT;
 use state::channel::held;
@@ -15,8 +15,8 @@ pub fn inject(
     reader: &[u32; 32],
     port: &[u32; 32],
     rows: &mut [[u32; ROW]; 16],
-    mails: &mut [[u64; MAIL]; 16],
-    logs: &mut [[u64; MAIL]; 16],
+    mails: &mut [[u64; LOG]; 16],
+    logs: &mut [[u64; LOG]; 16],
     heads: &mut [[u32; HEAD]; 16],
     totals: &mut [u32; 32],
     a: u32,

@@ -1,10 +1,10 @@
 // A checkpoint is carried: its process's backup keeps it, if there is one, and it waits no more.
 // "5 sync carried, 6 sync with no backup left (process, 0)"; W-202: "A carried sync then answers 5 with the total dropped as its word".
 ghost use Rattle.bus.specs.Syncs.{Syncs};
+use backup::limits::LOG;
 use backup::place::Checkpoint;
 use backup::place::HEAD;
 use process::checkpoint::keep;
-use process::mail::MAIL;
 use process::row::PROTECTED;
 use process::row::ROW;
 use state::board::index16;
@@ -12,7 +12,7 @@ use state::moved::Answer;
 
 pub fn transmit_sync(
     rows: &[[u32; ROW]; 16],
-    logs: &mut [[u64; MAIL]; 16],
+    logs: &mut [[u64; LOG]; 16],
     heads: &mut [[u32; HEAD]; 16],
     waits: &mut [u32; 16],
     process: u32,

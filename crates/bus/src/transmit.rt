@@ -8,8 +8,8 @@ use crate::queue::peek;
 use crate::queue::pop;
 use crate::sync::transmit_sync;
 use crate::word::transmit_word;
+use backup::limits::LOG;
 use backup::place::HEAD;
-use process::mail::MAIL;
 use process::row::ROW;
 use state::board::BOARD_ROW;
 use state::board::DEAD;
@@ -34,8 +34,8 @@ pub fn transmit(
     reader: &[u32; 32],
     port: &[u32; 32],
     rows: &mut [[u32; ROW]; 16],
-    mails: &mut [[u64; MAIL]; 16],
-    logs: &mut [[u64; MAIL]; 16],
+    mails: &mut [[u64; LOG]; 16],
+    logs: &mut [[u64; LOG]; 16],
     heads: &mut [[u32; HEAD]; 16],
     boards: &mut [[u32; BOARD_ROW]; 16],
     totals: &mut [u32; 32],

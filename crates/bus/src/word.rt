@@ -2,9 +2,9 @@
 // record, which counts it and keeps no copy."
 ghost use Rattle.bus.specs.Carries.{Carries};
 use crate::delivery::deliver;
+use backup::limits::LOG;
 use backup::place::HEAD;
 use process::delivery::counts;
-use process::mail::MAIL;
 use process::row::ROW;
 use state::board::index16;
 use state::channel::ENVIRONMENT;
@@ -18,8 +18,8 @@ pub fn transmit_word(
     reader: &[u32; 32],
     port: &[u32; 32],
     rows: &mut [[u32; ROW]; 16],
-    mails: &mut [[u64; MAIL]; 16],
-    logs: &mut [[u64; MAIL]; 16],
+    mails: &mut [[u64; LOG]; 16],
+    logs: &mut [[u64; LOG]; 16],
     heads: &mut [[u32; HEAD]; 16],
     totals: &mut [u32; 32],
     channel: u32,

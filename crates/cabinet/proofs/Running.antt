@@ -43,7 +43,7 @@ use Rattle.cabinet.specs.declared.run.Verdict.{Verdict}
 -- ---- the plan of an accepted table
 
 abbrev pub lentBy : List ℕ → Plan → Lent
-lentBy table plan = lentOf table (plan .boards) (plan .processes) (plan .channels) (plan .start) (plan .length) (plan .sender) (plan .reader) (plan .port) (plan .inputs) (plan .arity)
+lentBy table plan = lentOf table (plan .boards) (plan .processes) (plan .channels) (plan .start) (plan .length) (plan .limit) (plan .sender) (plan .reader) (plan .port) (plan .inputs) (plan .arity)
 
 suits : (table : List ℕ) (plan : Plan) → validateTable table ≡ 0 → Plans table plan → Suits (decodeTable table) (lentBy table plan)
 suits table plan ok p = record {
@@ -57,6 +57,7 @@ suits table plan ok p = record {
         ap (λ (at : ℕ). instructionOf (fetched table at k)) (p .start-at q h)
         ∙ fetched-code table (valid table ok .extent-ok) q (rw (← processes-counted table) h) k l;
   };
+  limited = p .limit-at;
   addressed = record { arity-at = p .arity-at; input-at = p .input-at };
 }
 

@@ -5,13 +5,13 @@ ghost use Prim.Native.Nat.{_<_};
 ghost use Rattle.state.specs.Store.{storeOf};
 ghost use Rattle.command.specs.Plan.{lentOf};
 ghost use Rattle.cabinet.specs.Plays.{sheetsOf, Plays};
+use backup::limits::LOG;
 use backup::place::HEAD;
 use bus::transmit::oldest;
 use command::turn::carry;
 use command::turn::turn;
 use outcome::answer::put;
 use outcome::answer::put_reason;
-use process::mail::MAIL;
 use process::row::ROW;
 use records::schedule::command_at;
 use state::board::BOARD_ROW;
@@ -35,14 +35,15 @@ pub fn play(
     channels: usize,
     start: &[u32; 16],
     lengths: &[u32; 16],
+    limits: &[u32; 16],
     sender: &[u32; 32],
     reader: &[u32; 32],
     port: &[u32; 32],
     ins: &[u32; 64],
     arity: &[u32; 16],
     rows: &mut [[u32; ROW]; 16],
-    mails: &mut [[u64; MAIL]; 16],
-    logs: &mut [[u64; MAIL]; 16],
+    mails: &mut [[u64; LOG]; 16],
+    logs: &mut [[u64; LOG]; 16],
     heads: &mut [[u32; HEAD]; 16],
     boards: &mut [[u32; BOARD_ROW]; 16],
     totals: &mut [u32; 32],
@@ -50,7 +51,7 @@ pub fn play(
     answers: &mut [u8],
     reasons: &mut [u8],
 )
-    ensures { λ _. ⌜ Plays (lentOf (now (table .entry)) «boards_many» processes channels (now (start .entry)) (now (lengths .entry)) (now (sender .entry)) (now (reader .entry)) (now (port .entry)) (now (ins .entry)) (now (arity .entry))) (now (schedule .entry)) records (storeOf (now (rows .entry)) (now (mails .entry)) (now (logs .entry)) (now (heads .entry)) (now (boards .entry)) (now (totals .entry)) (now (waits .entry))) (sheetsOf (now (answers .entry)) (now (reasons .entry))) (storeOf (now (rows .exit)) (now (mails .exit)) (now (logs .exit)) (now (heads .exit)) (now (boards .exit)) (now (totals .exit)) (now (waits .exit))) (sheetsOf (now (answers .exit)) (now (reasons .exit))) ⌝ }
+    ensures { λ _. ⌜ Plays (lentOf (now (table .entry)) «boards_many» processes channels (now (start .entry)) (now (lengths .entry)) (now (limits .entry)) (now (sender .entry)) (now (reader .entry)) (now (port .entry)) (now (ins .entry)) (now (arity .entry))) (now (schedule .entry)) records (storeOf (now (rows .entry)) (now (mails .entry)) (now (logs .entry)) (now (heads .entry)) (now (boards .entry)) (now (totals .entry)) (now (waits .entry))) (sheetsOf (now (answers .entry)) (now (reasons .entry))) (storeOf (now (rows .exit)) (now (mails .exit)) (now (logs .exit)) (now (heads .exit)) (now (boards .exit)) (now (totals .exit)) (now (waits .exit))) (sheetsOf (now (answers .exit)) (now (reasons .exit))) ⌝ }
 {
     let none = blank();
     let mut entries = [none; ENTRIES];
@@ -94,6 +95,7 @@ pub fn play(
             channels,
             start,
             lengths,
+            limits,
             sender,
             reader,
             port,

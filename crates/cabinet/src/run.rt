@@ -4,11 +4,11 @@ ghost use Rattle.rules.specs.Run.{buffersOf};
 ghost use Rattle.cabinet.specs.Conducts.{Conducts};
 ghost use Rattle.cabinet.specs.Runs.{Runs};
 use crate::play::play;
+use backup::limits::LOG;
 use backup::place::HEAD;
 use outcome::quiet::quiescent;
 use outcome::report::write_report;
 use outcome::start::seat;
-use process::mail::MAIL;
 use process::row::ROW;
 use records::schedule::Lengths;
 use records::schedule::judge_run;
@@ -42,6 +42,7 @@ fn conduct(
     let channels = plan.channels;
     let start = plan.start;
     let lengths = plan.length;
+    let limits = plan.limit;
     let primary = plan.primary;
     let standby = plan.standby;
     let sender = plan.sender;
@@ -50,8 +51,8 @@ fn conduct(
     let ins = plan.inputs;
     let arity = plan.arity;
     let mut rows = [[0u32; ROW]; 16];
-    let mut mails = [[0u64; MAIL]; 16];
-    let mut logs = [[0u64; MAIL]; 16];
+    let mut mails = [[0u64; LOG]; 16];
+    let mut logs = [[0u64; LOG]; 16];
     let mut heads = [[0u32; HEAD]; 16];
     let mut boards = [[0u32; BOARD_ROW]; 16];
     let mut totals = [0u32; 32];
@@ -66,6 +67,7 @@ fn conduct(
         channels,
         &start,
         &lengths,
+        &limits,
         &sender,
         &reader,
         &port,

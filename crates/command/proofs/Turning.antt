@@ -73,7 +73,7 @@ module _ (l : Lent) (s : Store) (mv a word n : ℕ) (is-n : n ≡ judgeOf (l .bo
   at-number k e t c u z = ap (judgement t c a word) (sym e) ∙ by-table t c u ∙ z
 
   pub turn-steps : (rows mails boards : List (List ℕ)) (totals : List ℕ) (r : Moved) → n ≡ 0 → mv ≡ 1
-      → Steps (l .table) (l .start) (l .lengths) (l .reader) (l .port) (s .rows) (s .mails) (s .boards) (s .totals) a rows mails boards totals r
+      → Steps (l .table) (l .start) (l .lengths) (l .limits) (l .reader) (l .port) (s .rows) (s .mails) (s .boards) (s .totals) a rows mails boards totals r
       → Turns l s mv a word (storeOf rows mails (s .logs) (s .heads) boards totals (s .waits)) r
   turn-steps rows mails boards totals r z e made = record {
     turned = λ t entries c reach u holds other.
@@ -81,7 +81,7 @@ module _ (l : Lent) (s : Store) (mv a word n : ℕ) (is-n : n ≡ judgeOf (l .bo
         let after : Store = storeOf rows mails (s .logs) (s .heads) boards totals (s .waits) in
         subst (λ (k : ℕ). Turned t after entries c (command k a word) (judged t c (command k a word)) r) (sym e)
         (subst (λ (y : Result). Turned t after entries c (command 1 a word) y r) (sym (x .0))
-        (made .turned t (l .sender) (s .logs) (s .heads) (s .waits) entries c (command 1 a word) reach (u .wired) (u .programmed) holds refl (x .1)));
+        (made .turned t (l .sender) (s .logs) (s .heads) (s .waits) entries c (command 1 a word) reach (u .wired) (u .programmed) (u .limited) holds refl (x .1)));
   }
 
   pub turn-issues : (rows boards : List (List ℕ)) (waits : List ℕ) (r : Moved) → n ≡ 0 → mv ≡ 2

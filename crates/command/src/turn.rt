@@ -5,11 +5,11 @@ ghost use Rattle.rules.specs.Moves.{moveOf};
 ghost use Rattle.state.specs.Store.{storeOf};
 ghost use Rattle.command.specs.Plan.{lentOf};
 ghost use Rattle.command.specs.Turns.{beyondOf, numberOf, wordedOf, judgeOf, faultOf, causeBy, Turns, Carries};
+use backup::limits::LOG;
 use backup::place::HEAD;
 use bus::inject::inject;
 use bus::transmit::transmit;
 use crash::crash::crash;
-use process::mail::MAIL;
 use process::row::ROW;
 use state::board::BOARD_ROW;
 use state::board::wide;
@@ -89,14 +89,15 @@ pub fn turn(
     channels: usize,
     start: &[u32; 16],
     lengths: &[u32; 16],
+    limits: &[u32; 16],
     sender: &[u32; 32],
     reader: &[u32; 32],
     port: &[u32; 32],
     ins: &[u32; 64],
     arity: &[u32; 16],
     rows: &mut [[u32; ROW]; 16],
-    mails: &mut [[u64; MAIL]; 16],
-    logs: &mut [[u64; MAIL]; 16],
+    mails: &mut [[u64; LOG]; 16],
+    logs: &mut [[u64; LOG]; 16],
     heads: &mut [[u32; HEAD]; 16],
     boards: &mut [[u32; BOARD_ROW]; 16],
     totals: &mut [u32; 32],
@@ -105,7 +106,7 @@ pub fn turn(
     a: u32,
     word: u32,
 ) -> Moved
-    ensures { λ r. ⌜ Turns (lentOf (now (table .entry)) «boards_many» processes channels (now (start .entry)) (now (lengths .entry)) (now (sender .entry)) (now (reader .entry)) (now (port .entry)) (now (ins .entry)) (now (arity .entry))) (storeOf (now (rows .entry)) (now (mails .entry)) (now (logs .entry)) (now (heads .entry)) (now (boards .entry)) (now (totals .entry)) (now (waits .entry))) mv a word (storeOf (now (rows .exit)) (now (mails .exit)) (now (logs .exit)) (now (heads .exit)) (now (boards .exit)) (now (totals .exit)) (now (waits .exit))) r ⌝ }
+    ensures { λ r. ⌜ Turns (lentOf (now (table .entry)) «boards_many» processes channels (now (start .entry)) (now (lengths .entry)) (now (limits .entry)) (now (sender .entry)) (now (reader .entry)) (now (port .entry)) (now (ins .entry)) (now (arity .entry))) (storeOf (now (rows .entry)) (now (mails .entry)) (now (logs .entry)) (now (heads .entry)) (now (boards .entry)) (now (totals .entry)) (now (waits .entry))) mv a word (storeOf (now (rows .exit)) (now (mails .exit)) (now (logs .exit)) (now (heads .exit)) (now (boards .exit)) (now (totals .exit)) (now (waits .exit))) r ⌝ }
 {
     let number = judge(boards_many, processes, channels, mv, a, word);
     if number != 0 {
@@ -116,6 +117,7 @@ pub fn turn(
             table,
             start,
             lengths,
+            limits,
             reader,
             port,
             rows,
@@ -167,8 +169,8 @@ pub fn carry(
     reader: &[u32; 32],
     port: &[u32; 32],
     rows: &mut [[u32; ROW]; 16],
-    mails: &mut [[u64; MAIL]; 16],
-    logs: &mut [[u64; MAIL]; 16],
+    mails: &mut [[u64; LOG]; 16],
+    logs: &mut [[u64; LOG]; 16],
     heads: &mut [[u32; HEAD]; 16],
     boards: &mut [[u32; BOARD_ROW]; 16],
     totals: &mut [u32; 32],

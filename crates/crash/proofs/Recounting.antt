@@ -8,6 +8,7 @@ use lib.ListN.{getD}
 use borrow.Author.Tests.{lt-ltb, le-ltb}
 use Rattle.facts.specs.Lists.{prefix, prefix-more}
 use Rattle.facts.specs.Counts.{same, same-yes, same-no}
+use Rattle.backup.specs.Limits.{logMost}
 use Rattle.rules.specs.Cabinet.{unreadOn}
 use Rattle.rules.proofs.Counting.{unread-append}
 use Rattle.process.specs.Row.{mailIn, mailsIn}
@@ -30,7 +31,7 @@ one-word-more mail k i =
     ∙ ap (unreadOn k) (map-append mailIn (prefix i mail) (getD mail i 0 ∷ []))
     ∙ unread-append k (mailsIn i mail) (mailIn (getD mail i 0))
 
-module _ (mail : List ℕ) (n k count i : ℕ) (c : Counting mail n k count i) (few : n ≤ 48) where
+module _ (mail : List ℕ) (n k count i : ℕ) (c : Counting mail n k count i) (few : n ≤ logMost) where
   pub counting-hit : (channel more : ℕ) → i < n → channel ≡ mailIn (getD mail i 0) .channel → channel ≡ k → more ≡ (count + 1) % 2 ^ 32 → Counting mail n k more (i + 1)
   counting-hit channel more l e f g =
       let s = c .small in

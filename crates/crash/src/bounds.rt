@@ -1,6 +1,8 @@
 // Counts that are clamped to what the arrays have, so that no loop runs past them.
 ghost use mathlib.Core.Path.{_≡_};
 ghost use Prim.Native.Nat.{_≤_, min};
+ghost use Rattle.backup.specs.Limits.{logMost};
+use backup::limits::LOG;
 
 // A count of processes or boards; 16 stands for any that is more.
 pub fn most16(n: usize) -> usize
@@ -16,9 +18,9 @@ pub fn most32(n: usize) -> usize
     if n > 32 { 32 } else { n }
 }
 
-// A count of unread words; 48 stands for any that is more.
-pub fn most48(n: usize) -> usize
-    ensures { λ r. ⌜ r ≡ min n 48 ⌝ }
+// A count of unread words; as many as a mailbox has stands for any that is more.
+pub fn most_words(n: usize) -> usize
+    ensures { λ r. ⌜ r ≡ min n logMost ⌝ }
 {
-    if n > 48 { 48 } else { n }
+    if n > LOG { LOG } else { n }
 }

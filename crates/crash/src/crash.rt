@@ -10,8 +10,8 @@ use crate::losses::other_dead;
 use crate::processes::crash_all;
 use crate::recount::add_unread;
 use crate::recount::drop_unread;
+use backup::limits::LOG;
 use backup::place::HEAD;
-use process::mail::MAIL;
 use process::row::ROW;
 use state::board::BOARD_ROW;
 use state::board::DEAD;
@@ -28,8 +28,8 @@ pub fn crash(
     ins: &[u32; 64],
     arity: &[u32; 16],
     rows: &mut [[u32; ROW]; 16],
-    mails: &mut [[u64; MAIL]; 16],
-    logs: &[[u64; MAIL]; 16],
+    mails: &mut [[u64; LOG]; 16],
+    logs: &[[u64; LOG]; 16],
     heads: &[[u32; HEAD]; 16],
     boards: &mut [[u32; BOARD_ROW]; 16],
     totals: &mut [u32; 32],

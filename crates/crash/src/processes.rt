@@ -2,9 +2,9 @@
 ghost use mathlib.Core.Path.{_≡_};
 ghost use Prim.Native.Nat.{_≤_, _<_};
 ghost use Rattle.crash.specs.Processes.{inputIn, AllCrashed};
+use backup::limits::LOG;
 use backup::place::HEAD;
 use process::crash::crash;
-use process::mail::MAIL;
 use process::row::ROW;
 use state::board::wide;
 
@@ -26,8 +26,8 @@ pub fn crash_all(
     ins: &[u32; 64],
     arity: &[u32; 16],
     rows: &mut [[u32; ROW]; 16],
-    mails: &mut [[u64; MAIL]; 16],
-    logs: &[[u64; MAIL]; 16],
+    mails: &mut [[u64; LOG]; 16],
+    logs: &[[u64; LOG]; 16],
     heads: &[[u32; HEAD]; 16],
     a: u32,
 )

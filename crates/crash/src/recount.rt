@@ -1,11 +1,12 @@
 // The unread words of each channel, counted in its reader's mailbox: a take-over's inbox replaces them in the channel's total.
 ghost use mathlib.Core.Path.{_≡_};
 ghost use Prim.Native.Nat.{_≤_, _<_};
+ghost use Rattle.backup.specs.Limits.{logMost};
 ghost use Rattle.rules.specs.Cabinet.{unreadOn};
 ghost use Rattle.process.specs.Row.{mailIn, mailsIn};
 ghost use Rattle.crash.specs.Recount.{unreadHere, unreadIn, Dropped, Added};
-use crate::bounds::most48;
-use process::mail::MAIL;
+use crate::bounds::most_words;
+use backup::limits::LOG;
 use process::mail::channel_of;
 use process::row::ROW;
 use process::row::UNREAD;
@@ -19,8 +20,8 @@ fn channel_at(x: u64) -> usize
 }
 
 // How many of a mailbox's first n words are on channel k.
-fn count_on(mail: &[u64; MAIL], n: usize, k: usize) -> u32
-    requires { ⌜ n ≤ 48 ⌝ }
+fn count_on(mail: &[u64; LOG], n: usize, k: usize) -> u32
+    requires { ⌜ n ≤ logMost ⌝ }
     ensures { λ r. ⌜ r ≡ unreadOn k (mailsIn n (now (mail .entry))) ⌝ }
 {
     let mut count = 0;
@@ -35,14 +36,14 @@ fn count_on(mail: &[u64; MAIL], n: usize, k: usize) -> u32
 }
 
 // How many unread words of channel k a process has.
-fn unread_of(row: &[u32; ROW], mail: &[u64; MAIL], k: usize) -> u32
+fn unread_of(row: &[u32; ROW], mail: &[u64; LOG], k: usize) -> u32
     ensures { λ r. ⌜ r ≡ unreadHere (now (row .entry)) (now (mail .entry)) k ⌝ }
 {
-    count_on(mail, most48(wide(row[UNREAD])), k)
+    count_on(mail, most_words(wide(row[UNREAD])), k)
 }
 
 // How many process p has; none where p is no process.
-fn unread_at(rows: &[[u32; ROW]; 16], mails: &[[u64; MAIL]; 16], p: usize, k: usize) -> u32
+fn unread_at(rows: &[[u32; ROW]; 16], mails: &[[u64; LOG]; 16], p: usize, k: usize) -> u32
     ensures { λ r. ⌜ r ≡ unreadIn (now (rows .entry)) (now (mails .entry)) p k ⌝ }
 {
     if p < 16 {
@@ -57,7 +58,7 @@ pub fn drop_unread(
     n: usize,
     reader: &[u32; 32],
     rows: &[[u32; ROW]; 16],
-    mails: &[[u64; MAIL]; 16],
+    mails: &[[u64; LOG]; 16],
     totals: &mut [u32; 32],
 )
     requires { ⌜ n ≤ 32 ⌝ }
@@ -76,7 +77,7 @@ pub fn add_unread(
     n: usize,
     reader: &[u32; 32],
     rows: &[[u32; ROW]; 16],
-    mails: &[[u64; MAIL]; 16],
+    mails: &[[u64; LOG]; 16],
     totals: &mut [u32; 32],
 )
     requires { ⌜ n ≤ 32 ⌝ }

@@ -7,7 +7,7 @@ ghost use lib.ListN.{getD};
 ghost use Rattle.instruction.specs.Instruction.{bumped, oneIn, tallied, Loads, Examined, Sought, Evaluates, Computes, Takes, Suppresses, Queues};
 use crate::mailbox::look;
 use crate::mailbox::remove;
-use process::mail::MAIL;
+use backup::limits::LOG;
 use process::mail::channel_of;
 use process::mail::word_of;
 use process::row::EVENTS;
@@ -80,7 +80,7 @@ fn tally(row: &mut [u32; ROW], i: usize)
 }
 
 // A TAKE or a FIRST would take the oldest word that it names.
-fn seek(mail: &[u64; MAIL], unread: usize, code: u8, operand: u32) -> Intent
+fn seek(mail: &[u64; LOG], unread: usize, code: u8, operand: u32) -> Intent
     ensures { λ r. ⌜ Sought (now (mail .entry)) unread code operand r ⌝ }
 {
     let at = look(mail, unread, code, operand);
@@ -94,7 +94,7 @@ fn seek(mail: &[u64; MAIL], unread: usize, code: u8, operand: u32) -> Intent
 // What the instruction with this code, a and operand would do, `length` being how many the program has. Nothing is changed.
 pub fn examine(
     row: &[u32; ROW],
-    mail: &[u64; MAIL],
+    mail: &[u64; LOG],
     length: u32,
     code: u8,
     a: u32,
@@ -178,7 +178,7 @@ fn load(row: &mut [u32; ROW], code: u8, a: u32, x: u64)
 // unread word stands there nothing changes.
 pub fn take_word(
     row: &mut [u32; ROW],
-    mail: &mut [u64; MAIL],
+    mail: &mut [u64; LOG],
     code: u8,
     a: u32,
     at: usize,
@@ -187,7 +187,7 @@ pub fn take_word(
     ensures { λ _. ⌜ Takes (now (row .entry)) (now (mail .entry)) code a at port (now (row .exit)) (now (mail .exit)) ⌝ }
 {
     let unread = wide(row[UNREAD]);
-    if unread > MAIL {
+    if unread > LOG {
         return;
     }
     if at >= unread {

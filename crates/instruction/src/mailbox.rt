@@ -3,7 +3,7 @@
 ghost use mathlib.Core.Path.{_≡_};
 ghost use Rattle.rules.specs.Machine.{bit};
 ghost use Rattle.instruction.specs.Mailbox.{names, Looks, Removed};
-use process::mail::MAIL;
+use backup::limits::LOG;
 use process::mail::channel_of;
 
 // Whether a channel is in FIRST's mask.
@@ -29,10 +29,10 @@ pub fn named(code: u8, operand: u32, channel: u32) -> bool
 }
 
 // The index of the oldest word that a TAKE or a FIRST names; where there is none, `unread`.
-pub fn look(mail: &[u64; MAIL], unread: usize, code: u8, operand: u32) -> usize
+pub fn look(mail: &[u64; LOG], unread: usize, code: u8, operand: u32) -> usize
     ensures { λ r. ⌜ Looks (names code operand) (now (mail .entry)) unread r ⌝ }
 {
-    if unread > MAIL {
+    if unread > LOG {
         return unread;
     }
     let mut i = 0;
@@ -46,10 +46,10 @@ pub fn look(mail: &[u64; MAIL], unread: usize, code: u8, operand: u32) -> usize
 }
 
 // Takes the word at an index out: those behind it move forward by one.
-pub fn remove(mail: &mut [u64; MAIL], unread: usize, at: usize)
+pub fn remove(mail: &mut [u64; LOG], unread: usize, at: usize)
     ensures { λ _. ⌜ Removed (now (mail .entry)) unread at (now (mail .exit)) ⌝ }
 {
-    if unread > MAIL {
+    if unread > LOG {
         return;
     }
     if at >= unread {

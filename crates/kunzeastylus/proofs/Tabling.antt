@@ -7,8 +7,8 @@ use Rattle.rules.specs.Encode.{Lists}
 use Rattle.writer.specs.declared.write.Written.{Written}
 use Rattle.writer.specs.declared.apart.Taken.{Taken}
 use Rattle.writer.specs.Writes.{Writes}
-use Rattle.writer.specs.Taken.{TakesApart}
-use Rattle.kunzeastylus.specs.Tables.{packedWritten, writtenIn, WritesPacked, packedTaken, takenIn, TakesPacked}
+use Rattle.writer.specs.Taken.{Lent, TakesApart}
+use Rattle.kunzeastylus.specs.Tables.{packedWritten, writtenIn, WritesPacked, packedTaken, takenIn, Small, TakesPacked}
 
 writtenIn-packedWritten : (r : Written) → r .number < 256 → writtenIn (packedWritten r) ≡ r
 writtenIn-packedWritten r h =
@@ -22,33 +22,37 @@ writes-packed l out r out′ h n small e =
     let same : writtenIn n ≡ r = ap writtenIn e ∙ writtenIn-packedWritten r small in
     record { exact = e ∙ ap packedWritten (sym same); writes = subst (λ w. Writes l out w out′) (sym same) h }
 
-takenIn-packedTaken : (r : Taken) → r .number < 256 → r .boards < 256 → r .processes < 256 → r .channels < 256 → takenIn (packedTaken r) ≡ r
-takenIn-packedTaken r h0 h1 h2 h3 =
+takenIn-packedTaken : (r : Taken) → Small r → takenIn (packedTaken r) ≡ r
+takenIn-packedTaken r h =
     let n = packedTaken r in
-    -- what is left above each of the four bytes
-    let above0 = r .boards + 256 * r .processes + 65536 * r .channels + 16777216 * r .instructions in
-    let above1 = r .processes + 256 * r .channels + 65536 * r .instructions in
-    let above2 = r .channels + 256 * r .instructions in
+    let h0 = h .number-fits in
+    let h1 = h .boards-fit in
+    let h2 = h .processes-fit in
+    let h3 = h .channels-fit in
+    let h4 = h .instructions-fit in
+    -- what is left above each of the four bytes, and above the sixteen bits
+    let above0 = r .boards + 256 * r .processes + 65536 * r .channels + 16777216 * r .instructions + 1099511627776 * r .version in
+    let above1 = r .processes + 256 * r .channels + 65536 * r .instructions + 4294967296 * r .version in
+    let above2 = r .channels + 256 * r .instructions + 16777216 * r .version in
+    let above3 = r .instructions + 65536 * r .version in
     let e0 : n % 256 ≡ r .number = omega arith in
     let q0 : n / 256 ≡ above0 = omega arith in
     let q1 : n / 65536 ≡ above1 = omega arith in
     let q2 : n / 16777216 ≡ above2 = omega arith in
+    let q3 : n / 4294967296 ≡ above3 = omega arith in
     let b0 : above0 % 256 ≡ r .boards = omega arith in
     let b1 : above1 % 256 ≡ r .processes = omega arith in
     let b2 : above2 % 256 ≡ r .channels = omega arith in
+    let b3 : above3 % 65536 ≡ r .instructions = omega arith in
     let e1 : n / 256 % 256 ≡ r .boards = ap (λ (x : ℕ). x % 256) q0 ∙ b0 in
     let e2 : n / 65536 % 256 ≡ r .processes = ap (λ (x : ℕ). x % 256) q1 ∙ b1 in
     let e3 : n / 16777216 % 256 ≡ r .channels = ap (λ (x : ℕ). x % 256) q2 ∙ b2 in
-    let e4 : n / 4294967296 ≡ r .instructions = omega arith in
-    λ i. record { number = e0 i; boards = e1 i; processes = e2 i; channels = e3 i; instructions = e4 i }
+    let e4 : n / 4294967296 % 65536 ≡ r .instructions = ap (λ (x : ℕ). x % 65536) q3 ∙ b3 in
+    let e5 : n / 281474976710656 ≡ r .version = omega arith in
+    λ i. record { number = e0 i; version = e5 i; boards = e1 i; processes = e2 i; channels = e3 i; instructions = e4 i }
 
-pub takes-packed : (table ends placements instructions : List ℕ) (r : Taken) (ends′ placements′ instructions′ : List ℕ)
-    → TakesApart table ends placements instructions r ends′ placements′ instructions′ → (n : ℕ)
-    → r .number < 256 → r .boards < 256 → r .processes < 256 → r .channels < 256 → n ≡ packedTaken r
-    → TakesPacked table ends placements instructions n ends′ placements′ instructions′
-takes-packed table ends placements instructions r ends′ placements′ instructions′ h n h0 h1 h2 h3 e =
-    let same : takenIn n ≡ r = ap takenIn e ∙ takenIn-packedTaken r h0 h1 h2 h3 in
-    record {
-      exact = e ∙ ap packedTaken (sym same);
-      takes = subst (λ w. TakesApart table ends placements instructions w ends′ placements′ instructions′) (sym same) h;
-    }
+pub takes-packed : (table : List ℕ) (before : Lent) (r : Taken) (after : Lent) → TakesApart table before r after → (n : ℕ) → Small r → n ≡ packedTaken r
+    → TakesPacked table before n after
+takes-packed table before r after h n small e =
+    let same : takenIn n ≡ r = ap takenIn e ∙ takenIn-packedTaken r small in
+    record { exact = e ∙ ap packedTaken (sym same); takes = subst (λ w. TakesApart table before w after) (sym same) h }

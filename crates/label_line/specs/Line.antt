@@ -2,6 +2,7 @@
 use mathlib.Core.List.{List, [], _∷_}
 use Prim.Native.Nat.{ℕ}
 use lib.Dec.{leb}
+use Rattle.rules.specs.Sizes.{limitBefore}
 use Rattle.rules.specs.Table.{environment, Channel, Instruction, SET, ADD, TAKE, SEND, JUMP, Table}
 use Rattle.rules.specs.Format.{orNumber}
 use Rattle.rules.specs.Encode.{Lists, encode}
@@ -44,8 +45,8 @@ lineTable first = record {
       ∷ [];
   -- "The numbering program, process 0, runs on board 0 with its stand-by on board 1, the printer program, process 1, the other way round."
   processes =
-      record { primary = 0; standby = 1; code = numberingProgram first }
-      ∷ record { primary = 1; standby = 0; code = printerProgram }
+      record { primary = 0; standby = 1; limit = limitBefore; code = numberingProgram first }
+      ∷ record { primary = 1; standby = 0; limit = limitBefore; code = printerProgram }
       ∷ [];
 }
 
@@ -57,11 +58,13 @@ lineLength = 84
 -- the lists of numbers from which the writer of W-201 makes them
 abbrev pub lineLists : ℕ → Lists
 lineLists first = record {
+  version = 1;
   boards = 2;
   processes = 2;
   channels = 3;
   ends = 255 ∷ 0 ∷ 0 ∷ 1 ∷ 1 ∷ 255 ∷ [];
   placements = 0 ∷ 1 ∷ 7 ∷ 1 ∷ 0 ∷ 4 ∷ [];
+  limits = [];
   instructions =
       1 ∷ 1 ∷ first ∷ 1 ∷ 2 ∷ 1 ∷ 3 ∷ 0 ∷ 0 ∷ 5 ∷ 0 ∷ 1 ∷ 5 ∷ 1 ∷ 1 ∷ 2 ∷ 1 ∷ 2 ∷ 6 ∷ 2 ∷ 2
       ∷ 1 ∷ 1 ∷ 1 ∷ 3 ∷ 0 ∷ 1 ∷ 5 ∷ 0 ∷ 2 ∷ 6 ∷ 1 ∷ 1 ∷ [];

@@ -10,7 +10,7 @@ use lib.Seq.{sets, length-sets}
 use Rattle.facts.specs.Lists.{listed, prefix, length-prefix}
 use Rattle.facts.specs.Rings.{listed-more}
 use Rattle.rules.specs.Table.{Table}
-use Rattle.rules.specs.Cabinet.{Cabinet, Process}
+use Rattle.rules.specs.Cabinet.{limitMost, Cabinet, Process}
 use Rattle.rules.specs.Bytes.{wordBytes, allBytes, written}
 use Rattle.rules.specs.Run.{reportBytes}
 use Rattle.process.specs.Row.{mailIn, machineOf, processOf}
@@ -143,7 +143,7 @@ module _ {t : Table} {s : Store} {entries : List Entry} {c : Cabinet} (reach : R
       let ok = reach .accepted in
       let board : processIn s p .board < t .boards = subst (λ (y : Process). y .board < t .boards) x (b .board) in
       let pc : processIn s p .machine .pc ≤ 64 = subst (λ (y : Process). y .machine .pc ≤ 64) x (let z = b .pc in let k = ok .short p l in omega arith) in
-      let suppress : processIn s p .suppress ≤ 8 = subst (λ (y : Process). y .suppress ≤ 8) x (b .suppress) in
+      let suppress : processIn s p .suppress ≤ limitMost = subst (λ (y : Process). y .suppress ≤ limitMost) x (let z = b .suppress in let k = b .limit in omega arith) in
       let unread = h .kept p l .unread in
       line-is (getD (s .rows) p []) (getD (s .mails) p []) (getD (s .logs) p []) (getD (s .heads) p [])
       (let high = ok .boards-high in omega arith) (omega arith) (omega arith) (omega arith)

@@ -11,12 +11,12 @@ use Rattle.facts.specs.Tests.{by-eq, by-lt}
 use Rattle.facts.specs.Lists.{listed, listed-same, map-listed, written-out}
 use Rattle.facts.specs.Indexing.{getD-map, getD-replicate-any}
 use Rattle.facts.specs.Rings.{ring}
-use Rattle.backup.specs.Limits.{ports}
+use Rattle.backup.specs.Limits.{logMost, ports}
 use Rattle.backup.specs.Replica.{fit, savedOn}
 use Rattle.backup.specs.Place.{viewIn, tallyIn, Sound}
 use Rattle.process.specs.Row.{rowLength, machineOf, standbyOf, processOf, Kept}
 use Rattle.process.proofs.Rows.{Words, stored}
-use Rattle.rules.specs.Table.{Table, Placement, placementAt, channelAt}
+use Rattle.rules.specs.Table.{Table, Placement, nowhere, placementAt, channelAt}
 use Rattle.rules.specs.Judge.{Accepted}
 use Rattle.rules.specs.Machine.{Mail, booted}
 use Rattle.rules.specs.Cabinet as rules
@@ -38,11 +38,11 @@ listed-one {A} a (suc n) = ap (λ (l : List A). a ∷ l) (listed-one a n)
 abbrev pub zeros : ℕ → List ℕ
 zeros n = replicate n 0
 
-fresh-sound : Sound (zeros 48) (zeros 11)
+fresh-sound : Sound (zeros logMost) (zeros 11)
 unfolding viewIn fit
 fresh-sound = record { log-length = refl; head-length = refl; is-fit = refl; tallies = none-saved }
   where
-    none-saved : (p : ℕ) → p < ports → tallyIn (zeros 11) p ≡ savedOn p (viewIn (zeros 48) (zeros 11) .log)
+    none-saved : (p : ℕ) → p < ports → tallyIn (zeros 11) p ≡ savedOn p (viewIn (zeros logMost) (zeros 11) .log)
     none-saved p l = getD-replicate 11 (7 + p) 0 0 (omega arith)
 
 abbrev seatedRow : ℕ → ℕ → List ℕ
@@ -52,7 +52,7 @@ seated-words : (primary standby : ℕ) → primary < 2 ^ 32 → standby < 2 ^ 32
 seated-words primary standby a b =
     stored 13 standby b (stored 12 1 (omega arith) (stored {l = zeros rowLength} 0 primary a (record { word = λ i. rw (getD-replicate-any {A = ℕ} rowLength i 0) (omega arith) })))
 
-seated-kept : (primary standby : ℕ) → primary < 2 ^ 32 → standby < 2 ^ 32 → Kept (seatedRow primary standby) (zeros 48) (zeros 48) (zeros 11)
+seated-kept : (primary standby : ℕ) → primary < 2 ^ 32 → standby < 2 ^ 32 → Kept (seatedRow primary standby) (zeros logMost) (zeros logMost) (zeros 11)
 seated-kept primary standby a b = record {
   row-length = refl;
   mail-length = refl;
@@ -63,14 +63,14 @@ seated-kept primary standby a b = record {
 }
 
 -- it is the process that the table places there
-seated-is : (x : Placement) → processOf (seatedRow (x .primary) (x .standby)) (zeros 48) (zeros 48) (zeros 11) ≡ placed x
+seated-is : (x : Placement) → processOf (seatedRow (x .primary) (x .standby)) (zeros logMost) (zeros logMost) (zeros 11) ≡ placed x
 unfolding processOf machineOf standbyOf viewIn placed booted
 seated-is x = refl
 
 -- ---- fresh lists with their rows seated
 
 module _ (t : Table) (ok : Accepted t) (rows′ mails logs heads boards : List (List ℕ)) (totals waits : List ℕ) (entries : List Entry)
-    (mails-is : mails ≡ replicate 16 (zeros 48)) (logs-is : logs ≡ replicate 16 (zeros 48)) (heads-is : heads ≡ replicate 16 (zeros 11))
+    (mails-is : mails ≡ replicate 16 (zeros logMost)) (logs-is : logs ≡ replicate 16 (zeros logMost)) (heads-is : heads ≡ replicate 16 (zeros 11))
     (boards-is : boards ≡ replicate 16 (zeros 3)) (totals-is : totals ≡ zeros 32) (waits-is : waits ≡ zeros 16)
     (entries-is : entries ≡ replicate 512 blankEntry) (rows-length : length rows′ ≡ 16)
     (row-at : (p : ℕ) → p < length (t .processes) → getD rows′ p [] ≡ seatedRow (placementAt t p .primary) (placementAt t p .standby)) where
@@ -89,11 +89,8 @@ module _ (t : Table) (ok : Accepted t) (rows′ mails logs heads boards : List (
 
   process-at : (p : ℕ) → p < length (t .processes) → processIn s p ≡ placed (placementAt t p)
   process-at p h =
-      (λ i. processOf (row-at p h i) (one-of mails (zeros 48) mails-is p (below p h) i) (one-of logs (zeros 48) logs-is p (below p h) i) (one-of heads (zeros 11) heads-is p (below p h) i))
+      (λ i. processOf (row-at p h i) (one-of mails (zeros logMost) mails-is p (below p h) i) (one-of logs (zeros logMost) logs-is p (below p h) i) (one-of heads (zeros 11) heads-is p (below p h) i))
       ∙ seated-is (placementAt t p)
-
-  abbrev nowhere : Placement
-  nowhere = record { primary = 0; standby = 0; code = [] }
 
   all-processes : started t .processes ≡ listed (processIn s) (length (t .processes))
   unfolding started
@@ -134,7 +131,7 @@ module _ (t : Table) (ok : Accepted t) (rows′ mails logs heads boards : List (
 
   kept-at : (p : ℕ) → p < length (t .processes) → Kept (getD rows′ p []) (getD mails p []) (getD logs p []) (getD heads p [])
   kept-at p h =
-      rw (row-at p h, one-of mails (zeros 48) mails-is p (below p h), one-of logs (zeros 48) logs-is p (below p h), one-of heads (zeros 11) heads-is p (below p h))
+      rw (row-at p h, one-of mails (zeros logMost) mails-is p (below p h), one-of logs (zeros logMost) logs-is p (below p h), one-of heads (zeros 11) heads-is p (below p h))
       (seated-kept (placementAt t p .primary) (placementAt t p .standby) (a-word _ (primary-ok t ok p h)) (a-word _ (standby-ok t ok p h)))
 
   number-at : (l : List ℕ) (n : ℕ) → l ≡ zeros n → (k : ℕ) → getD l k 0 ≡ 0
@@ -220,7 +217,7 @@ module _ (rows : List (List ℕ)) (primary standby : List ℕ) (most : ℕ) (row
 -- ---- lists as an array of zeros and an array of blank entries come out
 
 pub fresh-made : (entries : List Entry) → entries ≡ replicate 512 blankEntry
-    → Fresh (storeOf (replicate 16 (zeros rowLength)) (replicate 16 (zeros 48)) (replicate 16 (zeros 48)) (replicate 16 (zeros 11)) (replicate 16 (zeros 3)) (zeros 32) (zeros 16)) entries
+    → Fresh (storeOf (replicate 16 (zeros rowLength)) (replicate 16 (zeros logMost)) (replicate 16 (zeros logMost)) (replicate 16 (zeros 11)) (replicate 16 (zeros 3)) (zeros 32) (zeros 16)) entries
 fresh-made entries e = record {
   rows-is = refl;
   mails-is = refl;

@@ -4,6 +4,7 @@ use mathlib.Core.Path.{_≡_}
 use mathlib.Core.List.{List, []}
 use Prim.Native.Nat.{ℕ, _≤_, _<_}
 use lib.ListN.{length, getD, set, replicate}
+use Rattle.backup.specs.Limits.{logMost}
 use Rattle.rules.specs.Table.{Table, placementAt}
 use Rattle.rules.specs.Judge.{Accepted}
 use Rattle.rules.specs.Cabinet.{started}
@@ -18,8 +19,8 @@ seatedIn row primary standby = set (set (set row 0 primary) 12 1) 13 standby
 -- Lists as they are made: all zeros, and every entry blank.
 pub record Fresh (s : Store) (entries : List Entry) : Type 0 where
   pub rows-is : s .rows ≡ replicate 16 (replicate rowLength 0)
-  pub mails-is : s .mails ≡ replicate 16 (replicate 48 0)
-  pub logs-is : s .logs ≡ replicate 16 (replicate 48 0)
+  pub mails-is : s .mails ≡ replicate 16 (replicate logMost 0)
+  pub logs-is : s .logs ≡ replicate 16 (replicate logMost 0)
   pub heads-is : s .heads ≡ replicate 16 (replicate 11 0)
   pub boards-is : s .boards ≡ replicate 16 (replicate 3 0)
   pub totals-is : s .totals ≡ replicate 32 0

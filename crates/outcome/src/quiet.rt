@@ -2,9 +2,9 @@
 ghost use mathlib.Core.Path.{_≡_};
 ghost use Rattle.outcome.specs.Quiets.{restsOf, Rests, AllRest, AllEmpty, Quiets};
 use crate::report::at_most_16;
+use backup::limits::LOG;
 use instruction::instruction::Intent;
 use instruction::instruction::examine;
-use process::mail::MAIL;
 use process::row::PC;
 use process::row::ROW;
 use records::fetch::fetch;
@@ -26,7 +26,7 @@ fn idle(intent: Intent) -> bool
 }
 
 // Whether a process rests whose program, of `length` instructions, begins at byte `at` of the table.
-fn rests(table: &[u8], at: u32, length: u32, row: &[u32; ROW], mail: &[u64; 48]) -> bool
+fn rests(table: &[u8], at: u32, length: u32, row: &[u32; ROW], mail: &[u64; LOG]) -> bool
     ensures { λ r. ⌜ Rests (now (table .entry)) at length (now (row .entry)) (now (mail .entry)) r ⌝ }
 {
     let i = fetch(table, wide(at), wide(row[PC]));
@@ -39,7 +39,7 @@ fn all_rest(
     start: &[u32; 16],
     lengths: &[u32; 16],
     rows: &[[u32; ROW]; 16],
-    mails: &[[u64; MAIL]; 16],
+    mails: &[[u64; LOG]; 16],
 ) -> bool
     ensures { λ r. ⌜ AllRest (now (table .entry)) processes (now (start .entry)) (now (lengths .entry)) (now (rows .entry)) (now (mails .entry)) r ⌝ }
 {
@@ -75,7 +75,7 @@ pub fn quiescent(
     start: &[u32; 16],
     lengths: &[u32; 16],
     rows: &[[u32; ROW]; 16],
-    mails: &[[u64; MAIL]; 16],
+    mails: &[[u64; LOG]; 16],
     boards: &[[u32; BOARD_ROW]; 16],
 ) -> bool
     ensures { λ r. ⌜ Quiets (now (table .entry)) «boards_many» processes (now (start .entry)) (now (lengths .entry)) (now (rows .entry)) (now (mails .entry)) (now (boards .entry)) r ⌝ }

@@ -8,7 +8,6 @@ ghost use Rattle.backup.specs.Place.{checkpointOf};
 ghost use Rattle.rules.specs.Moves.{snapshot as snapshotOf, issued, keeps};
 ghost use Rattle.process.specs.Row.{processOf};
 ghost use Rattle.process.specs.Change.{RowBecame, BackupBecame, Drops};
-use crate::mail::MAIL;
 use crate::row::EVENTS;
 use crate::row::INSTRUCTIONS;
 use crate::row::PC;
@@ -22,6 +21,7 @@ use crate::row::T0;
 use crate::row::T1;
 use crate::row::T2;
 use crate::row::T3;
+use backup::limits::LOG;
 use backup::place::Checkpoint;
 use backup::place::HEAD;
 use backup::place::sync_in;
@@ -57,7 +57,7 @@ pub fn issue(row: &mut [u32; ROW])
 }
 
 // A checkpoint lands: the backup keeps it, if the process is protected. How many messages that dropped.
-pub fn keep(row: &[u32; ROW], log: &mut [u64; MAIL], head: &mut [u32; HEAD], c: Checkpoint) -> u32
+pub fn keep(row: &[u32; ROW], log: &mut [u64; LOG], head: &mut [u32; HEAD], c: Checkpoint) -> u32
     ensures { λ _. ⌜ BackupBecame (now (row .entry)) (now (log .entry)) (now (head .entry)) (now (log .exit)) (now (head .exit)) (keeps (checkpointOf c)) ⌝ }
     ensures { λ r. ⌜ Drops (now (row .entry)) (now (log .entry)) (now (head .entry)) (checkpointOf c) r ⌝ }
 {

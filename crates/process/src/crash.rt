@@ -5,12 +5,12 @@ ghost use Prim.Native.Nat.{ℕ};
 ghost use Rattle.rules.specs.Moves.{unprotected};
 ghost use Rattle.process.specs.Change.{RowBecame};
 ghost use Rattle.process.specs.Promotion.{Crashed};
-use crate::mail::MAIL;
 use crate::promotion::promote;
 use crate::row::BOARD;
 use crate::row::PROTECTED;
 use crate::row::ROW;
 use crate::row::STANDBY;
+use backup::limits::LOG;
 use backup::place::HEAD;
 
 // The process has no backup from now on.
@@ -23,8 +23,8 @@ fn unprotect(row: &mut [u32; ROW])
 // Board b crashes.
 pub fn crash(
     row: &mut [u32; ROW],
-    mail: &mut [u64; MAIL],
-    log: &[u64; MAIL],
+    mail: &mut [u64; LOG],
+    log: &[u64; LOG],
     head: &[u32; HEAD],
     b: u32,
     channels: [u32; 4],

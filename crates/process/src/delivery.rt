@@ -7,18 +7,18 @@ ghost use Prim.Native.Nat.{ℕ};
 ghost use Rattle.backup.specs.Replica.{arrive};
 ghost use Rattle.rules.specs.Moves.{counts as countsOf};
 ghost use Rattle.process.specs.Change.{Backed, BackupBecame, Received};
-use crate::mail::MAIL;
 use crate::mailbox::append;
 use crate::row::PROTECTED;
 use crate::row::ROW;
 use crate::row::UNREAD;
 use crate::row::wide;
+use backup::limits::LOG;
 use backup::place::HEAD;
 use backup::place::arrive_in;
 use backup::place::count_in;
 
 // A word arrives at its backup too, if the process is protected.
-fn save(row: &[u32; ROW], log: &mut [u64; MAIL], head: &mut [u32; HEAD], port: u32, word: u32)
+fn save(row: &[u32; ROW], log: &mut [u64; LOG], head: &mut [u32; HEAD], port: u32, word: u32)
     ensures { λ _. ⌜ Backed (now (row .entry)) (now (log .entry)) (now (head .entry)) (now (log .exit)) (now (head .exit)) (λ v. arrive v port word) ⌝ }
 {
     if row[PROTECTED] != 0 {
@@ -29,8 +29,8 @@ fn save(row: &[u32; ROW], log: &mut [u64; MAIL], head: &mut [u32; HEAD], port: u
 // The reader's half: a word joins the mailbox. A full mailbox takes none, and nothing changes.
 pub fn receive(
     row: &mut [u32; ROW],
-    mail: &mut [u64; MAIL],
-    log: &mut [u64; MAIL],
+    mail: &mut [u64; LOG],
+    log: &mut [u64; LOG],
     head: &mut [u32; HEAD],
     port: u32,
     channel: u32,
@@ -40,7 +40,7 @@ pub fn receive(
 {
     let unread = row[UNREAD];
     let end = wide(unread);
-    if end >= MAIL {
+    if end >= LOG {
         return;
     }
     save(row, log, head, port, word);

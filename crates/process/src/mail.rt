@@ -2,9 +2,6 @@
 ghost use mathlib.Core.Path.{_≡_};
 ghost use Rattle.process.specs.Row.{packMail, mailIn};
 
-// Words that a mailbox holds at most.
-pub const MAIL: usize = 48;
-
 pub(crate) fn packed(channel: u32, word: u32) -> u64
     ensures { λ r. ⌜ r ≡ packMail channel word ⌝ }
 {

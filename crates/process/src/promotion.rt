@@ -3,8 +3,8 @@
 ghost use mathlib.Core.Path.{_≡_};
 ghost use mathlib.Core.List.{List};
 ghost use Prim.Native.Nat.{ℕ, _≤_};
+ghost use Rattle.backup.specs.Limits.{logMost};
 ghost use Rattle.process.specs.Promotion.{Readdressed, Restored, Promoted};
-use crate::mail::MAIL;
 use crate::mailbox::append;
 use crate::row::BOARD;
 use crate::row::EVENTS;
@@ -24,6 +24,7 @@ use crate::row::T2;
 use crate::row::T3;
 use crate::row::UNREAD;
 use crate::row::wide;
+use backup::limits::LOG;
 use backup::place::HEAD;
 use backup::place::Promotion;
 use backup::place::fail_over_in;
@@ -31,8 +32,8 @@ use backup::place::port_in;
 use backup::place::word_in;
 
 // The first len messages of a log as a mailbox: each with its port's channel in the port's place.
-fn readdress(mail: &mut [u64; MAIL], log: &[u64; MAIL], len: usize, channels: [u32; 4])
-    requires { ⌜ len ≤ 48 ⌝ }
+fn readdress(mail: &mut [u64; LOG], log: &[u64; LOG], len: usize, channels: [u32; 4])
+    requires { ⌜ len ≤ logMost ⌝ }
     ensures { λ _. ⌜ Readdressed (now (mail .entry)) (now (log .entry)) len channels (now (mail .exit)) ⌝ }
 {
     let mut i = 0;
@@ -69,8 +70,8 @@ fn restore(row: &mut [u32; ROW], p: Promotion)
 // then nothing changes.
 pub fn promote(
     row: &mut [u32; ROW],
-    mail: &mut [u64; MAIL],
-    log: &[u64; MAIL],
+    mail: &mut [u64; LOG],
+    log: &[u64; LOG],
     head: &[u32; HEAD],
     channels: [u32; 4],
 )
@@ -78,7 +79,7 @@ pub fn promote(
 {
     let p = fail_over_in(head);
     let len = wide(p.len);
-    if len > MAIL {
+    if len > LOG {
         return;
     }
     readdress(mail, log, len, channels);

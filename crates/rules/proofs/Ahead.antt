@@ -8,9 +8,9 @@ use Prim.Native.Nat.{ℕ, suc, _+_, _*_, _≤_}
 use native.Mathlib.Omega.{arith}
 use lib.ListN.{length}
 use Rattle.backup.specs.Replica.{Checkpoint}
-use Rattle.rules.specs.Table.{Table, Instruction, codeOf}
+use Rattle.rules.specs.Table.{Table, Instruction, codeOf, limitOf}
 use Rattle.rules.specs.Machine.{Mail, Machine, Act, sent, delivered}
-use Rattle.rules.specs.Cabinet.{instructionsMost, eventsMost, Item, message, checkpoint}
+use Rattle.rules.specs.Cabinet.{instructionsMost, Item, message, checkpoint}
 use Rattle.rules.proofs.Steps.{Steps, step-later}
 use Rattle.rules.proofs.Runs.{Run, here, more, isSend, Silent, tally, busy, busy-snoc, length-snoc, Within}
 
@@ -36,7 +36,7 @@ pub data Ahead (t : Table) (p : ℕ) : List Act → Machine → List Item → Li
       → Ahead t p (u ++ (k ∷ [])) m1 q v m2 → Ahead t p u m q v m2
   sending : {u v : List Act} {m m1 m2 : Machine} {q : List Item} {x : Mail} → Steps (codeOf t p) m (sent x) m1
       → Ahead t p (u ++ (sent x ∷ [])) m1 q v m2 → Ahead t p u m (message x ∷ q) v m2
-  issuing : {u v : List Act} {m m2 : Machine} {q : List Item} → Within u → Ahead t p [] m q v m2
+  issuing : {u v : List Act} {m m2 : Machine} {q : List Item} → Within (limitOf t p) u → Ahead t p [] m q v m2
       → Ahead t p u m (taken-at t p u m ∷ q) v m2
 
 pub ahead-later : {t : Table} {p : ℕ} {u v : List Act} {a b : Machine} {q : List Item} (x : Mail) → Ahead t p u a q v b
@@ -63,7 +63,7 @@ ahead-send (silent f g r) e = silent f g (ahead-send r e)
 ahead-send (sending f r) e = sending f (ahead-send r e)
 ahead-send (issuing f r) e = issuing f (ahead-send r e)
 
-pub ahead-issue : {t : Table} {p : ℕ} {u v : List Act} {a b : Machine} {q : List Item} → Ahead t p u a q v b → Within v
+pub ahead-issue : {t : Table} {p : ℕ} {u v : List Act} {a b : Machine} {q : List Item} → Ahead t p u a q v b → Within (limitOf t p) v
     → Ahead t p u a (q ++ (taken-at t p v b ∷ [])) [] b
 ahead-issue level h = issuing h level
 ahead-issue (silent f g r) h = silent f g (ahead-issue r h)
@@ -145,7 +145,7 @@ pub record Total (t : Table) (p : ℕ) (u : List Act) (a : Machine) (q : List It
   pub acts : List Act
   pub ran : Run (codeOf t p) a acts b
   pub instructions : length u + length acts ≤ instructionsMost * checkpoints q + length v
-  pub events : busy u + busy acts ≤ eventsMost * checkpoints q + busy v
+  pub events : busy u + busy acts ≤ limitOf t p * checkpoints q + busy v
 
 pub ahead-total : {t : Table} {p : ℕ} {u v : List Act} {a b : Machine} {q : List Item} → Ahead t p u a q v b → Total t p u a q v b
 ahead-total level = record { acts = []; ran = here; instructions = omega arith; events = omega arith }
@@ -163,13 +163,13 @@ ahead-total (issuing f r) =
     let w = ahead-total r in
     record { acts = w .acts; ran = w .ran; instructions = omega (arith, w .instructions, f .instructions); events = omega (arith, w .events, f .events) }
 
-within-less : (u : List Act) (k : Act) → Within (u ++ (k ∷ [])) → Within u
+within-less : {limit : ℕ} (u : List Act) (k : Act) → Within limit (u ++ (k ∷ [])) → Within limit u
 within-less u k h = record {
   instructions = omega (arith, length-snoc u k, h .instructions);
   events = omega (arith, busy-snoc u k, h .events);
 }
 
-pub ahead-left : {t : Table} {p : ℕ} {u v : List Act} {a b : Machine} {q : List Item} → Ahead t p u a q v b → Within v → Within u
+pub ahead-left : {t : Table} {p : ℕ} {u v : List Act} {a b : Machine} {q : List Item} → Ahead t p u a q v b → Within (limitOf t p) v → Within (limitOf t p) u
 ahead-left level h = h
 ahead-left {u = u} (silent {k = k} e g r) h = within-less u k (ahead-left r h)
 ahead-left {u = u} (sending {x = x} e r) h = within-less u (sent x) (ahead-left r h)

@@ -10,20 +10,20 @@ use lib.ListN.{length}
 use Rattle.facts.specs.Counts.{occurs}
 use Rattle.backup.specs.Limits.{logMost, sentMost}
 use Rattle.backup.specs.Replica.{Checkpoint, FailOver, counted, takenOn, remaining, arriveNumber, syncNumber}
-use Rattle.rules.specs.Table.{Table, channelAt, codeOf, portOf}
+use Rattle.rules.specs.Table.{Table, channelAt, codeOf, limitOf, portOf}
 use Rattle.rules.specs.Machine.{Machine}
 use Rattle.rules.specs.Reference.{Reference}
-use Rattle.rules.specs.Cabinet.{instructionsMost, eventsMost, Standby, Since, Process, Item, checkpoint, Cabinet, processAt, outboxAt, isSome, occupancy}
+use Rattle.rules.specs.Cabinet.{instructionsMost, savedMost, Standby, Since, Process, Item, checkpoint, Cabinet, processAt, outboxAt, isSome, occupancy}
 use Rattle.rules.specs.Judge.{Accepted}
 use Rattle.rules.specs.Bounds.{mails, issuedTakes, BackupBounds, Bounds}
 use Rattle.rules.proofs.Runs.{_then_, tally}
 use Rattle.rules.proofs.Ahead.{Ahead, UpToIssue, up-to-issue}
-use Rattle.rules.proofs.Tables.{few-ports}
+use Rattle.rules.proofs.Tables.{few-ports, limit-high}
 use Rattle.rules.proofs.Good.{stateOf, Good, backed, alone, late, Backed, Kept, good-backed, good-span, good-small, backed-sent, good-kept, good-suppress}
 use Rattle.rules.proofs.Backups.{run-low, arrive-number, count-number, counted-kept, sync-number, takes-over}
 use Rattle.rules.proofs.Invariant.{Invariant, mine, mine-same, machineAt, owner}
 use Rattle.rules.proofs.Room.{Room}
-use Rattle.rules.proofs.Sizes.{mailbox-short, occupied-few, roomy}
+use Rattle.rules.proofs.Sizes.{mailbox-few, mailbox-limited, occupied-few, roomy}
 use Rattle.rules.proofs.Saved.{tally-busy, backed-saved}
 
 module _ (t : Table) (ok : Accepted t) (c : Cabinet) (s : Reference) (inv : Invariant t c s) (rm : Room t [] c) (p : ℕ) (hp : p < length (c .processes)) where
@@ -37,19 +37,19 @@ module _ (t : Table) (ok : Accepted t) (c : Cabinet) (s : Reference) (inv : Inva
       → UpToIssue t p (h .before) m (checkpoint p x) q (h .since) (y .machine) → syncNumber (h .standby .replica) x ≡ 0
   oldest-syncs {x = x} h v =
       let same : x ≡ record { pc = v .mid .pc; registers = v .mid .registers; taken = tally t p (h .before ++ v .acts) } = (let a = v .is-snapshot in cc) in
-      let few : h .standby .replica .sent < sentMost = (let a = backed-sent h in omega arith) in
+      let few : h .standby .replica .sent < sentMost = (let a = backed-sent h in let b = limit-high t ok p in omega arith) in
       sync-number t ok p in-table (h .standby .replica) (h .kept) few (h .replay .ran then v .to-mid) x
       (ap (λ (z : Checkpoint). z .pc) same) (ap (λ (z : Checkpoint). z .registers) same) (ap (λ (z : Checkpoint). z .taken) same)
 
   module _ (b : Standby) (e : processAt c p .standby ≡ some b) where
-    few-sent : b .replica .sent ≤ eventsMost
+    few-sent : b .replica .sent ≤ limitOf t p
     few-sent = good-small (inv .good p hp) e .few-sent
 
     kept : Kept t p (b .replica)
     kept = good-kept (inv .good p hp) e
 
     below : b .replica .sent < sentMost
-    below = let a = few-sent in omega arith
+    below = let a = few-sent in let d = limit-high t ok p in omega arith
 
     -- what the invariant says of the backup of p
     by-backed : (P : Standby → Type 0) → ((h : Backed t p (mine t p (outboxAt c (processAt c p .board))) (processAt c p) (machineAt s p)) → P (h .standby)) → P b
@@ -59,7 +59,7 @@ module _ (t : Table) (ok : Accepted t) (c : Cabinet) (s : Reference) (inv : Inva
     arrives-there : (k : ℕ) → channelAt t k .reader ≡ p → length (b .replica .log) < logMost → (own : Bool)
         → arriveNumber (cond own (counted (b .replica)) (b .replica)) (portOf t p k) ≡ 0
     arrives-there k reads room true =
-        arrive-number t ok p in-table (counted (b .replica)) (counted-kept t ok p in-table (b .replica) kept below) (let a = few-sent in omega arith)
+        arrive-number t ok p in-table (counted (b .replica)) (counted-kept t ok p in-table (b .replica) kept below) (let a = few-sent in let d = limit-high t ok p in omega arith)
         (record { channel = k; word = 0 }) reads room
     arrives-there k reads room false = arrive-number t ok p in-table (b .replica) kept below (record { channel = k; word = 0 }) reads room
 
@@ -82,12 +82,13 @@ module _ (t : Table) (ok : Accepted t) (c : Cabinet) (s : Reference) (inv : Inva
           board = inv .seated p hp .beside b e .there;
           live = inv .seated p hp .beside b e .live;
           apart = inv .seated p hp .apart b e;
-          log = kept .short;
+          log = (let a = good-small (inv .good p hp) e .log-fits in let d = mailbox-limited t ok [] c p in-table (rm p hp) (ap isSome e) in omega arith);
+          sent-twice = (let a = few-sent in omega arith);
           sent = few-sent;
-          events = by-backed (λ _. processAt c p .since .events ≤ eventsMost) (λ h. let a = ap (λ (n : Since). n .events) (h .is-since) in let d = h .few .events in omega arith);
+          events = by-backed (λ _. processAt c p .since .events ≤ limitOf t p) (λ h. let a = ap (λ (n : Since). n .events) (h .is-since) in let d = h .few .events in omega arith);
           instructions = by-backed (λ _. processAt c p .since .instructions ≤ instructionsMost)
               (λ h. let a = ap (λ (n : Since). n .instructions) (h .is-since) in let d = h .few .instructions in omega arith);
-          taken = λ port. by-backed (λ _. takenOn (processAt c p .since .taken) port ≤ eventsMost)
+          taken = λ port. by-backed (λ _. takenOn (processAt c p .since .taken) port ≤ limitOf t p)
               (λ h. let a = tally-busy t p (h .since) port in let d = h .few .events in rw (h .is-since) (omega arith));
           occupied = λ k reads. rw reads (let a = rm p hp .room k reads in let z : occurs k (rm p hp .again) ≡ 0 = ap (occurs k) (rm p hp .none-yet (ap isSome e)) in omega arith);
           saved = by-backed
@@ -115,7 +116,8 @@ module _ (t : Table) (ok : Accepted t) (c : Cabinet) (s : Reference) (inv : Inva
         board = inv .seated p hp .at .there;
         live = inv .seated p hp .at .live;
         pc = low (inv .good p hp);
-        mailbox = mailbox-short t ok [] c p in-table (rm p hp);
+        limit = limit-high t ok p;
+        mailbox = mailbox-few t ok [] c p in-table (rm p hp);
         suppress = good-suppress (inv .good p hp);
         occupied = occupied-few t ok [] c p in-table (rm p hp);
         backup = backup-bounds;

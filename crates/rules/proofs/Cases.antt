@@ -4,6 +4,7 @@ use mathlib.Core.List.{List, [], _∷_, _++_, map}
 use Prim.Native.Nat.{ℕ, zero, suc, _*_, _/_, _%_, _^_}
 use lib.ListN.{length, drop, replicate}
 use Rattle.rules.specs.Table.{Channel, Instruction, SET, ADD, TAKE, FIRST, SEND, JUMP, NONE, Placement, Table}
+use Rattle.rules.specs.Sizes.{limitBefore}
 use Rattle.rules.specs.Moves.{Command, Numbers}
 use Rattle.rules.specs.Bytes.{byteAt, number32, wordBytes, allBytes}
 use Rattle.rules.specs.Format.{processesIn}
@@ -44,8 +45,11 @@ scheduleBytes l = withLength (1 ∷ allBytes (λ (r : Command). r .move ∷ r .a
 abbrev pub channel : ℕ → ℕ → Channel
 channel sender reader = record { sender = sender; reader = reader }
 
+abbrev pub placementWith : ℕ → ℕ → ℕ → List Instruction → Placement
+placementWith primary standby limit code = record { primary = primary; standby = standby; limit = limit; code = code }
+
 abbrev pub placement : ℕ → ℕ → List Instruction → Placement
-placement primary standby code = record { primary = primary; standby = standby; code = code }
+placement primary standby code = placementWith primary standby limitBefore code
 
 abbrev pub cabinet : ℕ → List Channel → List Placement → Table
 cabinet boards channels processes = record { boards = boards; channels = channels; processes = processes }
@@ -59,15 +63,23 @@ instructionBytes (SEND a k) = 5 ∷ a ∷ wordBytes k
 instructionBytes (JUMP a n) = 6 ∷ a ∷ wordBytes n
 instructionBytes NONE = 0 ∷ 0 ∷ wordBytes 0
 
-abbrev pub tableBytes : Table → List ℕ
-tableBytes t =
+-- a table whose version is this, and whose records have these bytes before n
+abbrev bytesBy : ℕ → (Placement → List ℕ) → Table → List ℕ
+bytesBy version front t =
     withLength
-    (1
+    (version
     ∷ t .boards
     ∷ length (t .processes)
     ∷ length (t .channels)
     ∷ (allBytes (λ (c : Channel). c .sender ∷ c .reader ∷ []) (t .channels)
-    ++ allBytes (λ (x : Placement). x .primary ∷ x .standby ∷ length (x .code) ∷ allBytes instructionBytes (x .code)) (t .processes)))
+    ++ allBytes (λ (x : Placement). front x ++ (length (x .code) ∷ allBytes instructionBytes (x .code))) (t .processes)))
+
+abbrev pub tableBytes : Table → List ℕ
+tableBytes t = bytesBy 1 (λ x. x .primary ∷ x .standby ∷ []) t
+
+-- W-207: with limits
+abbrev pub limitedBytes : Table → List ℕ
+limitedBytes t = bytesBy 2 (λ x. x .primary ∷ x .standby ∷ x .limit ∷ []) t
 
 -- ---- a run, with buffers that are just long enough
 

@@ -89,18 +89,18 @@ pub refusalNumber-not-4 : (why : Refusal) → eqb (refusalNumber why) 4 ≡ fals
 refusalNumber-not-4 why = ne-eqb (refusalNumber why) 4 (λ e. let a = refusalNumber-listed why .low in omega arith)
 
 -- "37": for the acts or for the instructions
-pub owed-number : (x : Process) → refusalNumber (owedFor x) ≡ 37
+pub owed-number : (limit : ℕ) (x : Process) → refusalNumber (owedFor limit x) ≡ 37
 unfolding refusalNumber
-owed-number x = go (exhausted x)
+owed-number limit x = go (exhausted limit x)
   where
     go : (b : Bool) → refusalNumber (cond b eventsFull instructionsFull) ≡ 37
     go true = refl
     go false = refl
 
 -- W-206: "1 when only the 64 instructions are to blame"
-pub owed-cause : (x : Process) → refusalCause (owedFor x) ≡ cond (exhausted x) 0 1
+pub owed-cause : (limit : ℕ) (x : Process) → refusalCause (owedFor limit x) ≡ cond (exhausted limit x) 0 1
 unfolding refusalCause
-owed-cause x = go (exhausted x)
+owed-cause limit x = go (exhausted limit x)
   where
     go : (b : Bool) → refusalCause (cond b eventsFull instructionsFull) ≡ cond b 0 1
     go true = refl

@@ -10,10 +10,10 @@ use lib.ListN.{length, getD, set, length-set}
 use lib.Seq.{set-getD}
 use borrow.Author.Tests.{leb-false}
 use Rattle.facts.specs.Tests.{no-way, or-left, or-right}
-use Rattle.rules.specs.Table.{Table, channelAt, codeOf, portOf}
+use Rattle.rules.specs.Table.{Table, channelAt, codeOf, limitOf, portOf}
 use Rattle.rules.specs.Machine.{Mail, Machine, booted, Act, internal, took, sent, moved, localStep}
 use Rattle.rules.specs.Reference.{Reference, Action, referenceRun, injections}
-use Rattle.rules.specs.Cabinet.{instructionsMost, eventsMost, Process, Item, message, checkpoint, Cabinet, processAt, outboxAt, protected, limited, exhausted, overrun, owing, waiting}
+use Rattle.rules.specs.Cabinet.{instructionsMost, Process, Item, message, checkpoint, Cabinet, processAt, outboxAt, protected, limited, exhausted, overrun, owing, waiting}
 use Rattle.rules.specs.Moves.{Answer, numbers, withProcess, withOutbox, enqueue, advanced, counting, oneDone, oneSent, oneTaken, issued, snapshot}
 use Rattle.rules.specs.Judge.{Accepted}
 use Rattle.rules.specs.Transparent.{traceOf}
@@ -59,23 +59,23 @@ stay {s = s} inv = record { actions = []; end = s; ran = refl; invariant = inv; 
 
 -- ---- what the checks say
 
-not-exhausted : (x : Process) → exhausted x ≡ false → limited x ≡ true → x .since .events < eventsMost
+not-exhausted : (limit : ℕ) (x : Process) → exhausted limit x ≡ false → limited x ≡ true → x .since .events < limit
 unfolding exhausted
-not-exhausted x h safe = leb-false eventsMost (x .since .events) (rw safe at h)
+not-exhausted limit x h safe = leb-false limit (x .since .events) (rw safe at h)
 
 not-overrun : (x : Process) → overrun x ≡ false → limited x ≡ true → x .since .instructions < instructionsMost
 unfolding overrun
 not-overrun x h safe = leb-false instructionsMost (x .since .instructions) (rw safe at h)
 
 -- 37 lets an instruction pass that is no act, and one that is
-allows-done : (x : Process) → overrun x ≡ false → limited x ≡ true → Allows internal (x .since)
-allows-done x long safe = record { instruction = not-overrun x long safe; event = λ h. omega arith }
+allows-done : (limit : ℕ) (x : Process) → overrun x ≡ false → limited x ≡ true → Allows limit internal (x .since)
+allows-done limit x long safe = record { instruction = not-overrun x long safe; event = λ h. omega arith }
 
-allows-act : (x : Process) (k : Act) → busy1 k ≡ 1 → owing x ≡ false → limited x ≡ true → Allows k (x .since)
+allows-act : (limit : ℕ) (x : Process) (k : Act) → busy1 k ≡ 1 → owing limit x ≡ false → limited x ≡ true → Allows limit k (x .since)
 unfolding owing
-allows-act x k one none safe = record {
-  instruction = not-overrun x (or-right (exhausted x) (overrun x) none) safe;
-  event = λ _. omega (arith, not-exhausted x (or-left (exhausted x) (overrun x) none) safe);
+allows-act limit x k one none safe = record {
+  instruction = not-overrun x (or-right (exhausted limit x) (overrun x) none) safe;
+  event = λ _. omega (arith, not-exhausted limit x (or-left (exhausted limit x) (overrun x) none) safe);
 }
 
 none-waits : (t : Table) (p : ℕ) (q : List Item) → waiting p q ≡ false → checkpoints (mine t p q) ≡ 0
@@ -128,15 +128,15 @@ module _ {t : Table} (ok : Accepted t) {c : Cabinet} {s : Reference} (inv : Inva
   follow-computing m e long =
       let x : Process = processAt c p in
       wait-only (advanced m (counting oneDone x) (x .suppress) x) (same-boards refl refl)
-      (good-silent ok (in-table inv hp) {k = internal} (inv .good p hp) (record { is = e }) refl (allows-done x long))
+      (good-silent ok (in-table inv hp) {k = internal} (inv .good p hp) (record { is = e }) refl (allows-done (limitOf t p) x long))
 
-  pub follow-taking : (m : Machine) (mail : Mail) → localStep (codeOf t p) (processAt c p .machine) ≡ moved m (took mail) → owing (processAt c p) ≡ false
+  pub follow-taking : (m : Machine) (mail : Mail) → localStep (codeOf t p) (processAt c p .machine) ≡ moved m (took mail) → owing (limitOf t p) (processAt c p) ≡ false
       → Follows t (withProcess p (advanced m (counting (oneTaken (portOf t p (mail .channel))) (processAt c p)) (processAt c p .suppress) (processAt c p)) c) s [] []
   unfolding advanced
   follow-taking m mail e limit =
       let x : Process = processAt c p in
       wait-only (advanced m (counting (oneTaken (portOf t p (mail .channel))) x) (x .suppress) x) (same-boards refl refl)
-      (good-silent ok (in-table inv hp) {k = took mail} (inv .good p hp) (record { is = e }) refl (allows-act x (took mail) refl limit))
+      (good-silent ok (in-table inv hp) {k = took mail} (inv .good p hp) (record { is = e }) refl (allows-act (limitOf t p) x (took mail) refl limit))
 
   pub follow-suppressing : (m : Machine) (mail : Mail) → localStep (codeOf t p) (processAt c p .machine) ≡ moved m (sent mail)
       → (h : ℕ) → processAt c p .suppress ≡ suc h → Follows t (withProcess p (advanced m (processAt c p .since) h (processAt c p)) c) s [] []
@@ -146,13 +146,13 @@ module _ {t : Table} (ok : Accepted t) {c : Cabinet} {s : Reference} (inv : Inva
       (good-suppressed ok (in-table inv hp) (inv .good p hp) z (record { is = e }))
 
   pub follow-sending : (m : Machine) (mail : Mail) → localStep (codeOf t p) (processAt c p .machine) ≡ moved m (sent mail)
-      → processAt c p .suppress ≡ 0 → owing (processAt c p) ≡ false
+      → processAt c p .suppress ≡ 0 → owing (limitOf t p) (processAt c p) ≡ false
       → Follows t (withProcess p (advanced m (counting oneSent (processAt c p)) 0 (processAt c p)) (enqueue (processAt c p .board) (message mail) c)) s [] []
   unfolding advanced
   follow-sending m mail e z limit =
       wait-joined (advanced m (counting oneSent (processAt c p)) 0 (processAt c p)) (message mail) (same-boards refl refl)
       (step-own t ok p (in-table inv hp) (record { is = e }))
-      (good-send ok (in-table inv hp) (inv .good p hp) z (record { is = e }) (allows-act (processAt c p) (sent mail) refl limit))
+      (good-send ok (in-table inv hp) (inv .good p hp) z (record { is = e }) (allows-act (limitOf t p) (processAt c p) (sent mail) refl limit))
 
   -- ---- sync
 

@@ -4,15 +4,15 @@ use mathlib.Core.Path.{_≡_, subst}
 use mathlib.Core.Bool.{true}
 use mathlib.Core.Option.{none, some}
 use mathlib.Core.List.{List, [], _∷_, _++_, map}
-use Prim.Native.Nat.{ℕ, _+_, _*_, _≤_, _<_}
+use Prim.Native.Nat.{ℕ, zero, suc, _+_, _*_, _≤_, _<_}
 use native.Mathlib.Omega.{arith}
 use lib.ListN.{length, length-map, length-append}
 use Rattle.facts.specs.Tests.{no-way}
 use Rattle.backup.specs.Limits.{logMost}
 use Rattle.backup.specs.Replica.{Message, Replica}
-use Rattle.rules.specs.Table.{Table, Instruction, codeOf, inputs, channelOn}
+use Rattle.rules.specs.Table.{Table, Instruction, codeOf, limitOf, inputs, channelOn}
 use Rattle.rules.specs.Machine.{Mail, Machine, Act}
-use Rattle.rules.specs.Cabinet.{instructionsMost, eventsMost, Standby, Process, Item}
+use Rattle.rules.specs.Cabinet.{instructionsMost, Standby, Process, Item}
 use Rattle.rules.proofs.Runs.{Run, _then_, sends, lastSend, countOf, busy, busy-append, sends-busy, Within, run-shorter}
 use Rattle.rules.proofs.Ahead.{Ahead, checkpoints, ahead-total, ahead-left}
 
@@ -57,7 +57,7 @@ pub record Backed (t : Table) (p : ℕ) (items : List Item) (x : Process) (m : M
   pub since : List Act
   pub ahead : Ahead t p before m items since (x .machine)
   pub is-since : x .since ≡ countOf t p since
-  pub few : Within since
+  pub few : Within (limitOf t p) since
   pub one : checkpoints items ≤ 1
 
 -- with no backup, ahead of the reference machine
@@ -73,7 +73,7 @@ pub record Alone (t : Table) (p : ℕ) (items : List Item) (x : Process) (m : Ma
 pub record Late (t : Table) (p : ℕ) (items : List Item) (x : Process) (m : Machine) : Type 0 where
   pub no-standby : x .standby ≡ none
   pub no-items : items ≡ []
-  pub few : x .suppress ≤ eventsMost
+  pub few : x .suppress ≤ limitOf t p
   pub acts : List Act
   pub replay : Replay (codeOf t p) (x .machine) (x .suppress) acts m
   pub low : x .machine .pc ≤ length (codeOf t p)
@@ -98,12 +98,18 @@ pub record Span (t : Table) (p : ℕ) (x : Process) (s : Standby) : Type 0 where
   pub ran : Run (codeOf t p) (stateOf t p (s .replica)) acts (x .machine)
   -- since the last issue, and between it and the one before, which may wait still
   pub instructions : length acts ≤ 2 * instructionsMost
-  pub events : busy acts ≤ 2 * eventsMost
+  pub events : busy acts ≤ 2 * limitOf t p
+
+once : (n k : ℕ) → k ≤ 1 → n * k ≤ n
+once n zero h = omega arith
+once n (suc zero) h = omega arith
+once n (suc (suc k)) h = absurd (omega arith)
 
 backed-span : {t : Table} {p : ℕ} {items : List Item} {x : Process} {m : Machine} (h : Backed t p items x m) → Span t p x (h .standby)
-backed-span h =
+backed-span {t} {p} {items} h =
     let v = ahead-total (h .ahead) in
     let c = h .one in
+    let l = once (limitOf t p) (checkpoints items) c in
     record {
       acts = h .before ++ v .acts;
       ran = h .replay .ran then v .ran;
@@ -114,19 +120,19 @@ backed-span h =
 pub good-span : {t : Table} {p : ℕ} {items : List Item} {x : Process} {m : Machine} {s : Standby} → Good t p items x m → x .standby ≡ some s → Span t p x s
 good-span {t} {p} {x = x} g e = good-backed (Span t p x) g e backed-span
 
--- at most 8 counted, and at most 16 words more than are unread
-pub record Small (x : Process) (s : Standby) : Type 0 where
-  pub few-sent : s .replica .sent ≤ eventsMost
-  pub log-fits : length (s .replica .log) ≤ length (x .machine .mailbox) + 2 * eventsMost
+-- at most the limit counted, and at most twice as many words more than are unread
+pub record Small (t : Table) (p : ℕ) (x : Process) (s : Standby) : Type 0 where
+  pub few-sent : s .replica .sent ≤ limitOf t p
+  pub log-fits : length (s .replica .log) ≤ length (x .machine .mailbox) + 2 * limitOf t p
 
-pub backed-sent : {t : Table} {p : ℕ} {items : List Item} {x : Process} {m : Machine} (h : Backed t p items x m) → h .standby .replica .sent ≤ eventsMost
+pub backed-sent : {t : Table} {p : ℕ} {items : List Item} {x : Process} {m : Machine} (h : Backed t p items x m) → h .standby .replica .sent ≤ limitOf t p
 backed-sent h =
     let a = ahead-left (h .ahead) (h .few) .events in
     let b = sends-busy (h .before) in
     let c = h .replay .sent-so in
     omega arith
 
-backed-small : {t : Table} {p : ℕ} {items : List Item} {x : Process} {m : Machine} (h : Backed t p items x m) → Small x (h .standby)
+backed-small : {t : Table} {p : ℕ} {items : List Item} {x : Process} {m : Machine} (h : Backed t p items x m) → Small t p x (h .standby)
 unfolding stateOf
 backed-small {t} {p} h =
     let v = backed-span h in
@@ -135,14 +141,14 @@ backed-small {t} {p} h =
     let c = v .events in
     record { few-sent = backed-sent h; log-fits = omega arith }
 
-pub good-small : {t : Table} {p : ℕ} {items : List Item} {x : Process} {m : Machine} {s : Standby} → Good t p items x m → x .standby ≡ some s → Small x s
-good-small {x = x} g e = good-backed (Small x) g e backed-small
+pub good-small : {t : Table} {p : ℕ} {items : List Item} {x : Process} {m : Machine} {s : Standby} → Good t p items x m → x .standby ≡ some s → Small t p x s
+good-small {t} {p} {x = x} g e = good-backed (Small t p x) g e backed-small
 
 pub good-kept : {t : Table} {p : ℕ} {items : List Item} {x : Process} {m : Machine} {s : Standby} → Good t p items x m → x .standby ≡ some s
     → Kept t p (s .replica)
 good-kept {t} {p} g e = good-backed (λ s. Kept t p (s .replica)) g e (λ h. h .kept)
 
-pub good-suppress : {t : Table} {p : ℕ} {items : List Item} {x : Process} {m : Machine} → Good t p items x m → x .suppress ≤ eventsMost
+pub good-suppress : {t : Table} {p : ℕ} {items : List Item} {x : Process} {m : Machine} → Good t p items x m → x .suppress ≤ limitOf t p
 good-suppress (backed h) = let a = h .no-suppress in omega arith
 good-suppress (alone h) = let a = h .no-suppress in omega arith
 good-suppress (late h) = h .few

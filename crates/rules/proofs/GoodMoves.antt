@@ -9,14 +9,14 @@ use lib.ListN.{length}
 use Rattle.facts.specs.Tests.{no-way}
 use Rattle.backup.specs.Limits.{logMost, sentMost}
 use Rattle.backup.specs.Replica.{Replica, Checkpoint, FailOver, arrive, arrived, count, counted, sync, synced, failOver}
-use Rattle.rules.specs.Table.{Table, channelAt, codeOf, portOf}
+use Rattle.rules.specs.Table.{Table, channelAt, codeOf, limitOf, portOf}
 use Rattle.rules.specs.Machine.{Mail, Machine, Act, sent, delivered}
-use Rattle.rules.specs.Cabinet.{eventsMost, Standby, Since, Process, Item, message, checkpoint, protected, limited, isSome}
+use Rattle.rules.specs.Cabinet.{Standby, Since, Process, Item, message, checkpoint, protected, limited, isSome}
 use Rattle.rules.specs.Moves.{advanced, counting, oneSent, issued, snapshot, receive, counts, keeps, recovered, promoted, unprotected}
 use Rattle.rules.specs.Judge.{Accepted}
 use Rattle.rules.proofs.Steps.{Steps}
 use Rattle.rules.proofs.Runs.{Run, here, more, _then_, isSend, Silent, tally, count1, countOf, Allows, within-snoc}
-use Rattle.rules.proofs.Tables.{step-low}
+use Rattle.rules.proofs.Tables.{step-low, limit-high}
 use Rattle.rules.proofs.Ahead.{Ahead, level, checkpoints, checkpoints-append, ahead-later, ahead-silent, ahead-send, ahead-issue, up-to-send, up-to-issue, UpToEnd, up-to-end, ahead-total}
 use Rattle.rules.proofs.Good.{stateOf, Replay, Backed, Alone, Late, Good, backed, alone, late, backed-sent, good-backed}
 use Rattle.rules.proofs.Tally.{count-snoc}
@@ -43,9 +43,9 @@ pub record Synced (t : Table) (p : ℕ) (items : List Item) (x : Process) (m : M
   pub steps : Stepped t p m mid
   pub good : Good t p items x mid
 
-module _ {t : Table} {p : ℕ} {items : List Item} {x : Process} {m : Machine} where
+module _ {t : Table} (ok : Accepted t) {p : ℕ} {items : List Item} {x : Process} {m : Machine} where
   sent-fits : (h : Backed t p items x m) → h .standby .replica .sent < sentMost
-  sent-fits h = let a = backed-sent h in omega arith
+  sent-fits h = let a = backed-sent h in let b = limit-high t ok p in omega arith
 
 -- what is counted of a limited process
 counting-limited : (f : Since → Since) (x : Process) → limited x ≡ true → counting f x ≡ f (x .since)
@@ -80,12 +80,12 @@ module _ {t : Table} (ok : Accepted t) {p : ℕ} (hp : p < length (t .processes)
       let fits = room (h .standby) (h .is-standby) in
       backed record {
         standby = record { board = h .standby .board; replica = arrived r (portOf t p (mail .channel)) (mail .word) };
-        is-standby = called (λ s. arrive s (portOf t p (mail .channel)) (mail .word)) (h .is-standby) (arrives t ok p hp r (h .kept) (sent-fits h) mail reads fits);
-        kept = arrived-kept t ok p hp r (h .kept) (sent-fits h) mail reads fits;
+        is-standby = called (λ s. arrive s (portOf t p (mail .channel)) (mail .word)) (h .is-standby) (arrives t ok p hp r (h .kept) (sent-fits ok h) mail reads fits);
+        kept = arrived-kept t ok p hp r (h .kept) (sent-fits ok h) mail reads fits;
         no-suppress = h .no-suppress;
         before = h .before;
         replay = subst (λ (a : Machine). Replay (codeOf t p) a (r .sent) (h .before) (delivered mail m))
-            (sym (arrived-state t ok p hp r (h .kept) (sent-fits h) mail reads)) (replay-later mail (h .replay));
+            (sym (arrived-state t ok p hp r (h .kept) (sent-fits ok h) mail reads)) (replay-later mail (h .replay));
         since = h .since;
         ahead = ahead-later mail (h .ahead);
         is-since = h .is-since;
@@ -126,8 +126,8 @@ module _ {t : Table} (ok : Accepted t) {p : ℕ} (hp : p < length (t .processes)
         sends-it = v .sends-it;
         good = backed record {
           standby = record { board = h .standby .board; replica = counted r };
-          is-standby = called count (h .is-standby) (counts-it t ok p hp r (h .kept) (sent-fits h));
-          kept = counted-kept t ok p hp r (h .kept) (sent-fits h);
+          is-standby = called count (h .is-standby) (counts-it t ok p hp r (h .kept) (sent-fits ok h));
+          kept = counted-kept t ok p hp r (h .kept) (sent-fits ok h);
           no-suppress = h .no-suppress;
           before = h .before ++ (v .acts ++ (sent mail ∷ []));
           replay = (unfold stateOf in replay-on (h .replay) (v .to-mid) (v .silent-there) (v .sends-it));
@@ -172,11 +172,11 @@ module _ {t : Table} (ok : Accepted t) {p : ℕ} (hp : p < length (t .processes)
         steps = record { acts = v .acts; to-mid = v .to-mid; silent-there = v .silent-there };
         good = backed record {
           standby = record { board = h .standby .board; replica = synced r s };
-          is-standby = called (λ c. sync c s) (h .is-standby) (syncs t ok p hp r (h .kept) (sent-fits h) ran s is-pc is-registers is-taken);
-          kept = synced-kept t ok p hp r (h .kept) (sent-fits h) ran s is-pc is-registers is-taken;
+          is-standby = called (λ c. sync c s) (h .is-standby) (syncs t ok p hp r (h .kept) (sent-fits ok h) ran s is-pc is-registers is-taken);
+          kept = synced-kept t ok p hp r (h .kept) (sent-fits ok h) ran s is-pc is-registers is-taken;
           no-suppress = h .no-suppress;
           before = [];
-          replay = replay-none (synced-state t ok p hp r (h .kept) (sent-fits h) ran s is-pc is-registers is-taken);
+          replay = replay-none (synced-state t ok p hp r (h .kept) (sent-fits ok h) ran s is-pc is-registers is-taken);
           since = h .since;
           ahead = v .rest;
           is-since = h .is-since;
@@ -232,7 +232,7 @@ module _ {t : Table} (ok : Accepted t) {p : ℕ} (hp : p < length (t .processes)
 
   -- an instruction that sends nothing, where 37 lets it pass: of a limited process it is counted
   pub good-silent : {items : List Item} {x : Process} {m n : Machine} {k : Act} → Good t p items x m → Steps (codeOf t p) (x .machine) k n
-      → isSend k ≡ false → (limited x ≡ true → Allows k (x .since)) → Good t p items (advanced n (counting (count1 t p k) x) (x .suppress) x) m
+      → isSend k ≡ false → (limited x ≡ true → Allows (limitOf t p) k (x .since)) → Good t p items (advanced n (counting (count1 t p k) x) (x .suppress) x) m
   unfolding advanced
   good-silent {x = x} {k = k} (backed h) e s limit =
       let safe : limited x ≡ true = ap isSome (h .is-standby) in
@@ -284,7 +284,7 @@ module _ {t : Table} (ok : Accepted t) {p : ℕ} (hp : p < length (t .processes)
 
   -- a word joins the outbox
   pub good-send : {items : List Item} {x : Process} {m n : Machine} {mail : Mail} → Good t p items x m → x .suppress ≡ 0
-      → Steps (codeOf t p) (x .machine) (sent mail) n → (limited x ≡ true → Allows (sent mail) (x .since))
+      → Steps (codeOf t p) (x .machine) (sent mail) n → (limited x ≡ true → Allows (limitOf t p) (sent mail) (x .since))
       → Good t p (items ++ (message mail ∷ [])) (advanced n (counting oneSent x) 0 x) m
   unfolding advanced
   good-send {items = items} {x = x} {mail = mail} (backed h) z e limit =
@@ -334,8 +334,8 @@ module _ {t : Table} (ok : Accepted t) {p : ℕ} (hp : p < length (t .processes)
   unfolding promoted stateOf
   late-promoted {m = m} h =
       let r : Replica = h .standby .replica in
-      let machine-is : recovered t p (failOver r) ≡ stateOf t p r = recovers t ok p hp r (h .kept) (sent-fits h) in
-      let sent-is : failOver r .sent ≡ r .sent = ap (λ (f : FailOver). f .sent) (takes-over t ok p hp r (h .kept) (sent-fits h)) in
+      let machine-is : recovered t p (failOver r) ≡ stateOf t p r = recovers t ok p hp r (h .kept) (sent-fits ok h) in
+      let sent-is : failOver r .sent ≡ r .sent = ap (λ (f : FailOver). f .sent) (takes-over t ok p hp r (h .kept) (sent-fits ok h)) in
       record {
         no-standby = refl;
         no-items = refl;

@@ -9,7 +9,7 @@ use lib.ListN.{length, set}
 use borrow.Author.Tests.{leb-false, not-false, eqb-true}
 use Rattle.facts.specs.Tests.{no-way}
 use Rattle.backup.specs.Replica.{Checkpoint}
-use Rattle.rules.specs.Table.{Table, environment, channelAt, codeOf, portOf}
+use Rattle.rules.specs.Table.{Table, environment, channelAt, codeOf, limitOf, portOf}
 use Rattle.rules.specs.Machine.{Mail, Machine, internal, took, sent, Outcome, halted, noMail, moved, localStep}
 use Rattle.rules.specs.Cabinet.{outboxMost, Process, Item, message, checkpoint, Cabinet, processAt, outboxAt, deadAt, protected, overrun, owing, full, waiting}
 use Rattle.rules.specs.Moves.{Command, Refusal, Answer, stepDone, issueDone, crashDone, received, queued, suppressed, transmitted, injected, refused, Result, refuse, accept, guard, withProcess, withOutbox, enqueue, advanced, counting, oneDone, oneSent, oneTaken, send, stepFrom, step, issued, snapshot, issue, deliver, counts, keeps, landed, transmitItem, transmitOldest, transmit, inject, allAfterCrash, otherDead, crash, Move, stepMove, issueMove, transmitMove, injectMove, crashMove, unknown, moveOf, perform, judged, settle, turn, runFrom}
@@ -36,14 +36,14 @@ module _ (t : Table) (c : Cabinet) (r : Command) (P : Move → Cabinet → Answe
         → P stepMove (withProcess (r .a) (advanced m (counting oneDone x) (x .suppress) x) c) stepDone
     -- a TAKE or a FIRST
     pub takes : r .a < length (t .processes) → (m : Machine) (mail : Mail) → localStep (codeOf t (r .a)) (x .machine) ≡ moved m (took mail)
-        → owing x ≡ false
+        → owing (limitOf t (r .a)) x ≡ false
         → P stepMove (withProcess (r .a) (advanced m (counting (oneTaken (portOf t (r .a) (mail .channel))) x) (x .suppress) x) c) (received mail)
     -- a SEND held back
     pub suppresses : r .a < length (t .processes) → (m : Machine) (mail : Mail) → localStep (codeOf t (r .a)) (x .machine) ≡ moved m (sent mail)
         → (h : ℕ) → x .suppress ≡ suc h → P stepMove (withProcess (r .a) (advanced m (x .since) h x) c) (suppressed mail)
     -- a SEND whose word joins the queue
     pub sends : r .a < length (t .processes) → (m : Machine) (mail : Mail) → localStep (codeOf t (r .a)) (x .machine) ≡ moved m (sent mail)
-        → x .suppress ≡ 0 → owing x ≡ false → leb outboxMost (length (outboxAt c (x .board))) ≡ false → full t c (mail .channel) ≡ false
+        → x .suppress ≡ 0 → owing (limitOf t (r .a)) x ≡ false → leb outboxMost (length (outboxAt c (x .board))) ≡ false → full t c (mail .channel) ≡ false
         → P stepMove (withProcess (r .a) (advanced m (counting oneSent x) 0 x) (enqueue (x .board) (message mail) c)) (queued mail)
     pub issues : r .a < length (t .processes) → protected x ≡ true → waiting (r .a) (outboxAt c (x .board)) ≡ false
         → leb outboxMost (length (outboxAt c (x .board))) ≡ false

@@ -12,9 +12,9 @@ use Rattle.facts.specs.Tests.{no-way}
 use Rattle.facts.specs.Indexing.{getD-map}
 use Rattle.facts.specs.Counts.{occurs}
 use Rattle.backup.specs.Replica.{Checkpoint, count, sync}
-use Rattle.rules.specs.Table.{Table, environment, channelAt, codeOf}
+use Rattle.rules.specs.Table.{Table, environment, channelAt, codeOf, limitOf, nowhere}
 use Rattle.rules.specs.Machine.{Mail, Machine, Act, sent, moved, localStep, booted}
-use Rattle.rules.specs.Cabinet.{eventsMost, Standby, Since, Process, Item, message, checkpoint, Cabinet, nobody, processAt, outboxAt, limited, isSome, full, unreadOn, inFlight, placed, started}
+use Rattle.rules.specs.Cabinet.{Standby, Since, Process, Item, message, checkpoint, Cabinet, nobody, processAt, outboxAt, limited, isSome, full, unreadOn, inFlight, placed, started}
 use Rattle.rules.specs.Moves.{withProcess, withOutbox, enqueue, advanced, issued, snapshot, deliver, counts, keeps, promoted, unprotected, afterCrash}
 use Rattle.rules.proofs.Counting.{weight, step-unread, flight-join, flight-leave, flight-lost, flight-none}
 use Rattle.rules.proofs.Steps.{Steps}
@@ -107,7 +107,7 @@ module _ (t : Table) (c : Cabinet) (small : length (c .processes) ≤ environmen
 -- a backup's words are those that are unread and those that were received since its checkpoint, at most two issues' worth
 pub record Behind (t : Table) (x : Process) (p : ℕ) (s : Standby) : Type 0 where
   pub received : List ℕ
-  pub few : length received ≤ 2 * eventsMost
+  pub few : length received ≤ 2 * limitOf t p
   pub words : (k : ℕ) → unreadOn k (promoted t p s .machine .mailbox) ≡ unreadOn k (x .machine .mailbox) + occurs k received
   pub own : (k : ℕ) → channelAt t k .reader ≢ p → unreadOn k (promoted t p s .machine .mailbox) ≡ 0
 
@@ -176,7 +176,7 @@ pub start-room : (t : Table) → Room t [] (started t)
 unfolding started placed booted
 start-room t p hp =
     let there : p < length (t .processes) = rw length-map at hp in
-    let e = getD-map placed (t .processes) p (record { primary = 0; standby = 0; code = [] }) nobody there in
+    let e = getD-map placed (t .processes) p nowhere nobody there in
     record {
       again = [];
       few = omega arith;

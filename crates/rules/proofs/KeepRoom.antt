@@ -14,6 +14,7 @@ use Rattle.rules.specs.Cabinet.{Standby, Cabinet, processAt, unreadOn}
 use Rattle.rules.specs.Moves.{Command, promoted, turn}
 use Rattle.rules.specs.Judge.{Accepted}
 use Rattle.rules.proofs.Runs.{takes, takes-busy}
+use Rattle.rules.proofs.Tables.{limit-high}
 use Rattle.rules.proofs.Good.{mailOf, stateOf, good-span, good-small, good-kept}
 use Rattle.rules.proofs.Backups.{recovers}
 use Rattle.rules.proofs.Invariant.{Invariant}
@@ -30,7 +31,7 @@ module _ (t : Table) (ok : Accepted t) (c : Cabinet) (s : Reference) (inv : Inva
       let r : Replica = b .replica in
       let v = good-span (inv .good p hp) e in
       let kept = good-kept (inv .good p hp) e in
-      let few : r .sent < sentMost = (let a = good-small (inv .good p hp) e .few-sent in omega arith) in
+      let few : r .sent < sentMost = (let a = good-small (inv .good p hp) e .few-sent in let b = limit-high t ok p in omega arith) in
       let same : promoted t p b .machine ≡ stateOf t p r = recovers t ok p (rw (inv .all-processes) at hp) r kept few in
       let same-mail : (k : ℕ) → unreadOn k (promoted t p b .machine .mailbox) ≡ unreadOn k (map (mailOf t p) (r .log)) =
       λ k. ap (λ (m : Machine). unreadOn k (m .mailbox)) same in

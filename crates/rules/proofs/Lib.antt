@@ -39,9 +39,11 @@ pub mod Transparency
 -- The bounds of every state that is reached, and what a crash there leaves to do again.
 pub mod Reached
 pub mod RollForward
--- Tables and runs in bytes.
+-- Tables and runs in bytes. What lists give is computed of two of them before it is proved of all.
 pub mod Valid
+pub mod FirstVersion
 pub mod ReadBack
+pub mod EncodeCases
 pub mod Encoding
 pub mod Apart
 pub mod AcceptedRun
@@ -51,6 +53,7 @@ pub mod Cases
 pub mod Marked
 pub mod MoveCases
 pub mod LongCases
+pub mod LimitCases
 pub mod ReasonCases
 pub mod FormatCases
 pub mod PageCases

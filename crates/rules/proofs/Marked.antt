@@ -104,7 +104,7 @@ arrivals zero r = []
 arrivals (suc n) r = arrive r 0 7 .number ∷ arrivals n (arrive r 0 7 .replica)
 
 -- "Others: 48 arrivals pass, the 49th is 22" (the other of these two is in MoveCases)
-pub arrivals-fill : arrivals 49 initial ≡ times 48 (0 ∷ []) ++ (22 ∷ [])
+pub arrivals-fill : arrivals 65 initial ≡ times 64 (0 ∷ []) ++ (22 ∷ [])
 unfolding arrive arriveNumber fit
 arrivals-fill = refl
 

@@ -17,6 +17,7 @@ use Rattle.rules.specs.Judge.{Accepted}
 use Rattle.rules.specs.RollForward.{actsOf, goOn, redo, RollsForward}
 use Rattle.rules.proofs.Steps.{Steps}
 use Rattle.rules.proofs.Runs.{Run, here, more, busy, busy1}
+use Rattle.rules.proofs.Tables.{limit-high}
 use Rattle.rules.proofs.Good.{stateOf, good-span, good-small, good-kept}
 use Rattle.rules.proofs.Backups.{recovers}
 use Rattle.rules.proofs.Invariant.{Invariant}
@@ -56,7 +57,7 @@ module _ {t : Table} (ok : Accepted t) {c : Cabinet} {s : Reference} (inv : Inva
   unfolding promoted
   at-standby y has e =
       let v = good-span (inv .good p hp) has in
-      let few : y .replica .sent < sentMost = (let a = good-small (inv .good p hp) has .few-sent in omega arith) in
+      let few : y .replica .sent < sentMost = (let a = good-small (inv .good p hp) has .few-sent in let b = limit-high t ok p in omega arith) in
       let from : processAt d p .machine ≡ stateOf t p (y .replica) =
       ap (λ (x : Process). x .machine) e ∙ recovers t ok p (rw (inv .all-processes) at hp) (y .replica) (good-kept (inv .good p hp) has) few in
       record {

@@ -12,9 +12,9 @@ use borrow.Author.Tests.{ne-eqb, leb-false}
 use Rattle.facts.specs.Tests.{by-eq}
 use Rattle.facts.specs.Counts.{same, occurs, same-yes, same-no}
 use Rattle.backup.specs.Replica.{Replica, Reply, arrive}
-use Rattle.rules.specs.Table.{Table, environment, channelAt, portOf}
+use Rattle.rules.specs.Table.{Table, environment, channelAt, limitOf, portOf}
 use Rattle.rules.specs.Machine.{Mail, delivered}
-use Rattle.rules.specs.Cabinet.{eventsMost, occupancyMost, Standby, Process, Item, Cabinet, nobody, processAt, limited, isSome, unreadOn, inFlight, occupancy, full}
+use Rattle.rules.specs.Cabinet.{occupancyMost, Standby, Process, Item, Cabinet, nobody, processAt, limited, isSome, unreadOn, inFlight, occupancy, full}
 use Rattle.rules.specs.Moves.{onReplica, receive, deliver}
 use Rattle.rules.proofs.Counting.{unread-append}
 
@@ -24,7 +24,7 @@ use Rattle.rules.proofs.Counting.{unread-append}
 pub record Roomed (t : Table) (pending : List ℕ) (c : Cabinet) (p : ℕ) : Type 0 where
   -- the channels of words that it had received before a crash and then had again; none while it is limited
   pub again : List ℕ
-  pub few : length again ≤ 2 * eventsMost
+  pub few : length again ≤ 2 * limitOf t p
   pub none-yet : limited (processAt c p) ≡ true → again ≡ []
   pub room : (k : ℕ) → channelAt t k .reader ≡ p
       → unreadOn k (processAt c p .machine .mailbox) + inFlight k (c .outboxes) + occurs k pending ≤ occupancyMost + occurs k again

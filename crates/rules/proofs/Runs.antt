@@ -8,7 +8,7 @@ use lib.ListN.{length, getD, set, length-append}
 use Rattle.facts.specs.Tests.{no-way}
 use Rattle.rules.specs.Table.{Table, Instruction, portOf}
 use Rattle.rules.specs.Machine.{Mail, Machine, Act, internal, took, sent, delivered}
-use Rattle.rules.specs.Cabinet.{instructionsMost, eventsMost, Since, noTakes}
+use Rattle.rules.specs.Cabinet.{instructionsMost, Since, noTakes}
 use Rattle.rules.specs.Moves.{oneDone, oneSent, oneTaken}
 use Rattle.rules.proofs.Steps.{Steps, step-later, step-left, pulled-length}
 
@@ -114,14 +114,14 @@ abbrev pub countOf : Table → ℕ → List Act → Since
 countOf t p ks = record { instructions = length ks; events = busy ks; taken = tally t p ks }
 
 -- no more than 37 lets pass between two issues
-pub record Within (ks : List Act) : Type 0 where
+pub record Within (limit : ℕ) (ks : List Act) : Type 0 where
   pub instructions : length ks ≤ instructionsMost
-  pub events : busy ks ≤ eventsMost
+  pub events : busy ks ≤ limit
 
 -- what 37 asks before one act more
-pub record Allows (k : Act) (n : Since) : Type 0 where
+pub record Allows (limit : ℕ) (k : Act) (n : Since) : Type 0 where
   pub instruction : n .instructions < instructionsMost
-  pub event : n .events ≤ eventsMost → n .events + busy1 k ≤ eventsMost
+  pub event : n .events ≤ limit → n .events + busy1 k ≤ limit
 
 pub busy-append : (ks js : List Act) → busy (ks ++ js) ≡ busy ks + busy js
 busy-append [] js = omega arith
@@ -134,7 +134,8 @@ pub length-snoc : (ks : List Act) (k : Act) → length (ks ++ (k ∷ [])) ≡ su
 length-snoc ks k = let h = length-append ks (k ∷ []) in omega arith
 
 -- within the limits, one act more that is allowed
-pub within-snoc : (t : Table) (p : ℕ) (ks : List Act) (k : Act) {n : Since} → n ≡ countOf t p ks → Within ks → Allows k n → Within (ks ++ (k ∷ []))
+pub within-snoc : (t : Table) (p : ℕ) (ks : List Act) (k : Act) {limit : ℕ} {n : Since} → n ≡ countOf t p ks → Within limit ks → Allows limit k n
+    → Within limit (ks ++ (k ∷ []))
 within-snoc t p ks k e h a =
     let i = ap (λ (m : Since). m .instructions) e in
     let b = ap (λ (m : Since). m .events) e in

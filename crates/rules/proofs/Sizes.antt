@@ -10,12 +10,12 @@ use lib.ListN.{length, length-append, length-map, List·getD-eq-default}
 use Rattle.facts.specs.Tests.{no-way, by-eq, by-lt}
 use Rattle.facts.specs.Counts.{total, total-append, total-occurs, total-most, same, occurs, same-no, length-by-counts}
 use Rattle.backup.specs.Limits.{logMost}
-use Rattle.rules.specs.Table.{Table, environment, channelAt, inputs, channelOn}
+use Rattle.rules.specs.Table.{Table, environment, channelAt, limitOf, inputs, channelOn}
 use Rattle.rules.specs.Machine.{Mail}
 use Rattle.rules.specs.Reference.{Reference}
-use Rattle.rules.specs.Cabinet.{eventsMost, occupancyMost, Standby, Process, message, Cabinet, nobody, processAt, limited, isSome, unreadOn, inFlight, occupancy}
+use Rattle.rules.specs.Cabinet.{occupancyMost, savedMost, Standby, Process, message, Cabinet, nobody, processAt, limited, isSome, unreadOn, inFlight, occupancy}
 use Rattle.rules.specs.Judge.{Accepted}
-use Rattle.rules.proofs.Tables.{few-ports}
+use Rattle.rules.proofs.Tables.{few-ports, limit-high}
 use Rattle.rules.proofs.Good.{good-small}
 use Rattle.rules.proofs.Invariant.{Invariant, RoomFor, Roomy}
 use Rattle.rules.proofs.Inputs.{inputs-once, input-reader, no-input}
@@ -45,26 +45,38 @@ module _ (t : Table) (ok : Accepted t) (pending : List ℕ) (c : Cabinet) (p : �
       let d = length-map mailbox (λ (x : Mail). x .channel) in
       omega arith
 
-  pub mailbox-short : length (processAt c p .machine .mailbox) ≤ logMost
-  mailbox-short =
+  pub mailbox-few : length (processAt c p .machine .mailbox) ≤ savedMost (limitOf t p)
+  mailbox-few =
       let a = words-few [] (λ k. omega arith) (λ k n. refl) in
       let b = few-ports t ok p hp in
       let d = r .few in
       omega arith
 
+  pub mailbox-short : length (processAt c p .machine .mailbox) ≤ logMost
+  mailbox-short = let a = mailbox-few in let b = limit-high t ok p in omega arith
+
+  -- a limited process has had nothing again
+  pub mailbox-limited : limited (processAt c p) ≡ true → length (processAt c p .machine .mailbox) + 2 * limitOf t p ≤ savedMost (limitOf t p)
+  mailbox-limited safe =
+      let a = words-few [] (λ k. omega arith) (λ k n. refl) in
+      let b = few-ports t ok p hp in
+      let d : length (r .again) ≡ 0 = ap length (r .none-yet safe) in
+      omega arith
+
   -- one more word is on its way to a limited process
   pub mailbox-shorter : (k : ℕ) → channelAt t k .reader ≡ p → ((i : ℕ) → same i k ≤ inFlight i (c .outboxes) + occurs i pending)
-      → limited (processAt c p) ≡ true → length (processAt c p .machine .mailbox) + 2 * eventsMost < logMost
+      → limited (processAt c p) ≡ true → length (processAt c p .machine .mailbox) + 2 * limitOf t p < logMost
   mailbox-shorter k reads on-the-way safe =
       let one : (i : ℕ) → occurs i (k ∷ []) ≡ same i k = λ i. omega arith in
       let a = words-few (k ∷ []) (λ i. let h = on-the-way i in let o = one i in omega arith)
       (λ i n. let z = same-no i k (λ e. n (ap (λ (j : ℕ). channelAt t j .reader) e ∙ reads)) in let o = one i in omega arith) in
       let b = few-ports t ok p hp in
       let d : length (r .again) ≡ 0 = ap length (r .none-yet safe) in
+      let l = limit-high t ok p in
       omega arith
 
   -- over its channels
-  pub occupied-few : total (λ k. max (occupancy t c k) occupancyMost) (inputs t p) ≤ logMost
+  pub occupied-few : total (λ k. max (occupancy t c k) occupancyMost) (inputs t p) ≤ savedMost (limitOf t p)
   unfolding occupancy
   occupied-few =
       let each : (i : ℕ) → i < length (inputs t p)

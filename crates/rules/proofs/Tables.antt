@@ -13,9 +13,10 @@ use borrow.Author.Tests.{eqb-true, eqb-false, eq-eqb, ne-eqb, leb-true, ltb-true
 use Rattle.facts.specs.Tests.{and-left, and-right, by-lt, all-below, allOf}
 use Rattle.facts.specs.Indexing.{all-of}
 use Rattle.backup.specs.Limits.{ports}
-use Rattle.rules.specs.Table.{environment, Channel, Instruction, SET, ADD, TAKE, FIRST, SEND, JUMP, NONE, Placement, Table, channelAt, placementAt, codeOf, readFrom, inputs, position, portOf, channelOn}
+use Rattle.rules.specs.Table.{environment, Channel, Instruction, SET, ADD, TAKE, FIRST, SEND, JUMP, NONE, Placement, Table, channelAt, nowhere, placementAt, codeOf, limitOf, readFrom, inputs, position, portOf, channelOn}
+use Rattle.rules.specs.Sizes.{limitLeast, limitMost}
 use Rattle.rules.specs.Machine.{Mail, Machine, Act, internal, took, sent, Outcome, halted, noMail, moved, Pull, nothing, found, pull, bit, register, take1, first1, execute}
-use Rattle.rules.specs.Judge.{inputsOk, boardsOk, sends, instructionOk, instructionsOk, Accepted}
+use Rattle.rules.specs.Judge.{inputsOk, boardsOk, sends, instructionOk, instructionsOk, limitOk, limitsOk, Accepted}
 use Rattle.rules.proofs.Steps.{Steps, executes}
 
 -- ---- ports and channels
@@ -116,7 +117,7 @@ module _ (t : Table) (ok : Accepted t) where
   unfolding boardsOk
   board-ok p h =
       all-of (λ (x : Placement). ltb (x .primary) (t .boards) && (ltb (x .standby) (t .boards) && not (eqb (x .primary) (x .standby)))) (t .processes) (ok .on-boards) p
-      (record { primary = 0; standby = 0; code = [] }) h
+      nowhere h
 
   pub primary-ok : (p : ℕ) → p < length (t .processes) → placementAt t p .primary < t .boards
   primary-ok p h = ltb-true (placementAt t p .primary) (t .boards) (and-left (ltb (placementAt t p .primary) (t .boards)) _ (board-ok p h))
@@ -131,6 +132,17 @@ module _ (t : Table) (ok : Accepted t) where
       eqb-false (placementAt t p .primary) (placementAt t p .standby)
       (not-true _ (and-right (ltb (placementAt t p .standby) (t .boards)) _ (and-right (ltb (placementAt t p .primary) (t .boards)) _ (board-ok p h))))
       (sym e)
+
+  -- ---- limits
+
+  -- "a limit byte, 1 to 16"; a process that the table doesn't have has limit 0
+  pub limit-high : (p : ℕ) → limitOf t p ≤ limitMost
+  unfolding limitsOk
+  limit-high p =
+      by-lt p (length (t .processes))
+      (λ h. leb-true (limitOf t p) limitMost
+      (and-right (leb limitLeast (limitOf t p)) _ (all-of (λ (x : Placement). limitOk (x .limit)) (t .processes) (ok .limits) p nowhere h)))
+      (λ h. subst (λ (x : Placement). x .limit ≤ limitMost) (sym (List·getD-eq-default (t .processes) nowhere h)) (omega arith))
 
 -- ---- what an instruction of an accepted table does
 

@@ -1,4 +1,4 @@
--- A table that passes numbers 1 to 8 is one of which `Accepted` holds.
+-- A table that passes numbers 1 to 8 and 47 is one of which `Accepted` holds.
 use mathlib.Core.Path.{_≡_, refl, ap, _∙_}
 use mathlib.Core.Bool.{Bool, true, false, _&&_}
 use mathlib.Core.List.{List, map}
@@ -11,9 +11,9 @@ use borrow.Author.Tests.{leb-true}
 use Rattle.facts.specs.Tests.{and-left, and-right}
 use Rattle.backup.specs.Limits.{pcMost}
 use Rattle.rules.specs.Table.{Placement, codeOf}
-use Rattle.rules.specs.Judge.{endsOk, inputsOk, boardsOk, instructionsOk, Accepted}
+use Rattle.rules.specs.Judge.{endsOk, inputsOk, boardsOk, instructionsOk, limitsOk, Accepted}
 use Rattle.rules.specs.Bytes.{sixes}
-use Rattle.rules.specs.Format.{boardsIn, processesIn, channelsIn, versionIn, pairs, recordsStart, recordBytes, programLength, recordLength, rests, placementIn, instruction, decodeTable, orNumber, lengthOk, countsFit, countsOk, recordsOk, extentOk, validateTable}
+use Rattle.rules.specs.Format.{boardsIn, processesIn, channelsIn, versionIn, pairs, recordsStart, recordBytes, programLength, recordHead, recordLength, rests, placementIn, instruction, decodeTable, orNumber, lengthOk, countsFit, countsOk, recordsOk, extentOk, validateTable, versionOk}
 
 -- ---- one test of a list of them
 
@@ -25,30 +25,32 @@ pub further-passed : (test : Bool) (n further : ℕ) → orNumber test (suc n) f
 further-passed true n further h = h
 further-passed false n further h = absurd (omega arith)
 
--- ---- all eight
+-- ---- all of them
 
 pub record Valid (bytes : List ℕ) : Type 0 where
   pub length-ok : lengthOk bytes ≡ true
-  pub version-ok : eqb (versionIn bytes) 1 ≡ true
+  pub version-ok : versionOk (versionIn bytes) ≡ true
   pub counts-ok : countsOk bytes ≡ true
   pub extent-ok : extentOk bytes ≡ true
   pub ends-ok : endsOk (decodeTable bytes) ≡ true
   pub inputs-ok : inputsOk (decodeTable bytes) ≡ true
   pub boards-ok : boardsOk (decodeTable bytes) ≡ true
   pub instructions-ok : instructionsOk (decodeTable bytes) ≡ true
+  pub limits-ok : limitsOk (decodeTable bytes) ≡ true
 
--- of any eight tests
-eight : (a b c d e f g h : Bool)
-    → orNumber a 1 (orNumber b 2 (orNumber c 3 (orNumber d 4 (orNumber e 5 (orNumber f 6 (orNumber g 7 (orNumber h 8 0))))))) ≡ 0
-    → (a ≡ true) × (b ≡ true) × (c ≡ true) × (d ≡ true) × (e ≡ true) × (f ≡ true) × (g ≡ true) × (h ≡ true)
-eight a b c d e f g h n1 =
+-- of any nine tests
+nine : (a b c d e f g h i : Bool)
+    → orNumber a 1 (orNumber b 2 (orNumber c 3 (orNumber d 4 (orNumber e 5 (orNumber f 6 (orNumber g 7 (orNumber h 8 (orNumber i 47 0)))))))) ≡ 0
+    → (a ≡ true) × (b ≡ true) × (c ≡ true) × (d ≡ true) × (e ≡ true) × (f ≡ true) × (g ≡ true) × (h ≡ true) × (i ≡ true)
+nine a b c d e f g h i n1 =
     let n2 = further-passed a 0 _ n1 in
     let n3 = further-passed b 1 _ n2 in
     let n4 = further-passed c 2 _ n3 in
     let n5 = further-passed d 3 _ n4 in
     let n6 = further-passed e 4 _ n5 in
     let n7 = further-passed f 5 _ n6 in
-    let n8 = further-passed g 6 _ n7 in (
+    let n8 = further-passed g 6 _ n7 in
+    let n9 = further-passed h 7 _ n8 in (
       test-passed a 0 _ n1,
       test-passed b 1 _ n2,
       test-passed c 2 _ n3,
@@ -56,14 +58,15 @@ eight a b c d e f g h n1 =
       test-passed e 4 _ n5,
       test-passed f 5 _ n6,
       test-passed g 6 _ n7,
-      test-passed h 7 0 n8,
+      test-passed h 7 _ n8,
+      test-passed i 46 0 n9,
     )
 
 pub valid : (bytes : List ℕ) → validateTable bytes ≡ 0 → Valid bytes
 unfolding validateTable
 valid bytes h =
     let t = decodeTable bytes in
-    let all = eight (lengthOk bytes) (eqb (versionIn bytes) 1) (countsOk bytes) (extentOk bytes) (endsOk t) (inputsOk t) (boardsOk t) (instructionsOk t) h in
+    let all = nine (lengthOk bytes) (versionOk (versionIn bytes)) (countsOk bytes) (extentOk bytes) (endsOk t) (inputsOk t) (boardsOk t) (instructionsOk t) (limitsOk t) h in
     record {
       length-ok = all .0;
       version-ok = all .1;
@@ -73,6 +76,7 @@ valid bytes h =
       inputs-ok = all .5;
       boards-ok = all .6;
       instructions-ok = all .7;
+      limits-ok = all .8;
     }
 
 -- ---- the counts are the lists' lengths
@@ -81,9 +85,9 @@ pub length-pairs : (n : ℕ) (rest : List ℕ) → length (pairs n rest) ≡ n
 length-pairs zero rest = refl
 length-pairs (suc n) rest = ap suc (length-pairs n (drop 2 rest))
 
-pub length-rests : (n : ℕ) (rest : List ℕ) → length (rests n rest) ≡ n
-length-rests zero rest = refl
-length-rests (suc n) rest = ap suc (length-rests n (drop (recordLength rest) rest))
+pub length-rests : (version n : ℕ) (rest : List ℕ) → length (rests version n rest) ≡ n
+length-rests version zero rest = refl
+length-rests version (suc n) rest = ap suc (length-rests version n (drop (recordLength version rest) rest))
 
 pub length-sixes : {A : Type 0} (make : ℕ → ℕ → ℕ → A) (n : ℕ) (bytes : List ℕ) → length (sixes make n bytes) ≡ n
 length-sixes make zero bytes = refl
@@ -91,7 +95,9 @@ length-sixes make (suc n) bytes = ap suc (length-sixes make n (drop 6 bytes))
 
 pub processes-counted : (bytes : List ℕ) → length (decodeTable bytes .processes) ≡ processesIn bytes
 unfolding decodeTable
-processes-counted bytes = length-map (rests (processesIn bytes) (recordBytes bytes)) placementIn ∙ length-rests (processesIn bytes) (recordBytes bytes)
+processes-counted bytes =
+    let version = versionIn bytes in
+    length-map (rests version (processesIn bytes) (recordBytes bytes)) (placementIn version) ∙ length-rests version (processesIn bytes) (recordBytes bytes)
 
 pub channels-counted : (bytes : List ℕ) → length (decodeTable bytes .channels) ≡ channelsIn bytes
 unfolding decodeTable
@@ -99,22 +105,23 @@ channels-counted bytes = length-pairs (channelsIn bytes) (drop 6 bytes)
 
 -- ---- a program is as long as its record says
 
-short-from : (n : ℕ) (rest : List ℕ) (d : Placement) → recordsOk n rest ≡ true → (p : ℕ) → p < n
-    → length (getD (map placementIn (rests n rest)) p d .code) ≤ pcMost
-short-from zero rest d h p l = absurd (not-suc-le-zero l)
-short-from (suc n) rest d h zero l =
-    let few : programLength rest ≤ pcMost = leb-true (programLength rest) pcMost (and-left (leb (programLength rest) pcMost) _ h) in
-    rw (length-sixes instruction (programLength rest) (drop 3 rest)) few
-short-from (suc n) rest d h (suc p) l =
-    short-from n (drop (recordLength rest) rest) d
-    (and-right (leb (recordLength rest) (length rest)) _ (and-right (leb (programLength rest) pcMost) _ h))
+short-from : (version n : ℕ) (rest : List ℕ) (d : Placement) → recordsOk version n rest ≡ true → (p : ℕ) → p < n
+    → length (getD (map (placementIn version) (rests version n rest)) p d .code) ≤ pcMost
+short-from version zero rest d h p l = absurd (not-suc-le-zero l)
+short-from version (suc n) rest d h zero l =
+    let k = programLength version rest in
+    let few : k ≤ pcMost = leb-true k pcMost (and-left (leb k pcMost) _ h) in
+    rw (length-sixes instruction k (drop (recordHead version) rest)) few
+short-from version (suc n) rest d h (suc p) l =
+    short-from version n (drop (recordLength version rest) rest) d
+    (and-right (leb (recordLength version rest) (length rest)) _ (and-right (leb (programLength version rest) pcMost) _ h))
     p (le-of-suc-le-suc l)
 
 pub short-programs : (bytes : List ℕ) → extentOk bytes ≡ true → (p : ℕ) → p < processesIn bytes → length (codeOf (decodeTable bytes) p) ≤ pcMost
 unfolding decodeTable extentOk
 short-programs bytes h =
-    short-from (processesIn bytes) (recordBytes bytes) _
-    (and-right (leb (recordsStart bytes) (length bytes)) (recordsOk (processesIn bytes) (recordBytes bytes)) h)
+    short-from (versionIn bytes) (processesIn bytes) (recordBytes bytes) _
+    (and-right (leb (recordsStart bytes) (length bytes)) (recordsOk (versionIn bytes) (processesIn bytes) (recordBytes bytes)) h)
 
 -- ---- together
 
@@ -162,4 +169,5 @@ decoded-accepted bytes h =
       few-inputs = v .inputs-ok;
       on-boards = v .boards-ok;
       instructions = v .instructions-ok;
+      limits = v .limits-ok;
     }

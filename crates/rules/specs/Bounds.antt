@@ -6,15 +6,14 @@ use mathlib.Core.Path.{_≡_}
 use mathlib.Core.Bool.{false, cond}
 use mathlib.Core.Option.{some}
 use mathlib.Core.List.{List, [], _∷_, map}
-use Prim.Native.Nat.{ℕ, _≤_, _<_, max}
+use Prim.Native.Nat.{ℕ, _*_, _≤_, _<_, max}
 use lib.Dec.{eqb}
 use lib.ListN.{length}
 use Rattle.facts.specs.Counts.{total}
-use Rattle.backup.specs.Limits.{logMost}
 use Rattle.backup.specs.Replica.{Message, Checkpoint, counted, takenOn, remaining, arriveNumber, countNumber, syncNumber, failOver}
-use Rattle.rules.specs.Table.{Table, environment, channelAt, codeOf, inputs, portOf, channelOn}
+use Rattle.rules.specs.Table.{Table, environment, channelAt, codeOf, limitOf, inputs, portOf, channelOn}
 use Rattle.rules.specs.Machine.{Mail}
-use Rattle.rules.specs.Cabinet.{outboxMost, eventsMost, instructionsMost, occupancyMost, Standby, Item, message, checkpoint, Cabinet, noTakes, processAt, outboxAt, deadAt, queuedOn, inFlight, occupancy, full}
+use Rattle.rules.specs.Cabinet.{outboxMost, limitMost, instructionsMost, occupancyMost, savedMost, Standby, Item, message, checkpoint, Cabinet, noTakes, processAt, outboxAt, deadAt, queuedOn, inFlight, occupancy, full}
 
 -- saved words as an inbox: "the saved words as inbox"
 abbrev pub mails : Table → ℕ → List Message → List Mail
@@ -32,16 +31,18 @@ pub record BackupBounds (t : Table) (c : Cabinet) (p : ℕ) (s : Standby) : Type
   pub board : s .board < t .boards
   pub live : deadAt c (s .board) ≡ false
   pub apart : s .board ≢ processAt c p .board
-  -- "Hence a saved list has at most 48 words"
-  pub log : length (s .replica .log) ≤ logMost
-  -- "and a count at most 16": it never passes the limit on acts, 8
-  pub sent : s .replica .sent ≤ eventsMost
-  -- "37 if backed and acts are 8"
-  pub events : processAt c p .since .events ≤ eventsMost
+  -- W-207: "at most 32 plus twice the limit saved words"
+  pub log : length (s .replica .log) ≤ savedMost (limitOf t p)
+  -- "a count of at most twice the limit"
+  pub sent-twice : s .replica .sent ≤ 2 * limitOf t p
+  -- sharper: it never passes the limit itself
+  pub sent : s .replica .sent ≤ limitOf t p
+  -- "37 if backed and acts are 8", the limit since W-207
+  pub events : processAt c p .since .events ≤ limitOf t p
   -- W-204: "after 64 instructions done since its last sync was issued"
   pub instructions : processAt c p .since .instructions ≤ instructionsMost
   -- "takes per slot since the last issue"
-  pub taken : (port : ℕ) → takenOn (processAt c p .since .taken) port ≤ eventsMost
+  pub taken : (port : ℕ) → takenOn (processAt c p .since .taken) port ≤ limitOf t p
   -- "A channel is held when its unread words and those in the queues are 8 or more together."
   pub occupied : (k : ℕ) → channelAt t k .reader ≡ p → occupancy t c k ≤ occupancyMost
   -- the saved words, less those taken since the backup's state, are the inbox
@@ -65,12 +66,14 @@ pub record Bounds (t : Table) (c : Cabinet) (p : ℕ) : Type 0 where
   pub live : deadAt c (processAt c p .board) ≡ false
   -- "Place n means halted."
   pub pc : processAt c p .machine .pc ≤ length (codeOf t p)
+  -- "a limit byte, 1 to 16": so that what follows is at most 64 words, as many as a record holds, and a count of at most 32
+  pub limit : limitOf t p ≤ limitMost
   -- "the saved words as inbox": it has no more words than a saved list
-  pub mailbox : length (processAt c p .machine .mailbox) ≤ logMost
+  pub mailbox : length (processAt c p .machine .mailbox) ≤ savedMost (limitOf t p)
   -- "the count as hold-back"
-  pub suppress : processAt c p .suppress ≤ eventsMost
-  -- unread and in flight: over its channels at most 48, where each stands for 8 at least
-  pub occupied : total (λ k. max (occupancy t c k) occupancyMost) (inputs t p) ≤ logMost
+  pub suppress : processAt c p .suppress ≤ limitOf t p
+  -- unread and in flight, over its channels, where each stands for 8 at least
+  pub occupied : total (λ k. max (occupancy t c k) occupancyMost) (inputs t p) ≤ savedMost (limitOf t p)
   pub backup : (s : Standby) → processAt c p .standby ≡ some s → BackupBounds t c p s
 
 -- "each board has one queue, at most 32 entries"

@@ -7,7 +7,7 @@ use lib.Dec.{eqb, ltb, leb}
 use lib.ListN.{length, getD, set, replicate}
 use Rattle.facts.specs.Tests.{allOf, allBelow}
 use Rattle.backup.specs.Replica.{Replica, Checkpoint, initial}
-pub use Rattle.rules.specs.Sizes.{outboxMost, eventsMost, instructionsMost, occupancyMost}
+pub use Rattle.rules.specs.Sizes.{outboxMost, limitMost, instructionsMost, occupancyMost, savedMost}
 use Rattle.rules.specs.Table.{Table, Placement, environment, channelAt, codeOf}
 use Rattle.rules.specs.Machine.{Mail, Machine, booted, Outcome, halted, noMail, moved, localStep}
 
@@ -103,18 +103,18 @@ protected x = isSome (x .standby)
 abbrev pub limited : Process → Bool
 limited x = isSome (x .standby)
 
--- "if backed and acts are 8"
-unfoldable pub exhausted : Process → Bool
-exhausted x = limited x && leb eventsMost (x .since .events)
+-- "37 if backed and acts are 8"; W-207: for 8 stands the process's own limit
+unfoldable pub exhausted : ℕ → Process → Bool
+exhausted limit x = limited x && leb limit (x .since .events)
 
 -- W-204: "64 instructions done since its last sync was issued". "A process without a backup owes nothing."
 unfoldable pub overrun : Process → Bool
 overrun x = limited x && leb instructionsMost (x .since .instructions)
 
 -- "A backed process now also owes a sync": for its acts, or for its instructions
-unfoldable pub owing : Process → Bool
+unfoldable pub owing : ℕ → Process → Bool
 unfolding exhausted overrun
-owing x = exhausted x || overrun x
+owing limit x = exhausted limit x || overrun x
 
 -- how many unread words of a mailbox are of channel k
 abbrev pub unreadOn : ℕ → List Mail → ℕ

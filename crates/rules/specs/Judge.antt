@@ -1,4 +1,4 @@
--- What numbers 5 to 8 ask of a whole table, each as one test (document 01, "The table" and "What each move replies").
+-- What numbers 5 to 8 and 47 ask of a whole table, each as one test (document 01, "The table" and "What each move replies").
 -- Numbers 1 to 4 are judged on the bytes.
 use mathlib.Core.Path.{_≡_}
 use mathlib.Core.Bool.{Bool, true, false, not, cond, _&&_, _||_}
@@ -8,7 +8,7 @@ use lib.Dec.{eqb, ltb, leb}
 use lib.ListN.{length}
 use Rattle.facts.specs.Tests.{allOf, allBelow}
 use Rattle.backup.specs.Limits.{ports, pcMost}
-use Rattle.rules.specs.Sizes.{boardsLeast, boardsMost, processesMost, channelsMost}
+use Rattle.rules.specs.Sizes.{boardsLeast, boardsMost, processesMost, channelsMost, limitLeast, limitMost}
 use Rattle.rules.specs.Table.{environment, Channel, Instruction, SET, ADD, TAKE, FIRST, SEND, JUMP, NONE, Placement, Table, channelAt, codeOf, placementAt, inputs}
 use Rattle.rules.specs.Machine.{bit}
 
@@ -66,7 +66,14 @@ unfoldable pub instructionsOk : Table → Bool
 unfolding instructionOk
 instructionsOk t = allBelow (λ p. allOf (instructionOk t p (length (codeOf t p))) (codeOf t p)) (length (t .processes))
 
--- What is true of every table that is accepted: the counts of number 3, n of number 4, and the tests of 5 to 8.
+-- 47: "a limit outside 1 to 16"
+abbrev pub limitOk : ℕ → Bool
+limitOk limit = leb limitLeast limit && leb limit limitMost
+
+unfoldable pub limitsOk : Table → Bool
+limitsOk t = allOf (λ (x : Placement). limitOk (x .limit)) (t .processes)
+
+-- What is true of every table that is accepted: the counts of number 3, n of number 4, and the tests of 5 to 8 and 47.
 pub record Accepted (t : Table) : Type 0 where
   pub boards-low : boardsLeast ≤ t .boards
   pub boards-high : t .boards ≤ boardsMost
@@ -79,3 +86,4 @@ pub record Accepted (t : Table) : Type 0 where
   pub few-inputs : inputsOk t ≡ true
   pub on-boards : boardsOk t ≡ true
   pub instructions : instructionsOk t ≡ true
+  pub limits : limitsOk t ≡ true

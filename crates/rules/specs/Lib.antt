@@ -13,6 +13,7 @@ pub mod RollForward
 pub mod Transparent
 pub mod Bytes
 pub mod Format
+pub mod FirstVersion
 pub mod Encode
 pub mod Schedule
 pub mod Run

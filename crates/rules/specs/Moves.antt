@@ -8,7 +8,7 @@ use lib.ListN.{length, getD, set}
 use Rattle.facts.specs.Tests.{anyBelow}
 use Rattle.backup.specs.Report.{totalDropped, syncReport}
 use Rattle.backup.specs.Replica.{Message, Replica, Checkpoint, Reply, FailOver, arrive, count, sync, failOver}
-use Rattle.rules.specs.Table.{Table, Instruction, SET, ADD, TAKE, FIRST, SEND, JUMP, NONE, environment, channelAt, codeOf, portOf, channelOn}
+use Rattle.rules.specs.Table.{Table, Instruction, SET, ADD, TAKE, FIRST, SEND, JUMP, NONE, environment, channelAt, codeOf, limitOf, portOf, channelOn}
 use Rattle.rules.specs.Machine.{Mail, Machine, Act, internal, took, sent, Outcome, halted, noMail, moved, instructionAt, localStep, delivered}
 use Rattle.rules.specs.Cabinet.{outboxMost, Standby, Since, Process, Item, message, checkpoint, Cabinet, noneSince, nobody, processAt, outboxAt, deadAt, protected, limited, exhausted, overrun, owing, full, waiting}
 
@@ -155,8 +155,8 @@ oneTaken port n = record {
 -- ---- 1 step
 
 -- a sync is owed before a TAKE, a FIRST or a SEND: for the instructions alone where the acts owe none
-abbrev pub owedFor : Process → Refusal
-owedFor x = cond (exhausted x) eventsFull instructionsFull
+abbrev pub owedFor : ℕ → Process → Refusal
+owedFor limit x = cond (exhausted limit x) eventsFull instructionsFull
 
 -- "A SEND with hold-back above 0 lowers it by one and sends nothing. Otherwise the word joins its board's queue."
 -- "For a SEND not held back: 37 likewise, 38 queue full, 39 held." (A process with hold-back has no backup, so that nothing is counted.)
@@ -164,7 +164,7 @@ unfoldable pub send : Table → Cabinet → ℕ → Process → Machine → Mail
 unfolding exhausted overrun owing full advanced
 send t c p x m mail (suc h) = accept (withProcess p (advanced m (x .since) h x) c) (suppressed mail)
 send t c p x m mail zero =
-    guard (owing x) (owedFor x)
+    guard (owing (limitOf t p) x) (owedFor (limitOf t p) x)
     (guard (leb outboxMost (length (outboxAt c (x .board)))) sendBlocked
     (guard (full t c (mail .channel)) sendHeld
     (accept (withProcess p (advanced m (counting oneSent x) 0 x) (enqueue (x .board) (message mail) c)) (queued mail))))
@@ -179,8 +179,8 @@ missing (SEND a k) = noWordToTake
 missing (JUMP a n) = noWordToTake
 missing NONE = noWordToTake
 
--- "Step: 35 halted. For TAKE and FIRST: 36 no such word, then 37 if backed and acts are 8. [..] SET, ADD and JUMP always succeed." W-204:
--- after 64 instructions "every kind of instruction then answers 37, TAKE and FIRST still answering 36 first when no word is there. This
+-- "Step: 35 halted. For TAKE and FIRST: 36 no such word, then 37 if backed and acts are 8. [..] SET, ADD and JUMP always succeed." W-207:
+-- the limit of the process's placement is asked for, not 8. W-204: after 64 instructions "every kind of instruction then answers 37, TAKE and FIRST still answering 36 first when no word is there. This
 -- amends the sentence that SET, ADD and JUMP always succeed."
 unfoldable pub stepFrom : Table → Cabinet → ℕ → Process → Outcome → Result
 unfolding send advanced exhausted overrun owing missing
@@ -190,7 +190,7 @@ stepFrom t c p x (moved m internal) =
     guard (overrun x) instructionsFull
     (accept (withProcess p (advanced m (counting oneDone x) (x .suppress) x) c) stepDone)
 stepFrom t c p x (moved m (took mail)) =
-    guard (owing x) (owedFor x)
+    guard (owing (limitOf t p) x) (owedFor (limitOf t p) x)
     (accept (withProcess p (advanced m (counting (oneTaken (portOf t p (mail .channel))) x) (x .suppress) x) c) (received mail))
 stepFrom t c p x (moved m (sent mail)) = send t c p x m mail (x .suppress)
 

@@ -107,7 +107,7 @@ scheduleIn input = drop (2 + lengthField input) input
 abbrev pub benchBuffers : Buffers
 benchBuffers = buffersOf (replicate (6 * commandsMost) 0) (replicate commandsMost 0) (replicate (20 * processesMost) 0)
 
--- what the program prints for all of its input: "A table length over 6,260 prints `refused 1`"
+-- what the program prints for all of its input: "A table length over 6,260 prints `refused 1`"; W-207: over 6,276
 unfoldable pub benchPage : List ℕ → List ℕ
 unfolding run pageOf decimal
 benchPage input =

@@ -5,9 +5,9 @@ use mathlib.Core.Path.{_≡_}
 use mathlib.Core.Option.{Option, none, some}
 use mathlib.Core.List.{List}
 use Prim.Native.Nat.{ℕ, zero, suc, _+_, _*_, _≤_}
-use Rattle.rules.specs.Table.{Table, Instruction, codeOf}
+use Rattle.rules.specs.Table.{Table, Instruction, codeOf, limitOf}
 use Rattle.rules.specs.Machine.{Machine, Act, internal, took, sent, Outcome, halted, noMail, moved, localStep}
-use Rattle.rules.specs.Cabinet.{instructionsMost, eventsMost, Cabinet, processAt}
+use Rattle.rules.specs.Cabinet.{instructionsMost, Cabinet, processAt}
 
 -- where some instructions lead, and how many of them were acts
 pub record Redone : Type 0 where
@@ -44,5 +44,5 @@ pub record RollsForward (t : Table) (c d : Cabinet) (p : ℕ) : Type 0 where
   pub redone : redo (codeOf t p) instructions (processAt d p .machine) ≡ some (record { machine = processAt c p .machine; acts = acts })
   -- 64 since its last sync was issued, and 64 between that one and the one before, where the last one was not carried yet
   pub few-instructions : instructions ≤ 2 * instructionsMost
-  -- and of these 8 and 8
-  pub few-acts : acts ≤ 2 * eventsMost
+  -- and of these twice the limit
+  pub few-acts : acts ≤ 2 * limitOf t p

@@ -64,7 +64,7 @@ reportBytes x =
 
 -- ---- the run
 
--- 0, or "lowest number first": those of the table, those of the schedule, then
+-- 0, or "lowest number first": those of the table, 47 among them ("checked after 8 and before 9"), those of the schedule, then
 -- "11 answer buffer under six bytes a record; 12 report buffer under 20 bytes a process". W-206: "A buffer for this list under one byte a
 -- record makes the run answer 11."
 unfoldable pub validateRun : List ℕ → List ℕ → Lengths → ℕ

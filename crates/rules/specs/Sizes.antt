@@ -1,13 +1,16 @@
 -- The sizes that document 01 gives the cabinet, its table and its schedule, each named once; those of the backup record, the largest program
 -- among them, are its `Limits`. What stands above passes them on. The code names the same numbers in table/src/format.rt, state/src/board.rt,
 -- state/src/channel.rt and step/src/guards.rt.
-use Prim.Native.Nat.{ℕ, _*_}
+use mathlib.Core.Bool.{Bool, cond}
+use Prim.Native.Nat.{ℕ, _+_, _*_}
+use lib.Dec.{eqb}
+use Rattle.backup.specs.Limits.{ports}
 
 -- ---- the table
 
--- "Bytes 0 and 1: the length of all that follows them, at most 6,260."
+-- "Bytes 0 and 1: the length of all that follows them, at most 6,260." W-207: "The table's length limit becomes 6,276", whatever the version
 abbrev pub tableMost : ℕ
-tableMost = 6260
+tableMost = 6276
 
 -- "boards B, 2 to 16", "processes P, 1 to 16", "channels C, 1 to 32"
 abbrev pub boardsLeast : ℕ
@@ -22,9 +25,20 @@ processesMost = 16
 abbrev pub channelsMost : ℕ
 channelsMost = 32
 
--- "one record for each process: primary board, backup board, n [..], and n instructions": the bytes before the instructions
-abbrev pub recordHead : ℕ
-recordHead = 3
+-- W-207: "Table version 2 adds a limit byte": whether a table of this version has limits, and how many limit bytes a process's record has
+abbrev pub withLimits : ℕ → Bool
+withLimits version = eqb version 2
+
+abbrev pub limitBytes : ℕ → ℕ
+limitBytes version = cond (withLimits version) 1 0
+
+-- "one record for each process: primary board, backup board, n [..], and n instructions", the limit "between the backup board and n": where n
+-- stands, and the bytes before the instructions
+abbrev pub lengthPlace : ℕ → ℕ
+lengthPlace version = 2 + limitBytes version
+
+abbrev pub recordHead : ℕ → ℕ
+recordHead version = 1 + lengthPlace version
 
 -- ---- the schedule
 
@@ -45,9 +59,16 @@ outboxMost = 32
 abbrev pub entriesMost : ℕ
 entriesMost = boardsMost * outboxMost
 
--- "37 if backed and acts are 8"
-abbrev pub eventsMost : ℕ
-eventsMost = 8
+-- W-207: "a limit byte, 1 to 16", for the acts of each process between two syncs
+abbrev pub limitLeast : ℕ
+limitLeast = 1
+
+abbrev pub limitMost : ℕ
+limitMost = 16
+
+-- "37 if backed and acts are 8"; W-207: "Version 1 is read as limit 8 throughout."
+abbrev pub limitBefore : ℕ
+limitBefore = 8
 
 -- W-204: "A backed process now also owes a sync after 64 instructions done since its last sync was issued."
 abbrev pub instructionsMost : ℕ
@@ -56,3 +77,7 @@ instructionsMost = 64
 -- "A channel is held when its unread words and those in the queues are 8 or more together."
 abbrev pub occupancyMost : ℕ
 occupancyMost = 8
+
+-- W-207: "at most 32 plus twice the limit saved words": four channels of 8, and what was taken since the last sync but one was issued
+abbrev pub savedMost : ℕ → ℕ
+savedMost limit = ports * occupancyMost + 2 * limit

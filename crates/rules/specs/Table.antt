@@ -19,10 +19,12 @@ pub data Instruction : Type 0 where
   -- number 8 refuses it, and nothing executes it
   NONE : Instruction
 
--- "one record for each process: primary board, backup board, n, and n instructions"
+-- "one record for each process: primary board, backup board, n, and n instructions". W-207: "a limit byte [..] between the backup board and n"
 pub record Placement : Type 0 where
   pub primary : ℕ
   pub standby : ℕ
+  -- how many acts it may do between two syncs
+  pub limit : ℕ
   pub code : List Instruction
 
 pub record Table : Type 0 where
@@ -34,11 +36,18 @@ pub record Table : Type 0 where
 abbrev pub channelAt : Table → ℕ → Channel
 channelAt t k = getD (t .channels) k (record { sender = environment; reader = environment })
 
+-- stands for the placement of a process that the table doesn't have
+abbrev pub nowhere : Placement
+nowhere = record { primary = 0; standby = 0; limit = 0; code = [] }
+
 abbrev pub placementAt : Table → ℕ → Placement
-placementAt t p = getD (t .processes) p (record { primary = 0; standby = 0; code = [] })
+placementAt t p = getD (t .processes) p nowhere
 
 abbrev pub codeOf : Table → ℕ → List Instruction
 codeOf t p = placementAt t p .code
+
+abbrev pub limitOf : Table → ℕ → ℕ
+limitOf t p = placementAt t p .limit
 
 -- the channels of a list that process p reads, where the list's first is channel k
 abbrev pub readFrom : ℕ → List Channel → ℕ → List ℕ

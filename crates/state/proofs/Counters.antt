@@ -3,10 +3,11 @@ use mathlib.Core.Path.{_≡_, refl}
 use mathlib.Core.Bool.{true}
 use mathlib.Core.Option.{Option, none, some}
 use Prim.Native.Nat.{ℕ, _≤_, _<_}
+use native.Mathlib.Omega.{arith}
 use lib.ListN.{length, getD}
 use Rattle.facts.specs.Tests.{no-way}
 use Rattle.rules.specs.Table.{Table}
-use Rattle.rules.specs.Cabinet.{instructionsMost, eventsMost, Standby, Cabinet, processAt, isSome, limited}
+use Rattle.rules.specs.Cabinet.{instructionsMost, limitMost, Standby, Cabinet, processAt, isSome, limited}
 use Rattle.rules.specs.Bounds.{BackupBounds}
 use Rattle.state.specs.Moved.{Reachable}
 use Rattle.state.proofs.Reaching.{bounds}
@@ -20,11 +21,11 @@ module _ {t : Table} {c : Cabinet} (r : Reachable t c) (p : ℕ) (hp : p < lengt
       go none e g = absurd (no-way (cc))
       go (some s) e g = f s (bounds r p hp .backup s e)
 
-  pub events-few : processAt c p .since .events ≤ eventsMost
-  events-few = by-standby _ (λ s b. b .events)
+  pub events-few : processAt c p .since .events ≤ limitMost
+  events-few = by-standby _ (λ s b. let a = b .events in let l = bounds r p hp .limit in omega arith)
 
   pub instructions-few : processAt c p .since .instructions ≤ instructionsMost
   instructions-few = by-standby _ (λ s b. b .instructions)
 
-  pub takes-few : (port : ℕ) → getD (processAt c p .since .taken) port 0 ≤ eventsMost
-  takes-few port = by-standby _ (λ s b. b .taken port)
+  pub takes-few : (port : ℕ) → getD (processAt c p .since .taken) port 0 ≤ limitMost
+  takes-few port = by-standby _ (λ s b. let a = b .taken port in let l = bounds r p hp .limit in omega arith)

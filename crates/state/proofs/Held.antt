@@ -29,7 +29,7 @@ module _ {t : Table} {c : Cabinet} (r : Reachable t c) where
   unfolding nobody booted
   mailbox-few p =
       by-lt p (length (t .processes))
-      (λ l. bounds r p l .mailbox)
+      (λ l. let b = bounds r p l in let d = b .limit in let e = b .mailbox in omega arith)
       (λ l. let a : processAt c p ≡ nobody = List·getD-eq-default (c .processes) nobody {n = p} (let b = known r .invariant .all-processes in omega arith) in
       let b = ap (λ (x : Process). length (x .machine .mailbox)) a in
       omega arith)

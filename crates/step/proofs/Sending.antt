@@ -13,7 +13,7 @@ use Rattle.facts.specs.Counts.{same}
 use Rattle.process.specs.Row.{machineOf, processOf}
 use Rattle.instruction.specs.Instruction.{Intends, Suppresses, Queues, afterSend}
 use Rattle.instruction.specs.declared.instruction.Intent.the-variants.{Send}
-use Rattle.rules.specs.Table.{Table, environment, codeOf, channelAt}
+use Rattle.rules.specs.Table.{Table, environment, codeOf, limitOf, channelAt}
 use Rattle.rules.specs.Machine.{Mail, Machine, sent}
 use Rattle.rules.specs.Cabinet as rules
 use Rattle.rules.specs.Cabinet.{Cabinet, Process, outboxMost, isCheckpointOf, processAt, outboxAt, full, waiting}
@@ -114,29 +114,29 @@ module _ {t : Table} {s : Store} {entries : List Entry} {c : Cabinet} (reach : R
   then = withProcess p (queueing (processAt c p)) (enqueue (processAt c p .board) (rules.message x) c)
 
   module _ (none : getD row 6 0 ≡ 0) (reader : ℕ) (is-reader : reader ≡ channelAt t channel .reader) where
-    queues-so : (b1 b2 b3 : Bool) → owingIn row ≡ b1 → leb outboxMost (countIn (s .boards) b) ≡ b2 → heldIn reader (getD (s .totals) channel 0) ≡ b3
-        → step t c p ≡ guard b1 (owedFor (processAt c p)) (guard b2 sendBlocked (guard b3 sendHeld (accept then (moves.queued x))))
+    queues-so : (b1 b2 b3 : Bool) → owingIn (limitOf t p) row ≡ b1 → leb outboxMost (countIn (s .boards) b) ≡ b2 → heldIn reader (getD (s .totals) channel 0) ≡ b3
+        → step t c p ≡ guard b1 (owedFor (limitOf t p) (processAt c p)) (guard b2 sendBlocked (guard b3 sendHeld (accept then (moves.queued x))))
     unfolding moves.send
     queues-so b1 b2 b3 e1 e2 e3 =
         sends-so 0 none
-        ∙ ap (λ (z : Bool). guard z (owedFor (processAt c p)) (guard (leb outboxMost (length (outboxAt c (processAt c p .board)))) sendBlocked (guard (full t c channel) sendHeld (accept then (moves.queued x))))) (owing-is h p hp ∙ e1)
-        ∙ ap (λ (z : Bool). guard b1 (owedFor (processAt c p)) (guard z sendBlocked (guard (full t c channel) sendHeld (accept then (moves.queued x))))) (ap (leb outboxMost) (queue-has reach h p hp) ∙ e2)
-        ∙ ap (λ (z : Bool). guard b1 (owedFor (processAt c p)) (guard b2 sendBlocked (guard z sendHeld (accept then (moves.queued x))))) (full-is (h .totalled) channel channel-inside reader is-reader ∙ e3)
+        ∙ ap (λ (z : Bool). guard z (owedFor (limitOf t p) (processAt c p)) (guard (leb outboxMost (length (outboxAt c (processAt c p .board)))) sendBlocked (guard (full t c channel) sendHeld (accept then (moves.queued x))))) (owing-is h p hp ∙ e1)
+        ∙ ap (λ (z : Bool). guard b1 (owedFor (limitOf t p) (processAt c p)) (guard z sendBlocked (guard (full t c channel) sendHeld (accept then (moves.queued x))))) (ap (leb outboxMost) (queue-has reach h p hp) ∙ e2)
+        ∙ ap (λ (z : Bool). guard b1 (owedFor (limitOf t p) (processAt c p)) (guard b2 sendBlocked (guard z sendHeld (accept then (moves.queued x))))) (full-is (h .totalled) channel channel-inside reader is-reader ∙ e3)
 
-    pub refused-37 : owingIn row ≡ true → step t c p ≡ refuse (owedFor (processAt c p))
+    pub refused-37 : owingIn (limitOf t p) row ≡ true → step t c p ≡ refuse (owedFor (limitOf t p) (processAt c p))
     unfolding guard
     refused-37 e = queues-so true _ _ e refl refl
 
-    pub refused-38 : owingIn row ≡ false → leb outboxMost (countIn (s .boards) b) ≡ true → step t c p ≡ refuse sendBlocked
+    pub refused-38 : owingIn (limitOf t p) row ≡ false → leb outboxMost (countIn (s .boards) b) ≡ true → step t c p ≡ refuse sendBlocked
     unfolding guard
     refused-38 e f = queues-so false true _ e f refl
 
-    pub refused-39 : owingIn row ≡ false → leb outboxMost (countIn (s .boards) b) ≡ false → heldIn reader (getD (s .totals) channel 0) ≡ true
+    pub refused-39 : owingIn (limitOf t p) row ≡ false → leb outboxMost (countIn (s .boards) b) ≡ false → heldIn reader (getD (s .totals) channel 0) ≡ true
         → step t c p ≡ refuse sendHeld
     unfolding guard
     refused-39 e f g = queues-so false false true e f g
 
-    pub queued-so : owingIn row ≡ false → leb outboxMost (countIn (s .boards) b) ≡ false → heldIn reader (getD (s .totals) channel 0) ≡ false
+    pub queued-so : owingIn (limitOf t p) row ≡ false → leb outboxMost (countIn (s .boards) b) ≡ false → heldIn reader (getD (s .totals) channel 0) ≡ false
         → step t c p ≡ accept then (moves.queued x)
     unfolding guard
     queued-so e f g = queues-so false false false e f g
@@ -213,21 +213,21 @@ module _ {t : Table} {s : Store} {entries : List Entry} {c : Cabinet} (reach : R
 -- ---- what the part promises
 
 -- of a process of the table the clamped number is the number
-pub send-at-its-index : {reader : List ℕ} {rows boards rows′ boards′ : List (List ℕ)} {totals totals′ : List ℕ} {channel word : ℕ} {r : Moved} (p a : ℕ) → (a < 16 → p ≡ a)
-    → (a ≡ p → SendTurns reader rows boards totals p channel word rows′ boards′ totals′ r) → SendTurns reader rows boards totals a channel word rows′ boards′ totals′ r
-send-at-its-index {reader} {rows} {boards} {rows′} {boards′} {totals} {totals′} {channel} {word} {r} p a is-p given = record {
-  turned = λ t sender port mails logs heads waits entries c command n code register operand reach wired i h f ha.
+pub send-at-its-index : {reader : List ℕ} {rows boards rows′ boards′ : List (List ℕ)} {totals totals′ : List ℕ} {limit channel word : ℕ} {r : Moved} (p a : ℕ) → (a < 16 → p ≡ a)
+    → (a ≡ p → SendTurns reader rows boards totals limit p channel word rows′ boards′ totals′ r) → SendTurns reader rows boards totals limit a channel word rows′ boards′ totals′ r
+send-at-its-index {reader} {rows} {boards} {rows′} {boards′} {totals} {totals′} {limit} {channel} {word} {r} p a is-p given = record {
+  turned = λ t sender port mails logs heads waits entries c command n code register operand reach wired i h f ha l.
       let e : p ≡ a = is-p (let z = reach .accepted .processes-high in omega arith) in
-      subst (λ (q : ℕ). SendTurns reader rows boards totals q channel word rows′ boards′ totals′ r) e (given (sym e))
-      .turned t sender port mails logs heads waits entries c command n code register operand reach wired i h f ha;
+      subst (λ (q : ℕ). SendTurns reader rows boards totals limit q channel word rows′ boards′ totals′ r) e (given (sym e))
+      .turned t sender port mails logs heads waits entries c command n code register operand reach wired i h f ha l;
 }
 
-module _ (reader : List ℕ) (rows boards : List (List ℕ)) (totals : List ℕ) (p channel word : ℕ) (r : Moved) where
+module _ (reader : List ℕ) (rows boards : List (List ℕ)) (totals : List ℕ) (limit p channel word : ℕ) (r : Moved) where
   pub send-suppressed : (row′ : List ℕ) → 0 < getD (getD rows p []) 6 0 → Suppresses (getD rows p []) row′ → r ≡ aloneOf (answerOf 3 0 channel word)
-      → SendTurns reader rows boards totals p channel word (set rows p row′) boards totals r
+      → SendTurns reader rows boards totals limit p channel word (set rows p row′) boards totals r
   unfolding numbers causeOf
   send-suppressed row′ l became g = record {
-    turned = λ t sender port mails logs heads waits entries c command n code register operand reach wired i h f hp.
+    turned = λ t sender port mails logs heads waits entries c command n code register operand reach wired i h f hp limit-is.
         let left : ℕ = getD (getD rows p []) 6 0 - 1 in
         let e : getD (getD rows p []) 6 0 ≡ suc left = omega arith in
         turned-to entries command (aloneOf (answerOf 3 0 channel word)) _ (suppressed (record { channel = channel; word = word }))
@@ -236,49 +236,49 @@ module _ (reader : List ℕ) (rows boards : List (List ℕ)) (totals : List ℕ)
   }
 
   module _ (none : getD (getD rows p []) 6 0 ≡ 0) where
-    pub send-37 : owingIn (getD rows p []) ≡ true → (cause : ℕ) → cause ≡ blameIn (getD rows p []) → r ≡ refusedWith 37 cause p
-        → SendTurns reader rows boards totals p channel word rows boards totals r
+    pub send-37 : owingIn limit (getD rows p []) ≡ true → (cause : ℕ) → cause ≡ blameIn limit (getD rows p []) → r ≡ refusedWith 37 cause p
+        → SendTurns reader rows boards totals limit p channel word rows boards totals r
     send-37 e cause b g = record {
-      turned = λ t sender port mails logs heads waits entries c command n code register operand reach wired i h f hp.
-          turned-down command p (owedFor (processAt c p)) h (refused-37 reach h p hp n code register operand channel word i none _ refl e) f
-          (g ∙ ap₂ (λ (k z : ℕ). refusedWith k z p) (sym (owed-number (processAt c p))) (b ∙ sym (blame-is h p hp)));
+      turned = λ t sender port mails logs heads waits entries c command n code register operand reach wired i h f hp limit-is.
+          turned-down command p (owedFor (limitOf t p) (processAt c p)) h (refused-37 reach h p hp n code register operand channel word i none _ refl (rw limit-is e)) f
+          (g ∙ ap₂ (λ (k z : ℕ). refusedWith k z p) (sym (owed-number (limitOf t p) (processAt c p))) (b ∙ ap (λ (m : ℕ). blameIn m (getD rows p [])) (sym limit-is) ∙ sym (blame-is h p hp)));
     }
 
-    module _ (fresh : owingIn (getD rows p []) ≡ false) (b : ℕ) (is-b : getD (getD rows p []) 0 0 < 16 → b ≡ getD (getD rows p []) 0 0) where
+    module _ (fresh : owingIn limit (getD rows p []) ≡ false) (b : ℕ) (is-b : getD (getD rows p []) 0 0 < 16 → b ≡ getD (getD rows p []) 0 0) where
       -- of lists that hold a cabinet the clamped board is the board
       the-board : {t : Table} {mails logs heads : List (List ℕ)} {waits : List ℕ} {entries : List Entry} {c : Cabinet} → Reachable t c
           → Holds t (storeOf rows mails logs heads boards totals waits) entries c → p < length (t .processes) → b ≡ getD (getD rows p []) 0 0
       the-board reach h hp = is-b (let a = board-there reach h p hp in let z = reach .accepted .boards-high in omega arith)
 
-      pub send-38 : outboxMost ≤ countIn boards b → r ≡ refusedWith 38 0 p → SendTurns reader rows boards totals p channel word rows boards totals r
+      pub send-38 : outboxMost ≤ countIn boards b → r ≡ refusedWith 38 0 p → SendTurns reader rows boards totals limit p channel word rows boards totals r
       unfolding refusalNumber refusalCause
       send-38 l g = record {
-        turned = λ t sender port mails logs heads waits entries c command n code register operand reach wired i h f hp.
+        turned = λ t sender port mails logs heads waits entries c command n code register operand reach wired i h f hp limit-is.
             turned-down command p sendBlocked h
-            (refused-38 reach h p hp n code register operand channel word i none _ refl fresh (le-leb outboxMost (countIn boards (getD (getD rows p []) 0 0)) (rw (← the-board reach h hp) l))) f g;
+            (refused-38 reach h p hp n code register operand channel word i none _ refl (rw limit-is fresh) (le-leb outboxMost (countIn boards (getD (getD rows p []) 0 0)) (rw (← the-board reach h hp) l))) f g;
       }
 
       module _ (few : countIn boards b < outboxMost) (k : ℕ) (is-k : channel < 32 → k ≡ channel) where
         pub send-39 : heldIn (getD reader k 0) (getD totals k 0) ≡ true → r ≡ refusedWith 39 0 p
-            → SendTurns reader rows boards totals p channel word rows boards totals r
+            → SendTurns reader rows boards totals limit p channel word rows boards totals r
         unfolding refusalNumber refusalCause
         send-39 e g = record {
-          turned = λ t sender port mails logs heads waits entries c command n code register operand reach wired i h f hp.
+          turned = λ t sender port mails logs heads waits entries c command n code register operand reach wired i h f hp limit-is.
               let l = channel-inside reach h p hp n code register operand channel word i in
               let kk : k ≡ channel = is-k (let z = reach .accepted .channels-high in omega arith) in
               let full-so : heldIn (getD reader channel 0) (getD totals channel 0) ≡ true = rw (← kk) e in
               turned-down command p sendHeld h
-              (refused-39 reach h p hp n code register operand channel word i none (getD reader channel 0) (wired .reader-at channel l) fresh
+              (refused-39 reach h p hp n code register operand channel word i none (getD reader channel 0) (wired .reader-at channel l) (rw limit-is fresh)
               (lt-leb outboxMost (countIn boards (getD (getD rows p []) 0 0)) (rw (← the-board reach h hp) few)) full-so) f g;
         }
 
         pub send-queued : (row′ : List ℕ) → heldIn (getD reader k 0) (getD totals k 0) ≡ false → Queues (getD rows p []) row′
             → placeOf (getD boards b []) b < 512
             → r ≡ record { answer = answerOf 2 0 channel word; at = placeOf (getD boards b []) b; entry = record { item = Word channel word } }
-            → SendTurns reader rows boards totals p channel word (set rows p row′) (set boards b (pushedIn (getD boards b []))) (set totals k ((getD totals k 0 + 1) % 2 ^ 32)) r
+            → SendTurns reader rows boards totals limit p channel word (set rows p row′) (set boards b (pushedIn (getD boards b []))) (set totals k ((getD totals k 0 + 1) % 2 ^ 32)) r
         unfolding numbers causeOf
         send-queued row′ e became below g = record {
-          turned = λ t sender port mails logs heads waits entries c command n code register operand reach wired i h f hp.
+          turned = λ t sender port mails logs heads waits entries c command n code register operand reach wired i h f hp limit-is.
               let l = channel-inside reach h p hp n code register operand channel word i in
               let kk : k ≡ channel = is-k (let z = reach .accepted .channels-high in omega arith) in
               let bb : b ≡ getD (getD rows p []) 0 0 = the-board reach h hp in
@@ -286,7 +286,7 @@ module _ (reader : List ℕ) (rows boards : List (List ℕ)) (totals : List ℕ)
               let y : Entry = record { item = Word channel word } in
               let open-so : heldIn (getD reader channel 0) (getD totals channel 0) ≡ false = rw (← kk) e in
               let few0 : countIn boards b0 < outboxMost = rw (← bb) few in
-              let so = queued-so reach h p hp n code register operand channel word i none (getD reader channel 0) (wired .reader-at channel l) fresh (lt-leb outboxMost _ few0) open-so in
+              let so = queued-so reach h p hp n code register operand channel word i none (getD reader channel 0) (wired .reader-at channel l) (rw limit-is fresh) (lt-leb outboxMost _ few0) open-so in
               let there = send-holds-so reach h p hp n code register operand channel word i few0 y refl row′ none became in
               let after : ℕ → ℕ → Store = λ q j. storeOf (set rows p row′) mails logs heads (set boards q (pushedIn (getD boards q []))) (set totals j ((getD totals j 0 + 1) % 2 ^ 32)) waits in
               let d : Cabinet = then reach h p hp n code register operand channel word i in

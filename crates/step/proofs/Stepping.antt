@@ -16,9 +16,9 @@ use Rattle.instruction.specs.declared.instruction.Intent.the-variants.{Halted, 
 use Rattle.records.specs.Fetch.{fetched, instructionOf}
 use Rattle.records.specs.declared.fetch.Instruction.{Instruction}
 use Rattle.rules.specs.Table as rules
-use Rattle.rules.specs.Table.{Table, codeOf}
+use Rattle.rules.specs.Table.{Table, codeOf, limitOf}
 use Rattle.rules.specs.Machine.{Machine, Outcome, halted, noMail, execute, instructionAt, localStep}
-use Rattle.rules.specs.Cabinet.{Cabinet, Process, instructionsMost, eventsMost, processAt, limited, exhausted, overrun, owing}
+use Rattle.rules.specs.Cabinet.{Cabinet, Process, instructionsMost, processAt, limited, exhausted, overrun, owing}
 use Rattle.rules.specs.Moves.{Command, Result, Answer, refuse, accept, isHalted, missing, owedFor, refusalNumber, numbers, numbered, step, stepFrom}
 use Rattle.rules.specs.Reasons.{refusalCause, causeOf}
 use Rattle.rules.proofs.Decoded.{owed-cause, missing-number, missing-cause}
@@ -68,21 +68,21 @@ module _ {t : Table} {s : Store} {entries : List Entry} {c : Cabinet} (h : Holds
   unfolding step
   step-is o e = ap (λ (m : Machine). stepFrom t c p (processAt c p) (localStep (codeOf t p) m)) machine-is ∙ ap (stepFrom t c p (processAt c p)) e
 
-  pub exhausted-is : exhausted (processAt c p) ≡ spentIn row
+  pub exhausted-is : exhausted (limitOf t p) (processAt c p) ≡ spentIn (limitOf t p) row
   unfolding exhausted processOf
-  exhausted-is = ap exhausted (at-process h p hp) ∙ ap (λ (b : Bool). b && leb eventsMost (getD row 7 0)) (limited-is row mail (getD (s .logs) p []) (getD (s .heads) p []))
+  exhausted-is = ap (exhausted (limitOf t p)) (at-process h p hp) ∙ ap (λ (b : Bool). b && leb (limitOf t p) (getD row 7 0)) (limited-is row mail (getD (s .logs) p []) (getD (s .heads) p []))
 
   pub overrun-is : overrun (processAt c p) ≡ overrunIn row
   unfolding overrun processOf
   overrun-is = ap overrun (at-process h p hp) ∙ ap (λ (b : Bool). b && leb instructionsMost (getD row 15 0)) (limited-is row mail (getD (s .logs) p []) (getD (s .heads) p []))
 
-  pub owing-is : owing (processAt c p) ≡ owingIn row
+  pub owing-is : owing (limitOf t p) (processAt c p) ≡ owingIn (limitOf t p) row
   unfolding owing
   owing-is = λ i. exhausted-is i || overrun-is i
 
   -- which of the two is to blame
-  pub blame-is : refusalCause (owedFor (processAt c p)) ≡ blameIn row
-  blame-is = owed-cause (processAt c p) ∙ ap (λ (b : Bool). cond b 0 1) exhausted-is
+  pub blame-is : refusalCause (owedFor (limitOf t p) (processAt c p)) ≡ blameIn (limitOf t p) row
+  blame-is = owed-cause (limitOf t p) (processAt c p) ∙ ap (λ (b : Bool). cond b 0 1) exhausted-is
 
   -- a process is limited where its row says so, and then its instructions and its events are few
   pub limited-here : (getD row 12 0 ≡ 0 → ⊥) → limited (processAt c p) ≡ true
@@ -125,17 +125,17 @@ module _ {t : Table} {s : Store} {entries : List Entry} {c : Cabinet} (h : Holds
 -- ---- what the move promises
 
 -- of a process of the table the clamped number is the number
-pub step-at-its-index : {table start lengths reader port : List ℕ} {rows mails boards rows′ mails′ boards′ : List (List ℕ)} {totals totals′ : List ℕ} {r : Moved} (p a : ℕ)
-    → (a < 16 → p ≡ a) → (a ≡ p → specs.Steps table start lengths reader port rows mails boards totals p rows′ mails′ boards′ totals′ r)
-    → specs.Steps table start lengths reader port rows mails boards totals a rows′ mails′ boards′ totals′ r
-step-at-its-index {table} {start} {lengths} {reader} {port} {rows} {mails} {boards} {rows′} {mails′} {boards′} {totals} {totals′} {r} p a is-p given = record {
-  turned = λ t sender logs heads waits entries c command reach wired programmed h f ha.
+pub step-at-its-index : {table start lengths limits reader port : List ℕ} {rows mails boards rows′ mails′ boards′ : List (List ℕ)} {totals totals′ : List ℕ} {r : Moved} (p a : ℕ)
+    → (a < 16 → p ≡ a) → (a ≡ p → specs.Steps table start lengths limits reader port rows mails boards totals p rows′ mails′ boards′ totals′ r)
+    → specs.Steps table start lengths limits reader port rows mails boards totals a rows′ mails′ boards′ totals′ r
+step-at-its-index {table} {start} {lengths} {limits} {reader} {port} {rows} {mails} {boards} {rows′} {mails′} {boards′} {totals} {totals′} {r} p a is-p given = record {
+  turned = λ t sender logs heads waits entries c command reach wired programmed limited-by h f ha.
       let e : p ≡ a = is-p (let z = reach .accepted .processes-high in omega arith) in
-      subst (λ (q : ℕ). specs.Steps table start lengths reader port rows mails boards totals q rows′ mails′ boards′ totals′ r) e (given (sym e))
-      .turned t sender logs heads waits entries c command reach wired programmed h f ha;
+      subst (λ (q : ℕ). specs.Steps table start lengths limits reader port rows mails boards totals q rows′ mails′ boards′ totals′ r) e (given (sym e))
+      .turned t sender logs heads waits entries c command reach wired programmed limited-by h f ha;
 }
 
-module _ (table start lengths reader port : List ℕ) (rows mails boards : List (List ℕ)) (totals : List ℕ) (p : ℕ) (r : Moved) (j : Instruction)
+module _ (table start lengths limits reader port : List ℕ) (rows mails boards : List (List ℕ)) (totals : List ℕ) (p : ℕ) (r : Moved) (j : Instruction)
     (is-fetched : j ≡ fetched table (getD start p 0) (getD (getD rows p []) 1 0)) where
   module _ (intent : Intent) (examined : Examined (getD rows p []) (getD mails p []) (getD lengths p 0) (j .code) (j .a) (j .operand) intent) where
     -- the instruction fetched is the program's, so its intent is the rules'
@@ -148,7 +148,7 @@ module _ (table start lengths reader port : List ℕ) (rows mails boards : List 
         examined (codeOf t p) (subst (λ (n : ℕ). Fetched (codeOf t p) (getD rows p []) n (j .code) (j .a) (j .operand)) (sym (programmed .length-at p hp)) here) (h .kept p hp .unread)
 
   abbrev Promises : List (List ℕ) → List (List ℕ) → List (List ℕ) → List ℕ → Type 0
-  Promises rows′ mails′ boards′ totals′ = specs.Steps table start lengths reader port rows mails boards totals p rows′ mails′ boards′ totals′ r
+  Promises rows′ mails′ boards′ totals′ = specs.Steps table start lengths limits reader port rows mails boards totals p rows′ mails′ boards′ totals′ r
 
   -- what was examined is this intent
   pub record Means (intent : Intent) : Type 0 where
@@ -162,13 +162,13 @@ module _ (table start lengths reader port : List ℕ) (rows mails boards : List 
   pub steps-35 : Means Halted → r ≡ refusedWith 35 0 p → Promises rows mails boards totals
   unfolding refusalNumber refusalCause
   steps-35 m g = record {
-    turned = λ t sender logs heads waits entries c command reach wired programmed h f hp.
+    turned = λ t sender logs heads waits entries c command reach wired programmed limited-by h f hp.
         turned-down command p isHalted h (refused-35 h p hp _ _ _ _ (intends Halted (meant Halted m) reach programmed h hp)) f g;
   }
 
   pub steps-36 : Means NoMail → r ≡ refusedWith 36 (missingOf (j .code)) p → Promises rows mails boards totals
   steps-36 m g = record {
-    turned = λ t sender logs heads waits entries c command reach wired programmed h f hp.
+    turned = λ t sender logs heads waits entries c command reach wired programmed limited-by h f hp.
         let i = intends NoMail (meant NoMail m) reach programmed h hp in
         turned-down command p (missing (instructionAt (codeOf t p) (processAt c p .machine))) h (refused-36 h p hp _ _ _ _ i) f
         (g ∙ ap₂ (λ (n k : ℕ). refusedWith n k p) (sym (missing-number (instructionAt (codeOf t p) (processAt c p .machine)))) (sym (missing-is h p hp _ _ _ _ i)));
@@ -177,20 +177,24 @@ module _ (table start lengths reader port : List ℕ) (rows mails boards : List 
   pub steps-calculated : {rows′ : List (List ℕ)} → Means Internal → CalculateTurns rows p (j .code) (j .a) (j .operand) rows′ r
       → Promises rows′ mails boards totals
   steps-calculated m part = record {
-    turned = λ t sender logs heads waits entries c command reach wired programmed h f hp.
+    turned = λ t sender logs heads waits entries c command reach wired programmed limited-by h f hp.
         part .turned t mails logs heads boards totals waits entries c command _ reach (intends Internal (meant Internal m) reach programmed h hp) h f hp;
   }
 
-  pub steps-taken : (at : ℕ) {rows′ mails′ : List (List ℕ)} {totals′ : List ℕ} → Means (Take at)
-      → TakeTurns port rows mails totals p (j .code) (j .a) at rows′ mails′ totals′ r → Promises rows′ mails′ boards totals′
-  steps-taken at m part = record {
-    turned = λ t sender logs heads waits entries c command reach wired programmed h f hp.
-        part .turned t sender reader logs heads boards waits entries c command _ _ reach wired (intends (Take at) (meant (Take at) m) reach programmed h hp) h f hp;
-  }
+  pub steps-taken : (at a : ℕ) {rows′ mails′ : List (List ℕ)} {totals′ : List ℕ} → Means (Take at) → a ≡ p
+      → TakeTurns port rows mails totals (getD limits p 0) a (j .code) (j .a) at rows′ mails′ totals′ r → Promises rows′ mails′ boards totals′
+  steps-taken at a {rows′} {mails′} {totals′} m e taken =
+      let part = subst (λ (q : ℕ). TakeTurns port rows mails totals (getD limits p 0) q (j .code) (j .a) at rows′ mails′ totals′ r) e taken in
+      record {
+        turned = λ t sender logs heads waits entries c command reach wired programmed limited-by h f hp.
+            part .turned t sender reader logs heads boards waits entries c command _ _ reach wired (intends (Take at) (meant (Take at) m) reach programmed h hp) h f hp (sym (limited-by p hp));
+      }
 
-  pub steps-sent : (channel word : ℕ) {rows′ boards′ : List (List ℕ)} {totals′ : List ℕ} → Means (Send channel word)
-      → SendTurns reader rows boards totals p channel word rows′ boards′ totals′ r → Promises rows′ mails boards′ totals′
-  steps-sent channel word m part = record {
-    turned = λ t sender logs heads waits entries c command reach wired programmed h f hp.
-        part .turned t sender port mails logs heads waits entries c command _ _ _ _ reach wired (intends (Send channel word) (meant (Send channel word) m) reach programmed h hp) h f hp;
-  }
+  pub steps-sent : (channel word a : ℕ) {rows′ boards′ : List (List ℕ)} {totals′ : List ℕ} → Means (Send channel word) → a ≡ p
+      → SendTurns reader rows boards totals (getD limits p 0) a channel word rows′ boards′ totals′ r → Promises rows′ mails boards′ totals′
+  steps-sent channel word a {rows′} {boards′} {totals′} m e made =
+      let part = subst (λ (q : ℕ). SendTurns reader rows boards totals (getD limits p 0) q channel word rows′ boards′ totals′ r) e made in
+      record {
+        turned = λ t sender logs heads waits entries c command reach wired programmed limited-by h f hp.
+            part .turned t sender port mails logs heads waits entries c command _ _ _ _ reach wired (intends (Send channel word) (meant (Send channel word) m) reach programmed h hp) h f hp (sym (limited-by p hp));
+      }

@@ -13,7 +13,7 @@ use Rattle.process.specs.Row.{mailIn, machineOf, processOf}
 use Rattle.process.specs.Change.{Became}
 use Rattle.instruction.specs.Instruction.{Intends, Takes, TallyRoom, afterTake}
 use Rattle.instruction.specs.declared.instruction.Intent.the-variants.{Take}
-use Rattle.rules.specs.Table.{Table, codeOf, channelAt, portOf}
+use Rattle.rules.specs.Table.{Table, codeOf, limitOf, channelAt, portOf}
 use Rattle.rules.specs.Machine.{Mail, Machine, took}
 use Rattle.rules.specs.Cabinet.{Cabinet, Process, processAt, unreadOn}
 use Rattle.rules.specs.Moves.{guard, refuse, accept, owedFor, received, numbers, advanced, counting, oneTaken, step, stepFrom, withProcess}
@@ -72,17 +72,17 @@ module _ {t : Table} {s : Store} {entries : List Entry} {c : Cabinet} (reach : R
   went : Steps (codeOf t p) (machineOf row mail) (took x) m1
   went = record { is = i .outcome }
 
-  takes-so : (b : Bool) → owingIn row ≡ b → step t c p ≡ guard b (owedFor (processAt c p)) (accept (withProcess p (taking (processAt c p)) c) (received x))
+  takes-so : (b : Bool) → owingIn (limitOf t p) row ≡ b → step t c p ≡ guard b (owedFor (limitOf t p) (processAt c p)) (accept (withProcess p (taking (processAt c p)) c) (received x))
   unfolding stepFrom
   takes-so b e =
       step-is h p hp _ (i .outcome)
-      ∙ ap (λ (z : Bool). guard z (owedFor (processAt c p)) (accept (withProcess p (taking (processAt c p)) c) (received x))) (owing-is h p hp ∙ e)
+      ∙ ap (λ (z : Bool). guard z (owedFor (limitOf t p) (processAt c p)) (accept (withProcess p (taking (processAt c p)) c) (received x))) (owing-is h p hp ∙ e)
 
-  pub take-refused : owingIn row ≡ true → step t c p ≡ refuse (owedFor (processAt c p))
+  pub take-refused : owingIn (limitOf t p) row ≡ true → step t c p ≡ refuse (owedFor (limitOf t p) (processAt c p))
   unfolding guard
   take-refused e = takes-so true e
 
-  pub take-accepted : owingIn row ≡ false → step t c p ≡ accept (withProcess p (taking (processAt c p)) c) (received x)
+  pub take-accepted : owingIn (limitOf t p) row ≡ false → step t c p ≡ accept (withProcess p (taking (processAt c p)) c) (received x)
   unfolding guard
   take-accepted e = takes-so false e
 
@@ -145,46 +145,46 @@ module _ {t : Table} {s : Store} {entries : List Entry} {c : Cabinet} (reach : R
 -- ---- what the part promises
 
 -- of a process of the table the clamped number is the number
-pub take-at-its-index : {port : List ℕ} {rows mails rows′ mails′ : List (List ℕ)} {totals totals′ : List ℕ} {code register at : ℕ} {r : Moved} (p a : ℕ) → (a < 16 → p ≡ a)
-    → (a ≡ p → TakeTurns port rows mails totals p code register at rows′ mails′ totals′ r) → TakeTurns port rows mails totals a code register at rows′ mails′ totals′ r
-take-at-its-index {port} {rows} {mails} {rows′} {mails′} {totals} {totals′} {code} {register} {at} {r} p a is-p given = record {
-  turned = λ t sender reader logs heads boards waits entries c command n operand reach wired i h f ha.
+pub take-at-its-index : {port : List ℕ} {rows mails rows′ mails′ : List (List ℕ)} {totals totals′ : List ℕ} {limit code register at : ℕ} {r : Moved} (p a : ℕ) → (a < 16 → p ≡ a)
+    → (a ≡ p → TakeTurns port rows mails totals limit p code register at rows′ mails′ totals′ r) → TakeTurns port rows mails totals limit a code register at rows′ mails′ totals′ r
+take-at-its-index {port} {rows} {mails} {rows′} {mails′} {totals} {totals′} {limit} {code} {register} {at} {r} p a is-p given = record {
+  turned = λ t sender reader logs heads boards waits entries c command n operand reach wired i h f ha l.
       let e : p ≡ a = is-p (let z = reach .accepted .processes-high in omega arith) in
-      subst (λ (q : ℕ). TakeTurns port rows mails totals q code register at rows′ mails′ totals′ r) e (given (sym e))
-      .turned t sender reader logs heads boards waits entries c command n operand reach wired i h f ha;
+      subst (λ (q : ℕ). TakeTurns port rows mails totals limit q code register at rows′ mails′ totals′ r) e (given (sym e))
+      .turned t sender reader logs heads boards waits entries c command n operand reach wired i h f ha l;
 }
 
-module _ (port : List ℕ) (rows mails : List (List ℕ)) (totals : List ℕ) (p code register at : ℕ) (r : Moved) where
-  pub take-37 : owingIn (getD rows p []) ≡ true → (cause : ℕ) → cause ≡ blameIn (getD rows p []) → r ≡ refusedWith 37 cause p → TakeTurns port rows mails totals p code register at rows mails totals r
+module _ (port : List ℕ) (rows mails : List (List ℕ)) (totals : List ℕ) (limit p code register at : ℕ) (r : Moved) where
+  pub take-37 : owingIn limit (getD rows p []) ≡ true → (cause : ℕ) → cause ≡ blameIn limit (getD rows p []) → r ≡ refusedWith 37 cause p → TakeTurns port rows mails totals limit p code register at rows mails totals r
   take-37 e cause b g = record {
-    turned = λ t sender reader logs heads boards waits entries c command n operand reach wired i h f hp.
-        turned-down command p (owedFor (processAt c p)) h (take-refused reach h p hp n code register operand at i e) f
-        (g ∙ ap₂ (λ (k z : ℕ). refusedWith k z p) (sym (owed-number (processAt c p))) (b ∙ sym (blame-is h p hp)));
+    turned = λ t sender reader logs heads boards waits entries c command n operand reach wired i h f hp l.
+        turned-down command p (owedFor (limitOf t p) (processAt c p)) h (take-refused reach h p hp n code register operand at i (rw l e)) f
+        (g ∙ ap₂ (λ (k z : ℕ). refusedWith k z p) (sym (owed-number (limitOf t p) (processAt c p))) (b ∙ ap (λ (m : ℕ). blameIn m (getD rows p [])) (sym l) ∙ sym (blame-is h p hp)));
   }
 
   -- no word stands past the mailbox's end
-  pub take-none : logMost ≤ at → TakeTurns port rows mails totals p code register at rows mails totals r
-  take-none l = record {
-    turned = λ t sender reader logs heads boards waits entries c command n operand reach wired i h f hp.
+  pub take-none : logMost ≤ at → TakeTurns port rows mails totals limit p code register at rows mails totals r
+  take-none past = record {
+    turned = λ t sender reader logs heads boards waits entries c command n operand reach wired i h f hp l.
         absurd (let a = i .inside at refl in let b = h .kept p hp .unread in omega arith);
   }
 
-  pub take-done : (k : ℕ) (row′ mail′ : List ℕ) (left : ℕ) → owingIn (getD rows p []) ≡ false → (mailIn (getD (getD mails p []) at 0) .channel < 32 → k ≡ mailIn (getD (getD mails p []) at 0) .channel)
+  pub take-done : (k : ℕ) (row′ mail′ : List ℕ) (left : ℕ) → owingIn limit (getD rows p []) ≡ false → (mailIn (getD (getD mails p []) at 0) .channel < 32 → k ≡ mailIn (getD (getD mails p []) at 0) .channel)
       → Takes (getD rows p []) (getD mails p []) code register at (getD port k 0) row′ mail′ → (left + 1) % 2 ^ 32 ≡ getD totals k 0 → left < 2 ^ 32
       → r ≡ aloneOf (answerOf 1 0 (mailIn (getD (getD mails p []) at 0) .channel) (mailIn (getD (getD mails p []) at 0) .word))
-      → TakeTurns port rows mails totals p code register at (set rows p row′) (set mails p mail′) (set totals k left) r
+      → TakeTurns port rows mails totals limit p code register at (set rows p row′) (set mails p mail′) (set totals k left) r
   unfolding numbers causeOf
   take-done k row′ mail′ left e is-k takes is-left fits g = record {
-    turned = λ t sender reader logs heads boards waits entries c command n operand reach wired i h f hp.
+    turned = λ t sender reader logs heads boards waits entries c command n operand reach wired i h f hp l.
         let x : Mail = mailIn (getD (getD mails p []) at 0) in
-        let l = channel-inside reach h p hp n code register operand at i in
+        let inside = channel-inside reach h p hp n code register operand at i in
         let its = reads-it reach h p hp n code register operand at i in
         let kk : k ≡ x .channel = is-k (let z = reach .accepted .channels-high in omega arith) in
         let is-port : getD port k 0 ≡ portOf t p (x .channel) =
-        ap (λ (j : ℕ). getD port j 0) kk ∙ wired .port-at (x .channel) l (rw its hp) ∙ ap (λ (q : ℕ). portOf t q (x .channel)) its in
+        ap (λ (j : ℕ). getD port j 0) kk ∙ wired .port-at (x .channel) inside (rw its hp) ∙ ap (λ (q : ℕ). portOf t q (x .channel)) its in
         let there = take-holds reach h p hp n code register operand at i row′ mail′ left
         (subst (λ (j : ℕ). Takes (getD rows p []) (getD mails p []) code register at j row′ mail′) is-port takes) (is-left ∙ ap (λ (j : ℕ). getD totals j 0) kk) fits in
         let after : ℕ → Store = λ j. storeOf (set rows p row′) (set mails p mail′) logs heads boards (set totals j left) waits in
         subst (λ (j : ℕ). Turned t (after j) entries c command (step t c p) r) (sym kk)
-        (turned-to entries command (aloneOf (answerOf 1 0 (x .channel) (x .word))) _ (received x) (take-accepted reach h p hp n code register operand at i e) g refl refl there);
+        (turned-to entries command (aloneOf (answerOf 1 0 (x .channel) (x .word))) _ (received x) (take-accepted reach h p hp n code register operand at i (rw l e)) g refl refl there);
   }

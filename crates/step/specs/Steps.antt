@@ -4,7 +4,7 @@ use mathlib.Core.List.{List}
 use Prim.Native.Nat.{ℕ, _<_}
 use lib.ListN.{length, getD}
 use Rattle.records.specs.Fetch.{fetched, instructionOf}
-use Rattle.rules.specs.Table.{Table, SET, codeOf}
+use Rattle.rules.specs.Table.{Table, SET, codeOf, limitOf}
 use Rattle.rules.specs.Cabinet.{Cabinet}
 use Rattle.rules.specs.Moves.{Command, step}
 use Rattle.state.specs.declared.entry.Entry.{Entry}
@@ -19,10 +19,14 @@ pub record Programmed (t : Table) (table start lengths : List ℕ) : Type 0 wher
   pub code-at : (p : ℕ) → p < length (t .processes) → (k : ℕ) → k < length (codeOf t p)
       → instructionOf (fetched table (getD start p 0) k) ≡ getD (codeOf t p) k (SET 0 0)
 
+-- The limit of each process (W-207), as the moves are lent it.
+abbrev pub Limited : Table → List ℕ → Type 0
+Limited t limits = (p : ℕ) → p < length (t .processes) → getD limits p 0 ≡ limitOf t p
+
 -- whatever the lists are that it isn't lent
-pub record Steps (table start lengths reader port : List ℕ) (rows mails boards : List (List ℕ)) (totals : List ℕ) (a : ℕ)
+pub record Steps (table start lengths limits reader port : List ℕ) (rows mails boards : List (List ℕ)) (totals : List ℕ) (a : ℕ)
     (rows′ mails′ boards′ : List (List ℕ)) (totals′ : List ℕ) (r : Moved) : Type 0 where
   pub turned : (t : Table) (sender : List ℕ) (logs heads : List (List ℕ)) (waits : List ℕ) (entries : List Entry) (c : Cabinet) (command : Command)
-      → Reachable t c → Wired t sender reader port → Programmed t table start lengths
+      → Reachable t c → Wired t sender reader port → Programmed t table start lengths → Limited t limits
       → Holds t (storeOf rows mails logs heads boards totals waits) entries c → command .a ≡ a → a < length (t .processes)
       → Turned t (storeOf rows′ mails′ logs heads boards′ totals′ waits) entries c command (step t c a) r

@@ -1,4 +1,4 @@
-// Whether a process owes a sync. "37 if backed and acts are 8"; W-204: "A backed process now also owes a sync after 64 instructions done
+// Whether a process owes a sync. "37 if backed and acts are 8", its limit since W-207; W-204: "A backed process now also owes a sync after 64 instructions done
 // since its last sync was issued."
 ghost use mathlib.Core.Path.{_≡_};
 ghost use Rattle.step.specs.Parts.{spentIn, overrunIn, owingIn, blameIn};
@@ -7,16 +7,14 @@ use process::row::INSTRUCTIONS;
 use process::row::PROTECTED;
 use process::row::ROW;
 
-// Events, and instructions, that a protected process has at most.
-const EVENTS_MOST: u32 = 8;
-
+// Instructions that a protected process has at most.
 const INSTRUCTIONS_MOST: u32 = 64;
 
 // Whether a process is protected and its events are used up.
-fn spent(row: &[u32; ROW]) -> bool
-    ensures { λ r. ⌜ r ≡ spentIn (now (row .entry)) ⌝ }
+fn spent(row: &[u32; ROW], limit: u32) -> bool
+    ensures { λ r. ⌜ r ≡ spentIn limit (now (row .entry)) ⌝ }
 {
-    row[PROTECTED] != 0 && row[EVENTS] >= EVENTS_MOST
+    row[PROTECTED] != 0 && row[EVENTS] >= limit
 }
 
 // Whether a process is protected and its instructions are used up.
@@ -27,15 +25,15 @@ pub fn overrun(row: &[u32; ROW]) -> bool
 }
 
 // Whether either is so.
-pub fn owing(row: &[u32; ROW]) -> bool
-    ensures { λ r. ⌜ r ≡ owingIn (now (row .entry)) ⌝ }
+pub fn owing(row: &[u32; ROW], limit: u32) -> bool
+    ensures { λ r. ⌜ r ≡ owingIn limit (now (row .entry)) ⌝ }
 {
-    spent(row) || overrun(row)
+    spent(row, limit) || overrun(row)
 }
 
 // W-206, of a process that owes a sync: "1 when only the 64 instructions are to blame".
-pub fn blame(row: &[u32; ROW]) -> u32
-    ensures { λ r. ⌜ r ≡ blameIn (now (row .entry)) ⌝ }
+pub fn blame(row: &[u32; ROW], limit: u32) -> u32
+    ensures { λ r. ⌜ r ≡ blameIn limit (now (row .entry)) ⌝ }
 {
-    if spent(row) { 0 } else { 1 }
+    if spent(row, limit) { 0 } else { 1 }
 }

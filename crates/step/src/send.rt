@@ -29,11 +29,12 @@ pub fn send(
     rows: &mut [[u32; ROW]; 16],
     boards: &mut [[u32; BOARD_ROW]; 16],
     totals: &mut [u32; 32],
+    limit: u32,
     a: u32,
     channel: u32,
     word: u32,
 ) -> Moved
-    ensures { λ r. ⌜ SendTurns (now (reader .entry)) (now (rows .entry)) (now (boards .entry)) (now (totals .entry)) a channel word (now (rows .exit)) (now (boards .exit)) (now (totals .exit)) r ⌝ }
+    ensures { λ r. ⌜ SendTurns (now (reader .entry)) (now (rows .entry)) (now (boards .entry)) (now (totals .entry)) limit a channel word (now (rows .exit)) (now (boards .exit)) (now (totals .exit)) r ⌝ }
 {
     let p = index16(a);
     if rows[p][SUPPRESS] > 0 {
@@ -45,8 +46,8 @@ pub fn send(
             word: word,
         });
     }
-    if owing(&rows[p]) {
-        return refused(37, blame(&rows[p]), a);
+    if owing(&rows[p], limit) {
+        return refused(37, blame(&rows[p], limit), a);
     }
     let b = index16(rows[p][BOARD]);
     if boards[b][COUNT] >= QUEUE {

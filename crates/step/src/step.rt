@@ -5,9 +5,9 @@ ghost use Rattle.step.specs.Steps.{Steps};
 use crate::calculate::calculate;
 use crate::send::send;
 use crate::take::take;
+use backup::limits::LOG;
 use instruction::instruction::Intent;
 use instruction::instruction::examine;
-use process::mail::MAIL;
 use process::row::PC;
 use process::row::ROW;
 use records::fetch::fetch;
@@ -28,15 +28,16 @@ pub fn step(
     table: &[u8],
     start: &[u32; 16],
     lengths: &[u32; 16],
+    limits: &[u32; 16],
     reader: &[u32; 32],
     port: &[u32; 32],
     rows: &mut [[u32; ROW]; 16],
-    mails: &mut [[u64; MAIL]; 16],
+    mails: &mut [[u64; LOG]; 16],
     boards: &mut [[u32; BOARD_ROW]; 16],
     totals: &mut [u32; 32],
     a: u32,
 ) -> Moved
-    ensures { λ r. ⌜ Steps (now (table .entry)) (now (start .entry)) (now (lengths .entry)) (now (reader .entry)) (now (port .entry)) (now (rows .entry)) (now (mails .entry)) (now (boards .entry)) (now (totals .entry)) a (now (rows .exit)) (now (mails .exit)) (now (boards .exit)) (now (totals .exit)) r ⌝ }
+    ensures { λ r. ⌜ Steps (now (table .entry)) (now (start .entry)) (now (lengths .entry)) (now (limits .entry)) (now (reader .entry)) (now (port .entry)) (now (rows .entry)) (now (mails .entry)) (now (boards .entry)) (now (totals .entry)) a (now (rows .exit)) (now (mails .exit)) (now (boards .exit)) (now (totals .exit)) r ⌝ }
 {
     let p = index16(a);
     let i = fetch(table, wide(start[p]), wide(rows[p][PC]));
@@ -44,7 +45,16 @@ pub fn step(
         Intent::Halted => refused(35, 0, a),
         Intent::NoMail => refused(36, missing(i.code), a),
         Intent::Internal => calculate(rows, a, i.code, i.a, i.operand),
-        Intent::Take { at } => take(port, rows, mails, totals, a, i.code, i.a, at),
-        Intent::Send { channel, word } => send(reader, rows, boards, totals, a, channel, word),
+        Intent::Take { at } => take(port, rows, mails, totals, limits[p], a, i.code, i.a, at),
+        Intent::Send { channel, word } => send(
+            reader,
+            rows,
+            boards,
+            totals,
+            limits[p],
+            a,
+            channel,
+            word,
+        ),
     }
 }

@@ -1,10 +1,10 @@
-// A step that takes a word: "For TAKE and FIRST: [..] 37 if backed and acts are 8", or 64 instructions (W-204). The word leaves the
+// A step that takes a word: "For TAKE and FIRST: [..] 37 if backed and acts are 8", its limit since W-207, or 64 instructions (W-204). The word leaves the
 // mailbox, and its channel's total is one less.
 ghost use Rattle.step.specs.Parts.{TakeTurns};
 use crate::guards::blame;
 use crate::guards::owing;
+use backup::limits::LOG;
 use instruction::instruction::take_word;
-use process::mail::MAIL;
 use process::mail::channel_of;
 use process::mail::word_of;
 use process::row::ROW;
@@ -19,20 +19,21 @@ use state::moved::refused;
 pub fn take(
     port: &[u32; 32],
     rows: &mut [[u32; ROW]; 16],
-    mails: &mut [[u64; MAIL]; 16],
+    mails: &mut [[u64; LOG]; 16],
     totals: &mut [u32; 32],
+    limit: u32,
     a: u32,
     code: u8,
     register: u32,
     at: usize,
 ) -> Moved
-    ensures { λ r. ⌜ TakeTurns (now (port .entry)) (now (rows .entry)) (now (mails .entry)) (now (totals .entry)) a code register at (now (rows .exit)) (now (mails .exit)) (now (totals .exit)) r ⌝ }
+    ensures { λ r. ⌜ TakeTurns (now (port .entry)) (now (rows .entry)) (now (mails .entry)) (now (totals .entry)) limit a code register at (now (rows .exit)) (now (mails .exit)) (now (totals .exit)) r ⌝ }
 {
     let p = index16(a);
-    if owing(&rows[p]) {
-        return refused(37, blame(&rows[p]), a);
+    if owing(&rows[p], limit) {
+        return refused(37, blame(&rows[p], limit), a);
     }
-    if at >= MAIL {
+    if at >= LOG {
         return refused(36, 0, a);
     }
     let x = mails[p][at];

@@ -7,9 +7,9 @@ use native.Mathlib.Omega.{arith}
 use lib.Dec.{eqb}
 use lib.ListN.{length, getD, drop}
 use lib.Seq.{drop-drop}
-use Rattle.rules.specs.Judge.{endsOk, inputsOk, boardsOk, instructionsOk}
+use Rattle.rules.specs.Judge.{endsOk, inputsOk, boardsOk, instructionsOk, limitsOk}
 use Rattle.rules.specs.Bytes.{sixes}
-use Rattle.rules.specs.Format.{versionIn, processesIn, programLength, instruction, decodeTable, orNumber, lengthOk, countsOk, extentOk, validateTable}
+use Rattle.rules.specs.Format.{versionIn, recordHead, versionOk, processesIn, programLength, instruction, decodeTable, orNumber, lengthOk, countsOk, extentOk, tableNumber, validateTable}
 use Rattle.rules.proofs.Valid.{length-sixes, processes-counted, channels-counted}
 use Rattle.table.specs.Records.{recordStart, programStart}
 use Rattle.table.specs.Parts.{framing, Framed, EndsRead, PortsRead, PlacementsRead, planFrom}
@@ -40,21 +40,20 @@ four-go true true false d further h = absurd (omega arith)
 four-go true true true false further h = absurd (omega arith)
 four-go true true true true further h = (refl, refl, refl, refl)
 
--- numbers 5 to 8 in order
+-- numbers 5 to 8 and 47 in order
 pub judging : List ℕ → ℕ
-judging bytes =
-    let t = decodeTable bytes in
-    orNumber (endsOk t) 5 (orNumber (inputsOk t) 6 (orNumber (boardsOk t) 7 (orNumber (instructionsOk t) 8 0)))
+judging bytes = tableNumber (decodeTable bytes)
 
-pub judging-from : (bytes : List ℕ) {a b c d : Bool} → a ≡ endsOk (decodeTable bytes) → b ≡ inputsOk (decodeTable bytes) → c ≡ boardsOk (decodeTable bytes)
-    → d ≡ instructionsOk (decodeTable bytes) → orNumber a 5 (orNumber b 6 (orNumber c 7 (orNumber d 8 0))) ≡ judging bytes
+pub judging-from : (bytes : List ℕ) {a b c d e : Bool} → a ≡ endsOk (decodeTable bytes) → b ≡ inputsOk (decodeTable bytes) → c ≡ boardsOk (decodeTable bytes)
+    → d ≡ instructionsOk (decodeTable bytes) → e ≡ limitsOk (decodeTable bytes)
+    → orNumber a 5 (orNumber b 6 (orNumber c 7 (orNumber d 8 (orNumber e 47 0)))) ≡ judging bytes
 unfolding judging
-judging-from bytes e f g h = rw (e, f, g, h)
+judging-from bytes ha hb hc hd he = rw (ha, hb, hc, hd, he)
 
 module _ (bytes : List ℕ) where
   pub framing-refuses : (framing bytes ≡ 0 → ⊥) → validateTable bytes ≡ framing bytes
   unfolding framing validateTable judging
-  framing-refuses h = four-stop (lengthOk bytes) (eqb (versionIn bytes) 1) (countsOk bytes) (extentOk bytes) (judging bytes) h
+  framing-refuses h = four-stop (lengthOk bytes) (versionOk (versionIn bytes)) (countsOk bytes) (extentOk bytes) (judging bytes) h
 
   -- numbers 1 to 4 pass
   pub record Further : Type 0 where
@@ -64,7 +63,7 @@ module _ (bytes : List ℕ) where
   pub framing-passes : framing bytes ≡ 0 → Further
   unfolding framing validateTable judging
   framing-passes h =
-      let r = four-go (lengthOk bytes) (eqb (versionIn bytes) 1) (countsOk bytes) (extentOk bytes) (judging bytes) h in
+      let r = four-go (lengthOk bytes) (versionOk (versionIn bytes)) (countsOk bytes) (extentOk bytes) (judging bytes) h in
       record { framed = record { length-ok = r .0; counts-ok = r .1; extent-ok = r .2 }; further = r .3 }
 
   -- ---- a table refused
@@ -82,10 +81,10 @@ module _ (bytes : List ℕ) where
     start : (p : ℕ) → p < length (decodeTable bytes .processes) → getD (b .start) p 0 ≡ programStart bytes p
     start p h = placements .start-at b-ok p (process h)
 
-    size : (p : ℕ) → p < length (decodeTable bytes .processes) → getD (b .length) p 0 ≡ programLength (drop (recordStart bytes p) bytes)
+    size : (p : ℕ) → p < length (decodeTable bytes .processes) → getD (b .length) p 0 ≡ programLength (versionIn bytes) (drop (recordStart bytes p) bytes)
     size p h =
         placements .length-at b-ok p (process h) ∙ ap length (code-is bytes p (process h))
-        ∙ length-sixes instruction (programLength (drop (recordStart bytes p) bytes)) (drop 3 (drop (recordStart bytes p) bytes))
+        ∙ length-sixes instruction (programLength (versionIn bytes) (drop (recordStart bytes p) bytes)) (drop (recordHead (versionIn bytes)) (drop (recordStart bytes p) bytes))
 
     plans : Plans bytes (planFrom bytes e w b)
     unfolding decodeTable
@@ -95,12 +94,13 @@ module _ (bytes : List ℕ) where
       channels-is = sym (channels-counted bytes);
       primary-at = λ p h. placements .primary-at b-ok p (process h);
       standby-at = λ p h. placements .standby-at b-ok p (process h);
+      limit-at = λ p h. placements .limit-at b-ok p (process h);
       start-at = start;
       length-at = λ p h. placements .length-at b-ok p (process h);
       code-within = λ p h. subst₂ (λ (i n : ℕ). i + 6 * n ≤ length bytes) (sym (start p h)) (sym (size p h)) (let z = record-within bytes extent p (process h) .fits in omega arith);
       code-at = λ p h.
           ap₂ (λ (n i : ℕ). sixes instruction n (drop i bytes)) (size p h) (start p h)
-          ∙ ap (sixes instruction (programLength (drop (recordStart bytes p) bytes))) (sym (drop-drop 3 (recordStart bytes p) bytes))
+          ∙ ap (sixes instruction (programLength (versionIn bytes) (drop (recordStart bytes p) bytes))) (sym (drop-drop (recordHead (versionIn bytes)) (recordStart bytes p) bytes))
           ∙ sym (code-is bytes p (process h));
       arity-at = λ p h. ports .arity-at w-ok p (process h);
       input-at = λ p h. ports .input-at w-ok p (process h);

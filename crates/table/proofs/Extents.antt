@@ -11,7 +11,7 @@ use borrow.Author.Tests.{le-leb, lt-leb, leb-true, eq-eqb, ne-eqb}
 use Rattle.facts.specs.Tests.{and-right}
 use Rattle.backup.specs.Limits.{pcMost}
 use Rattle.rules.specs.Cabinet.{isEmpty}
-use Rattle.rules.specs.Format.{lengthField, tableMost, versionIn, processesIn, programLength, recordLength, recordsStart, recordBytes, orNumber, lengthOk, countsOk, recordsOk, extentOk}
+use Rattle.rules.specs.Format.{lengthField, tableMost, versionIn, versionOk, processesIn, programLength, recordLength, recordsStart, recordBytes, orNumber, lengthOk, countsOk, recordsOk, extentOk}
 use Rattle.table.specs.Parts.{recordOk, recordIn, framing}
 
 -- ---- number 1
@@ -22,42 +22,41 @@ module _ (bytes : List ℕ) where
   no-head h = rw (lt-leb 6 (length bytes) h)
 
   module _ (field : ℕ) (e : field ≡ lengthField bytes) (h : 6 ≤ length bytes) where
-    pub too-long : 6260 < field → false ≡ lengthOk bytes
+    pub too-long : tableMost < field → false ≡ lengthOk bytes
     unfolding lengthOk
     too-long k = rw (le-leb 6 (length bytes) h, lt-leb (lengthField bytes) tableMost (omega arith))
 
-    pub true-length : field ≤ 6260 → eqb (2 + field) (length bytes) ≡ lengthOk bytes
+    pub true-length : field ≤ tableMost → eqb (2 + field) (length bytes) ≡ lengthOk bytes
     unfolding lengthOk
     true-length k = rw (le-leb 6 (length bytes) h, le-leb (lengthField bytes) tableMost (omega arith), e)
 
 -- ---- number 4, one record
 
-module _ (rest : List ℕ) (n : ℕ) (e : n ≡ programLength rest) where
-  pub record-big : 64 < n → 0 ≡ recordIn rest
-  record-big h = rw (lt-leb (programLength rest) pcMost (omega arith))
+module _ (v : ℕ) (rest : List ℕ) where
+  pub record-big : pcMost < programLength v rest → 0 ≡ recordIn v rest
+  record-big h = rw (lt-leb (programLength v rest) pcMost h)
 
-  pub record-cut : n ≤ 64 → length rest < 3 + 6 * n → 0 ≡ recordIn rest
-  record-cut h k = rw (le-leb (programLength rest) pcMost (omega arith), lt-leb (recordLength rest) (length rest) (omega arith))
+  module _ (few : programLength v rest ≤ pcMost) (size : ℕ) (e : size ≡ recordLength v rest) where
+    pub record-cut : length rest < size → 0 ≡ recordIn v rest
+    record-cut h = rw (le-leb (programLength v rest) pcMost few, lt-leb (recordLength v rest) (length rest) (omega arith))
 
-  pub record-whole : n ≤ 64 → 3 + 6 * n ≤ length rest → 3 + 6 * n ≡ recordIn rest
-  record-whole h k =
-      rw (le-leb (programLength rest) pcMost (omega arith), le-leb (recordLength rest) (length rest) (omega arith))
-      (omega arith)
+    pub record-whole : size ≤ length rest → size ≡ recordIn v rest
+    record-whole h = rw (le-leb (programLength v rest) pcMost few, le-leb (recordLength v rest) (length rest) (omega arith)) e
 
--- a record's length is never 0
-record-passed : (rest : List ℕ) (size : ℕ) → size ≡ recordIn rest → (size ≡ 0 → ⊥) → recordOk rest ≡ true
-record-passed rest size e h = go (recordOk rest) refl
-  where
-    go : (b : Bool) → recordOk rest ≡ b → recordOk rest ≡ true
-    go true k = k
-    go false k = absurd (h (e ∙ ap (λ (t : Bool). cond t (recordLength rest) 0) k))
+  -- a record's length is never 0
+  record-passed : (size : ℕ) → size ≡ recordIn v rest → (size ≡ 0 → ⊥) → recordOk v rest ≡ true
+  record-passed size e h = go (recordOk v rest) refl
+    where
+      go : (b : Bool) → recordOk v rest ≡ b → recordOk v rest ≡ true
+      go true k = k
+      go false k = absurd (h (e ∙ ap (λ (t : Bool). cond t (recordLength v rest) 0) k))
 
-record-failed : (rest : List ℕ) → 0 ≡ recordIn rest → recordOk rest ≡ false
-record-failed rest e = go (recordOk rest) refl
-  where
-    go : (b : Bool) → recordOk rest ≡ b → recordOk rest ≡ false
-    go false k = k
-    go true k = absurd (let a : 0 ≡ recordLength rest = e ∙ ap (λ (t : Bool). cond t (recordLength rest) 0) k in omega arith)
+  record-failed : 0 ≡ recordIn v rest → recordOk v rest ≡ false
+  record-failed e = go (recordOk v rest) refl
+    where
+      go : (b : Bool) → recordOk v rest ≡ b → recordOk v rest ≡ false
+      go false k = k
+      go true k = absurd (let a : 0 ≡ recordLength v rest = e ∙ ap (λ (t : Bool). cond t (recordLength v rest) 0) k in omega arith)
 
 -- ---- number 4, all records
 
@@ -65,7 +64,7 @@ record-failed rest e = go (recordOk rest) refl
 pub record Extending (bytes : List ℕ) (n at p : ℕ) : Type 0 where
   pub within : at ≤ length bytes
   pub passed : p ≤ n
-  pub left : recordsOk n (recordBytes bytes) ≡ recordsOk (n - p) (drop at bytes)
+  pub left : recordsOk (versionIn bytes) n (recordBytes bytes) ≡ recordsOk (versionIn bytes) (n - p) (drop at bytes)
 
 -- the records end with the table, or not
 empty-at : (l : List ℕ) (at : ℕ) → at ≤ length l → isEmpty (drop at l) ≡ eqb at (length l)
@@ -78,36 +77,36 @@ empty-at l at h = go (drop at l) (length-drop at l)
 module _ (bytes : List ℕ) (n : ℕ) where
   pub extending-start : (at : ℕ) → at ≡ recordsStart bytes → at ≤ length bytes → Extending bytes n at 0
   extending-start at e h =
-      record { within = h; passed = omega arith; left = ap₂ (λ (m i : ℕ). recordsOk m (drop i bytes)) (let z : n ≡ n - 0 = omega arith in z) (sym e) }
+      record { within = h; passed = omega arith; left = ap₂ (λ (m i : ℕ). recordsOk (versionIn bytes) m (drop i bytes)) (let z : n ≡ n - 0 = omega arith in z) (sym e) }
 
-  module _ (at p size : ℕ) (x : Extending bytes n at p) (h : p < n) (e : size ≡ recordIn (drop at bytes)) where
+  module _ (at p size : ℕ) (x : Extending bytes n at p) (h : p < n) (e : size ≡ recordIn (versionIn bytes) (drop at bytes)) where
     -- the next record, and then those behind it
-    next : recordsOk n (recordBytes bytes) ≡ (recordOk (drop at bytes) && recordsOk (n - (p + 1)) (drop (recordLength (drop at bytes)) (drop at bytes)))
+    next : recordsOk (versionIn bytes) n (recordBytes bytes) ≡ (recordOk (versionIn bytes) (drop at bytes) && recordsOk (versionIn bytes) (n - (p + 1)) (drop (recordLength (versionIn bytes) (drop at bytes)) (drop at bytes)))
     next =
-        x .left ∙ ap (λ (m : ℕ). recordsOk m (drop at bytes)) (let z : n - p ≡ suc (n - (p + 1)) = omega arith in z)
-        ∙ sym (and-assoc (leb (programLength (drop at bytes)) pcMost) (leb (recordLength (drop at bytes)) (length (drop at bytes))) _)
+        x .left ∙ ap (λ (m : ℕ). recordsOk (versionIn bytes) m (drop at bytes)) (let z : n - p ≡ suc (n - (p + 1)) = omega arith in z)
+        ∙ sym (and-assoc (leb (programLength (versionIn bytes) (drop at bytes)) pcMost) (leb (recordLength (versionIn bytes) (drop at bytes)) (length (drop at bytes))) _)
 
     pub extending-on : (size ≡ 0 → ⊥) → Extending bytes n (at + size) (p + 1)
     extending-on k =
-        let ok = record-passed (drop at bytes) size e k in
-        let same : size ≡ recordLength (drop at bytes) = e ∙ ap (λ (t : Bool). cond t (recordLength (drop at bytes)) 0) ok in
-        let fits = leb-true (recordLength (drop at bytes)) (length (drop at bytes)) (and-right (leb (programLength (drop at bytes)) pcMost) _ ok) in
+        let ok = record-passed (versionIn bytes) (drop at bytes) size e k in
+        let same : size ≡ recordLength (versionIn bytes) (drop at bytes) = e ∙ ap (λ (t : Bool). cond t (recordLength (versionIn bytes) (drop at bytes)) 0) ok in
+        let fits = leb-true (recordLength (versionIn bytes) (drop at bytes)) (length (drop at bytes)) (and-right (leb (programLength (versionIn bytes) (drop at bytes)) pcMost) _ ok) in
         let long = length-drop at bytes in
         let before = x .within in
         record {
           within = omega arith;
           passed = omega arith;
-          left = next ∙ ap (λ (t : Bool). t && recordsOk (n - (p + 1)) (drop (recordLength (drop at bytes)) (drop at bytes))) ok
-              ∙ ap (recordsOk (n - (p + 1))) (ap (λ (i : ℕ). drop i (drop at bytes)) (sym same) ∙ drop-drop size at bytes);
+          left = next ∙ ap (λ (t : Bool). t && recordsOk (versionIn bytes) (n - (p + 1)) (drop (recordLength (versionIn bytes) (drop at bytes)) (drop at bytes))) ok
+              ∙ ap (recordsOk (versionIn bytes) (n - (p + 1))) (ap (λ (i : ℕ). drop i (drop at bytes)) (sym same) ∙ drop-drop size at bytes);
         }
 
-    pub extending-refused : size ≡ 0 → recordsOk n (recordBytes bytes) ≡ false
+    pub extending-refused : size ≡ 0 → recordsOk (versionIn bytes) n (recordBytes bytes) ≡ false
     extending-refused k =
-        next ∙ ap (λ (t : Bool). t && recordsOk (n - (p + 1)) (drop (recordLength (drop at bytes)) (drop at bytes))) (record-failed (drop at bytes) (sym k ∙ e))
+        next ∙ ap (λ (t : Bool). t && recordsOk (versionIn bytes) (n - (p + 1)) (drop (recordLength (versionIn bytes) (drop at bytes)) (drop at bytes))) (record-failed (versionIn bytes) (drop at bytes) (sym k ∙ e))
 
-  pub extending-end : (at p : ℕ) → Extending bytes n at p → n ≤ p → recordsOk n (recordBytes bytes) ≡ eqb at (length bytes)
+  pub extending-end : (at p : ℕ) → Extending bytes n at p → n ≤ p → recordsOk (versionIn bytes) n (recordBytes bytes) ≡ eqb at (length bytes)
   extending-end at p x h =
-      x .left ∙ ap (λ (m : ℕ). recordsOk m (drop at bytes)) (let z : n - p ≡ 0 = omega arith in z) ∙ empty-at bytes at (x .within)
+      x .left ∙ ap (λ (m : ℕ). recordsOk (versionIn bytes) m (drop at bytes)) (let z : n - p ≡ 0 = omega arith in z) ∙ empty-at bytes at (x .within)
 
 -- ---- number 4
 
@@ -116,13 +115,13 @@ unfolding extentOk
 no-pairs bytes start e h = rw (lt-leb (recordsStart bytes) (length bytes) (omega arith))
 
 pub extent-says : (bytes : List ℕ) (start n : ℕ) → start ≡ recordsStart bytes → start ≤ length bytes → n ≡ processesIn bytes
-    → extentOk bytes ≡ recordsOk n (recordBytes bytes)
+    → extentOk bytes ≡ recordsOk (versionIn bytes) n (recordBytes bytes)
 unfolding extentOk
 extent-says bytes start n e h k = rw (le-leb (recordsStart bytes) (length bytes) (omega arith), k)
 
 -- ---- the four in order, from any tests that say the same
 
-pub framing-from : (bytes : List ℕ) {a b c d : Bool} → a ≡ lengthOk bytes → b ≡ eqb (versionIn bytes) 1 → c ≡ countsOk bytes → d ≡ extentOk bytes
+pub framing-from : (bytes : List ℕ) {a b c d : Bool} → a ≡ lengthOk bytes → b ≡ versionOk (versionIn bytes) → c ≡ countsOk bytes → d ≡ extentOk bytes
     → orNumber a 1 (orNumber b 2 (orNumber c 3 (orNumber d 4 0))) ≡ framing bytes
 unfolding framing
 framing-from bytes e f g h = rw (e, f, g, h)

@@ -12,7 +12,7 @@ use Rattle.facts.specs.Walks.{Walked, walk-start, walk-on, walk-fails, walk-end
 use Rattle.facts.specs.Ranges.{all-same, all-listed}
 use Rattle.rules.specs.Table.{Table, Instruction, SET, codeOf}
 use Rattle.rules.specs.Bytes.{sixes}
-use Rattle.rules.specs.Format.{processesIn, channelsIn, programLength, recordLength, instruction, decodeTable, extentOk}
+use Rattle.rules.specs.Format.{versionIn, recordHead, processesIn, channelsIn, programLength, recordLength, instruction, decodeTable, extentOk}
 use Rattle.rules.specs.Judge.{instructionOk, instructionsOk}
 use Rattle.rules.proofs.Valid.{length-sixes, processes-counted}
 use Rattle.records.specs.Fetch.{fetched}
@@ -44,7 +44,7 @@ program-is t p n program room =
 
 -- the record of process p passes
 abbrev pub processPasses : List ℕ → ℕ → Bool
-processPasses bytes p = recordOk (decodeTable bytes) p (drop (recordStart bytes p) bytes)
+processPasses bytes p = recordOk (decodeTable bytes) (versionIn bytes) p (drop (recordStart bytes p) bytes)
 
 -- what the rules ask of the record of process p
 abbrev instructionsPass : Table → ℕ → Bool
@@ -56,13 +56,13 @@ unfolding recordOk
 record-is bytes ok p h =
     let t = decodeTable bytes in
     let rest = drop (recordStart bytes p) bytes in
-    let n = programLength rest in
+    let n = programLength (versionIn bytes) rest in
     let room = record-within bytes ok p h .fits in
     let a = length-drop (recordStart bytes p) bytes in
-    let b = length-drop 3 rest in
+    let b = length-drop (recordHead (versionIn bytes)) rest in
     let e = code-is bytes p h in
-    program-is t p n (drop 3 rest) (omega arith)
-    ∙ ap (λ (m : ℕ). allOf (instructionOk t p m) (sixes instruction n (drop 3 rest))) (sym (ap length e ∙ length-sixes instruction n (drop 3 rest)))
+    program-is t p n (drop (recordHead (versionIn bytes)) rest) (omega arith)
+    ∙ ap (λ (m : ℕ). allOf (instructionOk t p m) (sixes instruction n (drop (recordHead (versionIn bytes)) rest))) (sym (ap length e ∙ length-sixes instruction n (drop (recordHead (versionIn bytes)) rest)))
     ∙ ap (allOf (instructionOk t p (length (codeOf t p)))) (sym e)
 
 instructions-are : (bytes : List ℕ) → allBelow (instructionsPass (decodeTable bytes)) (processesIn bytes) ≡ instructionsOk (decodeTable bytes)
@@ -77,9 +77,10 @@ table-is bytes ok =
 -- ---- the walk over the records
 
 -- the program that the code lends is that of the record
-pub lent-program : (t : Table) (p n : ℕ) (rest : List ℕ) → n ≡ programLength rest → programOk t p n (take (length rest - 3) (drop 3 rest)) ≡ recordOk t p rest
+pub lent-program : (t : Table) (version p n head : ℕ) (rest : List ℕ) → n ≡ programLength version rest → head ≡ recordHead version
+    → programOk t p n (take (length rest - head) (drop head rest)) ≡ recordOk t version p rest
 unfolding recordOk
-lent-program t p n rest e = ap₂ (programOk t p) e (part-rest rest 3)
+lent-program t version p n head rest e h = ap₂ (programOk t p) e (part-rest rest head ∙ ap (λ (i : ℕ). drop i rest) h)
 
 -- p records have passed, and the next begins at `at`
 pub record Going (bytes : List ℕ) (at p : ℕ) : Type 0 where
@@ -93,29 +94,37 @@ module _ (bytes : List ℕ) (ok : extentOk bytes ≡ true) where
   pub going-end : (at p : ℕ) → Going bytes at p → processesIn bytes ≤ p → true ≡ instructionsOk (decodeTable bytes)
   going-end at p g h = walk-end (processPasses bytes) (processesIn bytes) p (g .walked) h ∙ table-is bytes ok
 
-  module _ (at p : ℕ) (g : Going bytes at p) (h : p < processesIn bytes) where
+  module _ (at p version : ℕ) (told : version ≡ versionIn bytes) (g : Going bytes at p) (h : p < processesIn bytes) where
     -- the table's rest that the code hands on
     abbrev lent : List ℕ
     lent = take (length bytes - at) (drop at bytes)
 
-    pub going-within : at + recordLength (drop at bytes) ≤ length bytes
+    -- its record's length
+    lent-length : recordLength version lent ≡ recordLength (versionIn bytes) (drop at bytes)
+    lent-length = ap₂ recordLength told (part-rest bytes at)
+
+    pub going-within : at + recordLength (versionIn bytes) (drop at bytes) ≤ length bytes
     going-within = rw (g .place) (record-within bytes ok p h .fits)
 
-    pub lent-fits : recordLength lent ≤ length lent
-    lent-fits = rw (part-rest bytes at) (let a = going-within in let b = length-drop at bytes in omega arith)
+    pub lent-fits : recordLength version lent ≤ length lent
+    lent-fits =
+        let a = going-within in let b = length-drop at bytes in let d : length lent ≡ length (drop at bytes) = ap length (part-rest bytes at) in
+        let e = lent-length in omega arith
 
-    pub lent-size : (size : ℕ) → size ≡ recordLength lent → at + size ≤ length bytes
-    lent-size size s = let e = s ∙ ap recordLength (part-rest bytes at) in let a = going-within in omega arith
+    pub lent-size : (size : ℕ) → size ≡ recordLength version lent → at + size ≤ length bytes
+    lent-size size s = let e = s ∙ lent-length in let a = going-within in omega arith
 
-    module _ (r : Bool) (found : r ≡ recordOk (decodeTable bytes) p lent) where
+    module _ (r : Bool) (found : r ≡ recordOk (decodeTable bytes) version p lent) where
       here : r ≡ processPasses bytes p
-      here = found ∙ ap (recordOk (decodeTable bytes) p) (part-rest bytes at ∙ ap (λ (i : ℕ). drop i bytes) (g .place))
+      here =
+          found
+          ∙ ap₂ (λ (v : ℕ) (rest : List ℕ). recordOk (decodeTable bytes) v p rest) told (part-rest bytes at ∙ ap (λ (i : ℕ). drop i bytes) (g .place))
 
       pub going-fails : not r ≡ true → false ≡ instructionsOk (decodeTable bytes)
       going-fails n = walk-fails (processPasses bytes) (processesIn bytes) p r h here n ∙ table-is bytes ok
 
-      pub going-on : not r ≡ false → (size : ℕ) → size ≡ recordLength lent → Going bytes (at + size) (p + 1)
+      pub going-on : not r ≡ false → (size : ℕ) → size ≡ recordLength version lent → Going bytes (at + size) (p + 1)
       going-on n size s = record {
-        place = rw add-one (ap₂ (λ (i m : ℕ). i + m) (g .place) (s ∙ ap recordLength (part-rest bytes at ∙ ap (λ (i : ℕ). drop i bytes) (g .place))));
+        place = rw add-one (ap₂ (λ (i m : ℕ). i + m) (g .place) (s ∙ lent-length ∙ ap (λ (i : ℕ). recordLength (versionIn bytes) (drop i bytes)) (g .place)));
         walked = walk-on (processPasses bytes) (processesIn bytes) p r (g .walked) h here n;
       }

@@ -36,7 +36,7 @@ unfoldable pub programOk : Table → ℕ → ℕ → List ℕ → Bool
 unfolding passes fetched
 programOk t p n program = allBelow (λ k. passes t p n (fetched program 0 k)) n
 
--- the program of the record that begins the table's rest
-unfoldable pub recordOk : Table → ℕ → List ℕ → Bool
+-- the program of the record that begins the rest of a table of a version
+unfoldable pub recordOk : Table → ℕ → ℕ → List ℕ → Bool
 unfolding programOk
-recordOk t p rest = programOk t p (programLength rest) (drop recordHead rest)
+recordOk t version p rest = programOk t p (programLength version rest) (drop (recordHead version) rest)

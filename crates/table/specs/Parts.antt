@@ -6,10 +6,11 @@ use Prim.Native.Nat.{ℕ, _+_, _*_, _<_}
 use lib.Dec.{eqb, ltb, leb}
 use lib.ListN.{length, getD}
 use Rattle.backup.specs.Limits.{pcMost}
-use Rattle.rules.specs.Table.{environment, channelAt, placementAt, codeOf, inputs, portOf, channelOn}
-use Rattle.rules.specs.Judge.{endOk, endsOk, inputsOk, boardsOk}
+use Rattle.rules.specs.Table.{environment, channelAt, placementAt, codeOf, limitOf, inputs, portOf, channelOn}
+use Rattle.facts.specs.Tests.{allBelow}
+use Rattle.rules.specs.Judge.{endOk, endsOk, inputsOk, boardsOk, limitOk}
 use Rattle.rules.specs.Bytes.{byteAt}
-use Rattle.rules.specs.Format.{versionIn, boardsIn, processesIn, channelsIn, programLength, recordLength, decodeTable, orNumber, lengthOk, countsOk, extentOk}
+use Rattle.rules.specs.Format.{versionIn, boardsIn, processesIn, channelsIn, recordHead, programLength, recordLength, limitSaid, decodeTable, orNumber, lengthOk, versionOk, countsOk, extentOk}
 use Rattle.table.specs.Records.{programStart}
 use Rattle.table.specs.declared.ends.Ends.{Ends}
 use Rattle.table.specs.declared.ends.Ports.{Ports}
@@ -19,18 +20,19 @@ use Rattle.table.specs.declared.plan.Plan.{Plan}
 
 -- ---- numbers 1 to 4
 
--- of the record that begins a rest: at most 64 instructions, and all of them there
-abbrev pub recordOk : List ℕ → Bool
-recordOk rest = leb (programLength rest) pcMost && leb (recordLength rest) (length rest)
+-- of the record that begins a rest, in a table of a version: at most 64 instructions, and all of them there
+abbrev pub recordOk : ℕ → List ℕ → Bool
+recordOk version rest = leb (programLength version rest) pcMost && leb (recordLength version rest) (length rest)
 
 -- its length, or 0
-abbrev pub recordIn : List ℕ → ℕ
-recordIn rest = cond (recordOk rest) (recordLength rest) 0
+abbrev pub recordIn : ℕ → List ℕ → ℕ
+recordIn version rest = cond (recordOk version rest) (recordLength version rest) 0
 
 -- 0, or the lowest of the four that refuses the table
 unfoldable pub framing : List ℕ → ℕ
 unfolding lengthOk countsOk extentOk
-framing bytes = orNumber (lengthOk bytes) 1 (orNumber (eqb (versionIn bytes) 1) 2 (orNumber (countsOk bytes) 3 (orNumber (extentOk bytes) 4 0)))
+framing bytes =
+    orNumber (lengthOk bytes) 1 (orNumber (versionOk (versionIn bytes)) 2 (orNumber (countsOk bytes) 3 (orNumber (extentOk bytes) 4 0)))
 
 -- what later steps stand on
 pub record Framed (bytes : List ℕ) : Type 0 where
@@ -64,13 +66,15 @@ pub record PortsRead (bytes : List ℕ) (r : Ports) : Type 0 where
 abbrev pub twoBoards : ℕ → ℕ → ℕ → Bool
 twoBoards boards primary standby = ltb primary boards && (ltb standby boards && not (eqb primary standby))
 
--- the record that begins a rest
-pub record PlacedIn (boards : ℕ) (rest : List ℕ) (r : Placed) : Type 0 where
+-- the record that begins a rest, in a table of a version
+pub record PlacedIn (version boards : ℕ) (rest : List ℕ) (r : Placed) : Type 0 where
   pub says : r .ok ≡ twoBoards boards (byteAt rest 0) (byteAt rest 1)
   pub primary-is : r .primary ≡ byteAt rest 0
   pub standby-is : r .standby ≡ byteAt rest 1
-  pub n-is : r .n ≡ programLength rest
-  pub size-is : r .size ≡ recordLength rest
+  pub limit-is : r .limit ≡ limitSaid version (byteAt rest 2)
+  pub n-is : r .n ≡ programLength version rest
+  pub program-is : r .program ≡ recordHead version
+  pub size-is : r .size ≡ recordLength version rest
 
 pub record PlacementsRead (bytes : List ℕ) (r : Placements) : Type 0 where
   pub says : r .ok ≡ boardsOk (decodeTable bytes)
@@ -78,6 +82,13 @@ pub record PlacementsRead (bytes : List ℕ) (r : Placements) : Type 0 where
   pub length-at : r .ok ≡ true → (p : ℕ) → p < processesIn bytes → getD (r .length) p 0 ≡ length (codeOf (decodeTable bytes) p)
   pub primary-at : r .ok ≡ true → (p : ℕ) → p < processesIn bytes → getD (r .primary) p 0 ≡ placementAt (decodeTable bytes) p .primary
   pub standby-at : r .ok ≡ true → (p : ℕ) → p < processesIn bytes → getD (r .standby) p 0 ≡ placementAt (decodeTable bytes) p .standby
+  pub limit-at : r .ok ≡ true → (p : ℕ) → p < processesIn bytes → getD (r .limit) p 0 ≡ limitOf (decodeTable bytes) p
+
+-- ---- number 47
+
+-- the limits of so many processes
+unfoldable pub limitsPass : List ℕ → ℕ → Bool
+limitsPass limits processes = allBelow (λ p. limitOk (getD limits p 0)) processes
 
 -- ---- together
 
@@ -90,6 +101,7 @@ planFrom bytes e w b = record {
   length = b .length;
   primary = b .primary;
   standby = b .standby;
+  limit = b .limit;
   sender = e .sender;
   reader = e .reader;
   port = w .port;

@@ -3,7 +3,7 @@ use mathlib.Core.Path.{_≡_}
 use mathlib.Core.List.{List}
 use Prim.Native.Nat.{ℕ, _+_, _*_, _≤_, _<_}
 use lib.ListN.{length, getD, drop, replicate}
-use Rattle.rules.specs.Table.{channelAt, placementAt, codeOf, inputs, portOf, channelOn}
+use Rattle.rules.specs.Table.{channelAt, placementAt, codeOf, limitOf, inputs, portOf, channelOn}
 use Rattle.rules.specs.Bytes.{sixes}
 use Rattle.rules.specs.Format.{instruction, decodeTable, validateTable}
 use Rattle.table.specs.Records.{programStart}
@@ -15,9 +15,10 @@ pub record Plans (bytes : List ℕ) (plan : Plan) : Type 0 where
   pub boards-is : plan .boards ≡ decodeTable bytes .boards
   pub processes-is : plan .processes ≡ length (decodeTable bytes .processes)
   pub channels-is : plan .channels ≡ length (decodeTable bytes .channels)
-  -- for each process: its boards,
+  -- for each process: its boards, its limit,
   pub primary-at : (p : ℕ) → p < length (decodeTable bytes .processes) → getD (plan .primary) p 0 ≡ placementAt (decodeTable bytes) p .primary
   pub standby-at : (p : ℕ) → p < length (decodeTable bytes .processes) → getD (plan .standby) p 0 ≡ placementAt (decodeTable bytes) p .standby
+  pub limit-at : (p : ℕ) → p < length (decodeTable bytes .processes) → getD (plan .limit) p 0 ≡ limitOf (decodeTable bytes) p
   -- where its instructions begin, how many they are, that they lie within the table, and that they are its program;
   pub start-at : (p : ℕ) → p < length (decodeTable bytes .processes) → getD (plan .start) p 0 ≡ programStart bytes p
   pub length-at : (p : ℕ) → p < length (decodeTable bytes .processes) → getD (plan .length) p 0 ≡ length (codeOf (decodeTable bytes) p)
@@ -44,6 +45,7 @@ noPlan = record {
   length = replicate 16 0;
   primary = replicate 16 0;
   standby = replicate 16 0;
+  limit = replicate 16 0;
   sender = replicate 32 0;
   reader = replicate 32 0;
   port = replicate 32 0;

@@ -1,14 +1,23 @@
-// Number 7 of a table of which numbers 1 to 4 hold: the boards of its processes. The pass over the records leaves its part of the plan.
+// Numbers 7 and 47 of a table of which numbers 1 to 4 hold: the boards and the limits of its processes. The pass over the records for 7 leaves
+// its part of the plan, and 47 looks at the limits there.
 ghost use mathlib.Core.Path.{_≡_};
-ghost use Rattle.table.specs.Parts.{twoBoards, PlacedIn, PlacementsRead, Framed};
+ghost use Prim.Native.Nat.{_≤_};
+ghost use Rattle.rules.specs.Judge.{limitOk};
+ghost use Rattle.rules.specs.Format.{processesMost};
+ghost use Rattle.table.specs.Parts.{twoBoards, PlacedIn, PlacementsRead, limitsPass, Framed};
 use crate::extent::records_start;
 use crate::format::BOARDS;
-use crate::format::N;
+use crate::format::LIMIT_LEAST;
+use crate::format::LIMIT_MOST;
 use crate::format::PRIMARY;
 use crate::format::PROCESSES;
 use crate::format::PROCESSES_MOST;
-use crate::format::PROGRAM;
 use crate::format::STANDBY;
+use crate::record::limit_of;
+use crate::record::program_length;
+use crate::record::record_head;
+use crate::record::record_length;
+use crate::record::version_of;
 use records::bytes::byte;
 use records::bytes::wide;
 use records::bytes::word;
@@ -18,18 +27,21 @@ struct Placed {
     ok: bool,
     primary: u32,
     standby: u32,
+    limit: u32,
     n: u32,
+    program: usize,
     size: usize,
 }
 
-// What number 7 finds: whether the boards are right, and then for each process its boards, its number of instructions, and the place
-// in the table where they begin.
+// What number 7 finds: whether the boards are right, and then for each process its boards, its limit, its number of instructions,
+// and the place in the table where they begin.
 pub struct Placements {
     pub ok: bool,
     pub start: [u32; PROCESSES_MOST],
     pub length: [u32; PROCESSES_MOST],
     pub primary: [u32; PROCESSES_MOST],
     pub standby: [u32; PROCESSES_MOST],
+    pub limit: [u32; PROCESSES_MOST],
 }
 
 // Two different boards of the table.
@@ -40,18 +52,19 @@ fn boards_ok(boards: u8, primary: u8, standby: u8) -> bool
 }
 
 // The record that begins the table's rest.
-fn placement_of(rest: &[u8], boards: u8) -> Placed
-    ensures { λ r. ⌜ PlacedIn boards (now (rest .entry)) r ⌝ }
+fn placement_of(version: u32, rest: &[u8], boards: u8) -> Placed
+    ensures { λ r. ⌜ PlacedIn version boards (now (rest .entry)) r ⌝ }
 {
     let primary = byte(rest, PRIMARY);
     let standby = byte(rest, STANDBY);
-    let n = byte(rest, N);
     Placed {
         ok: boards_ok(boards, primary, standby),
         primary: word(primary),
         standby: word(standby),
-        n: word(n),
-        size: PROGRAM + 6 * wide(n),
+        limit: word(limit_of(version, rest)),
+        n: word(program_length(version, rest)),
+        program: record_head(version),
+        size: record_length(version, rest),
     }
 }
 
@@ -60,16 +73,18 @@ pub fn judge_boards(table: &[u8]) -> Placements
     requires { ⌜ Framed (now table) ⌝ }
     ensures { λ r. ⌜ PlacementsRead (now (table .entry)) r ⌝ }
 {
+    let version = version_of(table);
     let boards = byte(table, BOARDS);
     let processes = wide(byte(table, PROCESSES));
     let mut start = [0u32; PROCESSES_MOST];
     let mut length = [0u32; PROCESSES_MOST];
     let mut primary = [0u32; PROCESSES_MOST];
     let mut standby = [0u32; PROCESSES_MOST];
+    let mut limit = [0u32; PROCESSES_MOST];
     let mut at = records_start(table);
     let mut p = 0;
     while p < processes {
-        let r = placement_of(&table[at..], boards);
+        let r = placement_of(version, &table[at..], boards);
         if !r.ok {
             return Placements {
                 ok: false,
@@ -77,12 +92,14 @@ pub fn judge_boards(table: &[u8]) -> Placements
                 length: length,
                 primary: primary,
                 standby: standby,
+                limit: limit,
             };
         }
-        start[p] = (at + PROGRAM) as u32;
+        start[p] = (at + r.program) as u32;
         length[p] = r.n;
         primary[p] = r.primary;
         standby[p] = r.standby;
+        limit[p] = r.limit;
         at += r.size;
         p += 1;
     }
@@ -92,5 +109,28 @@ pub fn judge_boards(table: &[u8]) -> Placements
         length: length,
         primary: primary,
         standby: standby,
+        limit: limit,
     }
+}
+
+// A limit, 1 to 16.
+fn limit_ok(limit: u32) -> bool
+    ensures { λ r. ⌜ r ≡ limitOk limit ⌝ }
+{
+    limit >= LIMIT_LEAST && limit <= LIMIT_MOST
+}
+
+// 47: the limits of so many processes.
+pub fn limits_ok(limits: &[u32; PROCESSES_MOST], processes: usize) -> bool
+    requires { ⌜ processes ≤ processesMost ⌝ }
+    ensures { λ r. ⌜ r ≡ limitsPass (now (limits .entry)) processes ⌝ }
+{
+    let mut p = 0;
+    while p < processes {
+        if !limit_ok(limits[p]) {
+            return false;
+        }
+        p += 1;
+    }
+    true
 }

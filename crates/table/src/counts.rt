@@ -1,12 +1,21 @@
-// Number 3, as the reader of a table and the writer judge it.
+// Numbers 2 and 3, as the reader of a table and the writer judge them.
 ghost use mathlib.Core.Path.{_≡_};
 ghost use mathlib.Core.Bool.{_&&_};
 ghost use lib.Dec.{leb};
-ghost use Rattle.rules.specs.Format.{countsFit};
+ghost use Rattle.rules.specs.Format.{versionOk, countsFit};
 use crate::format::BOARDS_LEAST;
 use crate::format::BOARDS_MOST;
 use crate::format::CHANNELS_MOST;
 use crate::format::PROCESSES_MOST;
+use crate::format::WITH_LIMITS;
+use crate::format::WITHOUT_LIMITS;
+
+// 2: the version.
+pub fn version_ok(version: u32) -> bool
+    ensures { λ r. ⌜ r ≡ versionOk version ⌝ }
+{
+    version == WITHOUT_LIMITS || version == WITH_LIMITS
+}
 
 fn within(low: usize, n: usize, high: usize) -> bool
     ensures { λ r. ⌜ r ≡ (leb low n && leb n high) ⌝ }

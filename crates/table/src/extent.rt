@@ -1,23 +1,23 @@
 // Numbers 1 to 4 of a table: its length, its version, its counts, and where its pairs and records end.
 ghost use mathlib.Core.Path.{_≡_};
-ghost use lib.Dec.{eqb};
-ghost use Rattle.rules.specs.Format.{versionIn, recordsStart, lengthOk, countsOk, extentOk};
+ghost use Rattle.rules.specs.Format.{recordsStart, lengthOk, countsOk, extentOk};
 ghost use Rattle.table.specs.Parts.{recordIn, framing};
 use crate::counts::counts_fit;
+use crate::counts::version_ok;
 use crate::format::BOARDS;
 use crate::format::CHANNELS;
 use crate::format::HEAD;
-use crate::format::N;
 use crate::format::PROCESSES;
-use crate::format::PROGRAM;
 use crate::format::PROGRAM_MOST;
 use crate::format::TABLE_MOST;
+use crate::record::program_length;
+use crate::record::record_length;
+use crate::record::version_of;
 use records::bytes::byte;
 use records::bytes::pair;
 use records::bytes::wide;
-use records::head::VERSION;
 
-// 1: at least a head, and a length field that is at most 6,260 and the true one.
+// 1: at least a head, and a length field that is at most 6,276 and the true one.
 fn length_ok(table: &[u8]) -> bool
     ensures { λ r. ⌜ r ≡ lengthOk (now (table .entry)) ⌝ }
 {
@@ -29,13 +29,6 @@ fn length_ok(table: &[u8]) -> bool
         return false;
     }
     2 + field == table.len()
-}
-
-// 2: the version.
-fn version_ok(table: &[u8]) -> bool
-    ensures { λ r. ⌜ r ≡ eqb (versionIn (now (table .entry))) 1 ⌝ }
-{
-    byte(table, VERSION) == 1
 }
 
 // 3: the counts of boards, processes and channels.
@@ -57,14 +50,13 @@ pub fn records_start(table: &[u8]) -> usize
 }
 
 // The length of the record that begins a rest, or 0 where it has over 64 instructions or the rest ends within it.
-fn record_length(rest: &[u8]) -> usize
-    ensures { λ r. ⌜ r ≡ recordIn (now (rest .entry)) ⌝ }
+fn record_in(version: u32, rest: &[u8]) -> usize
+    ensures { λ r. ⌜ r ≡ recordIn version (now (rest .entry)) ⌝ }
 {
-    let n = wide(byte(rest, N));
-    if n > PROGRAM_MOST {
+    if wide(program_length(version, rest)) > PROGRAM_MOST {
         return 0;
     }
-    let length = PROGRAM + 6 * n;
+    let length = record_length(version, rest);
     if length > rest.len() {
         return 0;
     }
@@ -79,10 +71,11 @@ fn extent_ok(table: &[u8]) -> bool
     if at > table.len() {
         return false;
     }
+    let version = version_of(table);
     let processes = wide(byte(table, PROCESSES));
     let mut p = 0;
     while p < processes {
-        let length = record_length(&table[at..]);
+        let length = record_in(version, &table[at..]);
         if length == 0 {
             return false;
         }
@@ -99,7 +92,7 @@ pub fn judge_extent(table: &[u8]) -> u8
     if !length_ok(table) {
         return 1;
     }
-    if !version_ok(table) {
+    if !version_ok(version_of(table)) {
         return 2;
     }
     if !counts_ok(table) {

@@ -14,17 +14,20 @@ pub const SENDER: usize = 6;
 
 pub const READER: usize = 7;
 
-// Of a record: primary board, backup board, n, and behind them n instructions of six bytes.
+// Of a record: primary board, backup board, and in version 2 the limit; n and its instructions stand behind them (record.rt).
 pub const PRIMARY: usize = 0;
 
 pub const STANDBY: usize = 1;
 
-pub const N: usize = 2;
+pub const LIMIT: usize = 2;
 
-pub const PROGRAM: usize = 3;
+// The version whose records have no limit, and the one whose records have.
+pub const WITHOUT_LIMITS: u32 = 1;
+
+pub const WITH_LIMITS: u32 = 2;
 
 // The largest length field, the counts' bounds, and the most instructions of a process.
-pub const TABLE_MOST: usize = 6260;
+pub const TABLE_MOST: usize = 6276;
 
 pub const BOARDS_LEAST: usize = 2;
 
@@ -35,6 +38,13 @@ pub const PROCESSES_MOST: usize = 16;
 pub const CHANNELS_MOST: usize = 32;
 
 pub const PROGRAM_MOST: usize = 64;
+
+// The bounds of a limit, and the limit of every process of version 1.
+pub const LIMIT_LEAST: u32 = 1;
+
+pub const LIMIT_MOST: u32 = 16;
+
+pub const LIMIT_BEFORE: u8 = 8;
 
 // The most channels that one process reads, and that all of them read together.
 pub const PORTS: u32 = 4;

@@ -7,11 +7,13 @@ ghost use Rattle.rules.specs.Judge.{instructionsOk};
 ghost use Rattle.rules.specs.Format.{recordsStart, recordLength, decodeTable, extentOk};
 ghost use Rattle.table.specs.Judging.{endIs, channelsPass, maskOk, passes, programOk, recordOk};
 use crate::format::CHANNELS;
-use crate::format::N;
 use crate::format::PROCESSES;
-use crate::format::PROGRAM;
 use crate::format::READER;
 use crate::format::SENDER;
+use crate::record::program_length;
+use crate::record::record_head;
+use crate::record::record_length;
+use crate::record::version_of;
 use records::bytes::wide;
 use records::fetch::Instruction;
 use records::fetch::fetch;
@@ -98,19 +100,13 @@ fn program_ok(table: &[u8], p: u8, n: usize, program: &[u8]) -> bool
 }
 
 // The program of the record that begins the table's rest.
-fn record_ok(table: &[u8], p: u8, rest: &[u8]) -> bool
-    requires { ⌜ (recordsStart (now table) ≤ length (now table)) × (recordLength (now rest) ≤ length (now rest)) ⌝ }
-    ensures { λ r. ⌜ r ≡ recordOk (decodeTable (now (table .entry))) p (now (rest .entry)) ⌝ }
+fn record_ok(table: &[u8], version: u32, p: u8, rest: &[u8]) -> bool
+    requires { ⌜ (recordsStart (now table) ≤ length (now table)) × (recordLength version (now rest) ≤ length (now rest)) ⌝ }
+    ensures { λ r. ⌜ r ≡ recordOk (decodeTable (now (table .entry))) version p (now (rest .entry)) ⌝ }
 {
-    program_ok(table, p, wide(rest[N]), &rest[PROGRAM..])
-}
-
-// The bytes of the record that begins the table's rest.
-fn record_length(rest: &[u8]) -> usize
-    requires { ⌜ recordLength (now rest) ≤ length (now rest) ⌝ }
-    ensures { λ r. ⌜ r ≡ recordLength (now (rest .entry)) ⌝ }
-{
-    PROGRAM + 6 * wide(rest[N])
+    let n = wide(program_length(version, rest));
+    let head = record_head(version);
+    program_ok(table, p, n, &rest[head..])
 }
 
 // Number 8 over the whole table, record by record: each gets the table's rest from its start on.
@@ -118,15 +114,16 @@ pub fn instructions_ok(table: &[u8]) -> bool
     requires { ⌜ extentOk (now table) ≡ true ⌝ }
     ensures { λ r. ⌜ r ≡ instructionsOk (decodeTable (now (table .entry))) ⌝ }
 {
+    let version = version_of(table);
     let processes = table[PROCESSES];
     let mut at = SENDER + 2 * wide(table[CHANNELS]);
     let mut p = 0;
     while p < processes {
         let rest = &table[at..];
-        if !record_ok(table, p, rest) {
+        if !record_ok(table, version, p, rest) {
             return false;
         }
-        at += record_length(rest);
+        at += record_length(version, rest);
         p += 1;
     }
     true

@@ -9,15 +9,20 @@ mod extent;
 pub mod format;
 mod instructions;
 pub mod plan;
+pub mod record;
 
 use crate::boards::judge_boards;
+use crate::boards::limits_ok;
 use crate::ends::judge_ends;
 use crate::ends::judge_ports;
 use crate::extent::judge_extent;
+use crate::format::PROCESSES;
 use crate::instructions::instructions_ok;
 use crate::plan::Plan;
 use crate::plan::no_plan;
 use crate::plan::plan_of;
+use records::bytes::byte;
+use records::bytes::wide;
 
 // What decoding gives: 0 and the table's plan, or the number that refuses the table and no plan.
 pub struct Decoded {
@@ -34,7 +39,7 @@ fn refused(number: u8) -> Decoded
     }
 }
 
-// Reads a table: "A refused one, lowest number first". Each number is judged over the whole table before the next.
+// Reads a table: "A refused one, lowest number first", and 47 "checked after 8". Each number is judged over the whole table before the next.
 pub fn decode(table: &[u8]) -> Decoded
     ensures { λ r. ⌜ Decodes (now (table .entry)) r ⌝ }
 {
@@ -56,6 +61,10 @@ pub fn decode(table: &[u8]) -> Decoded
     }
     if !instructions_ok(table) {
         return refused(8);
+    }
+    let limits = b.limit;
+    if !limits_ok(&limits, wide(byte(table, PROCESSES))) {
+        return refused(47);
     }
     Decoded {
         number: 0,

@@ -14,7 +14,8 @@ use crate::format::PROCESSES_MOST;
 use records::bytes::byte;
 use records::bytes::wide;
 
-// For each process: where in the table its instructions begin, how many there are, its two boards, and how many channels it reads.
+// For each process: where in the table its instructions begin, how many there are, its two boards, its limit, and how many channels
+// it reads.
 // For each channel: its ends (255 is the environment), and its port within a reader that is a process.
 // The channel of port s of process p is input 4 p + s.
 pub struct Plan {
@@ -25,6 +26,7 @@ pub struct Plan {
     pub length: [u32; PROCESSES_MOST],
     pub primary: [u32; PROCESSES_MOST],
     pub standby: [u32; PROCESSES_MOST],
+    pub limit: [u32; PROCESSES_MOST],
     pub sender: [u32; CHANNELS_MOST],
     pub reader: [u32; CHANNELS_MOST],
     pub port: [u32; CHANNELS_MOST],
@@ -44,6 +46,7 @@ pub(crate) fn no_plan() -> Plan
         length: [0; PROCESSES_MOST],
         primary: [0; PROCESSES_MOST],
         standby: [0; PROCESSES_MOST],
+        limit: [0; PROCESSES_MOST],
         sender: [0; CHANNELS_MOST],
         reader: [0; CHANNELS_MOST],
         port: [0; CHANNELS_MOST],
@@ -60,6 +63,7 @@ pub(crate) fn plan_of(table: &[u8], e: Ends, w: Ports, b: Placements) -> Plan
     let length = b.length;
     let primary = b.primary;
     let standby = b.standby;
+    let limit = b.limit;
     let sender = e.sender;
     let reader = e.reader;
     let port = w.port;
@@ -73,6 +77,7 @@ pub(crate) fn plan_of(table: &[u8], e: Ends, w: Ports, b: Placements) -> Plan
         length: length,
         primary: primary,
         standby: standby,
+        limit: limit,
         sender: sender,
         reader: reader,
         port: port,

@@ -1,5 +1,5 @@
 // Cases of the judging of a run, each with its number, compared with stdout: M1 to M6 of document 01, every way of each number from 1 to
-// 12 alone, what is still accepted beside it, and pairs that show the order. Each case is a sound table or schedule with a few bytes changed.
+// 12 and of 47 alone, what is still accepted beside it, and pairs that show the order. Each case is a sound table or schedule with a few bytes changed.
 use kunzeastylus::judge::ks_judge;
 use libc::STDOUT_FILENO;
 
@@ -155,6 +155,33 @@ const FIVE: [u8; 19] = [
     0,
 ];
 
+// Version 2: two boards, two processes and a channel to process 0. Process 0 (from byte 8) has limit 1 and no instruction, process 1 (from byte
+// 12) limit 16 and SET.
+const LIMITED: [u8; 22] = [
+    0,
+    20,
+    2,
+    2,
+    2,
+    1,
+    255,
+    0,
+    0,
+    1,
+    1,
+    0,
+    1,
+    0,
+    16,
+    1,
+    1,
+    0,
+    0,
+    0,
+    0,
+    0,
+];
+
 // Two records: step 0, carry 0.
 const SCHEDULE: [u8; 15] = [0, 13, 1, 1, 0, 0, 0, 0, 0, 3, 0, 0, 0, 0, 0];
 
@@ -222,16 +249,21 @@ fn five(name: &[u8], backup: u8) {
     table_case(name, &t);
 }
 
-// A byte of the largest table: 16 boards, 16 processes of 64 times SET, 32 channels from process 0 to the outside.
-fn largest_byte(i: usize) -> u8 {
-    if i < 6 {
-        let head = [24, 116, 1, 16, 16, 32];
-        return head[i];
-    }
-    if i < 70 {
-        return if i % 2 == 0 { 0 } else { 255 };
-    }
-    let at = (i - 70) % 387;
+// The table of version 2 with two bytes changed.
+fn limited(name: &[u8], at: usize, byte: u8, at2: usize, byte2: u8) {
+    let mut t = LIMITED;
+    t[at % 22] = byte;
+    t[at2 % 22] = byte2;
+    table_case(name, &t);
+}
+
+// One byte changed.
+fn limit(name: &[u8], at: usize, byte: u8) {
+    limited(name, at, byte, at, byte);
+}
+
+// A byte of the record of a process of the largest table, less the limit that it has in version 2.
+fn record_byte(at: usize) -> u8 {
     match at {
         0 => 0,
         1 => 1,
@@ -240,13 +272,58 @@ fn largest_byte(i: usize) -> u8 {
     }
 }
 
-// The largest table with another number of processes and another n of the first, and of another size, which its length field says.
-fn largest(name: &[u8], processes: u8, n: u8, size: usize) {
+// The same with its limit, 16.
+fn limited_byte(at: usize) -> u8 {
+    match at {
+        0 => 0,
+        1 => 1,
+        2 => 16,
+        _ => record_byte(at - 1),
+    }
+}
+
+// A byte of the largest table: 16 boards, 16 processes of 64 times SET, 32 channels from process 0 to the outside.
+fn largest_byte(version: u8, i: usize) -> u8 {
+    if i < 6 {
+        let head = [24, 116, version, 16, 16, 32];
+        return head[i];
+    }
+    if i < 70 {
+        return if i % 2 == 0 { 0 } else { 255 };
+    }
+    if version == 2 {
+        return limited_byte((i - 70) % 388);
+    }
+    record_byte((i - 70) % 387)
+}
+
+// The largest table of a version, and what would follow.
+fn largest_table(version: u8) -> [u8; 6300] {
     let mut t = [0u8; 6300];
     for i in 0..6300 {
-        t[i] = largest_byte(i);
+        t[i] = largest_byte(version, i);
     }
-    let field = if size < 2 { 0 } else { size - 2 };
+    t
+}
+
+// A length field, at most two bytes of it.
+fn field_of(size: usize) -> usize {
+    if size < 2 { 0 } else { size - 2 }
+}
+
+// The largest table of a version with another size, which its length field says.
+fn sized(name: &[u8], version: u8, size: usize) {
+    let mut t = largest_table(version);
+    let field = field_of(size);
+    t[0] = (field / 256 % 256) as u8;
+    t[1] = (field % 256) as u8;
+    table_case(name, front(&t, size));
+}
+
+// That of version 1 with another number of processes and another n of the first, too.
+fn largest(name: &[u8], processes: u8, n: u8, size: usize) {
+    let mut t = largest_table(1);
+    let field = field_of(size);
     t[0] = (field / 256 % 256) as u8;
     t[1] = (field % 256) as u8;
     t[4] = processes;
@@ -269,7 +346,8 @@ fn accepted() {
     four(b"four channels read", 4, 1);
     largest(b"no instruction", 1, 0, 73);
     largest(b"64 instructions", 1, 64, 457);
-    largest(b"the largest table", 16, 64, 6262);
+    sized(b"the largest table", 1, 6262);
+    sized(b"the largest table of version 2", 2, 6278);
     pair(b"two channels with the same ends", 10, 0);
 }
 
@@ -282,13 +360,14 @@ fn lengths() {
     both(b"length little-endian", 0, 70, 1, 0);
     resized(b"a byte less, length as it was", 71, 70);
     resized(b"a byte more, length as it was", 73, 70);
-    largest(b"length 6261, and true", 16, 64, 6263);
+    sized(b"length 6277, and true", 1, 6279);
+    sized(b"length 6277 in version 2, and true", 2, 6279);
     both(b"length and version", 1, 71, 2, 9);
 }
 
 fn versions() {
     pair(b"version 0", 2, 0);
-    pair(b"version 2", 2, 2);
+    pair(b"version 3", 2, 3);
     both(b"version and boards", 2, 9, 3, 1);
 }
 
@@ -316,7 +395,11 @@ fn extents() {
     resized(b"no record of the second process", 57, 55);
     pair(b"a third process without a record", 4, 3);
     four(b"pairs that go past the end", 32, 1);
-    largest(b"the largest table less a byte", 16, 64, 6261);
+    sized(b"the largest table less a byte", 1, 6261);
+    sized(b"the largest table and a byte", 1, 6263);
+    sized(b"length 6276 in version 1, and true", 1, 6278);
+    pair(b"version 2 without limits", 2, 2);
+    limit(b"version 1 with limits", 2, 1);
     both(b"n and a channel's end", 20, 65, 8, 9);
 }
 
@@ -374,6 +457,17 @@ fn instructions() {
     pair(b"JUMP to 2^16 + 2", 54, 1);
 }
 
+fn limits() {
+    limit(b"limits 1 and 16", 2, 2);
+    limit(b"limits 16 and 16", 10, 16);
+    limit(b"limit 0", 10, 0);
+    limit(b"limit 17", 10, 17);
+    limit(b"limit 0 of the second process", 14, 0);
+    limit(b"limit 255 of the second process", 14, 255);
+    limited(b"a limit and an instruction", 10, 0, 16, 7);
+    limited(b"a limit and boards", 14, 17, 9, 0);
+}
+
 fn channels() {
     pair(b"TAKE into register 4", 34, 4);
     pair(b"TAKE of a channel that another reads", 38, 1);
@@ -417,7 +511,7 @@ fn schedule(name: &[u8], at: usize, byte: u8, at2: usize, byte2: u8) {
 // The first bytes of the schedule.
 fn short(name: &[u8], length: usize) {
     let s = SCHEDULE;
-    run_case(name, front(&s, length), 12, 20);
+    run_case(name, front(&s, length), 12, 2, 20);
 }
 
 // Records of zeros, a version, and at most five bytes behind the last record; the length field is true.
@@ -427,7 +521,7 @@ fn records(name: &[u8], n: usize, version: u8, behind: usize) {
     s[0] = (field / 256 % 256) as u8;
     s[1] = (field % 256) as u8;
     s[2] = version;
-    run_case(name, front(&s, field + 2), 60006, 20);
+    run_case(name, front(&s, field + 2), 60006, 10001, 20);
 }
 
 fn schedules() {
@@ -484,6 +578,18 @@ fn order() {
     );
 }
 
+// 47 too, though it isn't lower.
+fn limit_order() {
+    let mut table = LIMITED;
+    table[10] = 0;
+    let s = [0u8];
+    line(
+        b"a limit and a schedule of one byte",
+        ks_judge(&table, &s, 12, 2, 40),
+    );
+    line(b"a limit and short buffers", ks_judge(&table, &s, 0, 0, 0));
+}
+
 fn main() {
     marked();
     accepted();
@@ -495,9 +601,11 @@ fn main() {
     inputs();
     boards();
     instructions();
+    limits();
     channels();
     masks();
     schedules();
     buffers();
     order();
+    limit_order();
 }

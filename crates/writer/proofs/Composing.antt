@@ -1,6 +1,6 @@
 -- The parts put together: the whole table laid out, judged, and written; and a table taken apart.
 use mathlib.Core.Path.{_≡_, refl, ap, sym, subst, _∙_}
-use mathlib.Core.Bool.{Bool, true, false, cond, _&&_}
+use mathlib.Core.Bool.{Bool, true, false, cond, _&&_, _||_}
 use mathlib.Core.List.{List, [], _∷_, _++_, map}
 use Prim.Native.Nat.{ℕ, zero, suc, _+_, _-_, _*_, _/_, _%_, _^_, _≤_, _<_}
 use native.Mathlib.Omega.{arith}
@@ -8,16 +8,16 @@ use lib.Dec.{eqb, leb}
 use lib.ListN.{length, take, drop, length-append, length-map}
 use lib.Seq.{sets, take-at}
 use borrow.Author.Tests.{eqb-true, eq-eqb, ne-eqb, le-leb, lt-leb}
-use Rattle.facts.specs.Tests.{no-way}
+use Rattle.facts.specs.Tests.{no-way, by-eq}
 use Rattle.rules.specs.Bytes.{written}
-use Rattle.rules.specs.Format.{orNumber, countsFit, validateTable, tableNumber}
+use Rattle.rules.specs.Format.{tableMost, orNumber, versionOk, countsFit, validateTable, tableNumber}
 use Rattle.rules.specs.Encode.{Lists, tableOf, recordsFor, bodyOf, encode, programLengths, total, listsOk, validateLists, validateWrite, ReadsAs}
 use Rattle.rules.proofs.Valid.{counts-fit}
 use Rattle.rules.proofs.Encoding.{Long, long, length-encode, encode-short, encode-reads}
-use Rattle.writer.specs.declared.write.Counts.{Counts}
+use Rattle.writer.specs.declared.write.Head.{Head}
 use Rattle.writer.specs.declared.write.Written.{Written}
 use Rattle.writer.specs.Given.{given, framing, Fitting, Programs}
-use Rattle.writer.specs.Fitted.{fitByte, fitThrees, fitted, headBytes}
+use Rattle.writer.specs.Fitted.{fitByte, fitThrees, fitted, headBytes, recordsLaid}
 use Rattle.writer.specs.Writes.{nothing, Writes}
 use Rattle.writer.proofs.Laying.{sets-append, sets-front}
 use Rattle.writer.proofs.Pieces.{fit-same}
@@ -25,12 +25,18 @@ use Rattle.writer.proofs.Fitting.{length-fitThrees, long-fitted, valida
 
 -- ---- the whole table laid out
 
-module _ (l : Lists) (f : Fitting l) where
-  pub programs-of : Programs (l .processes) (l .placements) (l .instructions)
-  programs-of = let o = long l (f .lists-ok) in record { placed = o .placements-long; few = o .programs-few; whole = o .instructions-long }
+-- the records of fitted lists
+abbrev laidRecords : Lists → List ℕ
+laidRecords l = recordsFor (l .version) (l .processes) (map fitByte (l .placements)) (map fitByte (l .limits)) (fitThrees (l .instructions))
 
-  pub length-laid : (6 + length (l .ends) + length (l .placements) + 2 * length (l .instructions) ≡ length (encode (fitted l)))
-      × (length (encode (fitted l)) ≤ 6262)
+module _ (l : Lists) (f : Fitting l) where
+  pub programs-of : Programs (l .version) (l .processes) (l .placements) (l .limits) (l .instructions)
+  programs-of =
+      let o = long l (f .lists-ok) in
+      record { placed = o .placements-long; limited = o .limits-long; few = o .programs-few; whole = o .instructions-long }
+
+  pub length-laid : (6 + length (l .ends) + length (l .placements) + length (l .limits) + 2 * length (l .instructions) ≡ length (encode (fitted l)))
+      × (length (encode (fitted l)) ≤ 2 + tableMost)
   length-laid =
       let o = long l (f .lists-ok) in
       let o′ = long-fitted l o in
@@ -39,48 +45,56 @@ module _ (l : Lists) (f : Fitting l) where
       let c = length-fitThrees (l .instructions) in
       let d = o .ends-long in
       let e = o .placements-long in
+      let g = length-map (l .limits) fitByte in
       (omega arith, encode-short (fitted l) o′ (f .counts-ok))
 
-  -- the bytes of the three parts
-  pub length-parts : length (encode (fitted l)) ≡ 6 + length (l .ends) + length (recordsFor (l .processes) (map fitByte (l .placements)) (fitThrees (l .instructions)))
+  -- the bytes of the three parts: head, ends, records
+  pub length-parts : length (encode (fitted l)) ≡ 6 + length (l .ends) + length (laidRecords l)
   unfolding encode
   length-parts =
-      let a = length-append (map fitByte (l .ends)) (recordsFor (l .processes) (map fitByte (l .placements)) (fitThrees (l .instructions))) in
+      let a = length-append (map fitByte (l .ends)) (laidRecords l) in
       let b = length-map (l .ends) fitByte in
       omega arith
 
-module _ (counts : Counts) (ends placements instructions : List ℕ) (f : Fitting (given counts ends placements instructions)) where
+-- a version that is one fits a byte
+version-fits : (v : ℕ) → versionOk v ≡ true → v < 256
+version-fits v h =
+    by-eq v 1
+    (λ e. omega arith)
+    (λ n. let a = eqb-true v 2 (sym (ap (λ (b : Bool). b || eqb v 2) (ne-eqb v 1 n)) ∙ h) in omega arith)
+
+module _ (head : Head) (ends placements limits instructions : List ℕ) (f : Fitting (given head ends placements limits instructions)) where
   abbrev lists : Lists
-  lists = given counts ends placements instructions
+  lists = given head ends placements limits instructions
 
   abbrev records : List ℕ
-  records = recordsFor (counts .processes) (map fitByte placements) (fitThrees instructions)
+  records = recordsLaid head placements limits instructions
 
-  head-is : (size : ℕ) → 2 + size ≡ length (encode (fitted lists)) → headBytes size counts ++ (map fitByte ends ++ records) ≡ encode (fitted lists)
+  head-is : (size : ℕ) → 2 + size ≡ length (encode (fitted lists)) → headBytes size head ++ (map fitByte ends ++ records) ≡ encode (fitted lists)
   unfolding encode
   head-is size e =
-      let n = counts-fit (counts .boards) (counts .processes) (counts .channels) (f .counts-ok) in
+      let n = counts-fit (head .boards) (head .processes) (head .channels) (f .counts-ok) in
       let body = length (bodyOf (fitted lists)) in
       let s = length-laid lists f .1 in
       let same : size ≡ body = omega arith in
       let high : size / 256 % 256 ≡ body / 2 ^ 8 = omega arith in
       let low : size % 256 ≡ body % 2 ^ 8 = omega arith in
-      let b = fit-same (counts .boards) (let z : counts .boards < 256 = omega arith in z) in
-      let p = fit-same (counts .processes) (let z : counts .processes < 256 = omega arith in z) in
-      let c = fit-same (counts .channels) (let z : counts .channels < 256 = omega arith in z) in
-      λ i. high i ∷ low i ∷ 1 ∷ b i ∷ p i ∷ c i ∷ (map fitByte ends ++ records)
+      let v = fit-same (head .version) (version-fits (head .version) (f .version-ok)) in
+      let b = fit-same (head .boards) (let z : head .boards < 256 = omega arith in z) in
+      let p = fit-same (head .processes) (let z : head .processes < 256 = omega arith in z) in
+      let c = fit-same (head .channels) (let z : head .channels < 256 = omega arith in z) in
+      λ i. high i ∷ low i ∷ v i ∷ b i ∷ p i ∷ c i ∷ (map fitByte ends ++ records)
 
-  pub laid-whole : (before b1 b2 b3 : List ℕ) (size at processes : ℕ) → 2 + size ≡ length (encode (fitted lists)) → at ≡ 6 + length ends → processes ≡ counts .processes
-      → b1 ≡ sets before 0 (headBytes size counts) → b2 ≡ sets b1 6 (map fitByte ends)
-      → b3 ≡ sets b2 at (recordsFor processes (map fitByte placements) (fitThrees instructions)) → b3 ≡ sets before 0 (encode (fitted lists))
-  laid-whole before b1 b2 b3 size at processes e ea ep e1 e2 e3 =
-      let head = headBytes size counts in
+  pub laid-whole : (before b1 b2 b3 : List ℕ) (size at : ℕ) → 2 + size ≡ length (encode (fitted lists)) → at ≡ 6 + length ends
+      → b1 ≡ sets before 0 (headBytes size head) → b2 ≡ sets b1 6 (map fitByte ends) → b3 ≡ sets b2 at records → b3 ≡ sets before 0 (encode (fitted lists))
+  laid-whole before b1 b2 b3 size at e ea e1 e2 e3 =
+      let top = headBytes size head in
       let m = length-map ends fitByte in
-      let i2 : 6 ≡ 0 + length head = refl in
-      let i3 : at ≡ 0 + length (head ++ map fitByte ends) = let a = length-append head (map fitByte ends) in omega arith in
-      let two : b2 ≡ sets before 0 (head ++ map fitByte ends) = e2 ∙ ap (λ (x : List ℕ). sets x 6 (map fitByte ends)) e1 ∙ sets-append before 0 head (map fitByte ends) in
-      e3 ∙ (λ j. sets (two j) (i3 j) (recordsFor (ep j) (map fitByte placements) (fitThrees instructions)))
-      ∙ sets-append before 0 (head ++ map fitByte ends) records ∙ ap (sets before 0) (head-is size e)
+      let i2 : 6 ≡ 0 + length top = refl in
+      let i3 : at ≡ 0 + length (top ++ map fitByte ends) = let a = length-append top (map fitByte ends) in omega arith in
+      let two : b2 ≡ sets before 0 (top ++ map fitByte ends) = e2 ∙ ap (λ (x : List ℕ). sets x 6 (map fitByte ends)) e1 ∙ sets-append before 0 top (map fitByte ends) in
+      e3 ∙ (λ j. sets (two j) (i3 j) records)
+      ∙ sets-append before 0 (top ++ map fitByte ends) records ∙ ap (sets before 0) (head-is size e)
 
 -- ---- judged
 
@@ -103,15 +117,17 @@ module _ (l : Lists) (room : ℕ) where
   unfolding validateWrite
   refused-lists number e h = e ∙ by-zero (validateLists l) room (length (encode l)) (λ z. h (e ∙ z))
 
-  framed : (a b : Bool) (n : ℕ) → (orNumber a 3 (orNumber b 4 0) ≡ 0 → ⊥) → orNumber a 3 (orNumber b 4 0) ≡ orNumber a 3 (orNumber b 4 n)
-  framed true true n h = absurd (h refl)
-  framed true false n h = refl
-  framed false b n h = refl
+  framed : (v a b : Bool) (n : ℕ) → (orNumber v 2 (orNumber a 3 (orNumber b 4 0)) ≡ 0 → ⊥)
+      → orNumber v 2 (orNumber a 3 (orNumber b 4 0)) ≡ orNumber v 2 (orNumber a 3 (orNumber b 4 n))
+  framed true true true n h = absurd (h refl)
+  framed true true false n h = refl
+  framed true false b n h = refl
+  framed false a b n h = refl
 
   pub refused-framing : (number : ℕ) → number ≡ framing l → (number ≡ 0 → ⊥) → number ≡ validateWrite l room
   unfolding framing validateLists
   refused-framing number e h =
-      refused-lists number (e ∙ framed (countsFit (l .boards) (l .processes) (l .channels)) (listsOk l) (tableNumber (tableOf l)) (λ z. h (e ∙ z))) h
+      refused-lists number (e ∙ framed (versionOk (l .version)) (countsFit (l .boards) (l .processes) (l .channels)) (listsOk l) (tableNumber (tableOf l)) (λ z. h (e ∙ z))) h
 
   module _ (h : validateLists l ≡ 0) where
     pub refused-room : room < length (encode l) → 45 ≡ validateWrite l room

@@ -1,25 +1,26 @@
 -- Lists whose numbers fit their bytes are judged as the lists themselves: 254 fails every test that a number over 255 fails. And lists that
 -- are accepted have no number that doesn't fit.
 use mathlib.Core.Path.{_≡_, refl, ap, sym, subst, _∙_}
-use mathlib.Core.Bool.{Bool, true, false, not, _&&_, _||_}
+use mathlib.Core.Bool.{Bool, true, false, not, cond, _&&_, _||_}
 use mathlib.Core.List.{List, [], _∷_, _++_, map}
 use Prim.Native.Nat.{ℕ, zero, suc, _+_, _-_, _*_, _≤_, _<_}
 use native.Mathlib.Omega.{arith}
 use lib.Dec.{eqb, ltb, leb}
 use lib.ListN.{length, getD, drop, length-map, length-drop, List·getD-map}
 use lib.Seq.{drop-drop}
-use borrow.Author.Tests.{lt-ltb, le-ltb, ltb-true, leb-true, eqb-true, eq-eqb, ne-eqb}
-use Rattle.facts.specs.Tests.{allOf, allBelow, and-left, and-right, by-lt, no-way, all-below}
+use borrow.Author.Tests.{lt-ltb, le-ltb, ltb-true, leb-true, lt-leb, eqb-true, eq-eqb, ne-eqb}
+use Rattle.facts.specs.Tests.{allOf, allBelow, and-left, and-right, by-lt, by-eq, no-way, all-below}
 use Rattle.facts.specs.Indexing.{getD-map}
 use Rattle.facts.specs.Ranges.{and-fails, all-same, all-of-given}
 use Rattle.backup.specs.Limits.{pcMost, ports}
-use Rattle.rules.specs.Table.{environment, Channel, Instruction, SET, ADD, TAKE, FIRST, SEND, JUMP, NONE, Placement, Table, codeOf, placementAt, readFrom, inputs}
-use Rattle.rules.specs.Judge.{endOk, endsOk, inputsOk, boardsOk, bits, instructionOk, instructionsOk}
+use Rattle.rules.specs.Table.{environment, Channel, Instruction, SET, ADD, TAKE, FIRST, SEND, JUMP, NONE, Placement, Table, nowhere, codeOf, placementAt, readFrom, inputs}
+use Rattle.rules.specs.Judge.{endOk, endsOk, inputsOk, boardsOk, bits, instructionOk, instructionsOk, limitOk, limitsOk}
 use Rattle.rules.specs.Machine.{bit}
-use Rattle.rules.specs.Format.{pairs, instruction, orNumber, countsFit, tableNumber, validateTable}
+use Rattle.rules.specs.Sizes.{withLimits, limitBytes, limitLeast, limitMost, limitBefore}
+use Rattle.rules.specs.Format.{pairs, instruction, limitSaid, orNumber, countsFit, tableNumber, validateTable}
 use Rattle.rules.specs.Encode.{Lists, threes, placedBy, tableOf, encode, programLengths, total, listsOk, validateLists}
 use Rattle.rules.proofs.Valid.{test-passed, further-passed, counts-fit}
-use Rattle.rules.proofs.Encoding.{Long, long, long-ok, lists-number, validate-encode, counts-accepted, lists-accepted}
+use Rattle.rules.proofs.Encoding.{Long, long, long-ok, lists-number, validate-encode, version-accepted, counts-accepted, lists-accepted}
 use Rattle.writer.specs.Given.{Fitting}
 use Rattle.writer.specs.Fitted.{fitByte, fitThrees, fitted}
 use Rattle.writer.proofs.Pieces.{fit-same, fitThrees-0, fitThrees-1, fitThrees-2, fitThrees-drop3, fitThrees-drop}
@@ -71,7 +72,8 @@ fitInstruction (JUMP a o) = JUMP (fitByte a) o
 fitInstruction NONE = NONE
 
 abbrev fitPlacement : Placement → Placement
-fitPlacement x = record { primary = fitByte (x .primary); standby = fitByte (x .standby); code = map fitInstruction (x .code) }
+fitPlacement x =
+    record { primary = fitByte (x .primary); standby = fitByte (x .standby); limit = fitByte (x .limit); code = map fitInstruction (x .code) }
 
 pairs-fit : (n : ℕ) (l : List ℕ) → pairs n (map fitByte l) ≡ map fitChannel (pairs n l)
 pairs-fit zero l = refl
@@ -120,17 +122,25 @@ lengths-fit (suc n) ps h =
     let later = ap (programLengths n) (drop-map 3 ps) ∙ lengths-fit n (drop 3 ps) (few-later n ps h) in
     λ i. n-fit n ps h i ∷ later i
 
-placed-fit : (n : ℕ) (ps is : List ℕ) → Few n ps → placedBy n (map fitByte ps) (fitThrees is) ≡ map fitPlacement (placedBy n ps is)
-placed-fit zero ps is h = refl
-placed-fit (suc n) ps is h =
+-- a limit, as the version has it
+limit-fit : (v : ℕ) (ls : List ℕ) → limitSaid v (getD (map fitByte ls) 0 0) ≡ fitByte (limitSaid v (getD ls 0 0))
+limit-fit v ls = go (withLimits v)
+  where
+    go : (w : Bool) → cond w (getD (map fitByte ls) 0 0) limitBefore ≡ fitByte (cond w (getD ls 0 0) limitBefore)
+    go true = List·getD-map fitByte ls 0 0
+    go false = refl
+
+placed-fit : (v n : ℕ) (ps ls is : List ℕ) → Few n ps → placedBy v n (map fitByte ps) (map fitByte ls) (fitThrees is) ≡ map fitPlacement (placedBy v n ps ls is)
+placed-fit v zero ps ls is h = refl
+placed-fit v (suc n) ps ls is h =
     let k = getD ps 2 0 in
     let e = n-fit n ps h in
     let p : getD (map fitByte ps) 0 0 ≡ fitByte (getD ps 0 0) = List·getD-map fitByte ps 0 0 in
     let s : getD (map fitByte ps) 1 0 ≡ fitByte (getD ps 1 0) = List·getD-map fitByte ps 1 0 in
     let c = ap (λ (m : ℕ). threes instruction m (fitThrees is)) e ∙ threes-fit k is in
     let behind = ap (λ (m : ℕ). drop (3 * m) (fitThrees is)) e ∙ fitThrees-drop k is in
-    let later = (λ i. placedBy n (drop-map 3 ps i) (behind i)) ∙ placed-fit n (drop 3 ps) (drop (3 * k) is) (few-later n ps h) in
-    λ i. record { primary = p i; standby = s i; code = c i } ∷ later i
+    let later = (λ i. placedBy v n (drop-map 3 ps i) (drop-map (limitBytes v) ls i) (behind i)) ∙ placed-fit v n (drop 3 ps) (drop (limitBytes v) ls) (drop (3 * k) is) (few-later n ps h) in
+    λ i. record { primary = p i; standby = s i; limit = limit-fit v ls i; code = c i } ∷ later i
 
 pub length-fitThrees : (l : List ℕ) → length (fitThrees l) ≡ length l
 length-fitThrees [] = refl
@@ -144,6 +154,7 @@ long-fitted l h =
     record {
       ends-long = length-map (l .ends) fitByte ∙ h .ends-long;
       placements-long = length-map (l .placements) fitByte ∙ h .placements-long;
+      limits-long = length-map (l .limits) fitByte ∙ h .limits-long;
       programs-few = ap (allOf (λ k. leb k pcMost)) e ∙ h .programs-few;
       instructions-long = length-fitThrees (l .instructions) ∙ h .instructions-long ∙ ap (λ (m : List ℕ). 3 * total m) (sym e);
     }
@@ -165,6 +176,12 @@ boards-fit n a b h =
   where
     few : n ≤ 254
     few = omega arith
+
+limitOk-fit : (x : ℕ) → limitOk (fitByte x) ≡ limitOk x
+limitOk-fit x =
+    by-lt x 256
+    (λ l. ap limitOk (fit-same x l))
+    (λ l. ap limitOk (fit-over x l) ∙ sym ((λ i. leb limitLeast x && lt-leb x limitMost (let z : limitMost < x = omega arith in z) i) ∙ and-fails (leb limitLeast x) false refl))
 
 -- an instruction is judged by the channels alone
 instructionOk-fit : (t t′ : Table) → t′ .channels ≡ t .channels → (p n : ℕ) (x : Instruction) → instructionOk t′ p n (fitInstruction x) ≡ instructionOk t p n x
@@ -188,6 +205,9 @@ pairTest n c = endOk n (c .sender) && (endOk n (c .reader) && not (eqb (c .sende
 abbrev boardTest : ℕ → Placement → Bool
 boardTest n x = ltb (x .primary) n && (ltb (x .standby) n && not (eqb (x .primary) (x .standby)))
 
+abbrev limitTest : Placement → Bool
+limitTest x = limitOk (x .limit)
+
 abbrev programTest : Table → ℕ → Bool
 programTest t p = allOf (instructionOk t p (length (codeOf t p))) (codeOf t p)
 
@@ -204,9 +224,9 @@ fitChannels-same n h (c ∷ cs) k =
     let later = fitChannels-same n h cs (and-right (pairTest n c) _ k) in
     λ i. record { sender = s i; reader = r i } ∷ later i
 
-length-placedBy : (n : ℕ) (ps is : List ℕ) → length (placedBy n ps is) ≡ n
-length-placedBy zero ps is = refl
-length-placedBy (suc n) ps is = ap suc (length-placedBy n (drop 3 ps) (drop (3 * getD ps 2 0) is))
+length-placedBy : (v n : ℕ) (ps ls is : List ℕ) → length (placedBy v n ps ls is) ≡ n
+length-placedBy v zero ps ls is = refl
+length-placedBy v (suc n) ps ls is = ap suc (length-placedBy v n (drop 3 ps) (drop (limitBytes v) ls) (drop (3 * getD ps 2 0) is))
 
 -- two tests that agree, with what follows them where they pass
 next : (n : ℕ) (a b : Bool) {x y : ℕ} → a ≡ b → (b ≡ true → x ≡ y) → orNumber a n x ≡ orNumber b n y
@@ -231,14 +251,14 @@ module _ (l : Lists) (f : Fitting l) where
 
   processes-fit : told′ .processes ≡ map fitPlacement (told .processes)
   unfolding tableOf
-  processes-fit = placed-fit (l .processes) (l .placements) (l .instructions) (whole .programs-few)
+  processes-fit = placed-fit (l .version) (l .processes) (l .placements) (l .limits) (l .instructions) (whole .programs-few)
 
   same-many : length (told′ .processes) ≡ length (told .processes)
   same-many = ap length processes-fit ∙ length-map (told .processes) fitPlacement
 
   few-processes : length (told .processes) ≤ 16
   unfolding tableOf
-  few-processes = let n = counts-fit (l .boards) (l .processes) (l .channels) (f .counts-ok) in let e = length-placedBy (l .processes) (l .placements) (l .instructions) in omega arith
+  few-processes = let n = counts-fit (l .boards) (l .processes) (l .channels) (f .counts-ok) in let e = length-placedBy (l .version) (l .processes) (l .placements) (l .limits) (l .instructions) in omega arith
 
   endsOk-fit : endsOk told′ ≡ endsOk told
   unfolding endsOk
@@ -256,6 +276,11 @@ module _ (l : Lists) (f : Fitting l) where
       (λ i. allOf (boardTest (l .boards)) (processes-fit i))
       ∙ allOf-map (boardTest (l .boards)) (boardTest (l .boards)) fitPlacement (λ x. boards-fit (l .boards) (x .primary) (x .standby) (n .boards-high)) (told .processes)
 
+  limitsOk-fit : limitsOk told′ ≡ limitsOk told
+  unfolding limitsOk
+  limitsOk-fit =
+      (λ i. allOf limitTest (processes-fit i)) ∙ allOf-map limitTest limitTest fitPlacement (λ x. limitOk-fit (x .limit)) (told .processes)
+
   module _ (ends : endsOk told ≡ true) where
     channels-same : told′ .channels ≡ told .channels
     unfolding endsOk
@@ -272,8 +297,8 @@ module _ (l : Lists) (f : Fitting l) where
         ∙ all-same (programTest told′) (programTest told) (length (told .processes))
         (λ p h.
         let e : codeOf told′ p ≡ map fitInstruction (codeOf told p) =
-        ap (λ (xs : List Placement). getD xs p (record { primary = 0; standby = 0; code = [] }) .code) processes-fit
-        ∙ ap (λ (x : Placement). x .code) (getD-map fitPlacement (told .processes) p (record { primary = 0; standby = 0; code = [] }) (record { primary = 0; standby = 0; code = [] }) h) in
+        ap (λ (xs : List Placement). getD xs p nowhere .code) processes-fit
+        ∙ ap (λ (x : Placement). x .code) (getD-map fitPlacement (told .processes) p nowhere nowhere h) in
         (λ i. allOf (instructionOk told′ p (length (e i))) (e i))
         ∙ allOf-map (instructionOk told′ p (length (map fitInstruction (codeOf told p)))) (instructionOk told p (length (codeOf told p))) fitInstruction
         (λ x. ap (λ (n : ℕ). instructionOk told′ p n (fitInstruction x)) (length-map (codeOf told p) fitInstruction)
@@ -285,14 +310,15 @@ module _ (l : Lists) (f : Fitting l) where
       next 5 (endsOk told′) (endsOk told) endsOk-fit λ e.
       next 6 (inputsOk told′) (inputsOk told) (inputsOk-fit e) λ _.
       next 7 (boardsOk told′) (boardsOk told) boardsOk-fit λ _.
-      next 8 (instructionsOk told′) (instructionsOk told) (instructionsOk-fit e) λ _. refl
+      next 8 (instructionsOk told′) (instructionsOk told) (instructionsOk-fit e) λ _.
+      next 47 (limitsOk told′) (limitsOk told) limitsOk-fit λ _. refl
 
   -- The reader judges the bytes of the fitted lists as the lists are judged.
   pub validate-laid : validateTable (encode (fitted l)) ≡ validateLists l
   validate-laid =
       let o = long-fitted l whole in
-      validate-encode (fitted l) o (f .counts-ok) ∙ lists-number (fitted l) (f .counts-ok) (long-ok (fitted l) o) ∙ tableNumber-fit
-      ∙ sym (lists-number l (f .counts-ok) (f .lists-ok))
+      validate-encode (fitted l) o (f .counts-ok) (f .version-ok) ∙ lists-number (fitted l) (f .version-ok) (f .counts-ok) (long-ok (fitted l) o) ∙ tableNumber-fit
+      ∙ sym (lists-number l (f .version-ok) (f .counts-ok) (f .lists-ok))
 
 -- ---- accepted lists fit as they are
 
@@ -338,29 +364,50 @@ threes-same (suc k) (c ∷ a ∷ o ∷ is) r h e =
     let later = threes-same k is (omega arith) (and-right (smallCode (instruction c a o)) _ h) (rw z at e) in
     λ i. f .0 i ∷ f .1 i ∷ o ∷ later i
 
-instructions-same : (n : ℕ) (ps is : List ℕ) → length is ≡ 3 * total (programLengths n ps) → allOf (λ (x : Placement). allOf smallCode (x .code)) (placedBy n ps is) ≡ true
+instructions-same : (v n : ℕ) (ps ls is : List ℕ) → length is ≡ 3 * total (programLengths n ps) → allOf (λ (x : Placement). allOf smallCode (x .code)) (placedBy v n ps ls is) ≡ true
     → fitThrees is ≡ is
-instructions-same zero ps [] r h = refl
-instructions-same zero ps (x ∷ is) r h = absurd (omega arith)
-instructions-same (suc n) ps is r h =
+instructions-same v zero ps ls [] r h = refl
+instructions-same v zero ps ls (x ∷ is) r h = absurd (omega arith)
+instructions-same v (suc n) ps ls is r h =
     let k = getD ps 2 0 in
     let d = length-drop (3 * k) is in
     threes-same k is (omega arith) (and-left (allOf smallCode (threes instruction k is)) _ h)
-    (instructions-same n (drop 3 ps) (drop (3 * k) is) (omega arith) (and-right (allOf smallCode (threes instruction k is)) _ h))
+    (instructions-same v n (drop 3 ps) (drop (limitBytes v) ls) (drop (3 * k) is) (omega arith) (and-right (allOf smallCode (threes instruction k is)) _ h))
 
-placements-same : (b n : ℕ) (ps is : List ℕ) → b ≤ 16 → length ps ≡ 3 * n → Few n ps → allOf (boardTest b) (placedBy n ps is) ≡ true → map fitByte ps ≡ ps
-placements-same b zero [] is s r f h = refl
-placements-same b zero (x ∷ ps) is s r f h = absurd (omega arith)
-placements-same b (suc n) [] is s r f h = refl
-placements-same b (suc n) (x ∷ []) is s r f h = absurd (omega arith)
-placements-same b (suc n) (x ∷ y ∷ []) is s r f h = absurd (omega arith)
-placements-same b (suc n) (x ∷ y ∷ k ∷ ps) is s r f h =
+placements-same : (b v n : ℕ) (ps ls is : List ℕ) → b ≤ 16 → length ps ≡ 3 * n → Few n ps → allOf (boardTest b) (placedBy v n ps ls is) ≡ true → map fitByte ps ≡ ps
+placements-same b v zero [] ls is s r f h = refl
+placements-same b v zero (x ∷ ps) ls is s r f h = absurd (omega arith)
+placements-same b v (suc n) [] ls is s r f h = refl
+placements-same b v (suc n) (x ∷ []) ls is s r f h = absurd (omega arith)
+placements-same b v (suc n) (x ∷ y ∷ []) ls is s r f h = absurd (omega arith)
+placements-same b v (suc n) (x ∷ y ∷ k ∷ ps) ls is s r f h =
     let here = and-left (ltb x b && (ltb y b && not (eqb x y))) _ h in
     let lx = ltb-true x b (and-left (ltb x b) _ here) in
     let ly = ltb-true y b (and-left (ltb y b) _ (and-right (ltb x b) _ here)) in
     let lk = leb-true k pcMost (and-left (leb k pcMost) _ f) in
-    let later = placements-same b n ps (drop (3 * k) is) s (omega arith) (and-right (leb k pcMost) _ f) (and-right (ltb x b && (ltb y b && not (eqb x y))) _ h) in
+    let later = placements-same b v n ps (drop (limitBytes v) ls) (drop (3 * k) is) s (omega arith) (and-right (leb k pcMost) _ f) (and-right (ltb x b && (ltb y b && not (eqb x y))) _ h) in
     λ i. fit-same x (let z : x < 256 = omega arith in z) i ∷ fit-same y (let z : y < 256 = omega arith in z) i ∷ fit-same k (let z : k < 256 = omega arith in z) i ∷ later i
+
+-- limits that pass, one for each of n processes
+limits-fit : (n : ℕ) (ps ls is : List ℕ) → length ls ≡ n → allOf limitTest (placedBy 2 n ps ls is) ≡ true → map fitByte ls ≡ ls
+limits-fit zero ps [] is r h = refl
+limits-fit zero ps (x ∷ ls) is r h = absurd (omega arith)
+limits-fit (suc n) ps [] is r h = refl
+limits-fit (suc n) ps (x ∷ ls) is r h =
+    let here = leb-true x limitMost (and-right (leb limitLeast x) _ (and-left (limitOk x) _ h)) in
+    let later = limits-fit n (drop 3 ps) ls (drop (3 * getD ps 2 0) is) (omega arith) (and-right (limitOk x) _ h) in
+    λ i. fit-same x (let z : x < 256 = omega arith in z) i ∷ later i
+
+-- and of a version that has none
+limits-same : (v n : ℕ) (ps ls is : List ℕ) → length ls ≡ limitBytes v * n → allOf limitTest (placedBy v n ps ls is) ≡ true → map fitByte ls ≡ ls
+limits-same v n ps ls is r h =
+    by-eq v 2
+    (λ e. limits-fit n ps ls is (r ∙ ap (λ (m : ℕ). limitBytes m * n) e ∙ omega arith) (sym (ap (λ (m : ℕ). allOf limitTest (placedBy m n ps ls is)) e) ∙ h))
+    (λ e. none ls (r ∙ ap (λ (w : Bool). cond w 1 0 * n) (ne-eqb v 2 e) ∙ omega arith))
+  where
+    none : (m : List ℕ) → length m ≡ 0 → map fitByte m ≡ m
+    none [] e = refl
+    none (x ∷ m) e = absurd (omega arith)
 
 ends-same : (m n : ℕ) (ends : List ℕ) → m ≤ 16 → length ends ≡ 2 * n → allOf (pairTest m) (pairs n ends) ≡ true → map fitByte ends ≡ ends
 ends-same m zero [] s r h = refl
@@ -374,33 +421,37 @@ ends-same m (suc n) (x ∷ y ∷ ends) s r h =
 
 module _ (l : Lists) (h : validateLists l ≡ 0) where
   accepted-number : tableNumber (tableOf l) ≡ 0
-  accepted-number = sym (lists-number l (counts-accepted l h) (lists-accepted l h)) ∙ h
+  accepted-number = sym (lists-number l (version-accepted l h) (counts-accepted l h) (lists-accepted l h)) ∙ h
 
   pub fitted-same : fitted l ≡ l
-  unfolding tableOf endsOk boardsOk instructionsOk
+  unfolding tableOf endsOk boardsOk instructionsOk limitsOk
   fitted-same =
       let o = long l (lists-accepted l h) in
       let n = counts-fit (l .boards) (l .processes) (l .channels) (counts-accepted l h) in
       let t = tableOf l in
-      let m = length-placedBy (l .processes) (l .placements) (l .instructions) in
+      let m = length-placedBy (l .version) (l .processes) (l .placements) (l .limits) (l .instructions) in
       let n5 = accepted-number in
       let n6 = further-passed (endsOk t) 4 _ n5 in
       let n7 = further-passed (inputsOk t) 5 _ n6 in
       let n8 = further-passed (boardsOk t) 6 _ n7 in
       let e5 = test-passed (endsOk t) 4 _ n5 in
       let e7 = test-passed (boardsOk t) 6 _ n7 in
-      let e8 = test-passed (instructionsOk t) 7 0 n8 in
-      let codes = all-of-given (λ (x : Placement). allOf smallCode (x .code)) (t .processes) (record { primary = 0; standby = 0; code = [] })
+      let e8 = test-passed (instructionsOk t) 7 _ n8 in
+      let e47 = test-passed (limitsOk t) 46 0 (further-passed (instructionsOk t) 7 _ n8) in
+      let codes = all-of-given (λ (x : Placement). allOf smallCode (x .code)) (t .processes) nowhere
       (λ p k. allOf-weaken (instructionOk t p (length (codeOf t p))) smallCode (small-passes t p (length (codeOf t p))) (codeOf t p)
       (all-below (λ q. allOf (instructionOk t q (length (codeOf t q))) (codeOf t q)) (length (t .processes)) e8 p k)) in
       let ends = ends-same (length (t .processes)) (l .channels) (l .ends) (omega arith) (o .ends-long) e5 in
-      let placements = placements-same (l .boards) (l .processes) (l .placements) (l .instructions) (n .boards-high) (o .placements-long) (o .programs-few) e7 in
-      let instructions = instructions-same (l .processes) (l .placements) (l .instructions) (o .instructions-long) codes in
+      let placements = placements-same (l .boards) (l .version) (l .processes) (l .placements) (l .limits) (l .instructions) (n .boards-high) (o .placements-long) (o .programs-few) e7 in
+      let limits = limits-same (l .version) (l .processes) (l .placements) (l .limits) (l .instructions) (o .limits-long) e47 in
+      let instructions = instructions-same (l .version) (l .processes) (l .placements) (l .limits) (l .instructions) (o .instructions-long) codes in
       λ i. record {
+        version = l .version;
         boards = l .boards;
         processes = l .processes;
         channels = l .channels;
         ends = ends i;
         placements = placements i;
+        limits = limits i;
         instructions = instructions i;
       }

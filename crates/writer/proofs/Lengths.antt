@@ -1,4 +1,4 @@
--- Numbers 3 and 4 of lists: the tests one after the other, and the pass over the placements.
+-- Numbers 2 to 4 of lists: the tests one after the other, and the pass over the placements.
 use mathlib.Core.Logic.{_≢_}
 use mathlib.Core.Path.{_≡_, refl, ap, sym, _∙_}
 use mathlib.Core.Bool.{Bool, true, false, _&&_}
@@ -11,7 +11,8 @@ use borrow.Author.Tests.{le-leb, lt-leb, eq-eqb, ne-eqb}
 use Rattle.facts.specs.Tests.{allOf}
 use Rattle.facts.specs.Ranges.{and-fails}
 use Rattle.backup.specs.Limits.{pcMost}
-use Rattle.rules.specs.Format.{orNumber, countsFit}
+use Rattle.rules.specs.Sizes.{limitBytes}
+use Rattle.rules.specs.Format.{orNumber, versionOk, countsFit}
 use Rattle.rules.specs.Encode.{Lists, programLengths, total, listsOk}
 use Rattle.writer.specs.Given.{framing, Fitting}
 use Rattle.writer.proofs.Pieces.{lengths-next}
@@ -67,33 +68,61 @@ module _ (l : Lists) where
   unfolding listsOk
   ends-wrong h = rw (ne-eqb (length (l .ends)) (2 * l .channels) h)
 
-  pub placements-wrong : length (l .ends) ≡ 2 * l .channels → length (l .placements) ≢ 3 * l .processes → false ≡ listsOk l
-  unfolding listsOk
-  placements-wrong e h = rw (eq-eqb (length (l .ends)) (2 * l .channels) e, ne-eqb (length (l .placements)) (3 * l .processes) h)
-
-  module _ (e : length (l .ends) ≡ 2 * l .channels) (f : length (l .placements) ≡ 3 * l .processes) where
-    pub n-wrong : allOf (λ k. leb k pcMost) (programLengths (l .processes) (l .placements)) ≡ false → false ≡ listsOk l
+  module _ (e : length (l .ends) ≡ 2 * l .channels) where
+    pub placements-wrong : length (l .placements) ≢ 3 * l .processes → false ≡ listsOk l
     unfolding listsOk
-    n-wrong h = rw (eq-eqb (length (l .ends)) (2 * l .channels) e, eq-eqb (length (l .placements)) (3 * l .processes) f, h)
+    placements-wrong h = rw (eq-eqb (length (l .ends)) (2 * l .channels) e, ne-eqb (length (l .placements)) (3 * l .processes) h)
 
-    pub instructions-tell : (sum : ℕ) → total (programLengths (l .processes) (l .placements)) ≡ sum
-        → allOf (λ k. leb k pcMost) (programLengths (l .processes) (l .placements)) ≡ true → eqb (length (l .instructions)) (3 * sum) ≡ listsOk l
-    unfolding listsOk
-    instructions-tell sum s h = rw (eq-eqb (length (l .ends)) (2 * l .channels) e, eq-eqb (length (l .placements)) (3 * l .processes) f, h, s)
+    module _ (f : length (l .placements) ≡ 3 * l .processes) where
+      pub limits-wrong : length (l .limits) ≢ limitBytes (l .version) * l .processes → false ≡ listsOk l
+      unfolding listsOk
+      limits-wrong h =
+          rw (
+            eq-eqb (length (l .ends)) (2 * l .channels) e,
+            eq-eqb (length (l .placements)) (3 * l .processes) f,
+            ne-eqb (length (l .limits)) (limitBytes (l .version) * l .processes) h,
+          )
 
--- ---- 3 and 4
+      module _ (g : length (l .limits) ≡ limitBytes (l .version) * l .processes) where
+        pub n-wrong : allOf (λ k. leb k pcMost) (programLengths (l .processes) (l .placements)) ≡ false → false ≡ listsOk l
+        unfolding listsOk
+        n-wrong h =
+            rw (
+              eq-eqb (length (l .ends)) (2 * l .channels) e,
+              eq-eqb (length (l .placements)) (3 * l .processes) f,
+              eq-eqb (length (l .limits)) (limitBytes (l .version) * l .processes) g,
+              h,
+            )
+
+        pub instructions-tell : (sum : ℕ) → total (programLengths (l .processes) (l .placements)) ≡ sum
+            → allOf (λ k. leb k pcMost) (programLengths (l .processes) (l .placements)) ≡ true → eqb (length (l .instructions)) (3 * sum) ≡ listsOk l
+        unfolding listsOk
+        instructions-tell sum s h =
+            rw (
+              eq-eqb (length (l .ends)) (2 * l .channels) e,
+              eq-eqb (length (l .placements)) (3 * l .processes) f,
+              eq-eqb (length (l .limits)) (limitBytes (l .version) * l .processes) g,
+              h,
+              s,
+            )
+
+-- ---- 2, 3 and 4
 
 module _ (l : Lists) where
-  -- from the two tests
-  pub framing-from : {a b : Bool} → a ≡ countsFit (l .boards) (l .processes) (l .channels) → b ≡ listsOk l → orNumber a 3 (orNumber b 4 0) ≡ framing l
+  -- from the three tests
+  pub framing-from : {v a b : Bool} → v ≡ versionOk (l .version) → a ≡ countsFit (l .boards) (l .processes) (l .channels) → b ≡ listsOk l
+      → orNumber v 2 (orNumber a 3 (orNumber b 4 0)) ≡ framing l
   unfolding framing
-  framing-from e f = λ i. orNumber (e i) 3 (orNumber (f i) 4 0)
+  framing-from d e f = λ i. orNumber (d i) 2 (orNumber (e i) 3 (orNumber (f i) 4 0))
 
-  by-fitting : (a b : Bool) → 0 ≡ orNumber a 3 (orNumber b 4 0) → (a ≡ true) × (b ≡ true)
-  by-fitting true true h = (refl, refl)
-  by-fitting true false h = absurd (omega arith)
-  by-fitting false b h = absurd (omega arith)
+  by-fitting : (v a b : Bool) → 0 ≡ orNumber v 2 (orNumber a 3 (orNumber b 4 0)) → (v ≡ true) × (a ≡ true) × (b ≡ true)
+  by-fitting true true true h = (refl, refl, refl)
+  by-fitting true true false h = absurd (omega arith)
+  by-fitting true false b h = absurd (omega arith)
+  by-fitting false a b h = absurd (omega arith)
 
   pub fitting : 0 ≡ framing l → Fitting l
   unfolding framing
-  fitting h = let r = by-fitting (countsFit (l .boards) (l .processes) (l .channels)) (listsOk l) h in record { counts-ok = r .0; lists-ok = r .1 }
+  fitting h =
+      let r = by-fitting (versionOk (l .version)) (countsFit (l .boards) (l .processes) (l .channels)) (listsOk l) h in
+      record { version-ok = r .0; counts-ok = r .1; lists-ok = r .2 }

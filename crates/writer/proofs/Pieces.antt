@@ -1,6 +1,6 @@
 -- The next piece of what is laid out or taken apart, and what is left behind it: of a list of numbers, of a program, of the records.
 use mathlib.Core.Path.{_≡_, refl, ap, sym, subst, _∙_}
-use mathlib.Core.Bool.{Bool, true, _&&_}
+use mathlib.Core.Bool.{Bool, true, false, cond, _&&_}
 use mathlib.Core.List.{List, [], _∷_, _++_, map}
 use Prim.Native.Nat.{ℕ, zero, suc, _+_, _-_, _*_, _≤_, _<_}
 use native.Mathlib.Omega.{arith}
@@ -11,9 +11,10 @@ use borrow.Author.Tests.{leb-true, lt-ltb}
 use Rattle.facts.specs.Tests.{and-left, and-right}
 use Rattle.backup.specs.Limits.{pcMost}
 use Rattle.rules.specs.Bytes.{byteAt, number32, allBytes, sixes}
+use Rattle.rules.specs.Sizes.{withLimits, limitBytes, lengthPlace, recordHead}
 use Rattle.rules.specs.Format.{programLength, recordLength, rests, recordsOk}
-use Rattle.rules.specs.Encode.{threes, instructionBytes, programBytes, recordsFor, programLengths, total, programIn, placementsIn, instructionsIn}
-use Rattle.writer.specs.Fitted.{fitByte, fitThrees}
+use Rattle.rules.specs.Encode.{threes, instructionBytes, programBytes, ifLimits, recordsFor, programLengths, total, programIn, placementsIn, limitsIn, instructionsIn}
+use Rattle.writer.specs.Fitted.{fitByte, fitThrees, headFor}
 
 -- one of n is done
 one-fewer : (n p : ℕ) → p < n → n - p ≡ suc (n - (p + 1))
@@ -98,24 +99,60 @@ lengths-next ps n p h =
 fitted-at : (ps : List ℕ) (at i : ℕ) → getD (drop at (map fitByte ps)) i 0 ≡ fitByte (getD ps (at + i) 0)
 fitted-at ps at i = getD-drop at (map fitByte ps) i 0 ∙ List·getD-map fitByte ps (at + i) 0
 
-pub record-next : (ps is : List ℕ) (n p i : ℕ) → p < n → getD ps (3 * p + 2) 0 ≤ 64
-    → recordsFor (n - p) (drop (3 * p) (map fitByte ps)) (drop (3 * i) (fitThrees is))
-    ≡ (fitByte (getD ps (3 * p) 0) ∷ fitByte (getD ps (3 * p + 1) 0) ∷ fitByte (getD ps (3 * p + 2) 0) ∷ [])
+-- the limit of process p, where the version has limits, and those behind it
+limit-next : (v : ℕ) (ls : List ℕ) (p : ℕ) → ifLimits v (getD (drop (limitBytes v * p) (map fitByte ls)) 0 0) ≡ ifLimits v (fitByte (getD ls p 0))
+limit-next v ls p = go (withLimits v)
+  where
+    go : (w : Bool) → cond w (getD (drop (cond w 1 0 * p) (map fitByte ls)) 0 0 ∷ []) [] ≡ cond w (fitByte (getD ls p 0) ∷ []) []
+    go true = ap (λ (x : ℕ). x ∷ []) (fitted-at ls (1 * p) 0 ∙ ap (λ (j : ℕ). fitByte (getD ls j 0)) (let z : 1 * p + 0 ≡ p = omega arith in z))
+    go false = refl
+
+pub one-more-limit : (v p : ℕ) → limitBytes v * p + limitBytes v ≡ limitBytes v * (p + 1)
+one-more-limit v p = go (withLimits v)
+  where
+    go : (w : Bool) → cond w 1 0 * p + cond w 1 0 ≡ cond w 1 0 * (p + 1)
+    go true = omega arith
+    go false = omega arith
+
+-- what follows a record's first bytes
+head-first : (v x n : ℕ) (l : List ℕ) → (ifLimits v x ++ (n ∷ [])) ++ l ≡ ifLimits v x ++ (n ∷ l)
+head-first v x n l = go (withLimits v)
+  where
+    go : (w : Bool) → (cond w (x ∷ []) [] ++ (n ∷ [])) ++ l ≡ cond w (x ∷ []) [] ++ (n ∷ l)
+    go true = refl
+    go false = refl
+
+pub length-headFor : (v : ℕ) (ps ls : List ℕ) (p : ℕ) → length (headFor v ps ls p) ≡ recordHead v
+length-headFor v ps ls p = go (withLimits v)
+  where
+    go : (w : Bool) → suc (suc (length (cond w (fitByte (getD ls p 0) ∷ []) [] ++ (fitByte (getD ps (3 * p + 2) 0) ∷ [])))) ≡ 1 + (2 + cond w 1 0)
+    go true = refl
+    go false = refl
+
+pub record-next : (v : ℕ) (ps ls is : List ℕ) (n p i : ℕ) → p < n → getD ps (3 * p + 2) 0 ≤ 64
+    → recordsFor v (n - p) (drop (3 * p) (map fitByte ps)) (drop (limitBytes v * p) (map fitByte ls)) (drop (3 * i) (fitThrees is))
+    ≡ headFor v ps ls p
     ++ (programBytes (getD ps (3 * p + 2) 0) (drop (3 * i) (fitThrees is))
-    ++ recordsFor (n - (p + 1)) (drop (3 * (p + 1)) (map fitByte ps)) (drop (3 * (i + getD ps (3 * p + 2) 0)) (fitThrees is)))
-record-next ps is n p i h few =
+    ++ recordsFor v (n - (p + 1)) (drop (3 * (p + 1)) (map fitByte ps)) (drop (limitBytes v * (p + 1)) (map fitByte ls))
+    (drop (3 * (i + getD ps (3 * p + 2) 0)) (fitThrees is)))
+record-next v ps ls is n p i h few =
     let m = getD ps (3 * p + 2) 0 in
     let d = drop (3 * p) (map fitByte ps) in
+    let limits = drop (limitBytes v * p) (map fitByte ls) in
     let code = drop (3 * i) (fitThrees is) in
     let x0 : getD d 0 0 ≡ fitByte (getD ps (3 * p) 0) = fitted-at ps (3 * p) 0 ∙ ap (λ (j : ℕ). fitByte (getD ps j 0)) (let z : 3 * p + 0 ≡ 3 * p = omega arith in z) in
     let x1 : getD d 1 0 ≡ fitByte (getD ps (3 * p + 1) 0) = fitted-at ps (3 * p) 1 in
     let x2 : getD d 2 0 ≡ fitByte m = fitted-at ps (3 * p) 2 in
     let same : getD d 2 0 ≡ m = x2 ∙ fit-same m (omega arith) in
     let later : drop 3 d ≡ drop (3 * (p + 1)) (map fitByte ps) = drop-drop 3 (3 * p) (map fitByte ps) ∙ ap (λ (j : ℕ). drop j (map fitByte ps)) (let z : 3 * p + 3 ≡ 3 * (p + 1) = omega arith in z) in
+    let later-limits : drop (limitBytes v) limits ≡ drop (limitBytes v * (p + 1)) (map fitByte ls) =
+    drop-drop (limitBytes v) (limitBytes v * p) (map fitByte ls) ∙ ap (λ (j : ℕ). drop j (map fitByte ls)) (one-more-limit v p) in
     let behind : drop (3 * getD d 2 0) code ≡ drop (3 * (i + m)) (fitThrees is) =
     ap (λ (j : ℕ). drop (3 * j) code) same ∙ drop-drop (3 * m) (3 * i) (fitThrees is) ∙ ap (λ (j : ℕ). drop j (fitThrees is)) (let z : 3 * i + 3 * m ≡ 3 * (i + m) = omega arith in z) in
-    ap (λ (c : ℕ). recordsFor c d code) (one-fewer n p h)
-    ∙ (λ j. x0 j ∷ x1 j ∷ x2 j ∷ programBytes (same j) code ++ recordsFor (n - (p + 1)) (later j) (behind j))
+    let others = programBytes m code ++ recordsFor v (n - (p + 1)) (drop (3 * (p + 1)) (map fitByte ps)) (drop (limitBytes v * (p + 1)) (map fitByte ls)) (drop (3 * (i + m)) (fitThrees is)) in
+    ap (λ (c : ℕ). recordsFor v c d limits code) (one-fewer n p h)
+    ∙ (λ j. x0 j ∷ x1 j ∷ limit-next v ls p j ++ (x2 j ∷ programBytes (same j) code ++ recordsFor v (n - (p + 1)) (later j) (later-limits j) (behind j)))
+    ∙ (λ j. fitByte (getD ps (3 * p) 0) ∷ fitByte (getD ps (3 * p + 1) 0) ∷ sym (head-first v (fitByte (getD ls p 0)) (fitByte m) others) j)
 
 -- ---- and from bytes
 
@@ -133,45 +170,55 @@ program-in-next t at n k h =
     ap (λ (c : ℕ). programIn c (drop m t)) (one-fewer n k h)
     ∙ (λ j. x0 j ∷ x 1 j ∷ number32 (x 2 j) (x 3 j) (x 4 j) (x 5 j) ∷ programIn (n - (k + 1)) (later j))
 
-module _ (t : List ℕ) (n p at : ℕ) (h : p < n) where
+module _ (t : List ℕ) (v n p at : ℕ) (h : p < n) where
   -- the n of the record at `at`
   abbrev here : ℕ
-  here = byteAt t (at + 2)
+  here = byteAt t (at + lengthPlace v)
 
-  length-here : recordLength (drop at t) ≡ 3 + 6 * here
-  length-here = ap (λ (k : ℕ). 3 + 6 * k) (getD-drop at t 2 0)
+  n-here : programLength v (drop at t) ≡ here
+  n-here = getD-drop at t (lengthPlace v) 0
 
-  later-here : drop (recordLength (drop at t)) (drop at t) ≡ drop (at + (3 + 6 * here)) t
-  later-here = ap (λ (k : ℕ). drop k (drop at t)) length-here ∙ drop-drop (3 + 6 * here) at t
+  length-here : recordLength v (drop at t) ≡ recordHead v + 6 * here
+  length-here = ap (λ (k : ℕ). recordHead v + 6 * k) n-here
 
-  pub placements-next : placementsIn (n - p) (drop at t)
-      ≡ (byteAt t at ∷ byteAt t (at + 1) ∷ byteAt t (at + 2) ∷ []) ++ placementsIn (n - (p + 1)) (drop (at + (3 + 6 * here)) t)
+  later-here : drop (recordLength v (drop at t)) (drop at t) ≡ drop (at + (recordHead v + 6 * here)) t
+  later-here = ap (λ (k : ℕ). drop k (drop at t)) length-here ∙ drop-drop (recordHead v + 6 * here) at t
+
+  pub placements-next : placementsIn v (n - p) (drop at t)
+      ≡ (byteAt t at ∷ byteAt t (at + 1) ∷ here ∷ []) ++ placementsIn v (n - (p + 1)) (drop (at + (recordHead v + 6 * here)) t)
   unfolding placementsIn
   placements-next =
       let x0 : getD (drop at t) 0 0 ≡ getD t at 0 = getD-drop at t 0 0 ∙ ap (λ (j : ℕ). getD t j 0) (let z : at + 0 ≡ at = omega arith in z) in
-      ap (λ (c : ℕ). placementsIn c (drop at t)) (one-fewer n p h)
-      ∙ (λ j. x0 j ∷ getD-drop at t 1 0 j ∷ getD-drop at t 2 0 j ∷ placementsIn (n - (p + 1)) (later-here j))
+      ap (λ (c : ℕ). placementsIn v c (drop at t)) (one-fewer n p h)
+      ∙ (λ j. x0 j ∷ getD-drop at t 1 0 j ∷ n-here j ∷ placementsIn v (n - (p + 1)) (later-here j))
 
-  pub instructions-next : instructionsIn (n - p) (drop at t)
-      ≡ programIn here (drop (at + 3) t) ++ instructionsIn (n - (p + 1)) (drop (at + (3 + 6 * here)) t)
+  pub limits-next : limitsIn v (n - p) (drop at t)
+      ≡ ifLimits v (byteAt t (at + 2)) ++ limitsIn v (n - (p + 1)) (drop (at + (recordHead v + 6 * here)) t)
+  unfolding limitsIn
+  limits-next =
+      ap (λ (c : ℕ). limitsIn v c (drop at t)) (one-fewer n p h)
+      ∙ (λ j. ifLimits v (getD-drop at t 2 0 j) ++ limitsIn v (n - (p + 1)) (later-here j))
+
+  pub instructions-next : instructionsIn v (n - p) (drop at t)
+      ≡ programIn here (drop (at + recordHead v) t) ++ instructionsIn v (n - (p + 1)) (drop (at + (recordHead v + 6 * here)) t)
   unfolding instructionsIn
   instructions-next =
-      ap (λ (c : ℕ). instructionsIn c (drop at t)) (one-fewer n p h)
-      ∙ (λ j. programIn (getD-drop at t 2 0 j) (drop-drop 3 at t j) ++ instructionsIn (n - (p + 1)) (later-here j))
+      ap (λ (c : ℕ). instructionsIn v c (drop at t)) (one-fewer n p h)
+      ∙ (λ j. programIn (n-here j) (drop-drop (recordHead v) at t j) ++ instructionsIn v (n - (p + 1)) (later-here j))
 
-  module _ (ok : recordsOk (n - p) (drop at t) ≡ true) where
-    split : recordsOk (suc (n - (p + 1))) (drop at t) ≡ true
-    split = sym (ap (λ (c : ℕ). recordsOk c (drop at t)) (one-fewer n p h)) ∙ ok
+  module _ (ok : recordsOk v (n - p) (drop at t) ≡ true) where
+    split : recordsOk v (suc (n - (p + 1))) (drop at t) ≡ true
+    split = sym (ap (λ (c : ℕ). recordsOk v c (drop at t)) (one-fewer n p h)) ∙ ok
 
-    pub record-within : at + (3 + 6 * here) ≤ length t
+    pub record-within : at + (recordHead v + 6 * here) ≤ length t
     record-within =
-        let a = leb-true (recordLength (drop at t)) (length (drop at t))
-        (and-left (leb (recordLength (drop at t)) (length (drop at t))) _ (and-right (leb (programLength (drop at t)) pcMost) _ split)) in
+        let a = leb-true (recordLength v (drop at t)) (length (drop at t))
+        (and-left (leb (recordLength v (drop at t)) (length (drop at t))) _ (and-right (leb (programLength v (drop at t)) pcMost) _ split)) in
         let b = length-drop at t in
         let c = length-here in
         omega arith
 
-    pub records-behind : recordsOk (n - (p + 1)) (drop (at + (3 + 6 * here)) t) ≡ true
+    pub records-behind : recordsOk v (n - (p + 1)) (drop (at + (recordHead v + 6 * here)) t) ≡ true
     records-behind =
-        sym (ap (recordsOk (n - (p + 1))) later-here)
-        ∙ and-right (leb (recordLength (drop at t)) (length (drop at t))) _ (and-right (leb (programLength (drop at t)) pcMost) _ split)
+        sym (ap (recordsOk v (n - (p + 1))) later-here)
+        ∙ and-right (leb (recordLength v (drop at t)) (length (drop at t))) _ (and-right (leb (programLength v (drop at t)) pcMost) _ split)

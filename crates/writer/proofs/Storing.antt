@@ -12,7 +12,7 @@ use Rattle.records.specs.Fetch.{numbered, fetched}
 use Rattle.records.specs.declared.fetch.Instruction.{Instruction}
 use Rattle.records.proofs.Sixes.{six-from}
 use Rattle.writer.specs.Fitted.{fitByte, fitThrees, headBytes}
-use Rattle.writer.specs.declared.write.Counts.{Counts}
+use Rattle.writer.specs.declared.write.Head.{Head}
 use Rattle.writer.proofs.Laying.{Laying, laying-start, laying-more, laying-end}
 use Rattle.writer.proofs.Pieces.{ends-next, take-next, program-next, threeAt, program-in-next}
 
@@ -23,6 +23,14 @@ three-put l n a b c x y z e0 e1 e2 =
     let i1 : n + 1 ≡ suc n = omega arith in
     let i2 : n + 2 ≡ suc (suc n) = omega arith in
     λ j. set (set (set l n (e0 j)) (i1 j) (e1 j)) (i2 j) (e2 j)
+
+pub four-put : (l : List ℕ) (n a b c d x y z w : ℕ) → x ≡ a → y ≡ b → z ≡ c → w ≡ d
+    → set (set (set (set l n x) (n + 1) y) (n + 2) z) (n + 3) w ≡ sets l n (a ∷ b ∷ c ∷ d ∷ [])
+four-put l n a b c d x y z w e0 e1 e2 e3 =
+    let i1 : n + 1 ≡ suc n = omega arith in
+    let i2 : n + 2 ≡ suc (suc n) = omega arith in
+    let i3 : n + 3 ≡ suc (suc (suc n)) = omega arith in
+    λ j. set (set (set (set l n (e0 j)) (i1 j) (e1 j)) (i2 j) (e2 j)) (i3 j) (e3 j)
 
 pub instruction-put : (l : List ℕ) (n code a operand x0 x1 x2 x3 x4 x5 : ℕ) → operand < 2 ^ 32 → x0 ≡ fitByte code → x1 ≡ fitByte a
     → x2 ≡ operand / 16777216 % 256 → x3 ≡ operand / 65536 % 256 → x4 ≡ operand / 256 % 256 → x5 ≡ operand % 256
@@ -37,11 +45,11 @@ instruction-put l n code a operand x0 x1 x2 x3 x4 x5 w e0 e1 e2 e3 e4 e5 =
     let y2 : x2 ≡ operand / 2 ^ 24 = omega arith in
     λ j. set (set (set (set (set (set l n (e0 j)) (i1 j) (e1 j)) (i2 j) (y2 j)) (i3 j) (e3 j)) (i4 j) (e4 j)) (i5 j) (e5 j)
 
-pub head-put : (l : List ℕ) (size : ℕ) (counts : Counts) (x0 x1 x3 x4 x5 : ℕ) → x0 ≡ size / 256 % 256 → x1 ≡ size % 256
-    → x3 ≡ fitByte (counts .boards) → x4 ≡ fitByte (counts .processes) → x5 ≡ fitByte (counts .channels)
-    → set (set (set (set (set (set l 0 x0) 1 x1) 2 1) 3 x3) 4 x4) 5 x5 ≡ sets l 0 (headBytes size counts)
-head-put l size counts x0 x1 x3 x4 x5 e0 e1 e3 e4 e5 =
-    λ j. set (set (set (set (set (set l 0 (e0 j)) 1 (e1 j)) 2 1) 3 (e3 j)) 4 (e4 j)) 5 (e5 j)
+pub head-put : (l : List ℕ) (size : ℕ) (head : Head) (x0 x1 x2 x3 x4 x5 : ℕ) → x0 ≡ size / 256 % 256 → x1 ≡ size % 256 → x2 ≡ fitByte (head .version)
+    → x3 ≡ fitByte (head .boards) → x4 ≡ fitByte (head .processes) → x5 ≡ fitByte (head .channels)
+    → set (set (set (set (set (set l 0 x0) 1 x1) 2 x2) 3 x3) 4 x4) 5 x5 ≡ sets l 0 (headBytes size head)
+head-put l size head x0 x1 x2 x3 x4 x5 e0 e1 e2 e3 e4 e5 =
+    λ j. set (set (set (set (set (set l 0 (e0 j)) 1 (e1 j)) 2 (e2 j)) 3 (e3 j)) 4 (e4 j)) 5 (e5 j)
 
 -- ---- the numbers of a list
 

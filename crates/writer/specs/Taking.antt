@@ -5,24 +5,24 @@ use mathlib.Core.List.{List}
 use Prim.Native.Nat.{ℕ}
 use lib.Dec.{leb}
 use lib.ListN.{length}
-use Rattle.rules.specs.Bytes.{written}
 use Rattle.rules.specs.Format.{recordsOk}
 use Rattle.rules.specs.Encode.{apart}
+use Rattle.writer.specs.Taken.{Lent, writtenIn}
 
 -- so many whole records
-pub record Records (processes : ℕ) (rest : List ℕ) : Type 0 where
-  pub records-ok : recordsOk processes rest ≡ true
+pub record Records (version processes : ℕ) (rest : List ℕ) : Type 0 where
+  pub records-ok : recordsOk version processes rest ≡ true
 
--- the lists lent have room for the table's
-abbrev pub roomFor : List ℕ → ℕ → ℕ → ℕ → Bool
-roomFor table ends placements instructions =
-    leb (length (apart table .ends)) ends && (leb (length (apart table .placements)) placements && leb (length (apart table .instructions)) instructions)
+-- lists of so many numbers have room for the table's
+abbrev pub roomFor : List ℕ → ℕ → ℕ → ℕ → ℕ → Bool
+roomFor table ends placements limits instructions =
+    leb (length (apart table .ends)) ends
+    && (leb (length (apart table .placements)) placements
+    && (leb (length (apart table .limits)) limits && leb (length (apart table .instructions)) instructions))
 
-pub record Room (table ends placements instructions : List ℕ) : Type 0 where
-  pub room : roomFor table (length ends) (length placements) (length instructions) ≡ true
+pub record Room (table : List ℕ) (m : Lent) : Type 0 where
+  pub room : roomFor table (length (m .ends)) (length (m .placements)) (length (m .limits)) (length (m .instructions)) ≡ true
 
--- the table's lists at the fronts of three others
-pub record ListsTaken (table ends placements instructions ends′ placements′ instructions′ : List ℕ) : Type 0 where
-  pub ends-taken : ends′ ≡ written (apart table .ends) ends
-  pub placements-taken : placements′ ≡ written (apart table .placements) placements
-  pub instructions-taken : instructions′ ≡ written (apart table .instructions) instructions
+-- the table's lists at the fronts of the lent ones
+pub record ListsTaken (table : List ℕ) (before after : Lent) : Type 0 where
+  pub taken : after ≡ writtenIn (apart table) before

@@ -1,12 +1,16 @@
-// Lists that say a table, and their numbers 3 and 4: the counts, and whether each list is as long as they say.
+// Lists that say a table, and their numbers 2, 3 and 4: the version, the counts, and whether each list is as long as they say.
 ghost use mathlib.Core.Path.{_≡_};
 ghost use mathlib.Core.Bool.{true};
+ghost use Prim.Native.Nat.{_*_};
+ghost use Rattle.rules.specs.Sizes.{limitBytes};
 ghost use Rattle.rules.specs.Format.{countsFit};
 ghost use Rattle.rules.specs.Encode.{listsOk};
 ghost use Rattle.writer.specs.Given.{given, framing};
-use crate::write::Counts;
+use crate::write::Head;
 use table::counts::counts_fit;
+use table::counts::version_ok;
 use table::format::PROGRAM_MOST;
+use table::format::WITH_LIMITS;
 
 // The same number, as an index.
 pub fn wider(x: u32) -> usize
@@ -15,17 +19,33 @@ pub fn wider(x: u32) -> usize
     x as usize
 }
 
-// 4: two numbers for each channel, three for each process, of which the third is at most 64, and three for each instruction.
-fn lists_ok(counts: Counts, ends: &[u32], placements: &[u32], instructions: &[u32]) -> bool
-    requires { ⌜ countsFit (counts .boards) (counts .processes) (counts .channels) ≡ true ⌝ }
-    ensures { λ r. ⌜ r ≡ listsOk (given counts (now (ends .entry)) (now (placements .entry)) (now (instructions .entry))) ⌝ }
+// How many limits so many processes have: one each, or none where the version has none.
+fn limits_long(version: u32, processes: usize) -> usize
+    ensures { λ r. ⌜ r ≡ limitBytes version * processes ⌝ }
 {
-    let processes = wider(counts.processes);
-    let channels = wider(counts.channels);
+    if version == WITH_LIMITS { processes } else { 0 }
+}
+
+// 4: two numbers for each channel, three for each process, of which the third is at most 64, its limits, and three for each instruction.
+fn lists_ok(
+    head: Head,
+    ends: &[u32],
+    placements: &[u32],
+    limits: &[u32],
+    instructions: &[u32],
+) -> bool
+    requires { ⌜ countsFit (head .boards) (head .processes) (head .channels) ≡ true ⌝ }
+    ensures { λ r. ⌜ r ≡ listsOk (given head (now (ends .entry)) (now (placements .entry)) (now (limits .entry)) (now (instructions .entry))) ⌝ }
+{
+    let processes = wider(head.processes);
+    let channels = wider(head.channels);
     if ends.len() != 2 * channels {
         return false;
     }
     if placements.len() != 3 * processes {
+        return false;
+    }
+    if limits.len() != limits_long(head.version, processes) {
         return false;
     }
     let mut total = 0;
@@ -41,18 +61,27 @@ fn lists_ok(counts: Counts, ends: &[u32], placements: &[u32], instructions: &[u3
     instructions.len() == 3 * total
 }
 
-// 0 where numbers 3 and 4 hold, or the lower that doesn't.
-pub fn judge_lists(counts: Counts, ends: &[u32], placements: &[u32], instructions: &[u32]) -> u8
-    ensures { λ r. ⌜ r ≡ framing (given counts (now (ends .entry)) (now (placements .entry)) (now (instructions .entry))) ⌝ }
+// 0 where numbers 2 to 4 hold, or the lowest that doesn't.
+pub fn judge_lists(
+    head: Head,
+    ends: &[u32],
+    placements: &[u32],
+    limits: &[u32],
+    instructions: &[u32],
+) -> u8
+    ensures { λ r. ⌜ r ≡ framing (given head (now (ends .entry)) (now (placements .entry)) (now (limits .entry)) (now (instructions .entry))) ⌝ }
 {
+    if !version_ok(head.version) {
+        return 2;
+    }
     if !counts_fit(
-        wider(counts.boards),
-        wider(counts.processes),
-        wider(counts.channels),
+        wider(head.boards),
+        wider(head.processes),
+        wider(head.channels),
     ) {
         return 3;
     }
-    if !lists_ok(counts, ends, placements, instructions) {
+    if !lists_ok(head, ends, placements, limits, instructions) {
         return 4;
     }
     0

@@ -1,8 +1,8 @@
 // The writer: "channel ends, placements and instructions as lists of numbers" become a table's bytes in a lent buffer.
 ghost use mathlib.Core.Path.{_≡_};
-ghost use Prim.Native.Nat.{_≤_};
+ghost use Prim.Native.Nat.{_+_, _≤_};
 ghost use lib.ListN.{length, take};
-ghost use Rattle.rules.specs.Format.{validateTable};
+ghost use Rattle.rules.specs.Format.{tableMost, validateTable};
 ghost use Rattle.rules.specs.Encode.{encode, validateLists};
 ghost use Rattle.writer.specs.Given.{given, Fitting};
 ghost use Rattle.writer.specs.Fitted.{fitted};
@@ -11,12 +11,14 @@ use crate::lay::lay;
 use crate::lay::table_length;
 use crate::lists::judge_lists;
 use table::decode;
+use table::format::TABLE_MOST;
 
-// The longest table: its length field at most 6,260, and that field.
-pub const TABLE_BYTES: usize = 6262;
+// The longest table: its length field, and as many bytes as that says at most.
+pub const TABLE_BYTES: usize = 2 + TABLE_MOST;
 
-// Boards, processes and channels.
-pub struct Counts {
+// What a table's head says behind its length: version, boards, processes and channels.
+pub struct Head {
+    pub version: u32,
     pub boards: u32,
     pub processes: u32,
     pub channels: u32,
@@ -46,47 +48,57 @@ fn judge_front(bytes: &[u8], size: usize) -> u8
     d.number
 }
 
-// 5 to 8: the table is laid out, and the reader judges it.
+// 5 to 8 and 47: the table is laid out, and the reader judges it.
 fn judge_laid(
-    counts: Counts,
+    head: Head,
     ends: &[u32],
     placements: &[u32],
+    limits: &[u32],
     instructions: &[u32],
     total: usize,
 ) -> u8
-    requires { ⌜ Fitting (given counts (now ends) (now placements) (now instructions)) ⌝ }
-    requires { ⌜ (total ≡ length (encode (fitted (given counts (now ends) (now placements) (now instructions))))) × (total ≤ 6262) ⌝ }
-    ensures { λ r. ⌜ r ≡ validateLists (given counts (now (ends .entry)) (now (placements .entry)) (now (instructions .entry))) ⌝ }
+    requires { ⌜ Fitting (given head (now ends) (now placements) (now limits) (now instructions)) ⌝ }
+    requires { ⌜ (total ≡ length (encode (fitted (given head (now ends) (now placements) (now limits) (now instructions))))) × (total ≤ 2 + tableMost) ⌝ }
+    ensures { λ r. ⌜ r ≡ validateLists (given head (now (ends .entry)) (now (placements .entry)) (now (limits .entry)) (now (instructions .entry))) ⌝ }
 {
     let mut bytes = [0u8; TABLE_BYTES];
-    lay(&mut bytes, total, counts, ends, placements, instructions);
+    lay(
+        &mut bytes,
+        total,
+        head,
+        ends,
+        placements,
+        limits,
+        instructions,
+    );
     judge_front(&bytes, total)
 }
 
-// The table goes to the front of `out`, and what is behind it stays. Refused, by 3 to 8 as the reader refuses or by 45 for a buffer that is
-// too short, `out` stays as it was.
+// The table goes to the front of `out`, and what is behind it stays. Refused, by 2 to 8 and 47 as the reader refuses or by 45 for a buffer that
+// is too short, `out` stays as it was.
 pub fn write(
-    counts: Counts,
+    head: Head,
     ends: &[u32],
     placements: &[u32],
+    limits: &[u32],
     instructions: &[u32],
     out: &mut [u8],
 ) -> Written
-    ensures { λ r. ⌜ Writes (given counts (now (ends .entry)) (now (placements .entry)) (now (instructions .entry))) (now (out .entry)) r (now (out .exit)) ⌝ }
+    ensures { λ r. ⌜ Writes (given head (now (ends .entry)) (now (placements .entry)) (now (limits .entry)) (now (instructions .entry))) (now (out .entry)) r (now (out .exit)) ⌝ }
 {
-    let framing = judge_lists(counts, ends, placements, instructions);
+    let framing = judge_lists(head, ends, placements, limits, instructions);
     if framing != 0 {
         return refused(framing);
     }
-    let total = table_length(counts, ends, placements, instructions);
-    let number = judge_laid(counts, ends, placements, instructions, total);
+    let total = table_length(head, ends, placements, limits, instructions);
+    let number = judge_laid(head, ends, placements, limits, instructions, total);
     if number != 0 {
         return refused(number);
     }
     if total > out.len() {
         return refused(45);
     }
-    lay(out, total, counts, ends, placements, instructions);
+    lay(out, total, head, ends, placements, limits, instructions);
     Written {
         number: 0,
         length: total as u32,

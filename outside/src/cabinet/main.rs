@@ -1,8 +1,8 @@
 //! The proved run of a schedule against the simulator, on generated tables and schedules: `cabinet [--runs N] [--seed N]`.
 //!
-//! First the service desk's cases, with lines written by hand; then these and document 01's sample, cut after each record and with each
-//! board pulled at each place; then saved lists as long as each limit lets them get; then random runs of every kind of input, until there are
-//! N runs, N with a return or a resync that was done, and a sixth of N with three crashes or more.
+//! First the service desk's cases, with lines and reasons written by hand; then these and document 01's sample, cut after each record and
+//! with each board pulled at each place; then saved lists as long as each limit lets them get; then random runs of every kind of input, until
+//! there are N runs, N with a return or a resync that was done, and a sixth of N with three crashes or more.
 mod call;
 mod compare;
 mod desk;
@@ -17,6 +17,7 @@ use outside::rules::generate::{encode_schedule, encode_table};
 use outside::rules::lent::Lent;
 use outside::rules::limits;
 use outside::rules::reader::Record;
+use outside::rules::reasons::by_hand;
 use outside::rules::sample::{crash, sample_schedule, SAMPLE};
 
 const SEED: u64 = 0xA076_1D64_78BD_642F;
@@ -85,6 +86,10 @@ fn main() {
     pulled(&mut comparison, "sample", &SAMPLE, &sample_schedule());
     for case in desk::cases() {
         pulled(&mut comparison, "service desk", &case.table, &case.records);
+    }
+    for case in by_hand() {
+        let buffers = Lent::needed(case.records.len(), case.table.processes.len());
+        comparison.run("reasons by hand", &encode_table(&case.table), &encode_schedule(&case.records), buffers);
     }
     (1..=16).for_each(|limit| fullest(&mut comparison, limit));
     while comparison.seen.runs < runs || comparison.seen.returned < runs || comparison.seen.thrice < runs / 6 {

@@ -12,7 +12,7 @@ abbrev Inv-loop : tie.InvT-loop
 Inv-loop state log₀ i₀ log i = Agree log state i
 
 abbrev μ-loop : tie.MeasureT-loop
-μ-loop state log₀ i₀ log i = 48 - i
+μ-loop state log₀ i₀ log i = logMost - i
 
 loop-holds : tie.Need-loop-holds Inv-loop μ-loop
 loop-holds c = agree-start _ _ refl (c .before .pre)

@@ -13,7 +13,7 @@ abbrev Inv-loop : tie.InvT-loop
 Inv-loop state₀ b log i₀ state i = Agree log state i
 
 abbrev μ-loop : tie.MeasureT-loop
-μ-loop state₀ b log i₀ state i = 48 - i
+μ-loop state₀ b log i₀ state i = logMost - i
 
 loop-holds : tie.Need-loop-holds Inv-loop μ-loop
 loop-holds c = agree-start _ _ (search needs) (c .before .before .pre)

@@ -23,19 +23,19 @@ use Rattle.state.proofs.moved.blank.Reads as blank-reads
 use Rattle.records.proofs.schedule.command_at.Reads as command-at-reads
 
 abbrev Inv-loop : tie.InvT-loop
-Inv-loop table schedule records boards-many processes channels start lengths sender reader port ins arity rows₀ mails₀ logs₀ heads₀ boards₀ totals₀ waits₀ answers₀ reasons₀ entries₀ i₀ rows mails logs heads boards totals waits answers reasons entries i =
-    Playing (lentOf table boards-many processes channels start lengths sender reader port ins arity) schedule records (storeOf rows₀ mails₀ logs₀ heads₀ boards₀ totals₀ waits₀) entries₀ (sheetsOf answers₀ reasons₀) i (storeOf rows mails logs heads boards totals waits) entries (sheetsOf answers reasons)
+Inv-loop table schedule records boards-many processes channels start lengths limits sender reader port ins arity rows₀ mails₀ logs₀ heads₀ boards₀ totals₀ waits₀ answers₀ reasons₀ entries₀ i₀ rows mails logs heads boards totals waits answers reasons entries i =
+    Playing (lentOf table boards-many processes channels start lengths limits sender reader port ins arity) schedule records (storeOf rows₀ mails₀ logs₀ heads₀ boards₀ totals₀ waits₀) entries₀ (sheetsOf answers₀ reasons₀) i (storeOf rows mails logs heads boards totals waits) entries (sheetsOf answers reasons)
     × ((length answers ≡ length answers₀) × (length reasons ≡ length reasons₀))
 
 abbrev μ-loop : tie.MeasureT-loop
-μ-loop table schedule records boards-many processes channels start lengths sender reader port ins arity rows₀ mails₀ logs₀ heads₀ boards₀ totals₀ waits₀ answers₀ reasons₀ entries₀ i₀ rows mails logs heads boards totals waits answers reasons entries i =
+μ-loop table schedule records boards-many processes channels start lengths limits sender reader port ins arity rows₀ mails₀ logs₀ heads₀ boards₀ totals₀ waits₀ answers₀ reasons₀ entries₀ i₀ rows mails logs heads boards totals waits answers reasons entries i =
     records - i
 
 blank-requires : tie.Need-blank-requires Inv-loop μ-loop
 blank-requires c κs = search needs
 
 loop-holds : tie.Need-loop-holds Inv-loop μ-loop
-loop-holds c = let s = c .before .before .before .before .before .args in (at-first (lentOf (s .table .now) (s .boards-many) (s .processes) (s .channels) (s .start .now) (s .lengths .now) (s .sender .now) (s .reader .now) (s .port .now) (s .ins .now) (s .arity .now)) (s .schedule .now) (s .records) (storeOf (s .rows .now) (s .mails .now) (s .logs .now) (s .heads .now) (s .boards .now) (s .totals .now) (s .waits .now)) _ (sheetsOf (s .answers .now) (s .reasons .now)), (refl, refl))
+loop-holds c = let s = c .before .before .before .before .before .args in (at-first (lentOf (s .table .now) (s .boards-many) (s .processes) (s .channels) (s .start .now) (s .lengths .now) (s .limits .now) (s .sender .now) (s .reader .now) (s .port .now) (s .ins .now) (s .arity .now)) (s .schedule .now) (s .records) (storeOf (s .rows .now) (s .mails .now) (s .logs .now) (s .heads .now) (s .boards .now) (s .totals .now) (s .waits .now)) _ (sheetsOf (s .answers .now) (s .reasons .now)), (refl, refl))
 
 add-i : tie.Need-add-i Inv-loop μ-loop
 add-i c = search needs
@@ -78,7 +78,7 @@ loop-less c = let h = c .before .before .before .before .before .before .before 
 
 loop-again : tie.Need-loop-again Inv-loop μ-loop
 loop-again c = let s = c .before .before .before .before .before .before .before .before .before .before .before .before .before .before .before .before .before .before .before .before .before .before .before .before .before .before .before .before .before .before .args in let p = c .before .before .before .before .before .before .before .before .before .before .before .before .before .before .before .before .before .before .before .before .before .before .before .before .loop in let x = c .before .before .before .before .before .before .before .before .before .before .before .before .before .before .before .before .before .before .before .before .before .before .command-at in let g = c .before .before .before .before .before .before .before .before .before .before .before .before .before .before .before .before .before .before .before .before .before .grown in let r = c .before .before .before .before .before .before .before .before .carry in let w = c .before .before .put in let v = c .before .before .before .before .before .before .put-reason in let o = c .before .before .before .before .before .before .before .before .before .before .before .before .before .before .before .before .before .oldest in let b = c .before .before .before .before .before .before .before .before .before .before .before .before .before .before .before .before .before .before .before .index16 in (
-  on-by-carry (lentOf (s .table .now) (s .boards-many) (s .processes) (s .channels) (s .start .now) (s .lengths .now) (s .sender .now) (s .reader .now) (s .port .now) (s .ins .now) (s .arity .now)) (s .schedule .now) (s .records) (storeOf (s .rows .now) (s .mails .now) (s .logs .now) (s .heads .now) (s .boards .now) (s .totals .now) (s .waits .now)) _ (sheetsOf (s .answers .now) (s .reasons .now)) (p .i) (storeOf (p .rows) (p .mails) (p .logs) (p .heads) (p .boards) (p .totals) (p .waits)) _ (p .entries) (p .entries) (sheetsOf (p .answers) (p .reasons)) (sheetsOf _ _) (p .inv .0) (c .before .before .before .before .before .before .before .before .before .before .before .before .before .before .before .before .before .before .before .before .before .before .before .loop-test .taken) (x .result) (x .ensures) (g .result) (g .ensures .0) (g .ensures .1) (r .result) (w .ensures) (v .ensures)
+  on-by-carry (lentOf (s .table .now) (s .boards-many) (s .processes) (s .channels) (s .start .now) (s .lengths .now) (s .limits .now) (s .sender .now) (s .reader .now) (s .port .now) (s .ins .now) (s .arity .now)) (s .schedule .now) (s .records) (storeOf (s .rows .now) (s .mails .now) (s .logs .now) (s .heads .now) (s .boards .now) (s .totals .now) (s .waits .now)) _ (sheetsOf (s .answers .now) (s .reasons .now)) (p .i) (storeOf (p .rows) (p .mails) (p .logs) (p .heads) (p .boards) (p .totals) (p .waits)) _ (p .entries) (p .entries) (sheetsOf (p .answers) (p .reasons)) (sheetsOf _ _) (p .inv .0) (c .before .before .before .before .before .before .before .before .before .before .before .before .before .before .before .before .before .before .before .before .before .before .before .loop-test .taken) (x .result) (x .ensures) (g .result) (g .ensures .0) (g .ensures .1) (r .result) (w .ensures) (v .ensures)
       (s .boards-many) (s .processes) (s .channels) (s .sender .now) (s .reader .now) (s .port .now) _ _ (o .result) refl refl refl refl (c .before .before .before .before .before .before .before .before .before .before .before .before .before .before .before .before .before .before .before .before .if1 .taken) refl (o .ensures .0) (λ h. o .ensures .1 (b .ensures .0) ∙ ap (λ (k : ℕ). 32 * k + getD (getD (p .boards) k []) 0 0 % 32) (b .ensures .1 h)) refl (r .ensures),
   (w .ensures .same-length ∙ p .inv .1 .0, v .ensures .same-length ∙ p .inv .1 .1),
 )
@@ -97,7 +97,7 @@ loop-less-2 c = let h = c .before .before .before .before .before .before .befor
 
 loop-again-2 : tie.Need-loop-again-2 Inv-loop μ-loop
 loop-again-2 c = let s = c .before .before .before .before .before .before .before .before .before .before .before .before .before .before .before .before .before .before .before .before .before .before .before .before .before .before .before .before .before .args in let p = c .before .before .before .before .before .before .before .before .before .before .before .before .before .before .before .before .before .before .before .before .before .before .before .loop in let x = c .before .before .before .before .before .before .before .before .before .before .before .before .before .before .before .before .before .before .before .before .before .command-at in let g = c .before .before .before .before .before .before .before .before .before .before .before .before .before .before .before .before .before .before .before .before .grown in let m = c .before .before .before .before .before .before .before .before .before .before .before .turn in let w = c .before .before .before .put2 in let v = c .before .before .before .before .before .before .before .put-reason2 in (
-  on-by-turn (lentOf (s .table .now) (s .boards-many) (s .processes) (s .channels) (s .start .now) (s .lengths .now) (s .sender .now) (s .reader .now) (s .port .now) (s .ins .now) (s .arity .now)) (s .schedule .now) (s .records) (storeOf (s .rows .now) (s .mails .now) (s .logs .now) (s .heads .now) (s .boards .now) (s .totals .now) (s .waits .now)) _ (sheetsOf (s .answers .now) (s .reasons .now)) (p .i) (storeOf (p .rows) (p .mails) (p .logs) (p .heads) (p .boards) (p .totals) (p .waits)) _ (p .entries) _ (sheetsOf (p .answers) (p .reasons)) (sheetsOf _ _) (p .inv .0) (c .before .before .before .before .before .before .before .before .before .before .before .before .before .before .before .before .before .before .before .before .before .before .loop-test .taken) (x .result) (x .ensures) (g .result) (g .ensures .0) (g .ensures .1) _ (w .ensures) (v .ensures)
+  on-by-turn (lentOf (s .table .now) (s .boards-many) (s .processes) (s .channels) (s .start .now) (s .lengths .now) (s .limits .now) (s .sender .now) (s .reader .now) (s .port .now) (s .ins .now) (s .arity .now)) (s .schedule .now) (s .records) (storeOf (s .rows .now) (s .mails .now) (s .logs .now) (s .heads .now) (s .boards .now) (s .totals .now) (s .waits .now)) _ (sheetsOf (s .answers .now) (s .reasons .now)) (p .i) (storeOf (p .rows) (p .mails) (p .logs) (p .heads) (p .boards) (p .totals) (p .waits)) _ (p .entries) _ (sheetsOf (p .answers) (p .reasons)) (sheetsOf _ _) (p .inv .0) (c .before .before .before .before .before .before .before .before .before .before .before .before .before .before .before .before .before .before .before .before .before .before .loop-test .taken) (x .result) (x .ensures) (g .result) (g .ensures .0) (g .ensures .1) _ (w .ensures) (v .ensures)
       (m .result) (c .before .before .before .before .before .before .before .before .before .before .before .before .before .before .before .before .before .before .before .if1 .left) refl (stored-none (p .entries) (m .result) (c .if2 .taken)) (m .ensures),
   (w .ensures .same-length ∙ p .inv .1 .0, v .ensures .same-length ∙ p .inv .1 .1),
 )
@@ -113,7 +113,7 @@ loop-less-3 c = let h = c .before .before .before .before .before .before .befor
 
 loop-again-3 : tie.Need-loop-again-3 Inv-loop μ-loop
 loop-again-3 c = let s = c .before .before .before .before .before .before .before .before .before .before .before .before .before .before .before .before .before .before .before .before .before .before .before .before .before .before .before .before .before .args in let p = c .before .before .before .before .before .before .before .before .before .before .before .before .before .before .before .before .before .before .before .before .before .before .before .loop in let x = c .before .before .before .before .before .before .before .before .before .before .before .before .before .before .before .before .before .before .before .before .before .command-at in let g = c .before .before .before .before .before .before .before .before .before .before .before .before .before .before .before .before .before .before .before .before .grown in let m = c .before .before .before .before .before .before .before .before .before .before .before .turn in let w = c .before .before .before .put2 in let v = c .before .before .before .before .before .before .before .put-reason2 in (
-  on-by-turn (lentOf (s .table .now) (s .boards-many) (s .processes) (s .channels) (s .start .now) (s .lengths .now) (s .sender .now) (s .reader .now) (s .port .now) (s .ins .now) (s .arity .now)) (s .schedule .now) (s .records) (storeOf (s .rows .now) (s .mails .now) (s .logs .now) (s .heads .now) (s .boards .now) (s .totals .now) (s .waits .now)) _ (sheetsOf (s .answers .now) (s .reasons .now)) (p .i) (storeOf (p .rows) (p .mails) (p .logs) (p .heads) (p .boards) (p .totals) (p .waits)) _ (p .entries) _ (sheetsOf (p .answers) (p .reasons)) (sheetsOf _ _) (p .inv .0) (c .before .before .before .before .before .before .before .before .before .before .before .before .before .before .before .before .before .before .before .before .before .before .loop-test .taken) (x .result) (x .ensures) (g .result) (g .ensures .0) (g .ensures .1) _ (w .ensures) (v .ensures)
+  on-by-turn (lentOf (s .table .now) (s .boards-many) (s .processes) (s .channels) (s .start .now) (s .lengths .now) (s .limits .now) (s .sender .now) (s .reader .now) (s .port .now) (s .ins .now) (s .arity .now)) (s .schedule .now) (s .records) (storeOf (s .rows .now) (s .mails .now) (s .logs .now) (s .heads .now) (s .boards .now) (s .totals .now) (s .waits .now)) _ (sheetsOf (s .answers .now) (s .reasons .now)) (p .i) (storeOf (p .rows) (p .mails) (p .logs) (p .heads) (p .boards) (p .totals) (p .waits)) _ (p .entries) _ (sheetsOf (p .answers) (p .reasons)) (sheetsOf _ _) (p .inv .0) (c .before .before .before .before .before .before .before .before .before .before .before .before .before .before .before .before .before .before .before .before .before .before .loop-test .taken) (x .result) (x .ensures) (g .result) (g .ensures .0) (g .ensures .1) _ (w .ensures) (v .ensures)
       (m .result) (c .before .before .before .before .before .before .before .before .before .before .before .before .before .before .before .before .before .before .before .if1 .left) refl (stored-one (p .entries) (m .result) (c .if2 .left)) (m .ensures),
   (w .ensures .same-length ∙ p .inv .1 .0, v .ensures .same-length ∙ p .inv .1 .1),
 )
@@ -125,7 +125,7 @@ same-length-2 : tie.Need-same-length-2 Inv-loop μ-loop
 same-length-2 c = c .before .loop .inv .1 .1
 
 returns : tie.Need-returns Inv-loop μ-loop
-returns c = let s = c .before .before .before .before .before .before .before .args in let p = c .before .loop in at-last (lentOf (s .table .now) (s .boards-many) (s .processes) (s .channels) (s .start .now) (s .lengths .now) (s .sender .now) (s .reader .now) (s .port .now) (s .ins .now) (s .arity .now)) (s .schedule .now) (s .records) (storeOf (s .rows .now) (s .mails .now) (s .logs .now) (s .heads .now) (s .boards .now) (s .totals .now) (s .waits .now)) _ (sheetsOf (s .answers .now) (s .reasons .now)) (p .i) (storeOf (p .rows) (p .mails) (p .logs) (p .heads) (p .boards) (p .totals) (p .waits)) (p .entries) (sheetsOf (p .answers) (p .reasons)) (ap (replicate 512) (c .before .before .blank .ensures)) (p .inv .0) (c .loop-test .left)
+returns c = let s = c .before .before .before .before .before .before .before .args in let p = c .before .loop in at-last (lentOf (s .table .now) (s .boards-many) (s .processes) (s .channels) (s .start .now) (s .lengths .now) (s .limits .now) (s .sender .now) (s .reader .now) (s .port .now) (s .ins .now) (s .arity .now)) (s .schedule .now) (s .records) (storeOf (s .rows .now) (s .mails .now) (s .logs .now) (s .heads .now) (s .boards .now) (s .totals .now) (s .waits .now)) _ (sheetsOf (s .answers .now) (s .reasons .now)) (p .i) (storeOf (p .rows) (p .mails) (p .logs) (p .heads) (p .boards) (p .totals) (p .waits)) (p .entries) (sheetsOf (p .answers) (p .reasons)) (ap (replicate 512) (c .before .before .blank .ensures)) (p .inv .0) (c .loop-test .left)
 
 pub play-spec : {M : Type 1} → statement M
 play-spec =

@@ -25,7 +25,7 @@ refused-requires : tie.Need-refused-requires
 refused-requires c κs = search needs
 
 returns : tie.Need-returns
-returns c = let s = c .before .before .before .before .before .args in let j = c .before .before .before .judge in turn-refused (lentOf (s .table .now) (s .boards-many) (s .processes) (s .channels) (s .start .now) (s .lengths .now) (s .sender .now) (s .reader .now) (s .port .now) (s .ins .now) (s .arity .now)) (storeOf (s .rows .now) (s .mails .now) (s .logs .now) (s .heads .now) (s .boards .now) (s .totals .now) (s .waits .now)) (s .mv) (s .a) (s .word) (j .result) (j .ensures) _ (c .before .before .if1 .taken) _ (c .before .cause .ensures) (c .refused .ensures)
+returns c = let s = c .before .before .before .before .before .args in let j = c .before .before .before .judge in turn-refused (lentOf (s .table .now) (s .boards-many) (s .processes) (s .channels) (s .start .now) (s .lengths .now) (s .limits .now) (s .sender .now) (s .reader .now) (s .port .now) (s .ins .now) (s .arity .now)) (storeOf (s .rows .now) (s .mails .now) (s .logs .now) (s .heads .now) (s .boards .now) (s .totals .now) (s .waits .now)) (s .mv) (s .a) (s .word) (j .result) (j .ensures) _ (c .before .before .if1 .taken) _ (c .before .cause .ensures) (c .refused .ensures)
 
 step-requires : tie.Need-step-requires
 step-requires c κs = search needs
@@ -49,19 +49,19 @@ refused-requires-2 : tie.Need-refused-requires-2
 refused-requires-2 c κs = search needs
 
 returns-2 : tie.Need-returns-2
-returns-2 c = let s = c .before .before .before .before .before .before .before .before .before .args in let j = c .before .before .before .before .before .before .before .judge in turn-steps (lentOf (s .table .now) (s .boards-many) (s .processes) (s .channels) (s .start .now) (s .lengths .now) (s .sender .now) (s .reader .now) (s .port .now) (s .ins .now) (s .arity .now)) (storeOf (s .rows .now) (s .mails .now) (s .logs .now) (s .heads .now) (s .boards .now) (s .totals .now) (s .waits .now)) (s .mv) (s .a) (s .word) (j .result) (j .ensures) _ _ _ _ _ (c .before .before .before .before .before .before .if1 .left) (c .before .before .before .before .before .match .keys1) (c .step .ensures)
+returns-2 c = let s = c .before .before .before .before .before .before .before .before .before .args in let j = c .before .before .before .before .before .before .before .judge in turn-steps (lentOf (s .table .now) (s .boards-many) (s .processes) (s .channels) (s .start .now) (s .lengths .now) (s .limits .now) (s .sender .now) (s .reader .now) (s .port .now) (s .ins .now) (s .arity .now)) (storeOf (s .rows .now) (s .mails .now) (s .logs .now) (s .heads .now) (s .boards .now) (s .totals .now) (s .waits .now)) (s .mv) (s .a) (s .word) (j .result) (j .ensures) _ _ _ _ _ (c .before .before .before .before .before .before .if1 .left) (c .before .before .before .before .before .match .keys1) (c .step .ensures)
 
 returns-3 : tie.Need-returns-3
-returns-3 c = let s = c .before .before .before .before .before .before .before .before .args in let j = c .before .before .before .before .before .before .judge in turn-issues (lentOf (s .table .now) (s .boards-many) (s .processes) (s .channels) (s .start .now) (s .lengths .now) (s .sender .now) (s .reader .now) (s .port .now) (s .ins .now) (s .arity .now)) (storeOf (s .rows .now) (s .mails .now) (s .logs .now) (s .heads .now) (s .boards .now) (s .totals .now) (s .waits .now)) (s .mv) (s .a) (s .word) (j .result) (j .ensures) _ _ _ _ (c .before .before .before .before .before .if1 .left) (c .before .before .before .before .match .keys2) (c .issue .ensures)
+returns-3 c = let s = c .before .before .before .before .before .before .before .before .args in let j = c .before .before .before .before .before .before .judge in turn-issues (lentOf (s .table .now) (s .boards-many) (s .processes) (s .channels) (s .start .now) (s .lengths .now) (s .limits .now) (s .sender .now) (s .reader .now) (s .port .now) (s .ins .now) (s .arity .now)) (storeOf (s .rows .now) (s .mails .now) (s .logs .now) (s .heads .now) (s .boards .now) (s .totals .now) (s .waits .now)) (s .mv) (s .a) (s .word) (j .result) (j .ensures) _ _ _ _ (c .before .before .before .before .before .if1 .left) (c .before .before .before .before .match .keys2) (c .issue .ensures)
 
 returns-4 : tie.Need-returns-4
-returns-4 c = let s = c .before .before .before .before .before .before .before .before .before .before .before .args in let j = c .before .before .before .before .before .before .before .before .before .judge in turn-injects (lentOf (s .table .now) (s .boards-many) (s .processes) (s .channels) (s .start .now) (s .lengths .now) (s .sender .now) (s .reader .now) (s .port .now) (s .ins .now) (s .arity .now)) (storeOf (s .rows .now) (s .mails .now) (s .logs .now) (s .heads .now) (s .boards .now) (s .totals .now) (s .waits .now)) (s .mv) (s .a) (s .word) (j .result) (j .ensures) _ _ _ _ _ _ _ (c .before .before .before .before .before .before .before .before .if1 .left) (c .before .before .before .before .before .before .before .match .keys3) (c .alone .ensures) (c .before .inject .ensures)
+returns-4 c = let s = c .before .before .before .before .before .before .before .before .before .before .before .args in let j = c .before .before .before .before .before .before .before .before .before .judge in turn-injects (lentOf (s .table .now) (s .boards-many) (s .processes) (s .channels) (s .start .now) (s .lengths .now) (s .limits .now) (s .sender .now) (s .reader .now) (s .port .now) (s .ins .now) (s .arity .now)) (storeOf (s .rows .now) (s .mails .now) (s .logs .now) (s .heads .now) (s .boards .now) (s .totals .now) (s .waits .now)) (s .mv) (s .a) (s .word) (j .result) (j .ensures) _ _ _ _ _ _ _ (c .before .before .before .before .before .before .before .before .if1 .left) (c .before .before .before .before .before .before .before .match .keys3) (c .alone .ensures) (c .before .inject .ensures)
 
 returns-5 : tie.Need-returns-5
-returns-5 c = let s = c .before .before .before .before .before .before .before .before .before .before .before .before .before .args in let j = c .before .before .before .before .before .before .before .before .before .before .before .judge in turn-crashes (lentOf (s .table .now) (s .boards-many) (s .processes) (s .channels) (s .start .now) (s .lengths .now) (s .sender .now) (s .reader .now) (s .port .now) (s .ins .now) (s .arity .now)) (storeOf (s .rows .now) (s .mails .now) (s .logs .now) (s .heads .now) (s .boards .now) (s .totals .now) (s .waits .now)) (s .mv) (s .a) (s .word) (j .result) (j .ensures) _ _ _ _ _ _ _ (c .before .before .before .before .before .before .before .before .before .before .if1 .left) (c .before .before .before .before .before .before .before .before .before .match .keys4) (c .alone2 .ensures) (c .before .crash .ensures)
+returns-5 c = let s = c .before .before .before .before .before .before .before .before .before .before .before .before .before .args in let j = c .before .before .before .before .before .before .before .before .before .before .before .judge in turn-crashes (lentOf (s .table .now) (s .boards-many) (s .processes) (s .channels) (s .start .now) (s .lengths .now) (s .limits .now) (s .sender .now) (s .reader .now) (s .port .now) (s .ins .now) (s .arity .now)) (storeOf (s .rows .now) (s .mails .now) (s .logs .now) (s .heads .now) (s .boards .now) (s .totals .now) (s .waits .now)) (s .mv) (s .a) (s .word) (j .result) (j .ensures) _ _ _ _ _ _ _ (c .before .before .before .before .before .before .before .before .before .before .if1 .left) (c .before .before .before .before .before .before .before .before .before .match .keys4) (c .alone2 .ensures) (c .before .crash .ensures)
 
 returns-6 : tie.Need-returns-6
-returns-6 c = let s = c .before .before .before .before .before .args in let j = c .before .before .before .judge in let n = c .before .match .rest in turn-unknown (lentOf (s .table .now) (s .boards-many) (s .processes) (s .channels) (s .start .now) (s .lengths .now) (s .sender .now) (s .reader .now) (s .port .now) (s .ins .now) (s .arity .now)) (storeOf (s .rows .now) (s .mails .now) (s .logs .now) (s .heads .now) (s .boards .now) (s .totals .now) (s .waits .now)) (s .mv) (s .a) (s .word) (j .result) (j .ensures) _ _ (c .before .before .if1 .left) (n .0 .0 .0 .1) (n .0 .0 .1) (n .0 .1) (n .1)
+returns-6 c = let s = c .before .before .before .before .before .args in let j = c .before .before .before .judge in let n = c .before .match .rest in turn-unknown (lentOf (s .table .now) (s .boards-many) (s .processes) (s .channels) (s .start .now) (s .lengths .now) (s .limits .now) (s .sender .now) (s .reader .now) (s .port .now) (s .ins .now) (s .arity .now)) (storeOf (s .rows .now) (s .mails .now) (s .logs .now) (s .heads .now) (s .boards .now) (s .totals .now) (s .waits .now)) (s .mv) (s .a) (s .word) (j .result) (j .ensures) _ _ (c .before .before .if1 .left) (n .0 .0 .0 .1) (n .0 .0 .1) (n .0 .1) (n .1)
 
 pub turn-spec : {M : Type 1} → statement M
 turn-spec =

@@ -1,5 +1,6 @@
 use mathlib.Core.Path.{ap, _∙_}
 use Prim.Native.Nat.{ℕ, min}
+use Rattle.backup.specs.Limits.{logMost}
 use Rattle.rules.specs.Cabinet.{unreadOn}
 use Rattle.process.specs.Row.{mailsIn}
 use native.Mathlib.Omega.{arith}
@@ -8,7 +9,7 @@ use Rattle.crash.proofs.recount.unread_of.Statement.{statement}
 use Rattle.crash.proofs.recount.unread_of.Tie as tie
 use Rattle.crash.proofs.recount.unread_of.Reads as reads
 use Rattle.crash.proofs.recount.unread_of.Lts as lts
-use Rattle.crash.proofs.bounds.most48.Reads as most48-reads
+use Rattle.crash.proofs.bounds.most_words.Reads as most-words-reads
 use Rattle.crash.proofs.recount.count_on.Reads as count-on-reads
 use Rattle.state.proofs.board.wide.Reads as wide-reads
 
@@ -18,8 +19,8 @@ element-copy-out-wide c = search needs
 wide-requires : tie.Need-wide-requires
 wide-requires c κs = search needs
 
-most48-requires : tie.Need-most48-requires
-most48-requires c κs = search needs
+most-words-requires : tie.Need-most-words-requires
+most-words-requires c κs = search needs
 
 count-on-requires : tie.Need-count-on-requires
 count-on-requires c κs = search needs
@@ -27,9 +28,9 @@ count-on-requires c κs = search needs
 returns : tie.Need-returns
 returns c =
     let a = c .before .before .before .before .args in
-    c .count-on .ensures ∙ ap (λ (n : ℕ). unreadOn (a .k) (mailsIn n (a .mail .now))) (c .before .most48 .ensures ∙ ap (λ (n : ℕ). min n 48) (c .before .before .wide .ensures .0))
+    c .count-on .ensures ∙ ap (λ (n : ℕ). unreadOn (a .k) (mailsIn n (a .mail .now))) (c .before .most-words .ensures ∙ ap (λ (n : ℕ). min n logMost) (c .before .before .wide .ensures .0))
 
 pub unread-of-spec : {M : Type 1} → statement M
 unread-of-spec =
     tie.close
-    (tie.spec element-copy-out-wide wide-requires most48-requires count-on-requires returns)
+    (tie.spec element-copy-out-wide wide-requires most-words-requires count-on-requires returns)

@@ -15,12 +15,12 @@ overrun-requires c κs = search needs
 
 returns : tie.Need-returns
 returns c =
-    let e : spentIn (c .before .before .args .row .now) ≡ true = sym (c .before .spent .ensures) ∙ c .if1 .taken in
+    let e : spentIn (c .before .before .args .limit) (c .before .before .args .row .now) ≡ true = sym (c .before .spent .ensures) ∙ c .if1 .taken in
     rw e (c .if1 .taken)
 
 returns-2 : tie.Need-returns-2
 returns-2 c =
-    let e : spentIn (c .before .before .before .args .row .now) ≡ false = sym (c .before .before .spent .ensures) ∙ c .before .if1 .left in
+    let e : spentIn (c .before .before .before .args .limit) (c .before .before .before .args .row .now) ≡ false = sym (c .before .before .spent .ensures) ∙ c .before .if1 .left in
     rw e (c .overrun .ensures)
 
 pub owing-spec : {M : Type 1} → statement M

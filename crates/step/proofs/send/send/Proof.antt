@@ -48,7 +48,7 @@ returns c =
     let s = c .before .before .before .before .before .before in
     let p = c .before .before .before .before .before .index16 in
     send-at-its-index (p .result) (s .args .a) (p .ensures .1)
-    (λ e. send-suppressed (s .args .reader .now) (s .args .rows .now) (s .args .boards .now) (s .args .totals .now) (p .result) (s .args .channel) (s .args .word) _ (c .before .suppress-send .last .0) (c .before .before .before .if1 .taken) (c .before .suppress-send .ensures) (c .alone .ensures))
+    (λ e. send-suppressed (s .args .reader .now) (s .args .rows .now) (s .args .boards .now) (s .args .totals .now) (s .args .limit) (p .result) (s .args .channel) (s .args .word) _ (c .before .suppress-send .last .0) (c .before .before .before .if1 .taken) (c .before .suppress-send .ensures) (c .alone .ensures))
 
 mul-owing : tie.Need-mul-owing
 mul-owing c = search needs
@@ -77,7 +77,7 @@ returns-2 c =
     let p = c .before .before .before .before .before .before .before .before .index16 in
     let none = c .before .before .before .before .before .before .if1 .left in
     send-at-its-index (p .result) (s .args .a) (p .ensures .1)
-    (λ e. send-37 (s .args .reader .now) (s .args .rows .now) (s .args .boards .now) (s .args .totals .now) (p .result) (s .args .channel) (s .args .word) _ (omega arith) (sym (c .before .before .before .before .owing .ensures) ∙ c .before .before .before .if2 .taken) _ (c .before .blame .ensures) (rw (← e) (c .refused .ensures)))
+    (λ e. send-37 (s .args .reader .now) (s .args .rows .now) (s .args .boards .now) (s .args .totals .now) (s .args .limit) (p .result) (s .args .channel) (s .args .word) _ (omega arith) (sym (c .before .before .before .before .owing .ensures) ∙ c .before .before .before .if2 .taken) _ (c .before .blame .ensures) (rw (← e) (c .refused .ensures)))
 
 mul-index16 : tie.Need-mul-index16
 mul-index16 c = search needs
@@ -110,7 +110,7 @@ returns-3 c =
     let b = c .before .before .before .index162 in
     let none = c .before .before .before .before .before .before .before .before .if1 .left in
     send-at-its-index (p .result) (s .args .a) (p .ensures .1)
-    (λ e. send-38 (s .args .reader .now) (s .args .rows .now) (s .args .boards .now) (s .args .totals .now) (p .result) (s .args .channel) (s .args .word) _ (omega arith) (sym (c .before .before .before .before .before .before .owing .ensures) ∙ c .before .before .before .before .before .if2 .left) (b .result) (b .ensures .1) (c .before .if3 .taken) (rw (← e) (c .refused2 .ensures)))
+    (λ e. send-38 (s .args .reader .now) (s .args .rows .now) (s .args .boards .now) (s .args .totals .now) (s .args .limit) (p .result) (s .args .channel) (s .args .word) _ (omega arith) (sym (c .before .before .before .before .before .before .owing .ensures) ∙ c .before .before .before .before .before .if2 .left) (b .result) (b .ensures .1) (c .before .if3 .taken) (rw (← e) (c .refused2 .ensures)))
 
 index32-requires : tie.Need-index32-requires
 index32-requires c κs = search needs
@@ -141,7 +141,7 @@ returns-4 c =
     let k = c .before .before .before .before .before .index32 in
     let none = c .before .before .before .before .before .before .before .before .before .before .before .before .before .if1 .left in
     send-at-its-index (p .result) (s .args .a) (p .ensures .1)
-    (λ e. send-39 (s .args .reader .now) (s .args .rows .now) (s .args .boards .now) (s .args .totals .now) (p .result) (s .args .channel) (s .args .word) _ (omega arith) (sym (c .before .before .before .before .before .before .before .before .before .before .before .owing .ensures) ∙ c .before .before .before .before .before .before .before .before .before .before .if2 .left) (b .result) (b .ensures .1) (c .before .before .before .before .before .before .if3 .left) (k .result) (k .ensures .1) (sym (c .before .before .held .ensures) ∙ c .before .if4 .taken) (rw (← e) (c .refused3 .ensures)))
+    (λ e. send-39 (s .args .reader .now) (s .args .rows .now) (s .args .boards .now) (s .args .totals .now) (s .args .limit) (p .result) (s .args .channel) (s .args .word) _ (omega arith) (sym (c .before .before .before .before .before .before .before .before .before .before .before .owing .ensures) ∙ c .before .before .before .before .before .before .before .before .before .before .if2 .left) (b .result) (b .ensures .1) (c .before .before .before .before .before .before .if3 .left) (k .result) (k .ensures .1) (sym (c .before .before .held .ensures) ∙ c .before .if4 .taken) (rw (← e) (c .refused3 .ensures)))
 
 mul-place : tie.Need-mul-place
 mul-place c = search needs
@@ -195,7 +195,7 @@ returns-5 c =
     let none = c .before .before .before .before .before .before .before .before .before .before .before .before .before .before .before .before .before .before .before .before .if1 .left in
     send-at-its-index (p .result) (s .args .a) (p .ensures .1)
     (λ e. rw (c .before .before .push .ensures, c .wrapping-add-u32 .ensures)
-    (send-queued (s .args .reader .now) (s .args .rows .now) (s .args .boards .now) (s .args .totals .now) (p .result) (s .args .channel) (s .args .word) _ (omega arith) (sym (c .before .before .before .before .before .before .before .before .before .before .before .before .before .before .before .before .before .before .owing .ensures) ∙ c .before .before .before .before .before .before .before .before .before .before .before .before .before .before .before .before .before .if2 .left) (b .result) (b .ensures .1) (c .before .before .before .before .before .before .before .before .before .before .before .before .before .if3 .left) (k .result) (k .ensures .1) (c .before .before .before .before .queue-send .last .0) (sym (c .before .before .before .before .before .before .before .before .before .held .ensures) ∙ c .before .before .before .before .before .before .before .before .if4 .left) (c .before .before .before .before .queue-send .ensures)
+    (send-queued (s .args .reader .now) (s .args .rows .now) (s .args .boards .now) (s .args .totals .now) (s .args .limit) (p .result) (s .args .channel) (s .args .word) _ (omega arith) (sym (c .before .before .before .before .before .before .before .before .before .before .before .before .before .before .before .before .before .before .owing .ensures) ∙ c .before .before .before .before .before .before .before .before .before .before .before .before .before .before .before .before .before .if2 .left) (b .result) (b .ensures .1) (c .before .before .before .before .before .before .before .before .before .before .before .before .before .if3 .left) (k .result) (k .ensures .1) (c .before .before .before .before .queue-send .last .0) (sym (c .before .before .before .before .before .before .before .before .before .held .ensures) ∙ c .before .before .before .before .before .before .before .before .if4 .left) (c .before .before .before .before .queue-send .ensures)
     (rw (← at .ensures .1 (b .ensures .0)) (at .ensures .0))
     (λ i. record { answer = record { code = 2; cause = 0; a = s .args .channel; word = s .args .word }; at = at .ensures .1 (b .ensures .0) i; entry = record { item = Word (s .args .channel) (s .args .word) } })))
 

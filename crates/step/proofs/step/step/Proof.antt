@@ -86,11 +86,23 @@ calculate-requires c κs = search needs
 enum-known-at : tie.Need-enum-known-at
 enum-known-at c = search needs
 
+mul-take : tie.Need-mul-take
+mul-take c = search needs
+
+element-copy-out-take : tie.Need-element-copy-out-take
+element-copy-out-take c = search needs
+
 take-requires : tie.Need-take-requires
 take-requires c κs = search needs
 
 enum-known-channel : tie.Need-enum-known-channel
 enum-known-channel c = search needs
+
+mul-send : tie.Need-mul-send
+mul-send c = search needs
+
+element-copy-out-send : tie.Need-element-copy-out-send
+element-copy-out-send c = search needs
 
 send-requires : tie.Need-send-requires
 send-requires c κs = search needs
@@ -104,7 +116,7 @@ returns c =
     let f = c .before .before .before .before .before .before .before .before .before .before .wide .ensures .0 in
     let x = c .before .before .before .examine in
     step-at-its-index (p .result) (s .args .a) (p .ensures .1)
-    (λ e. steps-35 (s .args .table .now) (s .args .start .now) (s .args .lengths .now) (s .args .reader .now) (s .args .port .now) (s .args .rows .now) (s .args .mails .now) (s .args .boards .now) (s .args .totals .now) (p .result) _ (j .result) (rw (← f, ← k) (j .ensures)) (record { seen = x .result; examined = x .ensures; is = c .before .enum-told .given .1 }) (rw (← e) (c .refused .ensures)))
+    (λ e. steps-35 (s .args .table .now) (s .args .start .now) (s .args .lengths .now) (s .args .limits .now) (s .args .reader .now) (s .args .port .now) (s .args .rows .now) (s .args .mails .now) (s .args .boards .now) (s .args .totals .now) (p .result) _ (j .result) (rw (← f, ← k) (j .ensures)) (record { seen = x .result; examined = x .ensures; is = c .before .enum-told .given .1 }) (rw (← e) (c .refused .ensures)))
 
 returns-2 : tie.Need-returns-2
 returns-2 c =
@@ -115,7 +127,7 @@ returns-2 c =
     let f = c .before .before .before .before .before .before .before .before .before .before .before .wide .ensures .0 in
     let x = c .before .before .before .before .examine in
     step-at-its-index (p .result) (s .args .a) (p .ensures .1)
-    (λ e. steps-36 (s .args .table .now) (s .args .start .now) (s .args .lengths .now) (s .args .reader .now) (s .args .port .now) (s .args .rows .now) (s .args .mails .now) (s .args .boards .now) (s .args .totals .now) (p .result) _ (j .result) (rw (← f, ← k) (j .ensures)) (record { seen = x .result; examined = x .ensures; is = c .before .before .enum-told2 .given .1 }) (rw (← e, ← c .before .missing .ensures) (c .refused2 .ensures)))
+    (λ e. steps-36 (s .args .table .now) (s .args .start .now) (s .args .lengths .now) (s .args .limits .now) (s .args .reader .now) (s .args .port .now) (s .args .rows .now) (s .args .mails .now) (s .args .boards .now) (s .args .totals .now) (p .result) _ (j .result) (rw (← f, ← k) (j .ensures)) (record { seen = x .result; examined = x .ensures; is = c .before .before .enum-told2 .given .1 }) (rw (← e, ← c .before .missing .ensures) (c .refused2 .ensures)))
 
 returns-3 : tie.Need-returns-3
 returns-3 c =
@@ -126,29 +138,29 @@ returns-3 c =
     let f = c .before .before .before .before .before .before .before .before .before .before .before .wide .ensures .0 in
     let x = c .before .before .before .before .examine in
     step-at-its-index (p .result) (s .args .a) (p .ensures .1)
-    (λ e. steps-calculated (s .args .table .now) (s .args .start .now) (s .args .lengths .now) (s .args .reader .now) (s .args .port .now) (s .args .rows .now) (s .args .mails .now) (s .args .boards .now) (s .args .totals .now) (p .result) _ (j .result) (rw (← f, ← k) (j .ensures)) (record { seen = x .result; examined = x .ensures; is = c .before .before .enum-told3 .given .1 }) (rw (← e) (c .calculate .ensures)))
+    (λ e. steps-calculated (s .args .table .now) (s .args .start .now) (s .args .lengths .now) (s .args .limits .now) (s .args .reader .now) (s .args .port .now) (s .args .rows .now) (s .args .mails .now) (s .args .boards .now) (s .args .totals .now) (p .result) _ (j .result) (rw (← f, ← k) (j .ensures)) (record { seen = x .result; examined = x .ensures; is = c .before .before .enum-told3 .given .1 }) (rw (← e) (c .calculate .ensures)))
 
 returns-4 : tie.Need-returns-4
 returns-4 c =
-    let s = c .before .before .before .before .before .before .before .before .before .before .before .before .before .before .before .before .before .before in
-    let p = c .before .before .before .before .before .before .before .before .before .before .before .before .before .before .before .before .index16 in
-    let j = c .before .before .before .before .before .before .before .before .before .before .before .fetch in
-    let k = c .before .before .before .before .before .before .before .before .before .before .before .before .wide2 .ensures .0 in
-    let f = c .before .before .before .before .before .before .before .before .before .before .before .before .before .before .wide .ensures .0 in
-    let x = c .before .before .before .before .before .before .before .examine in
+    let s = c .before .before .before .before .before .before .before .before .before .before .before .before .before .before .before .before .before .before .before in
+    let p = c .before .before .before .before .before .before .before .before .before .before .before .before .before .before .before .before .before .index16 in
+    let j = c .before .before .before .before .before .before .before .before .before .before .before .before .fetch in
+    let k = c .before .before .before .before .before .before .before .before .before .before .before .before .before .wide2 .ensures .0 in
+    let f = c .before .before .before .before .before .before .before .before .before .before .before .before .before .before .before .wide .ensures .0 in
+    let x = c .before .before .before .before .before .before .before .before .examine in
     step-at-its-index (p .result) (s .args .a) (p .ensures .1)
-    (λ e. steps-taken (s .args .table .now) (s .args .start .now) (s .args .lengths .now) (s .args .reader .now) (s .args .port .now) (s .args .rows .now) (s .args .mails .now) (s .args .boards .now) (s .args .totals .now) (p .result) _ (j .result) (rw (← f, ← k) (j .ensures)) (c .before .before .before .before .before .at .given .0 .0) (record { seen = x .result; examined = x .ensures; is = c .before .before .before .before .before .at .given .1 }) (rw (← e) (c .take .ensures)))
+    (λ e. steps-taken (s .args .table .now) (s .args .start .now) (s .args .lengths .now) (s .args .limits .now) (s .args .reader .now) (s .args .port .now) (s .args .rows .now) (s .args .mails .now) (s .args .boards .now) (s .args .totals .now) (p .result) _ (j .result) (rw (← f, ← k) (j .ensures)) (c .before .before .before .before .before .before .at .given .0 .0) (s .args .a) (record { seen = x .result; examined = x .ensures; is = c .before .before .before .before .before .before .at .given .1 }) e (c .take .ensures))
 
 returns-5 : tie.Need-returns-5
 returns-5 c =
-    let s = c .before .before .before .before .before .before .before .before .before .before .before .before .before .before .before .before .before .before in
-    let p = c .before .before .before .before .before .before .before .before .before .before .before .before .before .before .before .before .index16 in
-    let j = c .before .before .before .before .before .before .before .before .before .before .before .fetch in
-    let k = c .before .before .before .before .before .before .before .before .before .before .before .before .wide2 .ensures .0 in
-    let f = c .before .before .before .before .before .before .before .before .before .before .before .before .before .before .wide .ensures .0 in
-    let x = c .before .before .before .before .before .before .before .examine in
+    let s = c .before .before .before .before .before .before .before .before .before .before .before .before .before .before .before .before .before .before .before in
+    let p = c .before .before .before .before .before .before .before .before .before .before .before .before .before .before .before .before .before .index16 in
+    let j = c .before .before .before .before .before .before .before .before .before .before .before .before .fetch in
+    let k = c .before .before .before .before .before .before .before .before .before .before .before .before .before .wide2 .ensures .0 in
+    let f = c .before .before .before .before .before .before .before .before .before .before .before .before .before .before .before .wide .ensures .0 in
+    let x = c .before .before .before .before .before .before .before .before .examine in
     step-at-its-index (p .result) (s .args .a) (p .ensures .1)
-    (λ e. steps-sent (s .args .table .now) (s .args .start .now) (s .args .lengths .now) (s .args .reader .now) (s .args .port .now) (s .args .rows .now) (s .args .mails .now) (s .args .boards .now) (s .args .totals .now) (p .result) _ (j .result) (rw (← f, ← k) (j .ensures)) (c .before .before .before .before .before .channel .given .0 .0) (c .before .before .before .before .before .channel .given .0 .1 .0) (record { seen = x .result; examined = x .ensures; is = c .before .before .before .before .before .channel .given .1 }) (rw (← e) (c .send .ensures)))
+    (λ e. steps-sent (s .args .table .now) (s .args .start .now) (s .args .lengths .now) (s .args .limits .now) (s .args .reader .now) (s .args .port .now) (s .args .rows .now) (s .args .mails .now) (s .args .boards .now) (s .args .totals .now) (p .result) _ (j .result) (rw (← f, ← k) (j .ensures)) (c .before .before .before .before .before .before .channel .given .0 .0) (c .before .before .before .before .before .before .channel .given .0 .1 .0) (s .args .a) (record { seen = x .result; examined = x .ensures; is = c .before .before .before .before .before .before .channel .given .1 }) e (c .send .ensures))
 
 pub step-spec : {M : Type 1} → statement M
 step-spec =
@@ -178,8 +190,12 @@ step-spec =
     enum-told-3
     calculate-requires
     enum-known-at
+    mul-take
+    element-copy-out-take
     take-requires
     enum-known-channel
+    mul-send
+    element-copy-out-send
     send-requires
     returns
     returns-2

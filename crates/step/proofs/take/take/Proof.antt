@@ -45,7 +45,7 @@ returns c =
     let s = c .before .before .before .before .before .before .before in
     let p = c .before .before .before .before .before .before .index16 in
     take-at-its-index (p .result) (s .args .a) (p .ensures .1)
-    (λ e. take-37 (s .args .port .now) (s .args .rows .now) (s .args .mails .now) (s .args .totals .now) (p .result) (s .args .code) (s .args .register) (s .args .at) _ (sym (c .before .before .before .before .owing .ensures) ∙ c .before .before .before .if1 .taken) _ (c .before .blame .ensures) (rw (← e) (c .refused .ensures)))
+    (λ e. take-37 (s .args .port .now) (s .args .rows .now) (s .args .mails .now) (s .args .totals .now) (s .args .limit) (p .result) (s .args .code) (s .args .register) (s .args .at) _ (sym (c .before .before .before .before .owing .ensures) ∙ c .before .before .before .if1 .taken) _ (c .before .blame .ensures) (rw (← e) (c .refused .ensures)))
 
 refused-requires-2 : tie.Need-refused-requires-2
 refused-requires-2 c κs = search needs
@@ -55,7 +55,7 @@ returns-2 c =
     let s = c .before .before .before .before .before .before in
     let p = c .before .before .before .before .before .index16 in
     take-at-its-index (p .result) (s .args .a) (p .ensures .1)
-    (λ e. take-none (s .args .port .now) (s .args .rows .now) (s .args .mails .now) (s .args .totals .now) (p .result) (s .args .code) (s .args .register) (s .args .at) _ (c .before .if2 .taken))
+    (λ e. take-none (s .args .port .now) (s .args .rows .now) (s .args .mails .now) (s .args .totals .now) (s .args .limit) (p .result) (s .args .code) (s .args .register) (s .args .at) _ (c .before .if2 .taken))
 
 mul-x : tie.Need-mul-x
 mul-x c = search needs
@@ -127,7 +127,7 @@ returns-3 c =
     let u = c .before .before .wrapping-sub-u32 in
     let p = c .before .before .before .before .before .before .before .before .before .before .before .before .before .before .before .index16 in
     take-at-its-index (p .result) (s .args .a) (p .ensures .1)
-    (λ e. take-done (s .args .port .now) (s .args .rows .now) (s .args .mails .now) (s .args .totals .now) (p .result) (s .args .code) (s .args .register) (s .args .at) _ (k .result) (t .last .0) (t .last .1 .0) (u .result) (sym (c .before .before .before .before .before .before .before .before .before .before .before .before .before .owing .ensures) ∙ c .before .before .before .before .before .before .before .before .before .before .before .before .if1 .left) (rw (w .ensures) at (k .ensures .1)) (t .ensures) (u .ensures) (u .ok)
+    (λ e. take-done (s .args .port .now) (s .args .rows .now) (s .args .mails .now) (s .args .totals .now) (s .args .limit) (p .result) (s .args .code) (s .args .register) (s .args .at) _ (k .result) (t .last .0) (t .last .1 .0) (u .result) (sym (c .before .before .before .before .before .before .before .before .before .before .before .before .before .owing .ensures) ∙ c .before .before .before .before .before .before .before .before .before .before .before .before .if1 .left) (rw (w .ensures) at (k .ensures .1)) (t .ensures) (u .ensures) (u .ok)
     (rw (← w .ensures, ← v .ensures) (c .alone .ensures)))
 
 pub take-spec : {M : Type 1} → statement M

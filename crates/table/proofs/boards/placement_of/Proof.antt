@@ -9,9 +9,6 @@ byte-requires c κs = search needs
 byte-requires-2 : tie.Need-byte-requires-2
 byte-requires-2 c κs = search needs
 
-byte-requires-3 : tie.Need-byte-requires-3
-byte-requires-3 c κs = search needs
-
 boards-ok-requires : tie.Need-boards-ok-requires
 boards-ok-requires c κs = search needs
 
@@ -21,26 +18,34 @@ word-requires c κs = search needs
 word-requires-2 : tie.Need-word-requires-2
 word-requires-2 c κs = search needs
 
+limit-of-requires : tie.Need-limit-of-requires
+limit-of-requires c κs = search needs
+
 word-requires-3 : tie.Need-word-requires-3
 word-requires-3 c κs = search needs
 
-wide-requires : tie.Need-wide-requires
-wide-requires c κs = search needs
+program-length-requires : tie.Need-program-length-requires
+program-length-requires c κs = search needs
 
-mul-t11 : tie.Need-mul-t11
-mul-t11 c = search needs
+word-requires-4 : tie.Need-word-requires-4
+word-requires-4 c κs = search needs
 
-add-t12 : tie.Need-add-t12
-add-t12 c = search needs
+record-head-requires : tie.Need-record-head-requires
+record-head-requires c κs = search needs
+
+record-length-requires : tie.Need-record-length-requires
+record-length-requires c κs = search needs
 
 returns : tie.Need-returns
 returns c =
     record {
-      says = rw (← c .before .before .before .before .before .before .before .byte .ensures, ← c .before .before .before .before .before .before .byte2 .ensures) (c .before .before .before .before .boards-ok .ensures);
-      primary-is = c .before .before .before .word .ensures ∙ c .before .before .before .before .before .before .before .byte .ensures;
-      standby-is = c .before .before .word2 .ensures ∙ c .before .before .before .before .before .before .byte2 .ensures;
-      n-is = c .before .word3 .ensures ∙ c .before .before .before .before .before .byte3 .ensures;
-      size-is = rw (c .wide .ensures, c .before .before .before .before .before .byte3 .ensures);
+      says = rw (← c .before .before .before .before .before .before .before .before .before .before .byte .ensures, ← c .before .before .before .before .before .before .before .before .before .byte2 .ensures) (c .before .before .before .before .before .before .before .before .boards-ok .ensures);
+      primary-is = c .before .before .before .before .before .before .before .word .ensures ∙ c .before .before .before .before .before .before .before .before .before .before .byte .ensures;
+      standby-is = c .before .before .before .before .before .before .word2 .ensures ∙ c .before .before .before .before .before .before .before .before .before .byte2 .ensures;
+      limit-is = c .before .before .before .before .word3 .ensures ∙ c .before .before .before .before .before .limit-of .ensures;
+      n-is = c .before .before .word4 .ensures ∙ c .before .before .before .program-length .ensures;
+      program-is = c .before .record-head .ensures .0;
+      size-is = c .record-length .ensures;
     }
 
 pub placement-of-spec : {M : Type 1} → statement M
@@ -49,12 +54,13 @@ placement-of-spec =
     (tie.spec
     byte-requires
     byte-requires-2
-    byte-requires-3
     boards-ok-requires
     word-requires
     word-requires-2
+    limit-of-requires
     word-requires-3
-    wide-requires
-    mul-t11
-    add-t12
+    program-length-requires
+    word-requires-4
+    record-head-requires
+    record-length-requires
     returns)

@@ -1,25 +1,27 @@
-use Rattle.table.proofs.Extents.{Extending, extending-start, extending-on, extending-refused, extending-end, no-pairs, extent-says}
+use mathlib.Core.Path.{_∙_, sym, ap₂}
 use Prim.Native.Nat.{_-_}
-use mathlib.Core.Path.{_∙_, sym, ap}
 use Rattle.facts.specs.Lists.{part-rest}
 use Rattle.table.specs.Parts.{recordIn}
+use Rattle.table.proofs.Extents.{Extending, extending-start, extending-on, extending-refused, extending-end, no-pairs, extent-says}
 use borrow.Author.Needs.{needs}
 use native.Mathlib.Omega.{arith}
 use Rattle.table.proofs.extent.extent_ok.Statement.{statement}
 use Rattle.table.proofs.extent.extent_ok.Tie as tie
 
 abbrev Inv-loop : tie.InvT-loop
-Inv-loop table at₀ processes p₀ at p = Extending table processes at p
+Inv-loop table at₀ version processes p₀ at p = Extending table processes at p
 
 abbrev μ-loop : tie.MeasureT-loop
-μ-loop table at₀ processes p₀ at p = processes - p
+μ-loop table at₀ version processes p₀ at p = processes - p
 
 records-start-requires : tie.Need-records-start-requires Inv-loop μ-loop
 records-start-requires c κs = search needs
 
 returns : tie.Need-returns Inv-loop μ-loop
-returns c =
-    no-pairs (c .before .before .before .args .table .now) (c .before .records-start .result) (c .before .records-start .ensures) (c .if1 .taken)
+returns c = no-pairs (c .before .before .before .args .table .now) (c .before .records-start .result) (c .before .records-start .ensures) (c .if1 .taken)
+
+version-of-requires : tie.Need-version-of-requires Inv-loop μ-loop
+version-of-requires c κs = search needs
 
 byte-requires : tie.Need-byte-requires Inv-loop μ-loop
 byte-requires c κs = search needs
@@ -28,33 +30,38 @@ wide-requires : tie.Need-wide-requires Inv-loop μ-loop
 wide-requires c κs = search needs
 
 loop-holds : tie.Need-loop-holds Inv-loop μ-loop
-loop-holds c = extending-start _ _ _ (c .before .before .before .records-start .ensures) (c .before .before .if1 .left)
+loop-holds c = extending-start _ _ _ (c .before .before .before .before .records-start .ensures) (c .before .before .before .if1 .left)
 
-sub-record-length : tie.Need-sub-record-length Inv-loop μ-loop
-sub-record-length c = search needs
+sub-record-in : tie.Need-sub-record-in Inv-loop μ-loop
+sub-record-in c = search needs
 
-part-record-length-start : tie.Need-part-record-length-start Inv-loop μ-loop
-part-record-length-start c = search needs
+part-record-in-start : tie.Need-part-record-in-start Inv-loop μ-loop
+part-record-in-start c = search needs
 
-part-record-length-end : tie.Need-part-record-length-end Inv-loop μ-loop
-part-record-length-end c = search needs
+part-record-in-end : tie.Need-part-record-in-end Inv-loop μ-loop
+part-record-in-end c = search needs
 
-record-length-requires : tie.Need-record-length-requires Inv-loop μ-loop
-record-length-requires c κs = search needs
+record-in-requires : tie.Need-record-in-requires Inv-loop μ-loop
+record-in-requires c κs = search needs
 
 returns-2 : tie.Need-returns-2 Inv-loop μ-loop
 returns-2 c =
-    let t = c .before .before .before .before .before .before .before .before .before .before .args .table .now in
+    let t = c .before .before .before .before .before .before .before .before .before .before .before .args .table .now in
     let l = c .before .before .before .before .loop in
-    let s = c .before .before .before .before .before .before .before .before .records-start in
+    let s = c .before .before .before .before .before .before .before .before .before .records-start in
     let n = c .before .before .before .before .before .wide in
-    sym (extent-says t (s .result) (n .result) (s .ensures) (c .before .before .before .before .before .before .before .if1 .left) (n .ensures ∙ c .before .before .before .before .before .before .byte .ensures) ∙ extending-refused t (n .result) (l .at) (l .p) (c .before .record-length .result) (l .inv) (c .before .before .before .loop-test .taken) (c .before .record-length .ensures ∙ ap recordIn (part-rest t (l .at))) (c .if2 .taken))
+    sym (extent-says t (s .result) (n .result) (s .ensures) (c .before .before .before .before .before .before .before .before .if1 .left) (n .ensures ∙ c .before .before .before .before .before .before .byte .ensures)
+    ∙ extending-refused t (n .result) (l .at) (l .p) (c .before .record-in .result) (l .inv) (c .before .before .before .loop-test .taken)
+    (c .before .record-in .ensures ∙ ap₂ recordIn (c .before .before .before .before .before .before .before .version-of .ensures) (part-rest t (l .at))) (c .if2 .taken))
 
 add-at : tie.Need-add-at Inv-loop μ-loop
 add-at c =
-    let t = c .before .before .before .before .before .before .before .before .before .before .args .table .now in
+    let t = c .before .before .before .before .before .before .before .before .before .before .before .args .table .now in
     let l = c .before .before .before .before .loop in
-    let x = extending-on t _ (l .at) (l .p) (c .before .record-length .result) (l .inv) (c .before .before .before .loop-test .taken) (c .before .record-length .ensures ∙ ap recordIn (part-rest t (l .at))) (c .if2 .left) in omega (arith, x .within)
+    let x =
+    extending-on t _ (l .at) (l .p) (c .before .record-in .result) (l .inv) (c .before .before .before .loop-test .taken)
+    (c .before .record-in .ensures ∙ ap₂ recordIn (c .before .before .before .before .before .before .before .version-of .ensures) (part-rest t (l .at))) (c .if2 .left) in
+    omega (arith, x .within)
 
 add-p : tie.Need-add-p Inv-loop μ-loop
 add-p c = search needs
@@ -64,17 +71,19 @@ loop-less c = search needs
 
 loop-again : tie.Need-loop-again Inv-loop μ-loop
 loop-again c =
-    let t = c .before .before .before .before .before .before .before .before .before .before .args .table .now in
+    let t = c .before .before .before .before .before .before .before .before .before .before .before .args .table .now in
     let l = c .before .before .before .before .loop in
-    extending-on t _ (l .at) (l .p) (c .before .record-length .result) (l .inv) (c .before .before .before .loop-test .taken) (c .before .record-length .ensures ∙ ap recordIn (part-rest t (l .at))) (c .if2 .left)
+    extending-on t _ (l .at) (l .p) (c .before .record-in .result) (l .inv) (c .before .before .before .loop-test .taken)
+    (c .before .record-in .ensures ∙ ap₂ recordIn (c .before .before .before .before .before .before .before .version-of .ensures) (part-rest t (l .at))) (c .if2 .left)
 
 returns-3 : tie.Need-returns-3 Inv-loop μ-loop
 returns-3 c =
-    let t = c .before .before .before .before .before .before .before .args .table .now in
+    let t = c .before .before .before .before .before .before .before .before .args .table .now in
     let l = c .before .loop in
-    let s = c .before .before .before .before .before .records-start in
+    let s = c .before .before .before .before .before .before .records-start in
     let n = c .before .before .wide in
-    sym (extent-says t (s .result) (n .result) (s .ensures) (c .before .before .before .before .if1 .left) (n .ensures ∙ c .before .before .before .byte .ensures) ∙ extending-end t (n .result) (l .at) (l .p) (l .inv) (c .loop-test .left))
+    sym (extent-says t (s .result) (n .result) (s .ensures) (c .before .before .before .before .before .if1 .left) (n .ensures ∙ c .before .before .before .byte .ensures)
+    ∙ extending-end t (n .result) (l .at) (l .p) (l .inv) (c .loop-test .left))
 
 pub extent-ok-spec : {M : Type 1} → statement M
 extent-ok-spec =
@@ -84,13 +93,14 @@ extent-ok-spec =
     μ-loop
     records-start-requires
     returns
+    version-of-requires
     byte-requires
     wide-requires
     loop-holds
-    sub-record-length
-    part-record-length-start
-    part-record-length-end
-    record-length-requires
+    sub-record-in
+    part-record-in-start
+    part-record-in-end
+    record-in-requires
     returns-2
     add-at
     add-p

@@ -1,25 +1,25 @@
 use mathlib.Core.Path.{_∙_}
+use Rattle.facts.specs.Lists.{part-rest}
 use Rattle.table.proofs.Walk.{lent-program}
 use native.Mathlib.Omega.{arith}
 use borrow.Author.Needs.{needs}
 use Rattle.table.proofs.instructions.record_ok.Statement.{statement}
 use Rattle.table.proofs.instructions.record_ok.Tie as tie
-use Rattle.table.proofs.instructions.record_ok.Reads as reads
-use Rattle.table.proofs.instructions.record_ok.Lts as lts
-use Rattle.table.proofs.instructions.program_ok.Reads as program-ok-reads
-use Rattle.records.proofs.bytes.wide.Reads as wide-reads
 
-shared-slice-read-wide : tie.Need-shared-slice-read-wide
-shared-slice-read-wide c = search needs
+program-length-requires : tie.Need-program-length-requires
+program-length-requires c κs = search needs
 
 wide-requires : tie.Need-wide-requires
 wide-requires c κs = search needs
 
+record-head-requires : tie.Need-record-head-requires
+record-head-requires c κs = search needs
+
 sub-program-ok : tie.Need-sub-program-ok
-sub-program-ok c = search needs
+sub-program-ok c = omega (arith, c .record-head .ensures .0, c .before .before .before .before .before .pre .1)
 
 part-program-ok-start : tie.Need-part-program-ok-start
-part-program-ok-start c = search needs
+part-program-ok-start c = omega (arith, c .record-head .ensures .0, c .before .before .before .before .before .pre .1)
 
 part-program-ok-end : tie.Need-part-program-ok-end
 part-program-ok-end c = search needs
@@ -28,14 +28,17 @@ program-ok-requires : tie.Need-program-ok-requires
 program-ok-requires c κs = search needs
 
 returns : tie.Need-returns
-returns c = let s = c .before .before .before .before .before .before .args in c .program-ok .ensures ∙ lent-program _ (s .p) _ (s .rest .now) (c .before .before .wide .ensures)
+returns c =
+    let s = c .before .before .before .before .before .before .before .args in
+    c .program-ok .ensures ∙ lent-program _ (s .version) (s .p) _ _ (s .rest .now) (c .before .before .before .wide .ensures ∙ c .before .before .before .before .program-length .ensures) (c .before .before .record-head .ensures .0)
 
 pub record-ok-spec : {M : Type 1} → statement M
 record-ok-spec =
     tie.close
     (tie.spec
-    shared-slice-read-wide
+    program-length-requires
     wide-requires
+    record-head-requires
     sub-program-ok
     part-program-ok-start
     part-program-ok-end

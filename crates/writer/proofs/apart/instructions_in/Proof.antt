@@ -1,14 +1,10 @@
 use mathlib.Core.Path.{refl, _∙_}
 use Rattle.rules.proofs.Apart.{length-apart}
-use Rattle.writer.proofs.Parting.{counted-instructions}
+use Rattle.writer.proofs.Parting.{limits-long, counted-instructions}
 use native.Mathlib.Omega.{arith}
 use borrow.Author.Needs.{needs}
 use Rattle.writer.proofs.apart.instructions_in.Statement.{statement}
 use Rattle.writer.proofs.apart.instructions_in.Tie as tie
-use Rattle.writer.proofs.apart.instructions_in.Reads as reads
-use Rattle.writer.proofs.apart.instructions_in.Lts as lts
-use Rattle.records.proofs.bytes.byte.Reads as byte-reads
-use Rattle.records.proofs.bytes.wide.Reads as wide-reads
 
 sub-result : tie.Need-sub-result
 sub-result c = let k = length-apart (c .before .args .table .now) (c .before .pre) in omega arith
@@ -37,10 +33,20 @@ mul-result-2 c = search needs
 sub-result-3 : tie.Need-sub-result-3
 sub-result-3 c = let k = length-apart (c .before .before .before .before .before .args .table .now) (c .before .before .before .before .before .pre) in omega arith
 
+limits-in-requires : tie.Need-limits-in-requires
+limits-in-requires c κs = search needs
+
+sub-result-4 : tie.Need-sub-result-4
+sub-result-4 c =
+    let k = length-apart (c .before .before .before .before .before .before .args .table .now) (c .before .before .before .before .before .before .pre) in
+    let m = limits-long (c .before .before .before .before .before .before .args .table .now) (c .before .before .before .before .before .before .pre) in
+    let e = c .limits-in .ensures in
+    omega arith
+
 returns : tie.Need-returns
 returns c =
-    let s = c .before .before .before .before .before .args in
-    counted-instructions (s .table .now) _ (c .before .before .wide .result) (c .wide2 .result) (c .before .before .before .before .before .pre) (c .before .before .wide .ensures ∙ c .before .before .before .byte .ensures) (c .wide2 .ensures ∙ c .before .byte2 .ensures) refl
+    counted-instructions (c .before .before .before .before .before .before .args .table .now) _ (c .before .before .before .wide .result) (c .before .wide2 .result) (c .limits-in .result) (c .before .before .before .before .before .before .pre)
+    (c .before .before .before .wide .ensures ∙ c .before .before .before .before .byte .ensures) (c .before .wide2 .ensures ∙ c .before .before .byte2 .ensures) (c .limits-in .ensures) refl
 
 pub instructions-in-spec : {M : Type 1} → statement M
 instructions-in-spec =
@@ -55,4 +61,6 @@ instructions-in-spec =
     wide-requires-2
     mul-result-2
     sub-result-3
+    limits-in-requires
+    sub-result-4
     returns)

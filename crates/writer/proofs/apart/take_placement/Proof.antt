@@ -5,9 +5,6 @@ use native.Mathlib.Omega.{arith}
 use borrow.Author.Needs.{needs}
 use Rattle.writer.proofs.apart.take_placement.Statement.{statement}
 use Rattle.writer.proofs.apart.take_placement.Tie as tie
-use Rattle.writer.proofs.apart.take_placement.Reads as reads
-use Rattle.writer.proofs.apart.take_placement.Lts as lts
-use Rattle.records.proofs.bytes.word.Reads as word-reads
 
 shared-slice-read-word : tie.Need-shared-slice-read-word
 shared-slice-read-word c = search needs
@@ -44,9 +41,6 @@ mul-out-4 c = search needs
 
 slice-write-out-2 : tie.Need-slice-write-out-2
 slice-write-out-2 c = simp length-set (omega arith)
-
-add-word-2 : tie.Need-add-word-2
-add-word-2 c = search needs
 
 shared-slice-read-word-3 : tie.Need-shared-slice-read-word-3
 shared-slice-read-word-3 c = search needs
@@ -90,7 +84,6 @@ take-placement-spec =
     add-out
     mul-out-4
     slice-write-out-2
-    add-word-2
     shared-slice-read-word-3
     word-requires-3
     mul-out-5

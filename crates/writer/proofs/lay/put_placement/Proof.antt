@@ -1,101 +1,73 @@
-use Prim.Native.Nat.{_*_}
-use lib.ListN.{length-set}
-use Rattle.writer.proofs.Storing.{three-put}
+use mathlib.Core.Path.{ap, sym, _∙_}
+use mathlib.Core.Bool.{Bool, cond}
+use mathlib.Core.List.{[], _∷_, _++_}
+use Prim.Native.Nat.{_+_, _*_}
+use lib.ListN.{getD}
+use lib.Seq.{sets}
+use borrow.Author.Tests.{eq-eqb, ne-eqb}
+use Rattle.writer.specs.Fitted.{fitByte}
 use native.Mathlib.Omega.{arith}
 use borrow.Author.Needs.{needs}
 use Rattle.writer.proofs.lay.put_placement.Statement.{statement}
 use Rattle.writer.proofs.lay.put_placement.Tie as tie
-use Rattle.writer.proofs.lay.put_placement.Reads as reads
-use Rattle.writer.proofs.lay.put_placement.Lts as lts
-use Rattle.writer.proofs.lay.fit.Reads as fit-reads
 
-mul-fit : tie.Need-mul-fit
-mul-fit c = search needs
+mul-put-four : tie.Need-mul-put-four
+mul-put-four c = search needs
 
-mul-fit-2 : tie.Need-mul-fit-2
-mul-fit-2 c = search needs
+shared-slice-read-put-four : tie.Need-shared-slice-read-put-four
+shared-slice-read-put-four c =
+    let g = c .before .before .before .before .before .before .pre in
+    let a = ap (λ (w : Bool). cond w 1 0 * (c .before .before .before .before .before .before .args .p + 1)) (eq-eqb (c .before .before .before .before .before .before .args .version) 2 (c .before .before .if1 .taken)) in
+    let b = g .1 .1 in
+    omega arith
 
-shared-slice-read-fit : tie.Need-shared-slice-read-fit
-shared-slice-read-fit c = search needs
-
-fit-requires : tie.Need-fit-requires
-fit-requires c κs = search needs
-
-slice-write-bytes : tie.Need-slice-write-bytes
-slice-write-bytes c = search needs
-
-mul-fit-3 : tie.Need-mul-fit-3
-mul-fit-3 c = search needs
-
-add-fit : tie.Need-add-fit
-add-fit c = search needs
-
-mul-fit-4 : tie.Need-mul-fit-4
-mul-fit-4 c = search needs
-
-shared-slice-read-fit-2 : tie.Need-shared-slice-read-fit-2
-shared-slice-read-fit-2 c = search needs
-
-fit-requires-2 : tie.Need-fit-requires-2
-fit-requires-2 c κs = search needs
-
-add-bytes : tie.Need-add-bytes
-add-bytes c = search needs
-
-slice-write-bytes-2 : tie.Need-slice-write-bytes-2
-slice-write-bytes-2 c = simp length-set (omega arith)
-
-mul-fit-5 : tie.Need-mul-fit-5
-mul-fit-5 c = search needs
-
-add-fit-2 : tie.Need-add-fit-2
-add-fit-2 c = search needs
-
-mul-fit-6 : tie.Need-mul-fit-6
-mul-fit-6 c = search needs
-
-shared-slice-read-fit-3 : tie.Need-shared-slice-read-fit-3
-shared-slice-read-fit-3 c = search needs
-
-fit-requires-3 : tie.Need-fit-requires-3
-fit-requires-3 c κs = search needs
-
-add-bytes-2 : tie.Need-add-bytes-2
-add-bytes-2 c = search needs
-
-slice-write-bytes-3 : tie.Need-slice-write-bytes-3
-slice-write-bytes-3 c = simp length-set (omega arith)
+put-four-requires : tie.Need-put-four-requires
+put-four-requires c κs =
+    let g = c .before .before .before .before .before .before .pre in
+    let a = ap (λ (w : Bool). 1 + (2 + cond w 1 0)) (eq-eqb (c .before .before .before .before .before .before .args .version) 2 (c .before .before .if1 .taken)) in
+    let b = g .0 in
+    let d = g .1 .0 in
+    (omega arith, omega arith)
 
 same-length : tie.Need-same-length
 same-length c = search needs
 
 returns : tie.Need-returns
 returns c =
-    let s = c .before .before .before .before .before .before .before .before .args in
-    three-put (s .bytes .now) (s .at) _ _ _ _ _ _ (c .before .before .before .before .fit .ensures) (c .before .before .fit2 .ensures) (c .fit3 .ensures)
+    c .before .before .put-four .ensures
+    ∙ ap (λ (w : Bool). sets (c .before .before .before .before .before .before .before .before .before .args .bytes .now) (c .before .before .before .before .before .before .before .before .before .args .at) (fitByte (getD (c .before .before .before .before .before .before .before .before .before .args .placements .now) (3 * c .before .before .before .before .before .before .before .before .before .args .p) 0)
+    ∷ fitByte (getD (c .before .before .before .before .before .before .before .before .before .args .placements .now) (3 * c .before .before .before .before .before .before .before .before .before .args .p + 1) 0)
+    ∷ cond w (fitByte (getD (c .before .before .before .before .before .before .before .before .before .args .limits .now) (c .before .before .before .before .before .before .before .before .before .args .p) 0) ∷ []) [] ++ (fitByte (getD (c .before .before .before .before .before .before .before .before .before .args .placements .now) (3 * c .before .before .before .before .before .before .before .before .before .args .p + 2) 0) ∷ [])))
+    (sym (eq-eqb (c .before .before .before .before .before .before .before .before .before .args .version) 2 (c .before .before .before .before .before .if1 .taken)))
+
+put-three-requires : tie.Need-put-three-requires
+put-three-requires c κs =
+    let g = c .before .before .before .before .before .pre in
+    let a = ap (λ (w : Bool). 1 + (2 + cond w 1 0)) (ne-eqb (c .before .before .before .before .before .args .version) 2 (c .before .if1 .left)) in
+    let b = g .0 in
+    let d = g .1 .0 in
+    (omega arith, omega arith)
+
+same-length-2 : tie.Need-same-length-2
+same-length-2 c = search needs
+
+returns-2 : tie.Need-returns-2
+returns-2 c =
+    c .before .before .put-three .ensures
+    ∙ ap (λ (w : Bool). sets (c .before .before .before .before .before .before .before .before .args .bytes .now) (c .before .before .before .before .before .before .before .before .args .at) (fitByte (getD (c .before .before .before .before .before .before .before .before .args .placements .now) (3 * c .before .before .before .before .before .before .before .before .args .p) 0)
+    ∷ fitByte (getD (c .before .before .before .before .before .before .before .before .args .placements .now) (3 * c .before .before .before .before .before .before .before .before .args .p + 1) 0)
+    ∷ cond w (fitByte (getD (c .before .before .before .before .before .before .before .before .args .limits .now) (c .before .before .before .before .before .before .before .before .args .p) 0) ∷ []) [] ++ (fitByte (getD (c .before .before .before .before .before .before .before .before .args .placements .now) (3 * c .before .before .before .before .before .before .before .before .args .p + 2) 0) ∷ [])))
+    (sym (ne-eqb (c .before .before .before .before .before .before .before .before .args .version) 2 (c .before .before .before .before .if1 .left)))
 
 pub put-placement-spec : {M : Type 1} → statement M
 put-placement-spec =
     tie.close
     (tie.spec
-    mul-fit
-    mul-fit-2
-    shared-slice-read-fit
-    fit-requires
-    slice-write-bytes
-    mul-fit-3
-    add-fit
-    mul-fit-4
-    shared-slice-read-fit-2
-    fit-requires-2
-    add-bytes
-    slice-write-bytes-2
-    mul-fit-5
-    add-fit-2
-    mul-fit-6
-    shared-slice-read-fit-3
-    fit-requires-3
-    add-bytes-2
-    slice-write-bytes-3
+    mul-put-four
+    shared-slice-read-put-four
+    put-four-requires
     same-length
-    returns)
+    returns
+    put-three-requires
+    same-length-2
+    returns-2)

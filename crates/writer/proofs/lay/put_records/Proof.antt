@@ -1,28 +1,35 @@
-use mathlib.Core.List.{[], _∷_}
-use lib.ListN.{getD}
-use Prim.Native.Nat.{_+_, _*_}
-use Rattle.writer.specs.Fitted.{fitByte}
+use mathlib.Core.Path.{ap, sym, subst, _∙_}
+use mathlib.Core.List.{map}
+use Prim.Native.Nat.{ℕ, _+_, _-_, _≤_}
+use lib.ListN.{length}
+use lib.Seq.{sets}
+use Rattle.rules.specs.Encode.{recordsFor}
+use Rattle.writer.specs.Given.{Programs}
+use Rattle.writer.specs.Fitted.{fitByte, fitThrees, headFor}
 use Rattle.writer.proofs.Laying.{laid-length}
-use Prim.Native.Nat.{_-_}
-use Rattle.writer.proofs.Walking.{RecordsLaid, records-start, next-few, next-instructions, next-room, records-more, records-end}
+use Rattle.writer.proofs.Walking.{RecordsLaid, records-start, limits-room, next-few, next-instructions, next-room, records-on, records-end}
 use borrow.Author.Needs.{needs}
 use native.Mathlib.Omega.{arith}
 use Rattle.writer.proofs.lay.put_records.Statement.{statement}
 use Rattle.writer.proofs.lay.put_records.Tie as tie
-use Rattle.writer.proofs.lay.put_records.Reads as reads
-use Rattle.writer.proofs.lay.put_records.Lts as lts
-use Rattle.writer.proofs.lay.put_placement.Reads as put-placement-reads
-use Rattle.writer.proofs.lay.put_program.Reads as put-program-reads
-use Rattle.writer.proofs.lists.wider.Reads as wider-reads
 
 abbrev Inv-loop : tie.InvT-loop
-Inv-loop bytes₀ at processes placements instructions next₀ i₀ p₀ bytes next i p = RecordsLaid bytes₀ at processes placements instructions bytes next i p
+Inv-loop bytes₀ at placements limits instructions version processes before next₀ i₀ p₀ bytes next i p = RecordsLaid bytes₀ at version processes placements limits instructions bytes next i p
 
 abbrev μ-loop : tie.MeasureT-loop
-μ-loop bytes₀ at processes placements instructions next₀ i₀ p₀ bytes next i p = processes - p
+μ-loop bytes₀ at placements limits instructions version processes before next₀ i₀ p₀ bytes next i p = processes - p
+
+wider-requires : tie.Need-wider-requires Inv-loop μ-loop
+wider-requires c κs = search needs
+
+record-head-requires : tie.Need-record-head-requires Inv-loop μ-loop
+record-head-requires c κs = search needs
 
 loop-holds : tie.Need-loop-holds Inv-loop μ-loop
-loop-holds c = let s = c .before .before .before .args in records-start (s .bytes .now) (s .at) (s .processes) (s .placements .now) (s .instructions .now) (c .before .before .before .pre .0)
+loop-holds c =
+    let s = c .before .before .before .before .before .before .args in
+    records-start (s .bytes .now) (s .at) (s .head .version) (c .before .wider .result) (s .placements .now) (s .limits .now) (s .instructions .now)
+    (subst (λ (n : ℕ). Programs (s .head .version) n (s .placements .now) (s .limits .now) (s .instructions .now)) (sym (c .before .wider .ensures)) (c .before .before .before .before .before .before .pre .0))
 
 mul-wider : tie.Need-mul-wider Inv-loop μ-loop
 mul-wider c = search needs
@@ -34,88 +41,141 @@ mul-wider-2 : tie.Need-mul-wider-2 Inv-loop μ-loop
 mul-wider-2 c = search needs
 
 shared-slice-read-wider : tie.Need-shared-slice-read-wider Inv-loop μ-loop
-shared-slice-read-wider c = search needs
+shared-slice-read-wider c =
+    let z = c .before .before .before .before .before .before .before .before .before .pre .0 .placed in
+    let e = c .before .before .before .before .wider .ensures in
+    let t = c .before .loop-test .taken in
+    omega arith
 
-wider-requires : tie.Need-wider-requires Inv-loop μ-loop
-wider-requires c κs = search needs
+wider-requires-2 : tie.Need-wider-requires-2 Inv-loop μ-loop
+wider-requires-2 c κs = search needs
 
 put-placement-requires : tie.Need-put-placement-requires Inv-loop μ-loop
 put-placement-requires c κs =
-    let s = c .before .before .before .before .before .before .before .before .args in
+    let s = c .before .before .before .before .before .before .before .before .before .before .before .args in
     let l = c .before .before .before .before .loop in
-    let w = c .before .wider in
+    let w = c .before .wider2 in
     let t = c .before .before .before .loop-test .taken in
-    let g = c .before .before .before .before .before .before .before .before .pre in
-    let r = next-room (s .bytes .now) (s .at) (s .processes) (s .placements .now) (s .instructions .now) _ (l .next) (l .i) (l .p) (l .inv) (w .result) (w .ensures) t (g .1) in
+    let g : Programs (s .head .version) (c .before .before .before .before .before .before .wider .result) (s .placements .now) (s .limits .now) (s .instructions .now) =
+    subst (λ (n : ℕ). Programs (s .head .version) n (s .placements .now) (s .limits .now) (s .instructions .now)) (sym (c .before .before .before .before .before .before .wider .ensures)) (c .before .before .before .before .before .before .before .before .before .before .before .pre .0) in
+    let b = c .before .before .before .before .before .record-head .ensures .0 in
+    let d = c .before .before .before .before .before .record-head .ensures .1 in
+    let r = next-room (s .bytes .now) (s .at) (s .head .version) (c .before .before .before .before .before .before .wider .result) (s .placements .now) (s .limits .now) (s .instructions .now) _ (l .next) (l .i) (l .p) (l .inv) (w .result) (w .ensures) t
+    (subst (λ (n : ℕ). s .at + length (recordsFor (s .head .version) n (map fitByte (s .placements .now)) (map fitByte (s .limits .now)) (fitThrees (s .instructions .now))) ≤ length (s .bytes .now))
+    (sym (c .before .before .before .before .before .before .wider .ensures)) (c .before .before .before .before .before .before .before .before .before .before .before .pre .1)) in
     let q = l .inv .laid .same-length in
-    let z = g .0 .placed in
-    (omega arith, omega arith)
+    let k = next-instructions (s .bytes .now) (s .at) (s .head .version) (c .before .before .before .before .before .before .wider .result) (s .placements .now) (s .limits .now) (s .instructions .now) _ (l .next) (l .i) (l .p) (l .inv) (w .result) (w .ensures) t in
+    let f = next-few (s .bytes .now) (s .at) (s .head .version) (c .before .before .before .before .before .before .wider .result) (s .placements .now) (s .limits .now) (s .instructions .now) _ (l .next) (l .i) (l .p) (l .inv) (w .result) (w .ensures) t in
+    let z = g .placed in
+    (omega arith, (omega arith, limits-room (s .bytes .now) (s .at) (s .head .version) (c .before .before .before .before .before .before .wider .result) (s .placements .now) (s .limits .now) (s .instructions .now) g (l .p) t))
 
 add-put-program : tie.Need-add-put-program Inv-loop μ-loop
 add-put-program c =
-    let s = c .before .before .before .before .before .before .before .before .before .before .before .before .args in
+    let s = c .before .before .before .before .before .before .before .before .before .before .before .before .before .before .before .args in
     let l = c .before .before .before .before .before .before .before .before .loop in
-    let w = c .before .before .before .before .before .wider in
+    let w = c .before .before .before .before .before .wider2 in
     let t = c .before .before .before .before .before .before .before .loop-test .taken in
-    let g = c .before .before .before .before .before .before .before .before .before .before .before .before .pre in
-    let r = next-room (s .bytes .now) (s .at) (s .processes) (s .placements .now) (s .instructions .now) _ (l .next) (l .i) (l .p) (l .inv) (w .result) (w .ensures) t (g .1) in
+    let g : Programs (s .head .version) (c .before .before .before .before .before .before .before .before .before .before .wider .result) (s .placements .now) (s .limits .now) (s .instructions .now) =
+    subst (λ (n : ℕ). Programs (s .head .version) n (s .placements .now) (s .limits .now) (s .instructions .now)) (sym (c .before .before .before .before .before .before .before .before .before .before .wider .ensures)) (c .before .before .before .before .before .before .before .before .before .before .before .before .before .before .before .pre .0) in
+    let b = c .before .before .before .before .before .before .before .before .before .record-head .ensures .0 in
+    let d = c .before .before .before .before .before .before .before .before .before .record-head .ensures .1 in
+    let r = next-room (s .bytes .now) (s .at) (s .head .version) (c .before .before .before .before .before .before .before .before .before .before .wider .result) (s .placements .now) (s .limits .now) (s .instructions .now) _ (l .next) (l .i) (l .p) (l .inv) (w .result) (w .ensures) t
+    (subst (λ (n : ℕ). s .at + length (recordsFor (s .head .version) n (map fitByte (s .placements .now)) (map fitByte (s .limits .now)) (fitThrees (s .instructions .now))) ≤ length (s .bytes .now))
+    (sym (c .before .before .before .before .before .before .before .before .before .before .wider .ensures)) (c .before .before .before .before .before .before .before .before .before .before .before .before .before .before .before .pre .1)) in
     let q = l .inv .laid .same-length in
+    let k = next-instructions (s .bytes .now) (s .at) (s .head .version) (c .before .before .before .before .before .before .before .before .before .before .wider .result) (s .placements .now) (s .limits .now) (s .instructions .now) _ (l .next) (l .i) (l .p) (l .inv) (w .result) (w .ensures) t in
+    let f = next-few (s .bytes .now) (s .at) (s .head .version) (c .before .before .before .before .before .before .before .before .before .before .wider .result) (s .placements .now) (s .limits .now) (s .instructions .now) _ (l .next) (l .i) (l .p) (l .inv) (w .result) (w .ensures) t in
     omega arith
 
 put-program-requires : tie.Need-put-program-requires Inv-loop μ-loop
 put-program-requires c κs =
-    let s = c .before .before .before .before .before .before .before .before .before .before .before .before .args in
+    let s = c .before .before .before .before .before .before .before .before .before .before .before .before .before .before .before .args in
     let l = c .before .before .before .before .before .before .before .before .loop in
-    let w = c .before .before .before .before .before .wider in
+    let w = c .before .before .before .before .before .wider2 in
     let t = c .before .before .before .before .before .before .before .loop-test .taken in
-    let g = c .before .before .before .before .before .before .before .before .before .before .before .before .pre in
-    let r = next-room (s .bytes .now) (s .at) (s .processes) (s .placements .now) (s .instructions .now) _ (l .next) (l .i) (l .p) (l .inv) (w .result) (w .ensures) t (g .1) in
+    let g : Programs (s .head .version) (c .before .before .before .before .before .before .before .before .before .before .wider .result) (s .placements .now) (s .limits .now) (s .instructions .now) =
+    subst (λ (n : ℕ). Programs (s .head .version) n (s .placements .now) (s .limits .now) (s .instructions .now)) (sym (c .before .before .before .before .before .before .before .before .before .before .wider .ensures)) (c .before .before .before .before .before .before .before .before .before .before .before .before .before .before .before .pre .0) in
+    let b = c .before .before .before .before .before .before .before .before .before .record-head .ensures .0 in
+    let d = c .before .before .before .before .before .before .before .before .before .record-head .ensures .1 in
+    let r = next-room (s .bytes .now) (s .at) (s .head .version) (c .before .before .before .before .before .before .before .before .before .before .wider .result) (s .placements .now) (s .limits .now) (s .instructions .now) _ (l .next) (l .i) (l .p) (l .inv) (w .result) (w .ensures) t
+    (subst (λ (n : ℕ). s .at + length (recordsFor (s .head .version) n (map fitByte (s .placements .now)) (map fitByte (s .limits .now)) (fitThrees (s .instructions .now))) ≤ length (s .bytes .now))
+    (sym (c .before .before .before .before .before .before .before .before .before .before .wider .ensures)) (c .before .before .before .before .before .before .before .before .before .before .before .before .before .before .before .pre .1)) in
     let q = l .inv .laid .same-length in
-    let k = next-instructions (s .bytes .now) (s .at) (s .processes) (s .placements .now) (s .instructions .now) _ (l .next) (l .i) (l .p) (l .inv) (w .result) (w .ensures) t in
-    let e = laid-length (l .bytes) (c .before .before .before .put-placement .last .0) (l .next)
-    (fitByte (getD (s .placements .now) (3 * l .p) 0) ∷ fitByte (getD (s .placements .now) (3 * l .p + 1) 0) ∷ fitByte (getD (s .placements .now) (3 * l .p + 2) 0) ∷ [])
-    (c .before .before .before .put-placement .ensures) in
+    let k = next-instructions (s .bytes .now) (s .at) (s .head .version) (c .before .before .before .before .before .before .before .before .before .before .wider .result) (s .placements .now) (s .limits .now) (s .instructions .now) _ (l .next) (l .i) (l .p) (l .inv) (w .result) (w .ensures) t in
+    let f = next-few (s .bytes .now) (s .at) (s .head .version) (c .before .before .before .before .before .before .before .before .before .before .wider .result) (s .placements .now) (s .limits .now) (s .instructions .now) _ (l .next) (l .i) (l .p) (l .inv) (w .result) (w .ensures) t in
+    let e = laid-length (l .bytes) (c .before .before .before .put-placement .last .0) (l .next) (headFor (s .head .version) (s .placements .now) (s .limits .now) (l .p)) (c .before .before .before .put-placement .ensures) in
     (omega arith, omega arith)
 
 mul-next : tie.Need-mul-next Inv-loop μ-loop
 mul-next c =
-    let s = c .before .before .before .before .before .before .before .before .before .before .before .before .before .before .before .args in
+    let s = c .before .before .before .before .before .before .before .before .before .before .before .before .before .before .before .before .before .before .args in
     let l = c .before .before .before .before .before .before .before .before .before .before .before .loop in
-    let w = c .before .before .before .before .before .before .before .before .wider in
+    let w = c .before .before .before .before .before .before .before .before .wider2 in
     let t = c .before .before .before .before .before .before .before .before .before .before .loop-test .taken in
-    let g = c .before .before .before .before .before .before .before .before .before .before .before .before .before .before .before .pre in
-    let f = next-few (s .bytes .now) (s .at) (s .processes) (s .placements .now) (s .instructions .now) _ (l .next) (l .i) (l .p) (l .inv) (w .result) (w .ensures) t in
+    let g : Programs (s .head .version) (c .before .before .before .before .before .before .before .before .before .before .before .before .before .wider .result) (s .placements .now) (s .limits .now) (s .instructions .now) =
+    subst (λ (n : ℕ). Programs (s .head .version) n (s .placements .now) (s .limits .now) (s .instructions .now)) (sym (c .before .before .before .before .before .before .before .before .before .before .before .before .before .wider .ensures)) (c .before .before .before .before .before .before .before .before .before .before .before .before .before .before .before .before .before .before .pre .0) in
+    let b = c .before .before .before .before .before .before .before .before .before .before .before .before .record-head .ensures .0 in
+    let d = c .before .before .before .before .before .before .before .before .before .before .before .before .record-head .ensures .1 in
+    let r = next-room (s .bytes .now) (s .at) (s .head .version) (c .before .before .before .before .before .before .before .before .before .before .before .before .before .wider .result) (s .placements .now) (s .limits .now) (s .instructions .now) _ (l .next) (l .i) (l .p) (l .inv) (w .result) (w .ensures) t
+    (subst (λ (n : ℕ). s .at + length (recordsFor (s .head .version) n (map fitByte (s .placements .now)) (map fitByte (s .limits .now)) (fitThrees (s .instructions .now))) ≤ length (s .bytes .now))
+    (sym (c .before .before .before .before .before .before .before .before .before .before .before .before .before .wider .ensures)) (c .before .before .before .before .before .before .before .before .before .before .before .before .before .before .before .before .before .before .pre .1)) in
+    let q = l .inv .laid .same-length in
+    let k = next-instructions (s .bytes .now) (s .at) (s .head .version) (c .before .before .before .before .before .before .before .before .before .before .before .before .before .wider .result) (s .placements .now) (s .limits .now) (s .instructions .now) _ (l .next) (l .i) (l .p) (l .inv) (w .result) (w .ensures) t in
+    let f = next-few (s .bytes .now) (s .at) (s .head .version) (c .before .before .before .before .before .before .before .before .before .before .before .before .before .wider .result) (s .placements .now) (s .limits .now) (s .instructions .now) _ (l .next) (l .i) (l .p) (l .inv) (w .result) (w .ensures) t in
     omega arith
 
 add-next : tie.Need-add-next Inv-loop μ-loop
 add-next c =
-    let s = c .before .before .before .before .before .before .before .before .before .before .before .before .before .before .before .args in
+    let s = c .before .before .before .before .before .before .before .before .before .before .before .before .before .before .before .before .before .before .args in
     let l = c .before .before .before .before .before .before .before .before .before .before .before .loop in
-    let w = c .before .before .before .before .before .before .before .before .wider in
+    let w = c .before .before .before .before .before .before .before .before .wider2 in
     let t = c .before .before .before .before .before .before .before .before .before .before .loop-test .taken in
-    let g = c .before .before .before .before .before .before .before .before .before .before .before .before .before .before .before .pre in
-    let f = next-few (s .bytes .now) (s .at) (s .processes) (s .placements .now) (s .instructions .now) _ (l .next) (l .i) (l .p) (l .inv) (w .result) (w .ensures) t in
+    let g : Programs (s .head .version) (c .before .before .before .before .before .before .before .before .before .before .before .before .before .wider .result) (s .placements .now) (s .limits .now) (s .instructions .now) =
+    subst (λ (n : ℕ). Programs (s .head .version) n (s .placements .now) (s .limits .now) (s .instructions .now)) (sym (c .before .before .before .before .before .before .before .before .before .before .before .before .before .wider .ensures)) (c .before .before .before .before .before .before .before .before .before .before .before .before .before .before .before .before .before .before .pre .0) in
+    let b = c .before .before .before .before .before .before .before .before .before .before .before .before .record-head .ensures .0 in
+    let d = c .before .before .before .before .before .before .before .before .before .before .before .before .record-head .ensures .1 in
+    let r = next-room (s .bytes .now) (s .at) (s .head .version) (c .before .before .before .before .before .before .before .before .before .before .before .before .before .wider .result) (s .placements .now) (s .limits .now) (s .instructions .now) _ (l .next) (l .i) (l .p) (l .inv) (w .result) (w .ensures) t
+    (subst (λ (n : ℕ). s .at + length (recordsFor (s .head .version) n (map fitByte (s .placements .now)) (map fitByte (s .limits .now)) (fitThrees (s .instructions .now))) ≤ length (s .bytes .now))
+    (sym (c .before .before .before .before .before .before .before .before .before .before .before .before .before .wider .ensures)) (c .before .before .before .before .before .before .before .before .before .before .before .before .before .before .before .before .before .before .pre .1)) in
+    let q = l .inv .laid .same-length in
+    let k = next-instructions (s .bytes .now) (s .at) (s .head .version) (c .before .before .before .before .before .before .before .before .before .before .before .before .before .wider .result) (s .placements .now) (s .limits .now) (s .instructions .now) _ (l .next) (l .i) (l .p) (l .inv) (w .result) (w .ensures) t in
+    let f = next-few (s .bytes .now) (s .at) (s .head .version) (c .before .before .before .before .before .before .before .before .before .before .before .before .before .wider .result) (s .placements .now) (s .limits .now) (s .instructions .now) _ (l .next) (l .i) (l .p) (l .inv) (w .result) (w .ensures) t in
     omega arith
 
 add-next-2 : tie.Need-add-next-2 Inv-loop μ-loop
 add-next-2 c =
-    let s = c .before .before .before .before .before .before .before .before .before .before .before .before .before .before .before .args in
+    let s = c .before .before .before .before .before .before .before .before .before .before .before .before .before .before .before .before .before .before .args in
     let l = c .before .before .before .before .before .before .before .before .before .before .before .loop in
-    let w = c .before .before .before .before .before .before .before .before .wider in
+    let w = c .before .before .before .before .before .before .before .before .wider2 in
     let t = c .before .before .before .before .before .before .before .before .before .before .loop-test .taken in
-    let g = c .before .before .before .before .before .before .before .before .before .before .before .before .before .before .before .pre in
-    let r = next-room (s .bytes .now) (s .at) (s .processes) (s .placements .now) (s .instructions .now) _ (l .next) (l .i) (l .p) (l .inv) (w .result) (w .ensures) t (g .1) in
+    let g : Programs (s .head .version) (c .before .before .before .before .before .before .before .before .before .before .before .before .before .wider .result) (s .placements .now) (s .limits .now) (s .instructions .now) =
+    subst (λ (n : ℕ). Programs (s .head .version) n (s .placements .now) (s .limits .now) (s .instructions .now)) (sym (c .before .before .before .before .before .before .before .before .before .before .before .before .before .wider .ensures)) (c .before .before .before .before .before .before .before .before .before .before .before .before .before .before .before .before .before .before .pre .0) in
+    let b = c .before .before .before .before .before .before .before .before .before .before .before .before .record-head .ensures .0 in
+    let d = c .before .before .before .before .before .before .before .before .before .before .before .before .record-head .ensures .1 in
+    let r = next-room (s .bytes .now) (s .at) (s .head .version) (c .before .before .before .before .before .before .before .before .before .before .before .before .before .wider .result) (s .placements .now) (s .limits .now) (s .instructions .now) _ (l .next) (l .i) (l .p) (l .inv) (w .result) (w .ensures) t
+    (subst (λ (n : ℕ). s .at + length (recordsFor (s .head .version) n (map fitByte (s .placements .now)) (map fitByte (s .limits .now)) (fitThrees (s .instructions .now))) ≤ length (s .bytes .now))
+    (sym (c .before .before .before .before .before .before .before .before .before .before .before .before .before .wider .ensures)) (c .before .before .before .before .before .before .before .before .before .before .before .before .before .before .before .before .before .before .pre .1)) in
     let q = l .inv .laid .same-length in
+    let k = next-instructions (s .bytes .now) (s .at) (s .head .version) (c .before .before .before .before .before .before .before .before .before .before .before .before .before .wider .result) (s .placements .now) (s .limits .now) (s .instructions .now) _ (l .next) (l .i) (l .p) (l .inv) (w .result) (w .ensures) t in
+    let f = next-few (s .bytes .now) (s .at) (s .head .version) (c .before .before .before .before .before .before .before .before .before .before .before .before .before .wider .result) (s .placements .now) (s .limits .now) (s .instructions .now) _ (l .next) (l .i) (l .p) (l .inv) (w .result) (w .ensures) t in
     omega arith
 
 add-i : tie.Need-add-i Inv-loop μ-loop
 add-i c =
-    let s = c .before .before .before .before .before .before .before .before .before .before .before .before .before .before .before .args in
+    let s = c .before .before .before .before .before .before .before .before .before .before .before .before .before .before .before .before .before .before .args in
     let l = c .before .before .before .before .before .before .before .before .before .before .before .loop in
-    let w = c .before .before .before .before .before .before .before .before .wider in
+    let w = c .before .before .before .before .before .before .before .before .wider2 in
     let t = c .before .before .before .before .before .before .before .before .before .before .loop-test .taken in
-    let g = c .before .before .before .before .before .before .before .before .before .before .before .before .before .before .before .pre in
-    let k = next-instructions (s .bytes .now) (s .at) (s .processes) (s .placements .now) (s .instructions .now) _ (l .next) (l .i) (l .p) (l .inv) (w .result) (w .ensures) t in
+    let g : Programs (s .head .version) (c .before .before .before .before .before .before .before .before .before .before .before .before .before .wider .result) (s .placements .now) (s .limits .now) (s .instructions .now) =
+    subst (λ (n : ℕ). Programs (s .head .version) n (s .placements .now) (s .limits .now) (s .instructions .now)) (sym (c .before .before .before .before .before .before .before .before .before .before .before .before .before .wider .ensures)) (c .before .before .before .before .before .before .before .before .before .before .before .before .before .before .before .before .before .before .pre .0) in
+    let b = c .before .before .before .before .before .before .before .before .before .before .before .before .record-head .ensures .0 in
+    let d = c .before .before .before .before .before .before .before .before .before .before .before .before .record-head .ensures .1 in
+    let r = next-room (s .bytes .now) (s .at) (s .head .version) (c .before .before .before .before .before .before .before .before .before .before .before .before .before .wider .result) (s .placements .now) (s .limits .now) (s .instructions .now) _ (l .next) (l .i) (l .p) (l .inv) (w .result) (w .ensures) t
+    (subst (λ (n : ℕ). s .at + length (recordsFor (s .head .version) n (map fitByte (s .placements .now)) (map fitByte (s .limits .now)) (fitThrees (s .instructions .now))) ≤ length (s .bytes .now))
+    (sym (c .before .before .before .before .before .before .before .before .before .before .before .before .before .wider .ensures)) (c .before .before .before .before .before .before .before .before .before .before .before .before .before .before .before .before .before .before .pre .1)) in
+    let q = l .inv .laid .same-length in
+    let k = next-instructions (s .bytes .now) (s .at) (s .head .version) (c .before .before .before .before .before .before .before .before .before .before .before .before .before .wider .result) (s .placements .now) (s .limits .now) (s .instructions .now) _ (l .next) (l .i) (l .p) (l .inv) (w .result) (w .ensures) t in
+    let f = next-few (s .bytes .now) (s .at) (s .head .version) (c .before .before .before .before .before .before .before .before .before .before .before .before .before .wider .result) (s .placements .now) (s .limits .now) (s .instructions .now) _ (l .next) (l .i) (l .p) (l .inv) (w .result) (w .ensures) t in
     omega arith
 
 add-p : tie.Need-add-p Inv-loop μ-loop
@@ -126,21 +186,22 @@ loop-less c = search needs
 
 loop-again : tie.Need-loop-again Inv-loop μ-loop
 loop-again c =
-    let s = c .before .before .before .before .before .before .before .before .before .before .before .before .before .before .before .args in
+    let s = c .before .before .before .before .before .before .before .before .before .before .before .before .before .before .before .before .before .before .args in
     let l = c .before .before .before .before .before .before .before .before .before .before .before .loop in
-    let w = c .before .before .before .before .before .before .before .before .wider in
-    let t = c .before .before .before .before .before .before .before .before .before .before .loop-test .taken in
-    let g = c .before .before .before .before .before .before .before .before .before .before .before .before .before .before .before .pre in
-    records-more (s .bytes .now) (s .at) (s .processes) (s .placements .now) (s .instructions .now) _ (l .next) (l .i) (l .p) (l .inv) (w .result) (w .ensures) t _ _ (c .before .before .before .before .before .before .put-placement .ensures) (c .before .before .put-program .ensures)
+    let w = c .before .before .before .before .before .before .before .before .wider2 in
+    records-on (s .bytes .now) (s .at) (s .head .version) (c .before .before .before .before .before .before .before .before .before .before .before .before .before .wider .result) (s .placements .now) (s .limits .now) (s .instructions .now) _ (l .next) (l .i) (l .p) (l .inv) (w .result) (w .ensures) (c .before .before .before .before .before .before .before .before .before .before .loop-test .taken)
+    (c .before .before .before .before .before .before .before .before .before .before .before .before .record-head .result) (c .before .before .before .before .before .before .before .before .before .before .before .before .record-head .ensures .0) _ _ (c .before .before .before .before .before .before .put-placement .ensures) (c .before .before .put-program .ensures)
 
 same-length : tie.Need-same-length Inv-loop μ-loop
 same-length c = search needs
 
 returns : tie.Need-returns Inv-loop μ-loop
 returns c =
-    let s = c .before .before .before .before .before .args in
+    let s = c .before .before .before .before .before .before .before .before .args in
     let l = c .before .loop in
-    records-end (s .bytes .now) (s .at) (s .processes) (s .placements .now) (s .instructions .now) _ (l .next) (l .i) (l .p) (l .inv) (c .loop-test .left)
+    records-end (s .bytes .now) (s .at) (s .head .version) (c .before .before .before .wider .result) (s .placements .now) (s .limits .now) (s .instructions .now) _ (l .next) (l .i) (l .p) (l .inv) (c .loop-test .left)
+    ∙ ap (λ (n : ℕ). sets (s .bytes .now) (s .at) (recordsFor (s .head .version) n (map fitByte (s .placements .now)) (map fitByte (s .limits .now)) (fitThrees (s .instructions .now))))
+    (c .before .before .before .wider .ensures)
 
 pub put-records-spec : {M : Type 1} → statement M
 put-records-spec =
@@ -148,12 +209,14 @@ put-records-spec =
     (tie.spec
     Inv-loop
     μ-loop
+    wider-requires
+    record-head-requires
     loop-holds
     mul-wider
     add-wider
     mul-wider-2
     shared-slice-read-wider
-    wider-requires
+    wider-requires-2
     put-placement-requires
     add-put-program
     put-program-requires

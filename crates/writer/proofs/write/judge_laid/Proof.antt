@@ -1,14 +1,9 @@
 use mathlib.Core.Path.{_∙_}
 use Rattle.writer.specs.Given.{given}
 use Rattle.writer.proofs.Composing.{judged-laid}
-use native.Mathlib.Omega.{arith}
 use borrow.Author.Needs.{needs}
 use Rattle.writer.proofs.write.judge_laid.Statement.{statement}
 use Rattle.writer.proofs.write.judge_laid.Tie as tie
-use Rattle.writer.proofs.write.judge_laid.Reads as reads
-use Rattle.writer.proofs.write.judge_laid.Lts as lts
-use Rattle.writer.proofs.lay.lay.Reads as lay-reads
-use Rattle.writer.proofs.write.judge_front.Reads as judge-front-reads
 
 slice-aggregate-lay : tie.Need-slice-aggregate-lay
 slice-aggregate-lay c = search needs
@@ -24,10 +19,9 @@ judge-front-requires c κs = search needs
 
 returns : tie.Need-returns
 returns c =
-    let s = c .before .before .before .before .before .before .before .before .args in
-    let g = c .before .before .before .before .before .before .before .before .pre in
-    c .judge-front .ensures
-    ∙ judged-laid (given (s .counts) (s .ends .now) (s .placements .now) (s .instructions .now)) (g .0) _ (c .before .before .before .lay .last .0) (s .total) (g .1 .0) (g .1 .1) (c .before .before .before .lay .ensures)
+    let s = c .before .before .before .before .before .before .before .before .before .args in
+    let g = c .before .before .before .before .before .before .before .before .before .pre in
+    c .judge-front .ensures ∙ judged-laid (given (s .head) (s .ends .now) (s .placements .now) (s .limits .now) (s .instructions .now)) (g .0) _ (c .before .before .before .lay .last .0) (s .total) (g .1 .0) (g .1 .1) (c .before .before .before .lay .ensures)
 
 pub judge-laid-spec : {M : Type 1} → statement M
 judge-laid-spec =

@@ -1,0 +1,239 @@
+//! How long a sync of the backup record takes, in place and by value, beside a plain one in Rust: `sync_speed [--repetitions N] [--seed N]
+//! [--row N]`. `tools/sync-speed` builds what it links.
+//!
+//! Each repetition makes all records anew, so that no branch can be learnt, and calls the three in turn on the same records in one process;
+//! who is first changes. The replies and the records afterwards are compared.
+mod plain;
+
+use outside::random::Random;
+use plain::{Checkpoint, Record, Saved};
+use std::time::Instant;
+
+const SEED: u64 = 0xA076_1D64_78BD_642F;
+const REPETITIONS: u64 = 2000;
+const RECORDS: usize = 64;
+
+/// Saved words at most; a head in place, and one by value: length, count, place and registers, and in place also the words on each slot.
+const LOG: usize = 48;
+const HEAD: usize = 11;
+const SHORT: usize = 7;
+
+type Reply = [u32; 9];
+
+#[link(name = "sync_in_place", kind = "static")]
+extern "C" {
+    fn sync_log() -> usize;
+    fn sync_in_place(log: &mut [u64; LOG], head: &mut [u32; HEAD], checkpoint: &[u32; 9], reply: &mut Reply);
+}
+
+#[link(name = "sync_by_value", kind = "static")]
+extern "C" {
+    fn sync_by_value(log: &mut [u64; LOG], head: &mut [u32; SHORT], checkpoint: &[u32; 9], reply: &mut Reply);
+}
+
+/// Which words were taken.
+#[derive(Clone, Copy)]
+enum Taken {
+    Oldest(usize),
+    Anywhere(usize),
+}
+
+struct Row {
+    saved: usize,
+    taken: Taken,
+}
+
+const fn row(saved: usize, taken: Taken) -> Row {
+    Row { saved, taken }
+}
+
+const ROWS: [Row; 13] = [
+    row(0, Taken::Oldest(0)),
+    row(8, Taken::Oldest(0)),
+    row(24, Taken::Oldest(0)),
+    row(48, Taken::Oldest(0)),
+    row(8, Taken::Oldest(8)),
+    row(24, Taken::Oldest(8)),
+    row(48, Taken::Oldest(8)),
+    row(24, Taken::Anywhere(8)),
+    row(48, Taken::Anywhere(8)),
+    row(48, Taken::Oldest(40)),
+    row(48, Taken::Anywhere(40)),
+    row(24, Taken::Oldest(24)),
+    row(48, Taken::Oldest(48)),
+];
+
+impl Row {
+    fn name(&self) -> String {
+        match self.taken {
+            Taken::Oldest(n) if n == 0 || n == self.saved => format!("{}", n),
+            Taken::Oldest(n) => format!("{n}, in order"),
+            Taken::Anywhere(n) => format!("{n}, mixed"),
+        }
+    }
+}
+
+/// A record and the checkpoint that lands on it: in place but for its log, plain and by value.
+struct InPlace {
+    head: [u32; HEAD],
+    checkpoint: [u32; 9],
+    reply: Reply,
+}
+
+struct Plain {
+    record: Record,
+    checkpoint: Checkpoint,
+    reply: Reply,
+}
+
+struct ByValue {
+    log: [u64; LOG],
+    head: [u32; SHORT],
+    checkpoint: [u32; 9],
+    reply: Reply,
+}
+
+/// The same records three times, each kind by itself. Logs in place stand together, as the cabinet has them, and as the plain record's stand
+/// apart from it.
+struct Samples {
+    logs: Vec<[u64; LOG]>,
+    in_place: Vec<InPlace>,
+    plain: Vec<Plain>,
+    by_value: Vec<ByValue>,
+}
+
+/// How many of these slots are 0, 1, 2 and 3.
+fn on(slots: &[u8]) -> [u32; 4] {
+    [0, 1, 2, 3].map(|slot| slots.iter().filter(|&&other| other == slot).count() as u32)
+}
+
+fn one(random: &mut Random, row: &Row) -> ([u64; LOG], InPlace, Plain, ByValue) {
+    let slots: Vec<u8> = (0..row.saved).map(|_| random.below(4) as u8).collect();
+    let saved: Vec<Saved> = slots.iter().map(|&slot| Saved { word: random.word(), slot }).collect();
+    let mut chosen = slots.clone();
+    let n = match row.taken {
+        Taken::Oldest(n) => n,
+        Taken::Anywhere(n) => {
+            (0..n).for_each(|i| chosen.swap(i, i + random.below((row.saved - i) as u32) as usize));
+            n
+        }
+    };
+    let taken = on(&chosen[..n]);
+    let [count, place, registers @ ..] = [0; 6].map(|_| random.below(17));
+    let mut log = [0; LOG];
+    log.iter_mut().zip(&saved).for_each(|(number, saved)| *number = packed(saved));
+    let mut head = [0; HEAD];
+    head[..SHORT].copy_from_slice(&[row.saved as u32, count, place, 1, 2, 3, 4]);
+    head[SHORT..].copy_from_slice(&on(&slots));
+    let mut checkpoint = [0; 9];
+    checkpoint[0] = place;
+    checkpoint[1..5].copy_from_slice(&registers);
+    checkpoint[5..].copy_from_slice(&taken);
+    let reply = [0; 9];
+    let short = [row.saved as u32, count, place, 1, 2, 3, 4];
+    let record = Record { saved, on: on(&slots), registers: [1, 2, 3, 4], place, count };
+    (
+        log,
+        InPlace { head, checkpoint, reply },
+        Plain { record, checkpoint: Checkpoint { place, registers, taken }, reply },
+        ByValue { log, head: short, checkpoint, reply },
+    )
+}
+
+/// A saved word as one number.
+fn packed(saved: &Saved) -> u64 {
+    (saved.slot as u64) << 32 | saved.word as u64
+}
+
+impl Samples {
+    fn new(random: &mut Random, row: &Row) -> Samples {
+        let mut samples = Samples { logs: Vec::new(), in_place: Vec::new(), plain: Vec::new(), by_value: Vec::new() };
+        for _ in 0..RECORDS {
+            let (log, in_place, plain, by_value) = one(random, row);
+            samples.logs.push(log);
+            samples.in_place.push(in_place);
+            samples.plain.push(plain);
+            samples.by_value.push(by_value);
+        }
+        samples
+    }
+
+    fn check(&self) {
+        for (((log, ours), plain), value) in self.logs.iter().zip(&self.in_place).zip(&self.plain).zip(&self.by_value) {
+            let record = &plain.record;
+            let saved: Vec<u64> = record.saved.iter().map(packed).collect();
+            let mut head = vec![saved.len() as u32, record.count, record.place];
+            head.extend(record.registers);
+            assert!(log[..saved.len()] == saved[..] && value.log[..saved.len()] == saved[..], "the saved words differ");
+            assert!(ours.head[..SHORT] == head[..] && value.head[..] == head[..], "the heads differ");
+            assert!(ours.head[SHORT..] == record.on, "the words on each slot differ");
+            assert!(ours.reply == plain.reply && value.reply == plain.reply, "the replies differ");
+        }
+    }
+
+    /// All records once, by one of the three, in nanoseconds.
+    fn turn(&mut self, who: usize) -> u64 {
+        let start = Instant::now();
+        match who {
+            0 => self.logs.iter_mut().zip(&mut self.in_place).for_each(|(log, s)| unsafe { sync_in_place(log, &mut s.head, &s.checkpoint, &mut s.reply) }),
+            1 => self.plain.iter_mut().for_each(|s| sync_plain(&mut s.record, &s.checkpoint, &mut s.reply)),
+            _ => self.by_value.iter_mut().for_each(|s| unsafe { sync_by_value(&mut s.log, &mut s.head, &s.checkpoint, &mut s.reply) }),
+        }
+        start.elapsed().as_nanos() as u64
+    }
+}
+
+#[inline(never)]
+fn sync_plain(record: &mut Record, checkpoint: &Checkpoint, reply: &mut Reply) {
+    match record.sync(checkpoint) {
+        Ok(report) => {
+            reply[0] = 0;
+            reply[1..5].copy_from_slice(&report.dropped);
+            reply[5..].copy_from_slice(&report.remaining);
+        }
+        Err(number) => *reply = [number as u32, 0, 0, 0, 0, 0, 0, 0, 0],
+    }
+}
+
+/// The least time and the median of each of the three; the first repetitions are not counted.
+fn time(random: &mut Random, row: &Row, repetitions: u64) -> [[f64; 2]; 3] {
+    let mut times: [Vec<u64>; 3] = Default::default();
+    for i in 0..repetitions + 10 {
+        let mut samples = Samples::new(random, row);
+        for k in 0..3 {
+            let who = (k + i as usize) % 3;
+            let took = samples.turn(who);
+            if i >= 10 {
+                times[who].push(took);
+            }
+        }
+        samples.check();
+    }
+    times.map(|mut times| {
+        times.sort_unstable();
+        [times[0], times[times.len() / 2]].map(|time| time as f64 / RECORDS as f64)
+    })
+}
+
+/// The value of an option, if it is given.
+fn option(name: &str) -> Option<u64> {
+    let mut arguments = std::env::args().skip_while(|argument| argument != name).skip(1);
+    arguments.next().map(|value| value.parse().unwrap_or_else(|_| panic!("{name} takes a number")))
+}
+
+fn main() {
+    assert!(unsafe { sync_log() } == LOG, "the record's size is another");
+    let repetitions = option("--repetitions").unwrap_or(REPETITIONS).max(1);
+    let seed = option("--seed").unwrap_or(SEED);
+    let only = option("--row");
+    println!("nanoseconds a sync, the quickest (and the median) of {repetitions} repetitions over {RECORDS} records, seed {seed}");
+    println!("{:>5} | {:<12}|{:>16} |{:>16} |{:>16} | in place to plain", "saved", "taken", "in place", "plain", "by value");
+    for (i, row) in ROWS.iter().enumerate().filter(|(i, _)| only.is_none_or(|only| only == *i as u64)) {
+        let [ours, plain, value] = time(&mut Random::new(seed + i as u64), row, repetitions);
+        let pair = |[least, median]: [f64; 2]| format!("{least:.1} ({median:.1})");
+        println!(
+            "{:>5} | {:<12}|{:>16} |{:>16} |{:>16} |{:>6.2} ({:.2})",
+            row.saved, row.name(), pair(ours), pair(plain), pair(value), ours[0] / plain[0], ours[1] / plain[1]
+        );
+    }
+}
