@@ -39,7 +39,7 @@ extern "C" {
 /* ---- a table's instructions and a schedule's moves */
 
 enum ks_instruction { KS_SET = 1, KS_ADD = 2, KS_TAKE = 3, KS_FIRST = 4, KS_SEND = 5, KS_JUMP = 6 };
-enum ks_move { KS_STEP = 1, KS_SYNC = 2, KS_CARRY = 3, KS_FEED = 4, KS_CRASH = 5 };
+enum ks_move { KS_STEP = 1, KS_SYNC = 2, KS_CARRY = 3, KS_FEED = 4, KS_CRASH = 5, KS_RETURN = 6, KS_RESYNC = 7 };
 enum { KS_SCANNER = 0, KS_PRINTER = 1, KS_OUTLET = 2 }; /* the label line's channels */
 enum { KS_OUTSIDE = 255 }; /* as the sender or the reader of a channel */
 
@@ -77,7 +77,7 @@ enum ks_answer {
     KS_QUEUED = 2,
     KS_HELD_BACK = 3,
     KS_ON_THE_BUS = 4,
-    KS_SYNC_CARRIED = 5,      /* (process, how many saved words it dropped) */
+    KS_SYNC_CARRIED = 5,      /* (process, how many saved words it dropped); of a resync (process, 0) */
     KS_SYNC_UNBACKED = 6,     /* (process, 0): no backup left */
     /* refusals: the record's a, and word 0 */
     KS_BAD_RECORD = 32,       /* unknown move, or a word that should be 0 */
@@ -85,14 +85,17 @@ enum ks_answer {
     KS_BOARD_DEAD = 34,
     KS_HALTED = 35,
     KS_NO_WORD = 36,
-    KS_OWES_SYNC = 37,        /* backed, and acts are at its limit (8 in version 1) or instructions 64 */
+    KS_OWES_SYNC = 37,        /* backed or a resync waits, and acts are at its limit (8 in version 1) or instructions 64 */
     KS_QUEUE_FULL = 38,
     KS_CHANNEL_HELD = 39,
     KS_NO_BACKUP = 40,
-    KS_SYNC_WAITING = 41,
+    KS_SYNC_WAITING = 41,     /* a sync waits; for a resync, a sync or a resync does */
     KS_QUEUE_EMPTY = 42,
     KS_NOT_FROM_OUTSIDE = 43,
-    KS_OTHER_CRASHED = 44     /* another board has crashed */
+    KS_SOME_UNBACKED = 44,    /* some process has no backup */
+    KS_BOARD_LIVE = 48,       /* a return of a live board */
+    KS_NOT_READY = 49,        /* a resync with hold-back above 0, or more than 8 words on one channel it reads */
+    KS_HAS_BACKUP = 50        /* a resync of a process that has a backup, or whose other table board is dead */
 };
 
 /* ---- why it is that answer: a byte of the list of reasons, the answer's code times 4, plus its cause */
@@ -101,12 +104,14 @@ enum ks_cause {
     KS_CAUSE_CALCULATED = 0,            /* done: calculated */
     KS_CAUSE_SYNC_ISSUED = 1,           /* done: sync issued */
     KS_CAUSE_BOARD_CRASHED = 2,         /* done: board crashed */
+    KS_CAUSE_RETURNED_OR_RESYNC = 3,    /* done: board returned or resync issued */
     KS_CAUSE_TOOK = 4,                  /* took */
     KS_CAUSE_QUEUED = 8,                /* queued */
     KS_CAUSE_HELD_BACK = 12,            /* held back */
     KS_CAUSE_CARRIED = 16,              /* on the bus: carried */
     KS_CAUSE_FED = 17,                  /* on the bus: fed */
     KS_CAUSE_SYNC_CARRIED = 20,         /* sync carried */
+    KS_CAUSE_RESYNC_CARRIED = 23,       /* resync carried, a new backup */
     KS_CAUSE_SYNC_UNBACKED = 24,        /* sync carried, no backup left */
     KS_CAUSE_NO_SUCH_MOVE = 128,        /* bad record: no such move */
     KS_CAUSE_WORD_NOT_ZERO = 129,       /* bad record: its word should be 0 */
@@ -122,13 +127,18 @@ enum ks_cause {
     KS_CAUSE_OWES_FOR_INSTRUCTIONS = 149, /* owes a sync: 64 instructions */
     KS_CAUSE_QUEUE_FULL_FOR_SEND = 152, /* queue full: for SEND */
     KS_CAUSE_QUEUE_FULL_FOR_SYNC = 153, /* queue full: for a sync */
+    KS_CAUSE_QUEUE_FULL_FOR_RESYNC = 155, /* queue full: for a resync */
     KS_CAUSE_HELD_FOR_SEND = 156,       /* channel held: for SEND */
     KS_CAUSE_HELD_FOR_FEED = 157,       /* channel held: for a feed */
     KS_CAUSE_NO_BACKUP = 160,           /* no backup */
     KS_CAUSE_SYNC_WAITING = 164,        /* a sync waits already */
+    KS_CAUSE_RESYNC_WAITING = 167,      /* a sync or resync waits already: for a resync */
     KS_CAUSE_QUEUE_EMPTY = 168,         /* queue empty */
     KS_CAUSE_NOT_FROM_OUTSIDE = 172,    /* sender not the outside */
-    KS_CAUSE_OTHER_CRASHED = 176        /* another board has crashed */
+    KS_CAUSE_SOME_UNBACKED = 176,       /* some process has no backup */
+    KS_CAUSE_BOARD_LIVE = 192,          /* board live: only a dead one returns */
+    KS_CAUSE_NOT_READY = 196,           /* not ready: hold-back, or over 8 words on a channel */
+    KS_CAUSE_HAS_BACKUP = 200           /* has a backup, or its other board is dead */
 };
 
 /* ---- what the backup record replies */

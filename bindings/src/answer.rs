@@ -2,7 +2,7 @@
 use crate::numbers::{numbers, worded};
 
 numbers! {
-    /// An answer's code: what was done (0 to 6), or why the record was refused (32 to 44).
+    /// An answer's code: what was done (0 to 6), or why the record was refused (32 to 44, 48 to 50).
     Code {
         Done = 0,
         /// Took: channel and word.
@@ -13,7 +13,7 @@ numbers! {
         HeldBack = 3,
         /// Word on the bus: channel and word; also of a feed.
         OnTheBus = 4,
-        /// Sync carried: the process.
+        /// Sync carried: the process, and how many saved words it dropped; also a resync, with word 0.
         SyncCarried = 5,
         /// Sync with no backup left: the process.
         SyncUnbacked = 6,
@@ -25,18 +25,24 @@ numbers! {
         Halted = 35,
         /// No such word.
         NoWord = 36,
-        /// Backed, and acts are at the process's limit (8 in a table of version 1) or instructions 64.
+        /// Backed or a resync waits, and acts are at the process's limit (8 in a table of version 1) or instructions 64.
         OwesSync = 37,
         QueueFull = 38,
         ChannelHeld = 39,
         NoBackup = 40,
-        /// One sync is waiting.
+        /// One sync is waiting; for a resync, a sync or a resync is.
         SyncWaiting = 41,
         QueueEmpty = 42,
         /// The channel's sender is not the outside.
         NotFromOutside = 43,
-        /// Another board has crashed.
-        OtherCrashed = 44,
+        /// Some process has no backup.
+        SomeUnbacked = 44,
+        /// A return of a live board.
+        BoardLive = 48,
+        /// A resync with hold-back above 0, or with more than 8 words, unread and in queues, on one channel that the process reads.
+        NotReady = 49,
+        /// A resync of a process that has a backup, or whose other table board is dead.
+        HasBackup = 50,
     }
 }
 
@@ -53,12 +59,14 @@ worded! {
         Calculated = 0 => "done: calculated",
         SyncIssued = 1 => "done: sync issued",
         BoardCrashed = 2 => "done: board crashed",
+        ReturnedOrResync = 3 => "done: board returned or resync issued",
         Took = 4 => "took",
         Queued = 8 => "queued",
         HeldBack = 12 => "held back",
         Carried = 16 => "on the bus: carried",
         Fed = 17 => "on the bus: fed",
         SyncCarried = 20 => "sync carried",
+        ResyncCarried = 23 => "resync carried, a new backup",
         SyncUnbacked = 24 => "sync carried, no backup left",
         NoSuchMove = 128 => "bad record: no such move",
         WordNotZero = 129 => "bad record: its word should be 0",
@@ -74,13 +82,18 @@ worded! {
         OwesForInstructions = 149 => "owes a sync: 64 instructions",
         QueueFullForSend = 152 => "queue full: for SEND",
         QueueFullForSync = 153 => "queue full: for a sync",
+        QueueFullForResync = 155 => "queue full: for a resync",
         HeldForSend = 156 => "channel held: for SEND",
         HeldForFeed = 157 => "channel held: for a feed",
         NoBackup = 160 => "no backup",
         SyncWaiting = 164 => "a sync waits already",
+        ResyncWaiting = 167 => "a sync or resync waits already: for a resync",
         QueueEmpty = 168 => "queue empty",
         NotFromOutside = 172 => "sender not the outside",
-        OtherCrashed = 176 => "another board has crashed",
+        SomeUnbacked = 176 => "some process has no backup",
+        BoardLive = 192 => "board live: only a dead one returns",
+        NotReady = 196 => "not ready: hold-back, or over 8 words on a channel",
+        HasBackup = 200 => "has a backup, or its other board is dead",
     }
 }
 

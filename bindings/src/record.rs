@@ -5,7 +5,7 @@ use crate::numbers::numbers;
 pub const OUTSIDE: u8 = 255;
 
 numbers! {
-    /// The five moves.
+    /// The moves.
     Move {
         /// One instruction of a process.
         Step = 1,
@@ -17,6 +17,10 @@ numbers! {
         Feed = 4,
         /// A board is pulled.
         Crash = 5,
+        /// A repaired board comes back, with an empty queue.
+        Return = 6,
+        /// A process gets a backup again: its snapshot and copies of its unread words join its board's queue.
+        Resync = 7,
     }
 }
 
@@ -32,7 +36,8 @@ numbers! {
     }
 }
 
-/// One record of a schedule: a process for steps and syncs, a board for carries and crashes, a channel for feeds; and a feed's word.
+/// One record of a schedule: a process for steps, syncs and resyncs, a board for carries, crashes and returns, a channel for feeds; and a
+/// feed's word.
 #[derive(Clone, Copy, Debug, PartialEq, Eq, Hash)]
 pub struct Record {
     pub kind: Move,
@@ -59,6 +64,14 @@ impl Record {
 
     pub fn crash(board: u8) -> Record {
         Record { kind: Move::Crash, a: board, word: 0 }
+    }
+
+    pub fn return_board(board: u8) -> Record {
+        Record { kind: Move::Return, a: board, word: 0 }
+    }
+
+    pub fn resync(process: u8) -> Record {
+        Record { kind: Move::Resync, a: process, word: 0 }
     }
 
     /// Its six bytes.

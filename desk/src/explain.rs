@@ -137,6 +137,8 @@ fn record(bytes: &[u8], followed: &Followed, table: &Table) -> String {
         Some(Move::Carry) => format!("carry board {a}{with_word}"),
         Some(Move::Feed) => format!("feed channel {a}, word {word}"),
         Some(Move::Crash) => format!("crash board {a}{with_word}"),
+        Some(Move::Return) => format!("return board {a}{with_word}"),
+        Some(Move::Resync) => format!("resync process {a}{with_word}"),
         None => format!("move {}, a {a}, word {word}", bytes[0]),
     }
 }

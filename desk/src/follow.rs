@@ -67,7 +67,7 @@ impl<'t> Followed<'t> {
                 self.standing[usize::from(a)].step(operation, answer);
             }
             Some(Move::Crash) => self.standing = report(),
-            Some(Move::Sync | Move::Carry | Move::Feed) | None => (),
+            Some(Move::Sync | Move::Carry | Move::Feed | Move::Return | Move::Resync) | None => (),
         }
     }
 

@@ -1,4 +1,4 @@
-//! `./explain`: two samples in words, as stored beside them; a pulled board; what is said where it can't; and that the places it follows are
+//! `./explain`: three samples in words, as stored beside them; a pulled board; what is said where it can't; and that the places it follows are
 //! those of the report, after every record of generated runs.
 use desk::explain::{explain, Asked, Input, Pull};
 use desk::follow::{Followed, Standing};
@@ -54,7 +54,7 @@ fn complains(arguments: &[&str], input: &[u8], code: i32, shown: &str, about: &s
 
 #[test]
 fn samples() {
-    for name in ["lost_queue", "held"] {
+    for name in ["lost_queue", "held", "repaired"] {
         let words = file(&format!("{name}.words"));
         assert_eq!(explain(&sample(name), ALL).as_deref(), Ok(&words[..]), "{name}");
         assert_eq!(printed(&[&format!("samples/{name}.hex")], &[]), words, "{name}");
@@ -108,7 +108,7 @@ fn pulled() {
     assert_eq!(between[0], "21 records on 2 boards with 1 process and 2 channels");
     let last = pull("1@21", &["--from", "20"]);
     assert_eq!(last[1], "20 step process 0, JUMP to place 0 by register 0 done: calculated");
-    assert_eq!(last[2], "pull crash board 1 refused 44, another board has crashed");
+    assert_eq!(last[2], "pull crash board 1 refused 44, some process has no backup");
     // No such board is the library's to say.
     assert_eq!(pull("2@1", &["--to", "1"])[1], "pull crash board 2 refused 33, not in this table: the board");
 }

@@ -54,6 +54,20 @@ fn labels() {
     prints(&["7", "-"], b"00 01 01 # no records", "to come 0\n");
 }
 
+/// A year of a warehouse: four crashes, and the labels in order.
+#[test]
+fn year() {
+    for first in [0u32, 1000, 4_294_957_295] {
+        let labels: String = (0..8).map(|i| format!("{} {}\n", 501 + i, first + i)).collect();
+        prints(&[&first.to_string(), "samples/label/year.hex"], &[], &(labels + "to come 0\n"));
+    }
+    // The schedule is that of samples/year.hex, behind a table of serial 1000.
+    let bytes =
+        |name: &str| desk::hex::bytes(&std::fs::read(format!("{ROOT}/samples/{name}")).expect("a sample")).expect("hex text");
+    assert_eq!(bytes("year.hex")[84..], bytes("label/year.hex"));
+    assert_eq!(bytes("year.hex")[..84], kunzeastylus::label_table(1000).expect("a table"));
+}
+
 #[test]
 fn complaints() {
     complains(&["4294957296"], &[], 3, "refused 46");

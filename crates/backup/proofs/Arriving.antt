@@ -12,7 +12,7 @@ use Rattle.backup.specs.Limits.{logMost, ports}
 use Rattle.backup.specs.Replica.{Message, Replica, savedOn, arrive, arriveNumber, arrived}
 use Rattle.backup.specs.Laws.{saved-append, saved-cons}
 use Rattle.backup.specs.Accepts.{fit-parts, arrive-accepted, arrived-fit}
-use Rattle.backup.specs.Place.{pack, unpack, unpack-pack, messages, viewIn, tallyIn, headLength, Sound, Called}
+use Rattle.backup.specs.Place.{pack, unpack, unpack-pack, messages, viewIn, tallyIn, headLength, Sound, Called, arriveNumberIn}
 use Rattle.backup.proofs.InPlace.{refused-so, accepted-so, same-replica, view-length, saved-few, bumped, bumped-other, bumped-same}
 
 module _ (log head : List ℕ) (port word : ℕ) where
@@ -88,3 +88,15 @@ module _ (log head : List ℕ) (port word : ℕ) where
         is-fit = arrived-fit (viewIn log head) port word (s .is-fit) hp (rw (view-length log head) hl);
         tallies = tally-now hp hw hl s;
       })
+
+-- ---- its number, of any head
+
+module _ (head : List ℕ) (port : ℕ) where
+  pub arrive-number-21 : ports ≤ port → 21 ≡ arriveNumberIn head port
+  arrive-number-21 h = rw (le-leb ports port h)
+
+  pub arrive-number-22 : port < ports → logMost ≤ getD head 0 0 → 22 ≡ arriveNumberIn head port
+  arrive-number-22 h k = rw (lt-leb ports port h, le-leb logMost (getD head 0 0) k)
+
+  pub arrive-number-0 : port < ports → getD head 0 0 < logMost → 0 ≡ arriveNumberIn head port
+  arrive-number-0 h k = rw (lt-leb ports port h, lt-leb logMost (getD head 0 0) k)

@@ -13,7 +13,7 @@ use Rattle.backup.specs.Limits.{logMost, ports, pcMost}
 use Rattle.backup.specs.Replica.{Message, Replica, savedOn, takenOn, remaining, lacking, sync, syncNumber, synced}
 use Rattle.backup.specs.Laws.{saved-remaining, length-remaining}
 use Rattle.backup.specs.Accepts.{fit-parts, enough, answer-number, answer-done, sync-accepted, synced-fit}
-use Rattle.backup.specs.Place.{messages, viewIn, tallyIn, headLength, Sound, Called, takenOf, checkpointOf, lacksIn, Compacted, restatedIn, reportOf, refusedOf, landedIn, Reports}
+use Rattle.backup.specs.Place.{messages, viewIn, tallyIn, headLength, Sound, Called, takenOf, checkpointOf, lacksIn, Compacted, restatedIn, reportOf, refusedOf, landedIn, Reports, syncNumberIn}
 use Rattle.backup.specs.Report.{syncReport}
 use Rattle.backup.specs.ReportLaws.{syncReport-accepted, syncReport-refused, gone-taken}
 use Rattle.backup.specs.Rounds.{allTaken, syncRounds, syncRounds-none, syncRounds-all, syncRounds-some, OnePass, onePass-by}
@@ -180,3 +180,20 @@ module _ (log head : List ℕ) (c : Checkpoint) where
             remained = listed-same (tallyIn head′) (λ p. savedOn p (synced v (checkpointOf c) .log)) ports there i;
           })
           ∙ sym (syncReport-accepted v (checkpointOf c) z)
+
+-- ---- its number, of any head
+
+module _ (head : List ℕ) (c : Checkpoint) where
+  pub sync-number-20 : logMost < getD head 0 0 → 20 ≡ syncNumberIn head c
+  sync-number-20 n = rw (lt-ltb logMost (getD head 0 0) n)
+
+  module _ (n : getD head 0 0 ≤ logMost) where
+    pub sync-number-21 : pcMost < c .pc → 21 ≡ syncNumberIn head c
+    sync-number-21 h = rw (le-ltb logMost (getD head 0 0) n, lt-ltb pcMost (c .pc) h)
+
+    module _ (h : c .pc ≤ pcMost) where
+      pub sync-number-23 : lacksIn head (takenOf c) ≡ true → 23 ≡ syncNumberIn head c
+      sync-number-23 l = rw (le-ltb logMost (getD head 0 0) n, le-ltb pcMost (c .pc) h, l)
+
+      pub sync-number-0 : lacksIn head (takenOf c) ≡ false → 0 ≡ syncNumberIn head c
+      sync-number-0 l = rw (le-ltb logMost (getD head 0 0) n, le-ltb pcMost (c .pc) h, l)

@@ -7,3 +7,4 @@ pub mod Report
 pub mod Rounds
 pub mod ReportLaws
 pub mod Place
+pub mod PlaceLaws

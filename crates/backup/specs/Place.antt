@@ -1,15 +1,15 @@
 -- A backup in place: how a log and a head, two lists of numbers, stand for the value, and what every call in place promises.
 use mathlib.Core.Path.{_≡_}
-use mathlib.Core.Bool.{Bool, true, false}
+use mathlib.Core.Bool.{Bool, true, false, cond}
 use mathlib.Core.List.{List, [], _∷_, map}
 use Prim.Native.Nat.{ℕ, _+_, _-_, _*_, _/_, _%_, _^_, _≤_, _<_}
 use native.Mathlib.Omega.{arith}
-use lib.Dec.{ltb}
-use lib.ListN.{length, getD, set}
+use lib.Dec.{ltb, leb}
+use lib.ListN.{length, getD, set, replicate}
 use Rattle.facts.specs.Tests.{anyBelow}
 use Rattle.facts.specs.Lists.{prefix}
-use Rattle.backup.specs.Limits.{logMost, ports}
-use Rattle.backup.specs.Replica.{Message, Replica, Reply, FailOver, fit, onPorts, savedOn, takenOn, remaining}
+use Rattle.backup.specs.Limits.{logMost, ports, sentMost, pcMost}
+use Rattle.backup.specs.Replica.{Message, Replica, Reply, FailOver, initial, fit, onPorts, savedOn, takenOn, remaining}
 use Rattle.backup.specs.Replica as value
 use Rattle.backup.specs.Report.{Report, noneByPort, noReport, syncReport}
 use Rattle.backup.specs.declared.place.Checkpoint.{Checkpoint}
@@ -81,11 +81,33 @@ takenOf c = c .t0 ∷ c .t1 ∷ c .t2 ∷ c .t3 ∷ []
 abbrev pub checkpointOf : Checkpoint → value.Checkpoint
 checkpointOf c = record { pc = c .pc; registers = c .r0 ∷ c .r1 ∷ c .r2 ∷ c .r3 ∷ []; taken = takenOf c }
 
--- ---- what the steps of a checkpoint in place do
+-- ---- a fresh backup in place
+
+-- the head of a record as it starts: zeros, whatever the log has
+abbrev pub freshHead : List ℕ
+freshHead = replicate headLength 0
+
+pub record Fresh (log head : List ℕ) : Type 0 where
+  pub value-is : viewIn log head ≡ initial
+  pub is-sound : Sound log head
+
+-- ---- the number that a call in place returns, of any head, sound or not
+
+abbrev pub arriveNumberIn : List ℕ → ℕ → ℕ
+arriveNumberIn head port = cond (leb ports port) 21 (cond (leb logMost (getD head 0 0)) 22 0)
+
+abbrev pub countNumberIn : List ℕ → ℕ
+countNumberIn head = cond (leb sentMost (getD head 1 0)) 24 0
 
 -- more was taken on some port than its tally says
 abbrev pub lacksIn : List ℕ → List ℕ → Bool
 lacksIn head taken = anyBelow (λ p. ltb (tallyIn head p) (takenOn taken p)) ports
+
+-- a log said to be longer than its array is 20, first of all
+abbrev pub syncNumberIn : List ℕ → Checkpoint → ℕ
+syncNumberIn head c = cond (ltb logMost (getD head 0 0)) 20 (cond (ltb pcMost (c .pc)) 21 (cond (lacksIn head (takenOf c)) 23 0))
+
+-- ---- what the steps of a checkpoint in place do
 
 -- one pass over a log leaves, in its first numbers, what a drop as taken leaves
 pub record Compacted (log : List ℕ) (len : ℕ) (taken : List ℕ) (kept : ℕ) (log′ : List ℕ) : Type 0 where
@@ -134,3 +156,17 @@ promotionIn head = record {
   r2 = getD head 5 0;
   r3 = getD head 6 0;
 }
+
+-- what a promotion and the log that it was read beside hand over
+abbrev pub handedOver : List ℕ → Promotion → FailOver
+handedOver log r = record {
+  number = 0;
+  log = messages (r .len) log;
+  pc = r .pc;
+  registers = r .r0 ∷ r .r1 ∷ r .r2 ∷ r .r3 ∷ [];
+  sent = r .sent;
+}
+
+-- message i of what is handed over
+abbrev pub messageAt : FailOver → ℕ → Message
+messageAt f i = getD (f .log) i (unpack 0)

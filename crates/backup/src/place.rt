@@ -1,13 +1,15 @@
 // The backup in place: one backup in two lent arrays of numbers, a log and a head. These calls are for the crates above; they ask
-// nothing of their caller. They do not look for 20: of a backup that is sound (fit, with true tallies) they reply as document 01
-// says and leave it sound, and what an unsound one comes to is only safe. A refused call touches neither array.
+// nothing of their caller. Said of any arrays: the number, by a definition on head and arguments, and that a refused call touches
+// neither array. Said of a backup that is sound (fit, with true tallies): it replies as document 01 says and is sound again. They do
+// not look for 20, since a sound one is fit; what an unsound one comes to beside its number is only safe.
 ghost use mathlib.Core.Path.{_≡_};
 ghost use mathlib.Core.List.{List, [], _∷_};
 ghost use Prim.Native.Nat.{ℕ, _+_, _-_, _%_, _^_, _≤_, _<_};
 ghost use lib.ListN.{length, getD, set};
 ghost use Rattle.backup.specs.Limits.{logMost};
-ghost use Rattle.backup.specs.Replica.{arrive, count, sync};
-ghost use Rattle.backup.specs.Place.{Called, headLength, portIn, wordIn, checkpointOf, takenOf, lacksIn, restatedIn, Compacted, promotionIn, viewIn, Reports, reportOf, refusedOf, landedIn};
+ghost use Rattle.backup.specs.Replica.{arrive, count, sync, failOver};
+ghost use Rattle.backup.specs.Place.{Called, Sound, headLength, portIn, wordIn, checkpointOf, takenOf, lacksIn, restatedIn, Compacted, promotionIn, viewIn, Reports, reportOf, refusedOf, landedIn};
+ghost use Rattle.backup.specs.Place.{Fresh, freshHead, arriveNumberIn, countNumberIn, syncNumberIn, handedOver, messageAt};
 ghost use Rattle.backup.specs.Report.{totalDropped};
 ghost use Rattle.backup.specs.Rounds.{allTaken, OnePass};
 use crate::limits::LOG;
@@ -43,6 +45,9 @@ pub const SAVED2: usize = 9;
 pub const SAVED3: usize = 10;
 
 pub const HEAD: usize = 11;
+
+// What each of them is in a record as it starts.
+const FRESH: u32 = 0;
 
 // A process at the moment a checkpoint was issued: program counter, registers, and the receives on each port since the last one.
 pub struct Checkpoint {
@@ -115,9 +120,28 @@ fn less(x: usize, n: usize) -> usize
     if n <= x { x - n } else { 0 }
 }
 
+// A record as it starts, whatever the arrays were: no messages, and the rest 0. The log is not looked at.
+pub fn new_in(head: &mut [u32; HEAD])
+    ensures { λ _. ⌜ (length (now (head .entry)) ≡ headLength → now (head .exit) ≡ freshHead) ⌝ }
+    ensures { λ _. ⌜ ((log : List ℕ) → length log ≡ logMost → length (now (head .entry)) ≡ headLength → Fresh log (now (head .exit))) ⌝ }
+{
+    head[LEN] = FRESH;
+    head[SENT] = FRESH;
+    head[PC] = FRESH;
+    head[R0] = FRESH;
+    head[R1] = FRESH;
+    head[R2] = FRESH;
+    head[R3] = FRESH;
+    head[SAVED0] = FRESH;
+    head[SAVED1] = FRESH;
+    head[SAVED2] = FRESH;
+    head[SAVED3] = FRESH;
+}
+
 // A message arrived: 0, or 21 or 22.
 pub fn arrive_in(log: &mut [u64; LOG], head: &mut [u32; HEAD], port: u32, word: u32) -> u8
     ensures { λ r. ⌜ Called (now (log .entry)) (now (head .entry)) (now (log .exit)) (now (head .exit)) r (λ v. arrive v port word) ⌝ }
+    ensures { λ r. ⌜ r ≡ arriveNumberIn (now (head .entry)) port ⌝ }
 {
     if port >= PORTS {
         return 21;
@@ -135,6 +159,7 @@ pub fn arrive_in(log: &mut [u64; LOG], head: &mut [u32; HEAD], port: u32, word: 
 // A message of the process was transmitted: 0, or 24.
 pub fn count_in(head: &mut [u32; HEAD]) -> u8
     ensures { λ r. ⌜ ((log : List ℕ) → Called log (now (head .entry)) log (now (head .exit)) r count) ⌝ }
+    ensures { λ r. ⌜ r ≡ countNumberIn (now (head .entry)) ⌝ }
 {
     if head[SENT] >= SENT_MOST {
         return 24;
@@ -284,6 +309,7 @@ pub fn metered_sync_in(log: &mut [u64; LOG], head: &mut [u32; HEAD], c: Checkpoi
     ensures { λ r. ⌜ Called (now (log .entry)) (now (head .entry)) (now (log .exit)) (now (head .exit)) (r .landed .number) (λ v. sync v (checkpointOf c)) ⌝ }
     ensures { λ r. ⌜ Reports (now (log .entry)) (now (head .entry)) c (r .landed) ⌝ }
     ensures { λ r. ⌜ OnePass (viewIn (now (log .entry)) (now (head .entry))) (checkpointOf c) (r .landed .number) (r .rounds) ⌝ }
+    ensures { λ r. ⌜ r .landed .number ≡ syncNumberIn (now (head .entry)) c ⌝ }
 {
     let len = wide(head[LEN]);
     if len > LOG {
@@ -311,6 +337,7 @@ pub fn metered_sync_in(log: &mut [u64; LOG], head: &mut [u32; HEAD], c: Checkpoi
 pub fn sync_in(log: &mut [u64; LOG], head: &mut [u32; HEAD], c: Checkpoint) -> Landed
     ensures { λ r. ⌜ Called (now (log .entry)) (now (head .entry)) (now (log .exit)) (now (head .exit)) (r .number) (λ v. sync v (checkpointOf c)) ⌝ }
     ensures { λ r. ⌜ Reports (now (log .entry)) (now (head .entry)) c r ⌝ }
+    ensures { λ r. ⌜ r .number ≡ syncNumberIn (now (head .entry)) c ⌝ }
 {
     let m = metered_sync_in(log, head, c);
     m.landed
@@ -327,6 +354,7 @@ pub fn total_dropped(r: Landed) -> u32
 // The backup takes over: what its process goes on from. The log holds the messages.
 pub fn fail_over_in(head: &[u32; HEAD]) -> Promotion
     ensures { λ r. ⌜ r ≡ promotionIn (now (head .entry)) ⌝ }
+    ensures { λ r. ⌜ ((log : List ℕ) → Sound log (now (head .entry)) → failOver (viewIn log (now (head .entry))) ≡ handedOver log r) ⌝ }
 {
     Promotion {
         len: head[LEN],
@@ -342,6 +370,7 @@ pub fn fail_over_in(head: &[u32; HEAD]) -> Promotion
 // The port of message i of a log; 0 where i is no index of one.
 pub fn port_in(log: &[u64; LOG], i: usize) -> u32
     ensures { λ r. ⌜ (i < logMost → r ≡ portIn (getD (now (log .entry)) i 0)) ⌝ }
+    ensures { λ r. ⌜ ((head : List ℕ) → Sound (now (log .entry)) head → i < getD head 0 0 → r ≡ messageAt (failOver (viewIn (now (log .entry)) head)) i .port) ⌝ }
 {
     if i < LOG { port_of(log[i]) } else { 0 }
 }
@@ -349,6 +378,7 @@ pub fn port_in(log: &[u64; LOG], i: usize) -> u32
 // Its word.
 pub fn word_in(log: &[u64; LOG], i: usize) -> u32
     ensures { λ r. ⌜ (i < logMost → r ≡ wordIn (getD (now (log .entry)) i 0)) ⌝ }
+    ensures { λ r. ⌜ ((head : List ℕ) → Sound (now (log .entry)) head → i < getD head 0 0 → r ≡ messageAt (failOver (viewIn (now (log .entry)) head)) i .word) ⌝ }
 {
     if i < LOG { word_of(log[i]) } else { 0 }
 }

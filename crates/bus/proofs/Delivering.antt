@@ -71,7 +71,7 @@ module _ {t : Table} {s : Store} {entries : List Entry} {c : Cabinet} (ok : Acce
       (deliver t (mailOf k word) c)
   received totals u =
       subst (Holds t (storeOf (set (s .rows) p row′) (set (s .mails) p mail′) (set (s .logs) p log′) (set (s .heads) p head′) (s .boards) totals (s .waits)) entries) then-is
-      (changed h (ok .processes-high) p hp row′ mail′ log′ head′ totals (became .kept-again) board-same (subst (Totalled t totals) (sym then-is) u))
+      (changed h (ok .processes-high) p hp row′ mail′ log′ head′ totals (became .kept-again) (became .seated-again) board-same (subst (Totalled t totals) (sym then-is) u))
 
 pub delivers : (reader port : List ℕ) (rows mails logs heads : List (List ℕ)) (channel word k p : ℕ) → (channel < 32 → k ≡ channel)
     → (getD reader k 0 < 16 → p ≡ getD reader k 0) → (row′ mail′ log′ head′ : List ℕ)

@@ -1,4 +1,4 @@
--- Move 3 in the lists: the two refusals, and the oldest entry that leaves, a word or a checkpoint.
+-- Move 3 in the lists: the two refusals, and the oldest entry that leaves, a word, a checkpoint or a state transfer.
 use mathlib.Core.Path.{_≡_, refl, ap, sym, _∙_, subst}
 use mathlib.Core.Logic.{_≢_}
 use mathlib.Core.Bool.{Bool, true, false, cond}
@@ -22,7 +22,7 @@ use Rattle.rules.specs.Moves.{Command, Result, refuse, guard, transmitDead, out
 use Rattle.rules.proofs.Counting.{flight-leave}
 use Rattle.state.specs.declared.entry.Entry.{Entry}
 use Rattle.state.specs.declared.entry.Item.{Item}
-use Rattle.state.specs.declared.entry.Item.the-variants.{Word, Sync}
+use Rattle.state.specs.declared.entry.Item.the-variants.{Word, Sync, Transfer}
 use Rattle.state.specs.declared.moved.Answer.{Answer}
 use Rattle.state.specs.Store.{Store, storeOf, Holds, itemOf, blankEntry, outboxIn, firstIn, countIn, flag}
 use Rattle.rules.specs.Reasons.{refusalCause, causeOf}
@@ -41,6 +41,7 @@ use Rattle.bus.specs.Delivers.{mailOf}
 use Rattle.bus.specs.Oldest.{frontOf, lessOne, poppedIn}
 use Rattle.bus.specs.Carries.{OnBus, Carries}
 use Rattle.bus.specs.Syncs.{Popped, Syncs}
+use Rattle.bus.specs.Transfers.{Transfers}
 use Rattle.bus.specs.Transmits.{oldestPlace, Transmits}
 
 -- ---- what stands in front
@@ -252,10 +253,15 @@ module _ (sender reader port : List ℕ) (rows mails logs heads boards : List (L
           (sym (so h hb q ∙ ap (transmitItem t (withOutbox b (q .rest) c)) m)) done);
     }
 
--- an entry is not both
-abbrev is-sync : Item → ℕ
-is-sync (Word k w) = 0
-is-sync (Sync p s) = 1
-
-pub not-both : {A : Type 0} (i : Item) (channel word process : ℕ) (checkpoint : code.Checkpoint) → i ≡ Word channel word → i ≡ Sync process checkpoint → A
-not-both i channel word process checkpoint e f = absurd (no-way (ap is-sync (sym e ∙ f)))
+    pub transmits-transfer : (process : ℕ) → i ≡ Transfer process → (rows′ : List (List ℕ)) (waits′ : List ℕ) → Transfers rows waits process rows′ waits′ r
+        → Transmits sender reader port rows mails logs heads boards totals waits b x rows′ mails logs heads (set boards b board′) totals waits′ r
+    transmits-transfer process is-transfer rows′ waits′ carried = record {
+      answered = λ t entries c command reach wired h f hb o.
+          let q = opened h hb o in
+          let m : itemOf i ≡ rules.transfer process = ap itemOf is-transfer in
+          let done = carried .answered t mails logs heads boards totals entries c command b (poppedIn (getD boards b [])) (q .rest) reach h hb
+          (row-then h b hb (q .fewer) (q .is-count)) (q .is-queue ∙ ap (λ (y : rules.Item). y ∷ q .rest) m) in
+          subst (λ (l : List ℕ). Answered t (storeOf rows′ mails logs heads (set boards b l) totals waits′) entries c command (transmit t c b) r) (sym leaves)
+          (subst (λ (y : Result). Answered t (storeOf rows′ mails logs heads (set boards b (poppedIn (getD boards b []))) totals waits′) entries c command y r)
+          (sym (so h hb q ∙ ap (transmitItem t (withOutbox b (q .rest) c)) m)) done);
+    }

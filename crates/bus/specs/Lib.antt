@@ -2,6 +2,7 @@
 pub mod Delivers
 pub mod Oldest
 pub mod Syncs
+pub mod Transfers
 pub mod Transmitted
 pub mod Carries
 pub mod Injects

@@ -3,5 +3,6 @@ mod delivery;
 pub mod inject;
 mod queue;
 mod sync;
+mod transfer;
 pub mod transmit;
 mod word;

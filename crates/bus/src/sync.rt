@@ -1,10 +1,11 @@
-// A checkpoint is carried: its process's backup keeps it, if there is one, and it waits no more.
+// A checkpoint is carried: its process's backup keeps it, if there is one, and it waits no more. A record that is being made is none.
 // "5 sync carried, 6 sync with no backup left (process, 0)"; W-202: "A carried sync then answers 5 with the total dropped as its word".
 ghost use Rattle.bus.specs.Syncs.{Syncs};
 use backup::limits::LOG;
 use backup::place::Checkpoint;
 use backup::place::HEAD;
 use process::checkpoint::keep;
+use process::row::COMPLETE;
 use process::row::PROTECTED;
 use process::row::ROW;
 use state::board::index16;
@@ -23,7 +24,7 @@ pub fn transmit_sync(
     let p = index16(process);
     let dropped = keep(&rows[p], &mut logs[p], &mut heads[p], checkpoint);
     waits[p] = 0;
-    if rows[p][PROTECTED] == 0 {
+    if rows[p][PROTECTED] != COMPLETE {
         return Answer {
             code: 6,
             cause: 0,

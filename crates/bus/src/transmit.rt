@@ -7,6 +7,7 @@ use crate::queue::Front;
 use crate::queue::peek;
 use crate::queue::pop;
 use crate::sync::transmit_sync;
+use crate::transfer::transmit_transfer;
 use crate::word::transmit_word;
 use backup::limits::LOG;
 use backup::place::HEAD;
@@ -53,8 +54,8 @@ pub fn transmit(
         return refusal(42, 0, a);
     };
     pop(&mut boards[b]);
-    if let Item::Word { channel, word } = item {
-        return transmit_word(
+    match item {
+        Item::Word { channel, word } => transmit_word(
             sender,
             reader,
             port,
@@ -65,15 +66,11 @@ pub fn transmit(
             totals,
             channel,
             word,
-        );
+        ),
+        Item::Sync {
+            process,
+            checkpoint,
+        } => transmit_sync(rows, logs, heads, waits, process, checkpoint),
+        Item::Transfer { process } => transmit_transfer(rows, waits, process),
     }
-    // What is no word is a sync: this else is never taken.
-    let Item::Sync {
-        process,
-        checkpoint,
-    } = item
-    else {
-        return refusal(42, 0, a);
-    };
-    transmit_sync(rows, logs, heads, waits, process, checkpoint)
 }

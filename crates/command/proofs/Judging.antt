@@ -8,22 +8,22 @@ use lib.ListN.{length}
 use borrow.Author.Tests.{leb-false}
 use Rattle.rules.specs.Table.{Table}
 use Rattle.rules.specs.Cabinet.{Cabinet}
-use Rattle.rules.specs.Moves.{Refusal, unknownMove, strayWord, noProcess, noBoard, noChannel, refusalNumber, Result, refuse, guard, step, issue, transmit, inject, crash, Move, stepMove, issueMove, transmitMove, injectMove, crashMove, unknown, moveOf, perform, judged}
+use Rattle.rules.specs.Moves.{Refusal, unknownMove, strayWord, noProcess, noBoard, noChannel, refusalNumber, Result, refuse, guard, step, issue, transmit, inject, crash, rejoin, rebackup, Move, stepMove, issueMove, transmitMove, injectMove, crashMove, rejoinMove, rebackupMove, unknown, moveOf, perform, judged}
 use Rattle.rules.specs.Reasons.{refusalCause}
 use Rattle.rules.specs.Schedule.{command}
 use Rattle.rules.proofs.Decoded.{isFeed, moveOf-feed, moveOf-unknown}
 use Rattle.command.specs.Turns.{beyondOf, numberOf, wordedOf, judgeOf, faultOf, causeBy}
 
 -- an unknown move's number
-pub unknown-number : (boards processes channels a mv : ℕ) → (mv ≡ 1 → ⊥) → (mv ≡ 2 → ⊥) → (mv ≡ 3 → ⊥) → (mv ≡ 4 → ⊥) → (mv ≡ 5 → ⊥)
+pub unknown-number : (boards processes channels a mv : ℕ) → (mv ≡ 1 → ⊥) → (mv ≡ 2 → ⊥) → (mv ≡ 3 → ⊥) → (mv ≡ 4 → ⊥) → (mv ≡ 5 → ⊥) → (mv ≡ 6 → ⊥) → (mv ≡ 7 → ⊥)
     → numberOf boards processes channels a (moveOf mv) ≡ 32
 unfolding numberOf
-unknown-number boards processes channels a mv h1 h2 h3 h4 h5 = ap (numberOf boards processes channels a) (moveOf-unknown mv h1 h2 h3 h4 h5)
+unknown-number boards processes channels a mv h1 h2 h3 h4 h5 h6 h7 = ap (numberOf boards processes channels a) (moveOf-unknown mv h1 h2 h3 h4 h5 h6 h7)
 
 -- an unknown move's cause
-pub unknown-cause : (number mv : ℕ) → (mv ≡ 1 → ⊥) → (mv ≡ 2 → ⊥) → (mv ≡ 3 → ⊥) → (mv ≡ 4 → ⊥) → (mv ≡ 5 → ⊥) → causeBy number (moveOf mv) ≡ 0
+pub unknown-cause : (number mv : ℕ) → (mv ≡ 1 → ⊥) → (mv ≡ 2 → ⊥) → (mv ≡ 3 → ⊥) → (mv ≡ 4 → ⊥) → (mv ≡ 5 → ⊥) → (mv ≡ 6 → ⊥) → (mv ≡ 7 → ⊥) → causeBy number (moveOf mv) ≡ 0
 unfolding causeBy
-unknown-cause number mv h1 h2 h3 h4 h5 = ap (causeBy number) (moveOf-unknown mv h1 h2 h3 h4 h5)
+unknown-cause number mv h1 h2 h3 h4 h5 h6 h7 = ap (causeBy number) (moveOf-unknown mv h1 h2 h3 h4 h5 h6 h7)
 
 -- a result is a refusal of this number and the cause of that number
 pub record Refuses (result : Result) (n : ℕ) (cause : ℕ → ℕ) : Type 0 where
@@ -79,6 +79,8 @@ module _ (t : Table) (c : Cabinet) (a word : ℕ) where
   performed mv transmitMove = worded noBoard (t .boards) (transmit t c a) refl
   performed mv injectMove = beyond noChannel (length (t .channels)) (inject t c (record { channel = a; word = word })) refl
   performed mv crashMove = worded noBoard (t .boards) (crash t c a) refl
+  performed mv rejoinMove = worded noBoard (t .boards) (rejoin t c a) refl
+  performed mv rebackupMove = worded noProcess (length (t .processes)) (rebackup t c a) refl
   performed mv unknown = unknown-tested (not (eqb word 0))
 
   tested : (mv : ℕ) → Tested (judged t c (command mv a word)) (judgement mv) (λ n. causeBy n (moveOf mv))
@@ -132,10 +134,18 @@ module _ (t : Table) (c : Cabinet) (a word : ℕ) where
   unfolding judged perform judgeOf numberOf
   crashes = passed noBoard (t .boards) (crash t c a)
 
+  pub rejoins : judgement 6 ≡ 0 → (judged t c (command 6 a word) ≡ rejoin t c a) × (a < t .boards)
+  unfolding judged perform judgeOf numberOf
+  rejoins = passed noBoard (t .boards) (rejoin t c a)
+
+  pub rebacks : judgement 7 ≡ 0 → (judged t c (command 7 a word) ≡ rebackup t c a) × (a < length (t .processes))
+  unfolding judged perform judgeOf numberOf
+  rebacks = passed noProcess (length (t .processes)) (rebackup t c a)
+
   -- and no other move has none
-  pub known : (mv : ℕ) → judgement mv ≡ 0 → (mv ≡ 1 → ⊥) → (mv ≡ 2 → ⊥) → (mv ≡ 3 → ⊥) → (mv ≡ 4 → ⊥) → (mv ≡ 5 → ⊥) → ⊥
+  pub known : (mv : ℕ) → judgement mv ≡ 0 → (mv ≡ 1 → ⊥) → (mv ≡ 2 → ⊥) → (mv ≡ 3 → ⊥) → (mv ≡ 4 → ⊥) → (mv ≡ 5 → ⊥) → (mv ≡ 6 → ⊥) → (mv ≡ 7 → ⊥) → ⊥
   unfolding judgeOf
-  known mv h h1 h2 h3 h4 h5 =
+  known mv h h1 h2 h3 h4 h5 h6 h7 =
       let e = first-passed (wordedOf mv word) unknownMove (refuse unknownMove) (number (moveOf mv)) h .1 in
-      let f = unknown-number (t .boards) (length (t .processes)) (length (t .channels)) a mv h1 h2 h3 h4 h5 in
+      let f = unknown-number (t .boards) (length (t .processes)) (length (t .channels)) a mv h1 h2 h3 h4 h5 h6 h7 in
       omega arith

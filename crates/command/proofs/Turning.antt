@@ -18,9 +18,11 @@ use Rattle.step.specs.Issues.{Issues}
 use Rattle.bus.specs.Injects.{Injects}
 use Rattle.bus.specs.Transmits.{Transmits}
 use Rattle.crash.specs.Crashes.{Crashes}
+use Rattle.rejoin.specs.Rejoins.{Rejoins}
+use Rattle.rejoin.specs.Rebackups.{Rebackups}
 use Rattle.command.specs.Plan.{Lent, Suits}
 use Rattle.command.specs.Turns.{judgeOf, numberOf, causeBy, Turns, Carries}
-use Rattle.command.proofs.Judging.{judgement, refuses, steps, issues, transmits, injects, crashes, known}
+use Rattle.command.proofs.Judging.{judgement, refuses, steps, issues, transmits, injects, crashes, rejoins, rebacks, known}
 
 -- ---- a carry
 
@@ -64,9 +66,10 @@ module _ (l : Lent) (s : Store) (mv a word n : ℕ) (is-n : n ≡ judgeOf (l .bo
         (e ∙ ap₂ (λ (m z : ℕ). refusedWith m z a) (sym f ∙ x .number-is) (k ∙ ap (λ (m : ℕ). causeBy m (moveOf mv)) (sym f) ∙ x .cause-is));
   }
 
-  -- no move is left that has none of the five numbers
-  pub turn-unknown : (s′ : Store) (r : Moved) → n ≡ 0 → (mv ≡ 1 → ⊥) → (mv ≡ 2 → ⊥) → (mv ≡ 4 → ⊥) → (mv ≡ 5 → ⊥) → Turns l s mv a word s′ r
-  turn-unknown s′ r z h1 h2 h4 h5 = record { turned = λ t entries c reach u holds other. absurd (known t c a word mv (by-table t c u ∙ z) h1 h2 other h4 h5) }
+  -- no move is left that has none of the numbers
+  pub turn-unknown : (s′ : Store) (r : Moved) → n ≡ 0 → (mv ≡ 1 → ⊥) → (mv ≡ 2 → ⊥) → (mv ≡ 4 → ⊥) → (mv ≡ 5 → ⊥) → (mv ≡ 6 → ⊥) → (mv ≡ 7 → ⊥)
+      → Turns l s mv a word s′ r
+  turn-unknown s′ r z h1 h2 h4 h5 h6 h7 = record { turned = λ t entries c reach u holds other. absurd (known t c a word mv (by-table t c u ∙ z) h1 h2 other h4 h5 h6 h7) }
 
   -- what its number names
   at-number : (k : ℕ) → mv ≡ k → (t : Table) (c : Cabinet) → Suits t l → n ≡ 0 → judgement t c a word k ≡ 0
@@ -110,7 +113,7 @@ module _ (l : Lent) (s : Store) (mv a word n : ℕ) (is-n : n ≡ judgeOf (l .bo
   }
 
   pub turn-crashes : (rows mails boards : List (List ℕ)) (totals waits : List ℕ) (x : Answer) (r : Moved) → n ≡ 0 → mv ≡ 5 → r ≡ aloneOf x
-      → Crashes (l .boards) (l .processes) (l .channels) (l .sender) (l .reader) (l .ins) (l .arity) (s .rows) (s .mails) (s .logs) (s .heads) (s .boards) (s .totals) (s .waits) a rows mails boards totals waits x
+      → Crashes (l .processes) (l .channels) (l .sender) (l .reader) (l .ins) (l .arity) (s .rows) (s .mails) (s .logs) (s .heads) (s .boards) (s .totals) (s .waits) a rows mails boards totals waits x
       → Turns l s mv a word (storeOf rows mails (s .logs) (s .heads) boards totals waits) r
   turn-crashes rows mails boards totals waits answer r z e f made = record {
     turned = λ t entries c reach u holds other.
@@ -119,5 +122,29 @@ module _ (l : Lent) (s : Store) (mv a word n : ℕ) (is-n : n ≡ judgeOf (l .bo
         subst (λ (y : Moved). Turned t after entries c (command mv a word) (judged t c (command mv a word)) y) (sym f)
         (subst (λ (k : ℕ). Answered t after entries c (command k a word) (judged t c (command k a word)) answer) (sym e)
         (subst (λ (y : Result). Answered t after entries c (command 5 a word) y answer) (sym (x .0))
-        (made .answered t (l .port) entries c (command 5 a word) reach (u .wired) (u .addressed) (u .boards-is) (u .processes-is) (u .channels-is) holds refl (x .1))));
+        (made .answered t (l .port) entries c (command 5 a word) reach (u .wired) (u .addressed) (u .processes-is) (u .channels-is) holds refl (x .1))));
+  }
+
+  pub turn-rejoins : (boards : List (List ℕ)) (x : Answer) (r : Moved) → n ≡ 0 → mv ≡ 6 → r ≡ aloneOf x → Rejoins (s .boards) a boards x
+      → Turns l s mv a word (storeOf (s .rows) (s .mails) (s .logs) (s .heads) boards (s .totals) (s .waits)) r
+  turn-rejoins boards answer r z e f made = record {
+    turned = λ t entries c reach u holds other.
+        let x = rejoins t c a word (at-number 6 e t c u z) in
+        let after : Store = storeOf (s .rows) (s .mails) (s .logs) (s .heads) boards (s .totals) (s .waits) in
+        subst (λ (y : Moved). Turned t after entries c (command mv a word) (judged t c (command mv a word)) y) (sym f)
+        (subst (λ (k : ℕ). Answered t after entries c (command k a word) (judged t c (command k a word)) answer) (sym e)
+        (subst (λ (y : Result). Answered t after entries c (command 6 a word) y answer) (sym (x .0))
+        (made .answered t (s .rows) (s .mails) (s .logs) (s .heads) (s .totals) (s .waits) entries c (command 6 a word) reach holds refl (x .1))));
+  }
+
+  pub turn-rebacks : (rows logs heads boards : List (List ℕ)) (waits : List ℕ) (r : Moved) → n ≡ 0 → mv ≡ 7
+      → Rebackups (l .port) (l .ins) (l .arity) (s .rows) (s .mails) (s .logs) (s .heads) (s .boards) (s .totals) (s .waits) a rows logs heads boards waits r
+      → Turns l s mv a word (storeOf rows (s .mails) logs heads boards (s .totals) waits) r
+  turn-rebacks rows logs heads boards waits r z e made = record {
+    turned = λ t entries c reach u holds other.
+        let x = rebacks t c a word (at-number 7 e t c u z) in
+        let after : Store = storeOf rows (s .mails) logs heads boards (s .totals) waits in
+        subst (λ (k : ℕ). Turned t after entries c (command k a word) (judged t c (command k a word)) r) (sym e)
+        (subst (λ (y : Result). Turned t after entries c (command 7 a word) y r) (sym (x .0))
+        (made .turned t (l .sender) (l .reader) entries c (command 7 a word) reach (u .wired) (u .addressed) holds refl (x .1)));
   }

@@ -4,9 +4,8 @@ use mathlib.Core.List.{List}
 use Prim.Native.Nat.{ℕ}
 use lib.ListN.{length}
 use Rattle.rules.specs.Table.{Table}
-use Rattle.state.specs.Wired.{Wired}
+use Rattle.state.specs.Wired.{Wired, Addressed}
 use Rattle.step.specs.Steps.{Programmed, Limited}
-use Rattle.crash.specs.Crashes.{Addressed}
 
 -- The table's bytes, how many boards, processes and channels it has, where each program begins and how long it is, its limit, each channel's ends and
 -- its port within its reader, the channel at each port of each process and how many it reads.

@@ -8,7 +8,7 @@ use lib.Dec.{eqb, leb}
 use lib.ListN.{getD}
 use Rattle.rules.specs.Table.{Table}
 use Rattle.rules.specs.Cabinet.{Cabinet}
-use Rattle.rules.specs.Moves.{Move, stepMove, issueMove, transmitMove, injectMove, crashMove, unknown, moveOf, judged}
+use Rattle.rules.specs.Moves.{Move, stepMove, issueMove, transmitMove, injectMove, crashMove, rejoinMove, rebackupMove, unknown, moveOf, judged}
 use Rattle.rules.specs.Schedule.{command}
 use Rattle.state.specs.declared.entry.Entry.{Entry}
 use Rattle.state.specs.declared.moved.Answer.{Answer}
@@ -30,6 +30,9 @@ numberOf boards processes channels a issueMove = beyondOf a processes
 numberOf boards processes channels a transmitMove = beyondOf a boards
 numberOf boards processes channels a injectMove = beyondOf a channels
 numberOf boards processes channels a crashMove = beyondOf a boards
+-- W-210: "Neither move is unknown any more under 32, and both take 33."
+numberOf boards processes channels a rejoinMove = beyondOf a boards
+numberOf boards processes channels a rebackupMove = beyondOf a processes
 numberOf boards processes channels a unknown = 32
 
 -- "The word is 0 except in a feed."
@@ -52,6 +55,9 @@ causeBy number issueMove = faultOf number 0
 causeBy number transmitMove = faultOf number 1
 causeBy number injectMove = faultOf number 2
 causeBy number crashMove = faultOf number 1
+-- W-210: "under 33, move 6 has cause 1 and move 7 cause 0"
+causeBy number rejoinMove = faultOf number 1
+causeBy number rebackupMove = faultOf number 0
 causeBy number unknown = 0
 
 -- every move but a carry

@@ -11,6 +11,8 @@ use bus::inject::inject;
 use bus::transmit::transmit;
 use crash::crash::crash;
 use process::row::ROW;
+use rejoin::rebackup::rebackup;
+use rejoin::rejoin::rejoin;
 use state::board::BOARD_ROW;
 use state::board::wide;
 use state::entry::Entry;
@@ -39,6 +41,8 @@ fn number(boards: usize, processes: usize, channels: usize, mv: u8, a: u32) -> u
         3 => beyond(a, boards),
         4 => beyond(a, channels),
         5 => beyond(a, boards),
+        6 => beyond(a, boards),
+        7 => beyond(a, processes),
         _ => 32,
     }
 }
@@ -77,6 +81,8 @@ fn cause(number: u32, mv: u8) -> u32
         3 => fault(number, 1),
         4 => fault(number, 2),
         5 => fault(number, 1),
+        6 => fault(number, 1),
+        7 => fault(number, 0),
         _ => 0,
     }
 }
@@ -140,7 +146,6 @@ pub fn turn(
             word,
         )),
         5 => alone(crash(
-            boards_many,
             processes,
             channels,
             sender,
@@ -156,6 +161,20 @@ pub fn turn(
             waits,
             a,
         )),
+        6 => alone(rejoin(boards, a)),
+        7 => rebackup(
+            port,
+            ins,
+            arity,
+            rows,
+            mails,
+            logs,
+            heads,
+            boards,
+            totals,
+            waits,
+            a,
+        ),
         _ => refused(32, 0, a),
     }
 }

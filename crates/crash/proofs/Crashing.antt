@@ -1,6 +1,6 @@
 -- Move 5 in the lists: its two refusals, and the crash.
 use mathlib.Core.Path.{_≡_, refl, ap, sym, _∙_, subst}
-use mathlib.Core.Bool.{Bool, true, false, not, _&&_}
+use mathlib.Core.Bool.{Bool, true, false, not}
 use mathlib.Core.List.{List, []}
 use Prim.Native.Nat.{ℕ, _≤_, _<_}
 use native.Mathlib.Omega.{arith}
@@ -8,19 +8,19 @@ use lib.Dec.{eqb}
 use lib.ListN.{length, getD, set}
 use borrow.Author.Tests.{eq-eqb, ne-eqb}
 use Rattle.facts.specs.Tests.{anyBelow, any-same}
-use Rattle.facts.specs.Rings.{listed-length}
 use Rattle.rules.specs.Table.{Table}
-use Rattle.rules.specs.Cabinet.{Cabinet, deadAt}
-use Rattle.rules.specs.Moves.{Result, refuse, accept, guard, crashDead, otherCrashed, refusalNumber, otherDead, crash, crashDone, numbers}
+use Rattle.process.proofs.Rows.{protected-is}
+use Rattle.rules.specs.Cabinet.{Cabinet, Process, processAt, deadAt, protected, someUnbacked}
+use Rattle.rules.specs.Moves.{Result, refuse, accept, guard, crashDead, notBacked, refusalNumber, crash, crashDone, numbers}
 use Rattle.state.specs.declared.entry.Entry.{Entry}
 use Rattle.state.specs.declared.moved.Answer.{Answer}
-use Rattle.state.specs.Store.{Store, storeOf, Holds, deadIn}
+use Rattle.state.specs.Store.{Store, storeOf, Holds}
 use Rattle.rules.specs.Reasons.{refusalCause, causeOf}
 use Rattle.state.specs.Moved.{Reachable, Answered, refusalOf, answerOf}
-use Rattle.state.proofs.Reading.{at-dead}
+use Rattle.state.proofs.Reading.{at-process, at-dead, how-many}
 use Rattle.state.proofs.Refusing.{turned-away}
 use Rattle.crash.specs.Crashes.{Crashes}
-use Rattle.crash.specs.Losses.{runsOn, lostWords, deadApart, Zeroed, deadRow}
+use Rattle.crash.specs.Losses.{runsOn, lostWords, unbackedIn, Zeroed, deadRow}
 use Rattle.crash.specs.Processes.{AllCrashed}
 use Rattle.crash.specs.Recount.{Dropped, Added}
 use Rattle.crash.proofs.Holding.{crashedCabinet, crash-holds}
@@ -28,10 +28,12 @@ use Rattle.crash.proofs.Holding.{crashedCabinet, crash-holds}
 -- ---- the rules' tests, as the lists have them
 
 module _ {t : Table} {s : Store} {entries : List Entry} {c : Cabinet} (h : Holds t s entries c) (b : ℕ) (hb : b < t .boards) where
-  other-is : otherDead c b ≡ anyBelow (deadApart (s .boards) b) (t .boards)
-  other-is =
-      ap (anyBelow (λ k. not (eqb k b) && deadAt c k)) (ap (λ (l : List Bool). length l) (h .dead) ∙ listed-length (deadIn (s .boards)) (t .boards))
-      ∙ any-same (λ k. not (eqb k b) && deadAt c k) (deadApart (s .boards) b) (t .boards) (λ k l. ap (λ (d : Bool). not (eqb k b) && d) (at-dead h k l))
+  bare-is : someUnbacked c ≡ anyBelow (unbackedIn (s .rows)) (length (t .processes))
+  unfolding someUnbacked
+  bare-is =
+      ap (anyBelow (λ p. not (protected (processAt c p)))) (how-many h)
+      ∙ any-same (λ p. not (protected (processAt c p))) (unbackedIn (s .rows)) (length (t .processes))
+      (λ p l. ap (λ (x : Process). not (protected x)) (at-process h p l) ∙ ap not (protected-is (getD (s .rows) p []) _ _ _))
 
   dead-so : (getD (getD (s .boards) b []) 2 0 ≡ 0 → ⊥) → deadAt c b ≡ true
   dead-so n = at-dead h b hb ∙ rw (ne-eqb (getD (getD (s .boards) b []) 2 0) 0 n)
@@ -43,57 +45,58 @@ module _ {t : Table} {s : Store} {entries : List Entry} {c : Cabinet} (h : Holds
   unfolding crash guard
   refused-34 n = rw (dead-so n)
 
-  refused-44 : getD (getD (s .boards) b []) 2 0 ≡ 0 → anyBelow (deadApart (s .boards) b) (t .boards) ≡ true → crash t c b ≡ refuse otherCrashed
+  refused-44 : getD (getD (s .boards) b []) 2 0 ≡ 0 → anyBelow (unbackedIn (s .rows)) (length (t .processes)) ≡ true → crash t c b ≡ refuse notBacked
   unfolding crash guard
-  refused-44 z e = rw (live-so z, other-is ∙ e)
+  refused-44 z e = rw (live-so z, bare-is ∙ e)
 
-  accepted-so : getD (getD (s .boards) b []) 2 0 ≡ 0 → anyBelow (deadApart (s .boards) b) (t .boards) ≡ false → crash t c b ≡ accept (crashedCabinet t c b) crashDone
+  accepted-so : getD (getD (s .boards) b []) 2 0 ≡ 0 → anyBelow (unbackedIn (s .rows)) (length (t .processes)) ≡ false → crash t c b ≡ accept (crashedCabinet t c b) crashDone
   unfolding crash guard
-  accepted-so z e = rw (live-so z, other-is ∙ e)
+  accepted-so z e = rw (live-so z, bare-is ∙ e)
 
 -- ---- what the move promises
 
-module _ (boards-many processes channels : ℕ) (sender reader ins arity : List ℕ) (rows mails logs heads boards : List (List ℕ)) (totals waits : List ℕ) (a b : ℕ)
+module _ (processes channels : ℕ) (sender reader ins arity : List ℕ) (rows mails logs heads boards : List (List ℕ)) (totals waits : List ℕ) (a b : ℕ)
     (is-b : a < 16 → b ≡ a) (r : Answer) where
   pub crashes-34 : (getD (getD boards b []) 2 0 ≡ 0 → ⊥) → r ≡ refusalOf 34 1 a
-      → Crashes boards-many processes channels sender reader ins arity rows mails logs heads boards totals waits a rows mails boards totals waits r
+      → Crashes processes channels sender reader ins arity rows mails logs heads boards totals waits a rows mails boards totals waits r
   unfolding refusalNumber refusalCause
   crashes-34 n e = record {
-    answered = λ t port entries c command reach wired addressed eb ep ec h f ha.
+    answered = λ t port entries c command reach wired addressed ep ec h f ha.
         let its : b ≡ a = is-b (let z = reach .accepted .boards-high in omega arith) in
         turned-away command a crashDead h (refused-34 h a ha (subst (λ (i : ℕ). getD (getD boards i []) 2 0 ≡ 0 → ⊥) its n)) f e;
   }
 
-  module _ (n : ℕ) (is-n : boards-many ≤ 16 → n ≡ boards-many) (live : getD (getD boards b []) 2 0 ≡ 0) where
-    -- the test of the other boards, of lists that hold a cabinet
-    the-test : (x : Bool) → anyBelow (deadApart boards b) n ≡ x → (t : Table) (c : Cabinet) → Reachable t c → boards-many ≡ t .boards → b ≡ a
-        → anyBelow (deadApart boards a) (t .boards) ≡ x
-    the-test x e t c reach eb its =
-        let m : n ≡ t .boards = is-n (let z = reach .accepted .boards-high in omega arith) ∙ eb in
-        sym (ap (λ (i : ℕ). anyBelow (deadApart boards i) n) its ∙ ap (anyBelow (deadApart boards a)) m) ∙ e
+  module _ (p : ℕ) (is-p : processes ≤ 16 → p ≡ processes) (live : getD (getD boards b []) 2 0 ≡ 0) where
+    its-many : {t : Table} {c : Cabinet} → Reachable t c → processes ≡ length (t .processes) → p ≡ length (t .processes)
+    its-many reach ep = is-p (let z = reach .accepted .processes-high in omega arith) ∙ ep
 
-    pub crashes-44 : (found : Bool) → found ≡ anyBelow (deadApart boards b) n → found ≡ true → r ≡ refusalOf 44 0 a
-        → Crashes boards-many processes channels sender reader ins arity rows mails logs heads boards totals waits a rows mails boards totals waits r
+    -- the test of the processes, of lists that hold a cabinet
+    the-test : (x : Bool) → anyBelow (unbackedIn rows) p ≡ x → {t : Table} {c : Cabinet} → Reachable t c → processes ≡ length (t .processes)
+        → anyBelow (unbackedIn rows) (length (t .processes)) ≡ x
+    the-test x e reach ep = ap (anyBelow (unbackedIn rows)) (sym (its-many reach ep)) ∙ e
+
+    pub crashes-44 : (found : Bool) → found ≡ anyBelow (unbackedIn rows) p → found ≡ true → r ≡ refusalOf 44 0 a
+        → Crashes processes channels sender reader ins arity rows mails logs heads boards totals waits a rows mails boards totals waits r
     unfolding refusalNumber refusalCause
     crashes-44 found f-is d e = record {
-      answered = λ t port entries c command reach wired addressed eb ep ec h f ha.
+      answered = λ t port entries c command reach wired addressed ep ec h f ha.
           let its : b ≡ a = is-b (let z = reach .accepted .boards-high in omega arith) in
-          turned-away command a otherCrashed h (refused-44 h a ha (subst (λ (i : ℕ). getD (getD boards i []) 2 0 ≡ 0) its live) (the-test true (sym f-is ∙ d) t c reach eb its)) f e;
+          turned-away command a notBacked h (refused-44 h a ha (subst (λ (i : ℕ). getD (getD boards i []) 2 0 ≡ 0) its live) (the-test true (sym f-is ∙ d) reach ep)) f e;
     }
 
-    pub crashes-done : (p k : ℕ) → (processes ≤ 16 → p ≡ processes) → (channels ≤ 32 → k ≡ channels)
-        → (found : Bool) → found ≡ anyBelow (deadApart boards b) n → found ≡ false
+    pub crashes-done : (k : ℕ) → (channels ≤ 32 → k ≡ channels)
+        → (found : Bool) → found ≡ anyBelow (unbackedIn rows) p → found ≡ false
         → (rows′ mails′ : List (List ℕ)) (queues queues′ totals′ waits′ row : List ℕ)
         → Dropped k reader rows mails totals queues → Zeroed (lostWords sender rows a) k queues queues′ → Zeroed (runsOn rows a) p waits waits′ → AllCrashed p ins arity rows mails logs heads a rows′ mails′
         → Added k reader rows′ mails′ queues′ totals′ → row ≡ deadRow (getD boards b []) → r ≡ answerOf 0 2 0 0
-        → Crashes boards-many processes channels sender reader ins arity rows mails logs heads boards totals waits a rows′ mails′ (set boards b row) totals′ waits′ r
+        → Crashes processes channels sender reader ins arity rows mails logs heads boards totals waits a rows′ mails′ (set boards b row) totals′ waits′ r
     unfolding numbers causeOf
-    crashes-done p k is-p is-k found f-is d rows′ mails′ queues queues′ totals′ waits′ row dropped words flags all added is-row e = record {
-      answered = λ t port entries c command reach wired addressed eb ep ec h f ha.
+    crashes-done k is-k found f-is d rows′ mails′ queues queues′ totals′ waits′ row dropped words flags all added is-row e = record {
+      answered = λ t port entries c command reach wired addressed ep ec h f ha.
           let its : b ≡ a = is-b (let z = reach .accepted .boards-high in omega arith) in
-          let ps : p ≡ length (t .processes) = is-p (let z = reach .accepted .processes-high in omega arith) ∙ ep in
+          let ps : p ≡ length (t .processes) = its-many reach ep in
           let ks : k ≡ length (t .channels) = is-k (let z = reach .accepted .channels-high in omega arith) ∙ ec in
-          let so = accepted-so h a ha (subst (λ (i : ℕ). getD (getD boards i []) 2 0 ≡ 0) its live) (the-test false (sym f-is ∙ d) t c reach eb its) in
+          let so = accepted-so h a ha (subst (λ (i : ℕ). getD (getD boards i []) 2 0 ≡ 0) its live) (the-test false (sym f-is ∙ d) reach ep) in
           let cab = crash-holds reach h wired addressed ha
           (subst (λ (i : ℕ). Dropped i reader rows mails totals queues) ks dropped)
           (subst (λ (i : ℕ). Zeroed (lostWords sender rows a) i queues queues′) ks words)

@@ -27,13 +27,12 @@ use Rattle.rules.proofs.Counting.{flight-total, flight-lost}
 use Rattle.state.specs.declared.entry.Entry.{Entry}
 use Rattle.state.specs.Store.{Store, storeOf, Totalled, Holds, processIn, outboxIn, deadIn, flag}
 use Rattle.state.specs.Moved.{Reachable}
-use Rattle.state.specs.Wired.{Wired}
+use Rattle.state.specs.Wired.{Wired, Addressed}
 use Rattle.state.proofs.Reading.{at-process, how-many, how-many-boards}
 use Rattle.state.proofs.Totals.{unread-few}
 use Rattle.state.proofs.Reaching.{channel-bounds}
 use Rattle.state.proofs.Ends.{sender-inside, reader-inside}
 use Rattle.state.proofs.Owners.{waiting-elsewhere, queued-elsewhere, fed-not-queued}
-use Rattle.crash.specs.Crashes.{Addressed}
 use Rattle.crash.specs.Losses.{runsOn, lostWords, Zeroed, deadRow}
 use Rattle.crash.specs.Processes.{inputIn, inputsIn, AllCrashed}
 use Rattle.crash.specs.Recount.{unreadHere, unreadIn, Dropped, Added}
@@ -294,6 +293,7 @@ module _ {t : Table} {s : Store} {entries : List Entry} {c : Cabinet} {sender re
     outboxes = outboxes-then;
     dead = dead-then;
     kept = λ p l. became p l .kept-again;
+    seated = λ p l. became p l .seated-again _ _ (h .seated p l);
     first-small = λ i l. by-eq i b (λ e. rw (e, here, is-first) (h .first-small b hb)) (λ n. rw (there i n) (h .first-small i l));
     count-small = λ i l. by-eq i b (λ e. rw (e, here, is-count) (omega arith)) (λ n. rw (there i n) (h .count-small i l));
     board-length = λ i l. by-eq i b (λ e. rw (e, here) three) (λ n. rw (there i n) (h .board-length i l));

@@ -9,7 +9,7 @@ use lib.Dec.{eqb}
 use lib.ListN.{getD, set}
 use borrow.Author.Tests.{lt-ltb, le-ltb, eq-eqb, ne-eqb}
 use Rattle.facts.specs.Tests.{anyBelow}
-use Rattle.crash.specs.Losses.{runsOn, deadApart, Zeroed}
+use Rattle.crash.specs.Losses.{runsOn, Zeroed}
 use Rattle.crash.proofs.Passing.{Passing, passing-start, passing-on, passing-over, passing-end}
 
 -- ---- tests
@@ -19,35 +19,6 @@ runs-here rows a p l = rw (lt-ltb p 16 l)
 
 pub runs-nowhere : (rows : List (List ℕ)) (a p : ℕ) → 16 ≤ p → false ≡ runsOn rows a p
 runs-nowhere rows a p l = rw (le-ltb p 16 l)
-
-pub dead-itself : (boards : List (List ℕ)) (b k : ℕ) → k ≡ b → false ≡ deadApart boards b k
-dead-itself boards b k e = rw (eq-eqb k b e)
-
-pub dead-other : (boards : List (List ℕ)) (b k : ℕ) → (k ≡ b → ⊥) → not (eqb (getD (getD boards k []) 2 0) 0) ≡ deadApart boards b k
-dead-other boards b k n = rw (ne-eqb k b n)
-
--- ---- whether another board is dead
-
--- the answer for the first k of n boards
-pub record Searching (test : ℕ → Bool) (n : ℕ) (found : Bool) (k : ℕ) : Type 0 where
-  pub looked : k ≤ n
-  pub so-far : found ≡ anyBelow test k
-
-module _ (test : ℕ → Bool) (n : ℕ) where
-  pub searching-start : Searching test n false 0
-  searching-start = record { looked = omega arith; so-far = refl }
-
-  module _ (found : Bool) (k : ℕ) (s : Searching test n found k) where
-    pub searching-hit : k < n → test k ≡ true → Searching test n true (k + 1)
-    searching-hit l e = record { looked = omega arith; so-far = rw (add-one, e) }
-
-    pub searching-miss : k < n → test k ≡ false → Searching test n found (k + 1)
-    searching-miss l e = record { looked = omega arith; so-far = rw (add-one, e) (s .so-far) }
-
-    pub searching-end : n ≤ k → found ≡ anyBelow test n
-    searching-end l =
-        let e : k ≡ n = (let a = s .looked in omega arith) in
-        s .so-far ∙ ap (anyBelow test) e
 
 -- ---- numbers that become 0
 

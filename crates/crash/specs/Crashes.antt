@@ -1,27 +1,22 @@
--- Move 5 (document 01: "crash board a: its queue is lost").
+-- Move 5 (document 01: "crash board a: its queue is lost"; W-210: 44).
 use mathlib.Core.Path.{_≡_}
 use mathlib.Core.List.{List}
-use Prim.Native.Nat.{ℕ, _+_, _*_, _<_}
-use lib.ListN.{length, getD}
-use Rattle.rules.specs.Table.{Table, inputs, channelOn}
+use Prim.Native.Nat.{ℕ, _<_}
+use lib.ListN.{length}
+use Rattle.rules.specs.Table.{Table}
 use Rattle.rules.specs.Cabinet.{Cabinet}
 use Rattle.rules.specs.Moves.{Command, crash}
 use Rattle.state.specs.declared.entry.Entry.{Entry}
 use Rattle.state.specs.declared.moved.Answer.{Answer}
 use Rattle.state.specs.Store.{storeOf, Holds}
 use Rattle.state.specs.Moved.{Reachable, Answered}
-use Rattle.state.specs.Wired.{Wired}
-
--- For each process: how many channels it reads, and which one is at each port.
-pub record Addressed (t : Table) (ins arity : List ℕ) : Type 0 where
-  pub arity-at : (p : ℕ) → p < length (t .processes) → getD arity p 0 ≡ length (inputs t p)
-  pub input-at : (p : ℕ) → p < length (t .processes) → (s : ℕ) → s < length (inputs t p) → getD ins (4 * p + s) 0 ≡ channelOn t p s
+use Rattle.state.specs.Wired.{Wired, Addressed}
 
 -- whatever the lists are that it isn't lent
-pub record Crashes (boards-many processes channels : ℕ) (sender reader ins arity : List ℕ) (rows mails logs heads boards : List (List ℕ)) (totals waits : List ℕ) (a : ℕ)
+pub record Crashes (processes channels : ℕ) (sender reader ins arity : List ℕ) (rows mails logs heads boards : List (List ℕ)) (totals waits : List ℕ) (a : ℕ)
     (rows′ mails′ boards′ : List (List ℕ)) (totals′ waits′ : List ℕ) (r : Answer) : Type 0 where
   pub answered : (t : Table) (port : List ℕ) (entries : List Entry) (c : Cabinet) (command : Command)
       → Reachable t c → Wired t sender reader port → Addressed t ins arity
-      → boards-many ≡ t .boards → processes ≡ length (t .processes) → channels ≡ length (t .channels)
+      → processes ≡ length (t .processes) → channels ≡ length (t .channels)
       → Holds t (storeOf rows mails logs heads boards totals waits) entries c → command .a ≡ a → a < t .boards
       → Answered t (storeOf rows′ mails′ logs heads boards′ totals′ waits′) entries c command (crash t c a) r

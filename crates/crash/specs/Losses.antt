@@ -1,19 +1,18 @@
--- What the parts of a crash promise that make its losses: which boards and processes it concerns, and which totals become 0.
+-- What the parts of a crash promise that look and lose: which processes it concerns, and which totals become 0.
 use mathlib.Core.Bool.{Bool, not, cond, _&&_}
 use mathlib.Core.List.{List, []}
 use Prim.Native.Nat.{ℕ}
 use lib.Dec.{eqb, ltb}
 use lib.ListN.{getD, set}
-use Rattle.state.specs.Store.{deadIn}
 use Rattle.crash.specs.Each.{Each}
 
 -- p is a process that runs on board a
 abbrev pub runsOn : List (List ℕ) → ℕ → ℕ → Bool
 runsOn rows a p = ltb p 16 && eqb (getD (getD rows p []) 0 0) a
 
--- board k is dead, and another than b
-abbrev pub deadApart : List (List ℕ) → ℕ → ℕ → Bool
-deadApart boards b k = not (eqb k b) && deadIn boards k
+-- process p has no backup; one that is being made is none
+abbrev pub unbackedIn : List (List ℕ) → ℕ → Bool
+unbackedIn rows p = not (eqb (getD (getD rows p []) 12 0) 1)
 
 -- channel k has a sender that runs on board a
 abbrev pub lostWords : List ℕ → List (List ℕ) → ℕ → ℕ → Bool

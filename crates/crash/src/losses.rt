@@ -2,8 +2,10 @@
 ghost use mathlib.Core.Path.{_≡_};
 ghost use Prim.Native.Nat.{_≤_, _<_};
 ghost use Rattle.facts.specs.Tests.{anyBelow};
-ghost use Rattle.crash.specs.Losses.{runsOn, deadApart, Zeroed, lostWords, deadRow};
+ghost use Rattle.crash.specs.Losses.{runsOn, unbackedIn, Zeroed, lostWords, deadRow};
 use process::row::BOARD;
+use process::row::COMPLETE;
+use process::row::PROTECTED;
 use process::row::ROW;
 use state::board::BOARD_ROW;
 use state::board::COUNT;
@@ -17,26 +19,26 @@ pub fn runs_on(rows: &[[u32; ROW]; 16], p: usize, a: u32) -> bool
     if p < 16 { rows[p][BOARD] == a } else { false }
 }
 
-// Whether board k is dead and another than b.
-fn dead_apart(boards: &[[u32; BOARD_ROW]; 16], b: usize, k: usize) -> bool
-    requires { ⌜ k < 16 ⌝ }
-    ensures { λ r. ⌜ r ≡ deadApart (now (boards .entry)) b k ⌝ }
+// Whether process p has no backup, or one that is being made.
+fn unbacked(rows: &[[u32; ROW]; 16], p: usize) -> bool
+    requires { ⌜ p < 16 ⌝ }
+    ensures { λ r. ⌜ r ≡ unbackedIn (now (rows .entry)) p ⌝ }
 {
-    if k == b { false } else { boards[k][DEAD] != 0 }
+    rows[p][PROTECTED] != COMPLETE
 }
 
-// Whether one of n boards is dead, b apart.
-pub fn other_dead(n: usize, boards: &[[u32; BOARD_ROW]; 16], b: usize) -> bool
+// Whether one of n processes has no backup.
+pub fn some_unbacked(n: usize, rows: &[[u32; ROW]; 16]) -> bool
     requires { ⌜ n ≤ 16 ⌝ }
-    ensures { λ r. ⌜ r ≡ anyBelow (deadApart (now (boards .entry)) b) n ⌝ }
+    ensures { λ r. ⌜ r ≡ anyBelow (unbackedIn (now (rows .entry))) n ⌝ }
 {
     let mut found = false;
-    let mut k = 0;
-    while k < n {
-        if dead_apart(boards, b, k) {
+    let mut p = 0;
+    while p < n {
+        if unbacked(rows, p) {
             found = true;
         }
-        k += 1;
+        p += 1;
     }
     found
 }

@@ -15,12 +15,12 @@ use Rattle.rules.specs.Table.{Instruction}
 use Rattle.rules.specs.Machine.{Machine, Outcome, moved, Act}
 use Rattle.rules.specs.Cabinet.{Since, Process, limited}
 use Rattle.rules.specs.Moves.{advanced, counting}
-use Rattle.process.specs.Row.{rowLength, machineOf, standbyOf, processOf, Kept}
+use Rattle.process.specs.Row.{rowLength, machineOf, standbyOf, processOf, Kept, Seated}
 use Rattle.process.specs.Change.{Became}
 use Rattle.instruction.specs.Instruction.{Fetched, outcomeOf, Intends, afterSend, bumped, oneIn, tallied, Room, TallyRoom, Suppresses}
 use Rattle.instruction.specs.declared.instruction.Intent.{Intent}
 use Rattle.instruction.specs.declared.instruction.Intent.the-variants.{Send}
-use Rattle.process.proofs.Rows.{Words, stored, spelled, limited-is}
+use Rattle.process.proofs.Rows.{Words, stored, spelled, limited-is, seated-cell}
 use Rattle.instruction.proofs.Examining.{step-halted}
 
 -- a word stored at a cell other than the flag and the number of unread words
@@ -36,6 +36,10 @@ kept-other {row} i v f u w k = record {
 
 pub kept-cell : {row mail log head : List ℕ} (i v : ℕ) → i < 12 → v < 2 ^ 32 → Kept row mail log head → Kept (set row i v) mail log head
 kept-cell i v h w k = kept-other i v (λ e. omega arith) (λ e. omega arith) w k
+
+-- and so its boards stay, by a store at no cell of theirs
+pub seated-on : {row : List ℕ} (i v : ℕ) → 0 < i → 13 ≢ i → (x y : ℕ) → Seated x y row → Seated x y (set row i v)
+seated-on i v l n = seated-cell i v (λ e. omega arith) n
 
 -- another mailbox, with its number of unread words
 pub kept-mail : {row mail log head : List ℕ} (mail′ : List ℕ) (u : ℕ) → length mail′ ≡ length mail → u ≤ logMost → Kept row mail log head
@@ -111,6 +115,7 @@ module _ (row mail log head : List ℕ) (k : Kept row mail log head) where
       (record {
         process-is = spelled row (λ (r : List ℕ). processOf (set (set r 6 left) 1 (suc (getD row 1 0))) mail log head) (k .row-length);
         kept-again = kept-cell 1 (suc (getD row 1 0)) (omega arith) (omega arith) (kept-cell 6 left (omega arith) (omega arith) k);
+        seated-again = λ x y s. seated-on 1 _ (omega arith) (λ e. omega arith) x y (seated-on 6 left (omega arith) (λ e. omega arith) x y s);
       })
 
   -- but for the instruction's count
@@ -129,6 +134,7 @@ module _ (row mail log head : List ℕ) (k : Kept row mail log head) where
             ∙ ap (λ (s : ℕ). advanced (afterSend (machineOf row mail)) (record { instructions = x .since .instructions; events = n; taken = x .since .taken }) s x) e
             ∙ ap (λ (s : Since). advanced (afterSend (machineOf row mail)) s 0 x) (counting-sent x (eqb (getD row 12 0) 0) (limited-is row mail log head) n refl);
         kept-again = kept-cell 1 (suc (getD row 1 0)) (omega arith) (omega arith) (kept-cell 7 n (omega arith) fits k);
+        seated-again = λ x y s. seated-on 1 _ (omega arith) (λ e. omega arith) x y (seated-on 7 n (omega arith) (λ e. omega arith) x y s);
       })
 
 -- one less by wrapping subtraction

@@ -21,7 +21,7 @@ use Rattle.instruction.specs.Instruction.{InRange, afterInternal, Intend
 use Rattle.instruction.specs.declared.instruction.Intent.the-variants.{Internal}
 use Rattle.process.proofs.Rows.{spelled}
 use Rattle.instruction.proofs.Examining.{register-is, step-executes}
-use Rattle.instruction.proofs.Cells.{kept-cell, bumped-is, going}
+use Rattle.instruction.proofs.Cells.{seated-on, kept-cell, bumped-is, going}
 
 -- ---- an instruction that takes, sends or is none does no computing
 
@@ -77,6 +77,7 @@ module _ (row mail log head : List ℕ) (k : Kept row mail log head) where
       (record {
         process-is = set-process a v (suc (getD row 1 0)) h;
         kept-again = kept-cell 1 (suc (getD row 1 0)) (omega arith) (omega arith) (kept-cell i v (omega arith) w k);
+        seated-again = λ x y s. seated-on 1 _ (omega arith) (λ e. omega arith) x y (seated-on i v (omega arith) (λ e. omega arith) x y s);
       })
 
   -- the place alone
@@ -86,6 +87,7 @@ module _ (row mail log head : List ℕ) (k : Kept row mail log head) where
   pc-became p w = record {
     process-is = spelled row (λ (r : List ℕ). processOf (set r 1 p) mail log head) (k .row-length);
     kept-again = kept-cell 1 p (omega arith) w k;
+    seated-again = seated-on 1 p (omega arith) (λ e. omega arith);
   }
 
 -- ---- the three instructions

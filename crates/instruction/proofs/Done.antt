@@ -15,7 +15,7 @@ use Rattle.process.specs.Row.{machineOf, standbyOf, processOf, Kept}
 use Rattle.process.specs.Change.{Became}
 use Rattle.instruction.specs.Instruction.{afterSend, bumped, oneIn, tallied, TallyRoom, Evaluates, Computes, Queues}
 use Rattle.process.proofs.Rows.{spelled, limited-is}
-use Rattle.instruction.proofs.Cells.{kept-other, tally-fits, tallied-is, anotherSend, going, queued-became}
+use Rattle.instruction.proofs.Cells.{kept-other, seated-on, tally-fits, tallied-is, anotherSend, going, queued-became}
 
 -- ---- the counter
 
@@ -38,6 +38,7 @@ done-became row mail log head k room =
       process-is = spelled row (λ (r : List ℕ). processOf (set r 15 n) mail log head) (k .row-length)
           ∙ ap (λ (s : Since). advanced (x .machine) s (x .suppress) x) (counting-done x (eqb (getD row 12 0) 0) (limited-is row mail log head) n refl);
       kept-again = kept-other 15 n (λ e. omega arith) (λ e. omega arith) fits k;
+      seated-again = seated-on 15 n (omega arith) (λ e. omega arith);
     })
 
 -- ---- behind whatever else was done to machine and counters
@@ -65,7 +66,7 @@ module _ (row mail log head row′ mail′ : List ℕ) (m : Machine) (since : Pr
   unfolding advanced
   and-done h =
       let d = done-became row′ mail′ log head (b .kept-again) (room h) in
-      record { process-is = d .process-is ∙ ap anotherDone (b .process-is); kept-again = d .kept-again }
+      record { process-is = d .process-is ∙ ap anotherDone (b .process-is); kept-again = d .kept-again; seated-again = λ x y s. d .seated-again x y (b .seated-again x y s) }
 
 -- what is counted of an act, and then of its instruction
 pub act-and-done : (f : Since → Since) (x : Process) → cond (limited x) (oneDone (counting f x)) (counting f x) ≡ counting (λ n. oneDone (f n)) x
@@ -99,4 +100,5 @@ queues row program n code a operand channel word mail log head k i e h room =
     record {
       process-is = d .process-is ∙ ap (λ (s : Since). advanced (afterSend (machineOf row mail)) s 0 x) (act-and-done anotherSend x);
       kept-again = d .kept-again;
+      seated-again = d .seated-again;
     }

@@ -21,8 +21,8 @@ use Rattle.process.specs.Change.{Became}
 use Rattle.instruction.specs.Mailbox.{Removed}
 use Rattle.instruction.specs.Instruction.{loaded, loadedIn, Loads, afterTake, bumped, oneIn, tallied, Room, TallyRoom, Intends, Takes}
 use Rattle.instruction.specs.declared.instruction.Intent.the-variants.{Take}
-use Rattle.process.proofs.Rows.{spelled, limited-is}
-use Rattle.instruction.proofs.Cells.{kept-cell, kept-mail, bumped-is, tally-fits, tallied-is, anotherTake, counting-taken, one-less, going}
+use Rattle.process.proofs.Rows.{seated-same, spelled, limited-is}
+use Rattle.instruction.proofs.Cells.{seated-on, kept-cell, kept-mail, bumped-is, tally-fits, tallied-is, anotherTake, counting-taken, one-less, going}
 use Rattle.instruction.proofs.Done.{and-done, act-and-done, act-same}
 
 -- ---- the registers
@@ -201,6 +201,11 @@ module _ (row mail : List ℕ) (code a at port : ℕ) (inside : at < getD row 14
                 kept-cell 1 p (omega arith) (omega arith)
                 (kept-cell 7 e (omega arith) e-fits
                 (kept-cell (8 + port % 4) t (omega arith) t-fits (kept-mail mail′ u (out .same-length) (omega arith) k₁)));
+            seated-again = λ v w s.
+                seated-on 1 p (omega arith) (λ z. omega arith) v w
+                (seated-on 7 e (omega arith) (λ z. omega arith) v w
+                (seated-on (8 + port % 4) t (omega arith) (λ z. omega arith) v w
+                (seated-on {row = row₁} 14 u (omega arith) (λ z. omega arith) v w (seated-same {row = row} {row′ = row₁} (same 0 (omega arith)) (beyond 13 (omega arith)) v w s))));
           })
 
       whole : (program : List Instruction) (n operand : ℕ) (log head : List ℕ) → Kept row mail log head
@@ -214,6 +219,7 @@ module _ (row mail : List ℕ) (code a at port : ℕ) (inside : at < getD row 14
           record {
             process-is = d .process-is ∙ ap (λ (s : Since). advanced (afterTake code a at row mail) s (y .suppress) y) (act-and-done (anotherTake port) y);
             kept-again = d .kept-again;
+            seated-again = d .seated-again;
           }
 
 -- no unread word there, or a mailbox with more words than it can hold

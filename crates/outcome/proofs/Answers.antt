@@ -10,7 +10,7 @@ use Rattle.facts.specs.Counts.{same-yes}
 use Rattle.rules.specs.Table.{Table, codeOf, channelAt}
 use Rattle.rules.specs.Machine.{Mail, Machine, took, sent}
 use Rattle.rules.specs.Cabinet.{Cabinet, processAt, protected}
-use Rattle.rules.specs.Moves.{Command, Move, Refusal, refusalNumber, Answer, stepDone, issueDone, crashDone, received, queued, suppressed, transmitted, injected, syncKept, syncLost, droppedFrom, refused, numbers, turn}
+use Rattle.rules.specs.Moves.{Command, Move, Refusal, refusalNumber, Answer, stepDone, issueDone, crashDone, rejoinDone, rebackupDone, transferKept, received, queued, suppressed, transmitted, injected, syncKept, syncLost, droppedFrom, refused, numbers, turn}
 use Rattle.rules.proofs.Decoded.{refusalNumber-listed}
 use Rattle.rules.proofs.Steps.{Steps}
 use Rattle.rules.proofs.Tables.{step-own}
@@ -18,7 +18,7 @@ use Rattle.rules.proofs.Counting.{step-unread}
 use Rattle.rules.proofs.Guards.{fedMail, Done, yields-turn}
 use Rattle.state.specs.Moved.{Reachable}
 use Rattle.state.proofs.Ends.{read-inside, sent-inside}
-use Rattle.state.proofs.Owners.{word-owner, checkpoint-owner, unread-own}
+use Rattle.state.proofs.Owners.{word-owner, checkpoint-owner, transfer-owner, unread-own}
 
 -- an answer's code and a are below 256
 pub record Fits (x : Answer) : Type 0 where
@@ -44,6 +44,14 @@ fits-issued = record { code-small = omega arith; a-small = omega arith }
 fits-crashed : Fits crashDone
 unfolding numbers
 fits-crashed = record { code-small = omega arith; a-small = omega arith }
+
+fits-rejoined : Fits rejoinDone
+unfolding numbers
+fits-rejoined = record { code-small = omega arith; a-small = omega arith }
+
+fits-rebacked : Fits rebackupDone
+unfolding numbers
+fits-rebacked = record { code-small = omega arith; a-small = omega arith }
 
 -- answers that name a channel
 fits-received : (x : Mail) → x .channel < 256 → Fits (received x)
@@ -71,6 +79,10 @@ fits-sync : (p dropped : ℕ) (b : Bool) → p < 256 → Fits (cond b (syncKept 
 unfolding numbers
 fits-sync p dropped true h = record { code-small = omega arith; a-small = h }
 fits-sync p dropped false h = record { code-small = omega arith; a-small = h }
+
+fits-transfer : (p : ℕ) → p < 256 → Fits (transferKept p)
+unfolding numbers
+fits-transfer p h = record { code-small = omega arith; a-small = h }
 
 module _ {t : Table} {c : Cabinet} (reach : Reachable t c) where
   -- a channel's number, and a process's
@@ -106,8 +118,11 @@ module _ {t : Table} {c : Cabinet} (reach : Reachable t c) where
     issues = λ _ _ _ _. fits-issued;
     transmits = λ _ _ x rest e. fits-transmitted x (channel-small (x .channel) (sent-inside (reach .accepted) (x .channel) (word-owner reach (r .a) x rest e .0)));
     syncs = λ _ _ p s rest e. fits-sync p (droppedFrom s (processAt c p .standby)) (protected (processAt c p)) (process-small p (checkpoint-owner reach (r .a) p s rest e .0));
+    completes = λ _ _ p rest e. fits-transfer p (process-small p (transfer-owner reach (r .a) p rest e .0));
     injects = λ h _ _. fits-injected (fedMail r) (channel-small (r .a) h);
     crashes = λ _ _ _. fits-crashed;
+    rejoins = λ _ _. fits-rejoined;
+    rebacks = λ _ _ _ _ _ _ _. fits-rebacked;
   }
 
   pub answer-fits : (r : Command) → r .a < 256 → Fits (turn t c r .answer)

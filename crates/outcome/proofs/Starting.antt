@@ -1,27 +1,32 @@
 -- The start in the lists: what is true between two rounds of seating, and that fresh lists with their rows seated hold the table's start.
 use mathlib.Core.Path.{_≡_, refl, ap, sym, _∙_, subst}
-use mathlib.Core.Bool.{false}
+use mathlib.Core.Logic.{_≢_}
+use mathlib.Core.Bool.{true, false}
+use mathlib.Core.Option.{some}
 use mathlib.Core.List.{List, [], _∷_, map}
 use Prim.Native.Nat.{ℕ, zero, suc, _+_, _≤_, _<_, _^_}
 use native.Mathlib.Omega.{arith}
 use native.Mathlib.Nat.{not-suc-le-zero}
 use lib.ListN.{length, getD, set, replicate, length-set, length-map, length-replicate, getD-replicate, List·getD-eq-default}
 use lib.Seq.{getD-set-same, getD-set-other}
+use borrow.Author.Tests.{eq-eqb, ne-eqb}
 use Rattle.facts.specs.Tests.{by-eq, by-lt}
 use Rattle.facts.specs.Lists.{listed, listed-same, map-listed, written-out}
 use Rattle.facts.specs.Indexing.{getD-map, getD-replicate-any}
 use Rattle.facts.specs.Rings.{ring}
 use Rattle.backup.specs.Limits.{logMost, ports}
-use Rattle.backup.specs.Replica.{fit, savedOn}
-use Rattle.backup.specs.Place.{viewIn, tallyIn, Sound}
-use Rattle.process.specs.Row.{rowLength, machineOf, standbyOf, processOf, Kept}
+use Rattle.backup.specs.Replica.{Replica}
+use Rattle.backup.specs.Place as place
+use Rattle.backup.specs.PlaceLaws.{fresh-in}
+use Rattle.process.specs.Row.{rowLength, machineOf, standbyOf, processOf, Kept, Seated}
 use Rattle.process.proofs.Rows.{Words, stored}
 use Rattle.rules.specs.Table.{Table, Placement, nowhere, placementAt, channelAt}
 use Rattle.rules.specs.Judge.{Accepted}
 use Rattle.rules.specs.Machine.{Mail, booted}
 use Rattle.rules.specs.Cabinet as rules
 use Rattle.rules.specs.Cabinet.{Process, placed, started, nobody, processAt, outboxAt, unreadOn, inFlight, occupancy, waiting}
-use Rattle.rules.proofs.Tables.{primary-ok, standby-ok}
+use Rattle.rules.specs.Moves.{withStandby}
+use Rattle.rules.proofs.Tables.{primary-ok, standby-ok, apart-ok}
 use Rattle.rules.proofs.Counting.{flight-none}
 use Rattle.state.specs.declared.entry.Entry.{Entry}
 use Rattle.state.specs.Store.{Store, storeOf, Totalled, Holds, blankEntry, processIn, outboxIn, deadIn, flag}
@@ -38,12 +43,8 @@ listed-one {A} a (suc n) = ap (λ (l : List A). a ∷ l) (listed-one a n)
 abbrev pub zeros : ℕ → List ℕ
 zeros n = replicate n 0
 
-fresh-sound : Sound (zeros logMost) (zeros 11)
-unfolding viewIn fit
-fresh-sound = record { log-length = refl; head-length = refl; is-fit = refl; tallies = none-saved }
-  where
-    none-saved : (p : ℕ) → p < ports → tallyIn (zeros 11) p ≡ savedOn p (viewIn (zeros logMost) (zeros 11) .log)
-    none-saved p l = getD-replicate 11 (7 + p) 0 0 (omega arith)
+fresh : place.Fresh (zeros logMost) (zeros 11)
+fresh = fresh-in (zeros logMost) refl
 
 abbrev seatedRow : ℕ → ℕ → List ℕ
 seatedRow primary standby = seatedIn (zeros rowLength) primary standby
@@ -59,13 +60,17 @@ seated-kept primary standby a b = record {
   unread = omega arith;
   words = seated-words primary standby a b .word;
   flag = omega arith;
-  sound = fresh-sound;
+  sound = fresh .is-sound;
 }
 
 -- it is the process that the table places there
 seated-is : (x : Placement) → processOf (seatedRow (x .primary) (x .standby)) (zeros logMost) (zeros logMost) (zeros 11) ≡ placed x
-unfolding processOf machineOf standbyOf viewIn placed booted
-seated-is x = refl
+unfolding processOf machineOf standbyOf placed booted
+seated-is x = ap (λ (r : Replica). withStandby (some (record { board = x .standby; replica = r; complete = true })) (placed x)) (fresh .value-is)
+
+-- on the first of its two boards, with the second as the other
+seated-there : (primary standby : ℕ) → standby ≢ primary → Seated primary standby (seatedRow primary standby)
+seated-there primary standby n = record { runs-on = rw (ne-eqb standby primary n); other-is = rw (eq-eqb primary primary refl) }
 
 -- ---- fresh lists with their rows seated
 
@@ -155,6 +160,7 @@ module _ (t : Table) (ok : Accepted t) (rows′ mails logs heads boards : List (
     outboxes = listed-one {A = List rules.Item} [] (t .boards) ∙ listed-same (λ _. []) (outboxIn boards entries) (t .boards) queue-at;
     dead = listed-one false (t .boards) ∙ listed-same (λ _. false) (deadIn boards) (t .boards) live-at;
     kept = kept-at;
+    seated = λ p h. rw (row-at p h) (seated-there (placementAt t p .primary) (placementAt t p .standby) (apart-ok t ok p h));
     first-small = λ b h. rw (board-at b h) (omega arith);
     count-small = λ b h. rw (board-at b h) (omega arith);
     board-length = λ b h. rw (board-at b h);

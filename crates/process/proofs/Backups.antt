@@ -19,31 +19,49 @@ use Rattle.backup.specs.Place.{viewIn, Sound, Called, checkpointOf, reportOf, R
 use Rattle.rules.specs.Table.{Table, portOf}
 use Rattle.rules.specs.Machine.{Mail, delivered}
 use Rattle.rules.specs.Cabinet.{Process, Standby}
-use Rattle.rules.specs.Moves.{withStandby, onReplica, receive, counts, keeps}
+use Rattle.rules.specs.Moves.{withStandby, onReplica, onBackup, receive, counts, keeps}
 use Rattle.process.specs.Row.{machineOf, standbyOf, processOf, mailsIn, Kept}
 use Rattle.process.specs.Mailbox.{Appended}
 use Rattle.process.specs.Change.{Became, BackupBecame, Backed, Drops, Received}
-use Rattle.process.proofs.Rows.{Words, stored, spelled}
+use Rattle.facts.specs.Tests.{no-way}
+use Rattle.process.proofs.Rows.{Words, stored, spelled, seated-cell, protected-is}
 
 module _ (row log head : List ℕ) (call : Replica → Reply) where
-  -- no backup: nothing is called
-  pub backed-none : getD row 12 0 ≡ 0 → Backed row log head log head call
+  -- no record: nothing is called
+  pub saved-none : getD row 12 0 ≡ 0 → Backed row log head log head onReplica call
   unfolding standbyOf
-  backed-none z = record { standby-is = λ s. rw (eq-eqb (getD row 12 0) 0 z); sound-again = λ s. s }
+  saved-none z = record { standby-is = λ s. rw (eq-eqb (getD row 12 0) 0 z); sound-again = λ s. s }
 
   -- the call's promise
-  pub backed-call : (log′ head′ : List ℕ) (number : ℕ) → (getD row 12 0 ≡ 0 → ⊥) → Called log head log′ head′ number call
-      → Backed row log head log′ head′ call
+  pub saved-call : (log′ head′ : List ℕ) (number : ℕ) → (getD row 12 0 ≡ 0 → ⊥) → Called log head log′ head′ number call
+      → Backed row log head log′ head′ onReplica call
   unfolding standbyOf
-  backed-call log′ head′ number n c = record {
+  saved-call log′ head′ number n c = record {
     standby-is = λ s. rw (ne-eqb (getD row 12 0) 0 n, c .value-is s);
+    sound-again = c .sound-again;
+  }
+
+  -- the same on a backup: with none, also while one is being made, nothing is called
+  pub backed-none : (getD row 12 0 ≡ 1 → ⊥) → Backed row log head log head onBackup call
+  unfolding standbyOf
+  backed-none n = record { standby-is = λ s. go (eqb (getD row 12 0) 0) _ (ne-eqb (getD row 12 0) 1 n); sound-again = λ s. s }
+    where
+      go : (b : Bool) (x : Standby) → x .complete ≡ false → cond b none (some x) ≡ onBackup call (cond b none (some x))
+      go true x h = refl
+      go false x h = rw h
+
+  pub backed-call : (log′ head′ : List ℕ) (number : ℕ) → getD row 12 0 ≡ 1 → Called log head log′ head′ number call
+      → Backed row log head log′ head′ onBackup call
+  unfolding standbyOf
+  backed-call log′ head′ number e c = record {
+    standby-is = λ s. rw (e, c .value-is s);
     sound-again = c .sound-again;
   }
 
 -- ---- calls that change the backup alone
 
-backed-became : (row log head log′ head′ : List ℕ) (call : Replica → Reply) → Backed row log head log′ head′ call
-    → BackupBecame row log head log′ head′ (λ x. withStandby (onReplica call (x .standby)) x)
+backed-became : (row log head log′ head′ : List ℕ) (call : Replica → Reply) → Backed row log head log′ head′ onBackup call
+    → BackupBecame row log head log′ head′ (λ x. withStandby (onBackup call (x .standby)) x)
 unfolding processOf
 backed-became row log head log′ head′ call b mail k = record {
   process-is = ap (λ (s : Option Standby). withStandby s (processOf row mail log head)) (b .standby-is (k .sound));
@@ -55,13 +73,14 @@ backed-became row log head log′ head′ call b mail k = record {
     flag = k .flag;
     sound = b .sound-again (k .sound);
   };
+  seated-again = λ x y s. s;
 }
 
-pub counts-became : (row log head log′ head′ : List ℕ) → Backed row log head log′ head′ count → BackupBecame row log head log′ head′ counts
+pub counts-became : (row log head log′ head′ : List ℕ) → Backed row log head log′ head′ onBackup count → BackupBecame row log head log′ head′ counts
 unfolding counts
 counts-became row log head log′ head′ = backed-became row log head log′ head′ count
 
-pub keeps-became : (row log head log′ head′ : List ℕ) (c : Checkpoint) → Backed row log head log′ head′ (λ v. sync v c)
+pub keeps-became : (row log head log′ head′ : List ℕ) (c : Checkpoint) → Backed row log head log′ head′ onBackup (λ v. sync v c)
     → BackupBecame row log head log′ head′ (keeps c)
 unfolding keeps
 keeps-became row log head log′ head′ c = backed-became row log head log′ head′ (λ v. sync v c)
@@ -69,18 +88,17 @@ keeps-became row log head log′ head′ c = backed-became row log head log′ h
 -- ---- what a landing checkpoint drops
 
 module _ (row log head : List ℕ) where
-  pub drops-none : (c : Checkpoint) → getD row 12 0 ≡ 0 → Drops row log head c 0
-  unfolding processOf standbyOf
-  drops-none c z mail k = rw (eq-eqb (getD row 12 0) 0 z)
+  pub drops-none : (c : Checkpoint) → (getD row 12 0 ≡ 1 → ⊥) → Drops row log head c 0
+  drops-none c n mail k h = absurd (no-way (let a = protected-is row mail log head ∙ ne-eqb (getD row 12 0) 1 n in cc))
 
   -- at most what a log holds, so that 32 bits are enough
-  pub drops-so : (c : code.Checkpoint) (l : Landed) (n : ℕ) → (getD row 12 0 ≡ 0 → ⊥) → Reports log head c l → n ≡ totalDropped (reportOf l) % 2 ^ 32
+  pub drops-so : (c : code.Checkpoint) (l : Landed) (n : ℕ) → getD row 12 0 ≡ 1 → Reports log head c l → n ≡ totalDropped (reportOf l) % 2 ^ 32
       → Drops row log head (checkpointOf c) n
   unfolding processOf standbyOf
-  drops-so c l n y r e mail k =
+  drops-so c l n y r e mail k h =
       let a : totalDropped (reportOf l) ≡ totalDropped (syncReport (viewIn log head) (checkpointOf c)) = ap totalDropped (r .report-is (k .sound)) in
       let b = totalDropped-small (viewIn log head) (checkpointOf c) in
-      rw (ne-eqb (getD row 12 0) 0 y) (omega arith)
+      rw y (omega arith)
 
 -- ---- a delivery
 
@@ -88,7 +106,7 @@ module _ (row mail log head : List ℕ) (port channel word : ℕ) where
   pub received-none : logMost ≤ getD row 14 0 → Received row mail log head row mail log head port channel word
   received-none h = record { untouched = λ _. ((refl, refl), (refl, refl)); became = λ k l. absurd (omega arith) }
 
-  pub received-so : (mail′ log′ head′ : List ℕ) → getD row 14 0 < logMost → Backed row log head log′ head′ (λ v. arrive v port word)
+  pub received-so : (mail′ log′ head′ : List ℕ) → getD row 14 0 < logMost → Backed row log head log′ head′ onReplica (λ v. arrive v port word)
       → Appended mail (getD row 14 0) channel word mail′ → Received row mail log head (set row 14 (getD row 14 0 + 1)) mail′ log′ head′ port channel word
   unfolding processOf machineOf standbyOf receive delivered
   received-so mail′ log′ head′ h b a =
@@ -119,5 +137,6 @@ module _ (row mail log head : List ℕ) (port channel word : ℕ) where
                 flag = rw (spelled row (λ (r : List ℕ). getD (set r 14 (n + 1)) 12 0) z) (k .flag);
                 sound = b .sound-again (k .sound);
               };
+              seated-again = seated-cell 14 (n + 1) (λ e. omega arith) (λ e. omega arith);
             };
       }

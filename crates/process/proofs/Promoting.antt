@@ -6,14 +6,13 @@ use mathlib.Core.List.{List, [], _∷_, map}
 use Prim.Native.Nat.{ℕ, zero, suc, _%_, _≤_, _<_, _^_}
 use native.Mathlib.Omega.{arith}
 use lib.Dec.{eqb, ltb}
-use lib.ListN.{length, getD, set, length-set, length-map}
+use lib.ListN.{length, getD, set, length-set}
 use borrow.Author.Tests.{eq-eqb, ne-eqb, ltb-true}
 use Rattle.facts.specs.Indexing.{map-agree}
 use Rattle.backup.specs.Limits.{logMost, ports}
-use Rattle.backup.specs.Replica.{Message, Replica, FailOver, fit, onPorts, failOver}
-use Rattle.backup.specs.Accepts.{Fit, fit-parts}
-use Rattle.facts.specs.Lists.{prefix, length-prefix}
-use Rattle.backup.specs.Place.{unpack, messages, viewIn, Sound, promotionIn}
+use Rattle.backup.specs.Replica.{Message, FailOver, onPorts, failOver}
+use Rattle.backup.specs.Place.{messages, viewIn, Sound, promotionIn, handedOver}
+use Rattle.backup.specs.PlaceLaws.{fail-over-in, promotion-few, promotion-ports}
 use Rattle.backup.specs.declared.place.Promotion.{Promotion}
 use Rattle.rules.specs.Table.{Table, channelOn}
 use Rattle.rules.specs.Machine.{Mail}
@@ -31,7 +30,8 @@ pub restored-words : (row : List ℕ) (p : Promotion) → p .pc < 2 ^ 32 → p .
 unfolding restoredIn
 restored-words row p a b c d e f g h =
     stored 14 (p .len) g (cleared 12 (cleared 15 (cleared 11 (cleared 10 (cleared 9 (cleared 8 (cleared 7 (stored 6 (p .sent) f (stored 5 (p .r3) e
-    (stored 4 (p .r2) d (stored 3 (p .r1) c (stored 2 (p .r0) b (stored 1 (p .pc) a (stored 0 (getD row 13 0) (h .word 13) h))))))))))))))
+    (stored 4 (p .r2) d (stored 3 (p .r1) c (stored 2 (p .r0) b (stored 1 (p .pc) a (stored 13 (getD row 0 0) (h .word 0)
+    (stored 0 (getD row 13 0) (h .word 13) h)))))))))))))))
 
 -- ---- the mailbox
 
@@ -48,25 +48,16 @@ routed t p channels r =
 
 -- ---- the process
 
--- no log of a sound backup is longer than its array
-len-small : (log head : List ℕ) → Sound log head → getD head 0 0 ≤ logMost
-unfolding viewIn
-len-small log head s =
-    let f = fit-parts (viewIn log head) (s .is-fit) .few in
-    let a = length-map (prefix (getD head 0 0) log) unpack in
-    let b = length-prefix (getD head 0 0) log in
-    omega arith
-
 module _ (row mail log head channels : List ℕ) where
   pub promoted-none : logMost < getD head 0 0 → Promoted row mail log head row mail channels
-  promoted-none h k t p r = absurd (let s = len-small log head (k .sound) in omega arith)
+  promoted-none h k t p r = absurd (let s = promotion-few log head (k .sound) in omega arith)
 
   pub promoted-so : (mail′ row′ : List ℕ) → Readdressed mail log (getD head 0 0) channels mail′ → Restored row (promotionIn head) row′
       → Promoted row mail log head row′ mail′ channels
-  unfolding processOf machineOf standbyOf promoted recovered failOver restoredIn viewIn
+  unfolding processOf machineOf standbyOf promoted recovered restoredIn
   promoted-so mail′ row′ m e k t p r =
       let z = k .row-length in
-      let v : Replica = viewIn log head in
+      let v : FailOver = handedOver log (promotionIn head) in
       let now : List Mail → Process = λ mailbox. record {
         machine = record { registers = v .registers; pc = v .pc; mailbox = mailbox };
         board = getD row 13 0;
@@ -74,20 +65,23 @@ module _ (row mail log head channels : List ℕ) where
         since = noneSince;
         standby = none;
       } in
-      let f : Fit (viewIn log head) = fit-parts (viewIn log head) (k .sound .is-fit) in
       record {
         process-is =
-            rw (e .row-is, k .sound .is-fit)
+            rw (e .row-is, fail-over-in log head (k .sound))
             (spelled row (λ (r : List ℕ). processOf (restoredIn r (promotionIn head)) mail′ log head) z
-            ∙ ap now (m .mails (k .mail-length) ∙ routed t p channels r (messages (getD head 0 0) log) (f .on-ports)));
+            ∙ ap now (m .mails (k .mail-length) ∙ routed t p channels r (v .log) (promotion-ports log head (k .sound))));
         kept-again = record {
           row-length = ap length (e .row-is) ∙ simp length-set z;
           mail-length = m .same-length ∙ k .mail-length;
-          unread = rw (e .row-is, spelled row (λ (r : List ℕ). getD (restoredIn r (promotionIn head)) 14 0) z) (len-small log head (k .sound));
+          unread = rw (e .row-is, spelled row (λ (r : List ℕ). getD (restoredIn r (promotionIn head)) 14 0) z) (promotion-few log head (k .sound));
           words = e .words (k .words);
           flag = rw (e .row-is, spelled row (λ (r : List ℕ). getD (restoredIn r (promotionIn head)) 12 0) z) (omega arith);
           sound = k .sound;
         };
+        seated-again = λ x y s.
+            let here : getD row′ 0 0 ≡ getD row 13 0 = ap (λ (r : List ℕ). getD r 0 0) (e .row-is) ∙ spelled row (λ (r : List ℕ). getD (restoredIn r (promotionIn head)) 0 0) z in
+            let there : getD row′ 13 0 ≡ getD row 0 0 = ap (λ (r : List ℕ). getD r 13 0) (e .row-is) ∙ spelled row (λ (r : List ℕ). getD (restoredIn r (promotionIn head)) 13 0) z in
+            record { runs-on = rw (here, there) (s .other-is); other-is = rw (here, there) (s .runs-on) };
       }
 
 -- ---- a crash
@@ -97,10 +91,10 @@ module _ (row mail log head channels : List ℕ) (b : ℕ) where
   so : (row′ mail′ : List ℕ) (t : Table) (p : ℕ) (change : Process → Process)
       → (let x : Process = processOf row mail log head in afterCrash t b p x (x .standby) ≡ change x)
       → Became row mail log head row′ mail′ log head change → Became row mail log head row′ mail′ log head (λ x. afterCrash t b p x (x .standby))
-  so row′ mail′ t p change e h = record { process-is = h .process-is ∙ sym e; kept-again = h .kept-again }
+  so row′ mail′ t p change e h = record { process-is = h .process-is ∙ sym e; kept-again = h .kept-again; seated-again = h .seated-again }
 
   as-it-was : Kept row mail log head → Became row mail log head row mail log head (λ x. x)
-  as-it-was k = record { process-is = refl; kept-again = k }
+  as-it-was k = record { process-is = refl; kept-again = k; seated-again = λ x y s. s }
 
   -- a process with no backup
   pub crashed-none : getD row 12 0 ≡ 0 → Crashed row mail log head row mail b channels

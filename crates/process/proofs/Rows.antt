@@ -8,9 +8,11 @@ use native.Mathlib.Omega.{arith}
 use lib.Dec.{eqb}
 use lib.ListN.{length, getD, set, length-set}
 use Rattle.facts.specs.Lists.{listed, written-out}
-use Rattle.rules.specs.Cabinet.{Standby, isSome, limited}
+use lib.Seq.{getD-set-other}
+use borrow.Author.Tests.{eqb-true}
+use Rattle.rules.specs.Cabinet.{Standby, isSome, isComplete, limited, protected}
 use Rattle.rules.specs.Moves.{issued, unprotected}
-use Rattle.process.specs.Row.{rowLength, machineOf, standbyOf, processOf, Kept}
+use Rattle.process.specs.Row.{rowLength, machineOf, standbyOf, processOf, Kept, Seated}
 use Rattle.process.specs.Change.{Became, RowBecame}
 
 -- every number of a list is a word
@@ -35,6 +37,22 @@ cleared k h = stored k 0 (omega arith) h
 -- what is read off the stores of a row is what is read off the same stores of it written out
 pub spelled : {A : Type 0} (row : List ℕ) (f : List ℕ → A) → length row ≡ rowLength → f row ≡ f (listed (λ i. getD row i 0) rowLength)
 spelled row f h = ap f (written-out row rowLength 0 h)
+
+-- the boards stay: neither cell of them is stored to
+pub seated-same : {row row′ : List ℕ} → getD row′ 0 0 ≡ getD row 0 0 → getD row′ 13 0 ≡ getD row 13 0 → (x y : ℕ) → Seated x y row → Seated x y row′
+seated-same e f x y s = record { runs-on = rw (e, f) (s .runs-on); other-is = rw (e, f) (s .other-is) }
+
+pub seated-cell : {row : List ℕ} (i v : ℕ) → (0 ≡ i → ⊥) → (13 ≡ i → ⊥) → (x y : ℕ) → Seated x y row → Seated x y (set row i v)
+seated-cell {row} i v m n = seated-same (getD-set-other row i 0 v 0 m) (getD-set-other row i 13 v 0 n)
+
+-- a process is protected where its row says that its backup is complete
+pub protected-is : (row mail log head : List ℕ) → protected (processOf row mail log head) ≡ eqb (getD row 12 0) 1
+unfolding processOf standbyOf
+protected-is row mail log head = go (eqb (getD row 12 0) 0) refl _ refl
+  where
+    go : (b : Bool) → eqb (getD row 12 0) 0 ≡ b → (x : Standby) → x .complete ≡ eqb (getD row 12 0) 1 → isComplete (cond b none (some x)) ≡ eqb (getD row 12 0) 1
+    go true e x h = rw (eqb-true (getD row 12 0) 0 e)
+    go false e x h = h
 
 -- a process is limited where its row says so
 pub limited-is : (row mail log head : List ℕ) → limited (processOf row mail log head) ≡ not (eqb (getD row 12 0) 0)
@@ -64,6 +82,7 @@ issued-became row mail log head k =
         flag = rw (spelled row (λ (r : List ℕ). getD (issuedIn r) 12 0) l) (k .flag);
         sound = k .sound;
       };
+      seated-again = seated-same (spelled row (λ (r : List ℕ). getD (issuedIn r) 0 0) l) (spelled row (λ (r : List ℕ). getD (issuedIn r) 13 0) l);
     }
 
 -- ---- unprotect
@@ -82,4 +101,5 @@ unprotected-became row mail log head k =
         flag = rw (spelled row (λ (r : List ℕ). getD (set r 12 0) 12 0) l) (omega arith);
         sound = k .sound;
       };
+      seated-again = seated-cell 12 0 (λ e. omega arith) (λ e. omega arith);
     }

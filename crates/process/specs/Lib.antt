@@ -3,3 +3,4 @@ pub mod Row
 pub mod Mailbox
 pub mod Change
 pub mod Promotion
+pub mod Transfer

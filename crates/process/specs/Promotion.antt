@@ -2,6 +2,7 @@
 use mathlib.Core.Path.{_≡_}
 use mathlib.Core.List.{List, map}
 use Prim.Native.Nat.{ℕ, _%_, _<_, _^_}
+use lib.Dec.{eqb}
 use lib.ListN.{length, getD, set}
 use Rattle.backup.specs.Limits.{logMost, ports}
 use Rattle.backup.specs.Replica.{Message}
@@ -26,7 +27,8 @@ pub record Readdressed (mail log : List ℕ) (len : ℕ) (channels mail′ : Lis
 -- the row of a process that goes on from a promotion
 unfoldable pub restoredIn : List ℕ → Promotion → List ℕ
 restoredIn row p =
-    let a = set (set (set (set (set (set row 0 (getD row 13 0)) 1 (p .pc)) 2 (p .r0)) 3 (p .r1)) 4 (p .r2)) 5 (p .r3) in
+    let s = set (set row 0 (getD row 13 0)) 13 (getD row 0 0) in
+    let a = set (set (set (set (set s 1 (p .pc)) 2 (p .r0)) 3 (p .r1)) 4 (p .r2)) 5 (p .r3) in
     let b = set (set (set (set (set (set a 6 (p .sent)) 7 0) 8 0) 9 0) 10 0) 11 0 in
     set (set (set b 15 0) 12 0) 14 (p .len)
 
@@ -37,7 +39,7 @@ pub record Restored (row : List ℕ) (p : Promotion) (row′ : List ℕ) : Type 
 
 -- the standby that a row shows, whether or not the process is protected
 abbrev pub standbyIn : List ℕ → List ℕ → List ℕ → Standby
-standbyIn row log head = record { board = getD row 13 0; replica = viewIn log head }
+standbyIn row log head = record { board = getD row 13 0; replica = viewIn log head; complete = eqb (getD row 12 0) 1 }
 
 -- these are the channels of a process's ports
 abbrev pub Routes : Table → ℕ → List ℕ → Type 0

@@ -34,9 +34,12 @@ machineOf row mail = record {
   mailbox = mailsIn (getD row 14 0) mail;
 }
 
--- its backup, if it is protected
+-- Its backup, by the row's flag: 0 for none, 1 for a backup, 2 for a record that is being made (W-210: from a resync's issue until its carry).
+-- It is on the process's other board of the table, which the row has whatever the flag says.
 unfoldable pub standbyOf : List ℕ → List ℕ → List ℕ → Option Standby
-standbyOf row log head = cond (eqb (getD row 12 0) 0) none (some (record { board = getD row 13 0; replica = viewIn log head }))
+standbyOf row log head =
+    let flag = getD row 12 0 in
+    cond (eqb flag 0) none (some (record { board = getD row 13 0; replica = viewIn log head; complete = eqb flag 1 }))
 
 unfoldable pub processOf : List ℕ → List ℕ → List ℕ → List ℕ → Process
 unfolding machineOf standbyOf
@@ -58,5 +61,10 @@ pub record Kept (row mail log head : List ℕ) : Type 0 where
   pub mail-length : length mail ≡ logMost
   pub unread : getD row 14 0 ≤ logMost
   pub words : (i : ℕ) → getD row i 0 < 2 ^ 32
-  pub flag : getD row 12 0 ≤ 1
+  pub flag : getD row 12 0 ≤ 2
   pub sound : Sound log head
+
+-- Of its two boards of the table, x and y, it runs on one, and the row's cell for a backup's board has the other: a promotion swaps the two.
+pub record Seated (x y : ℕ) (row : List ℕ) : Type 0 where
+  pub runs-on : getD row 0 0 ≡ cond (eqb (getD row 13 0) x) y x
+  pub other-is : getD row 13 0 ≡ cond (eqb (getD row 0 0) x) y x

@@ -8,6 +8,7 @@ ghost use Rattle.backup.specs.Place.{checkpointOf};
 ghost use Rattle.rules.specs.Moves.{snapshot as snapshotOf, issued, keeps};
 ghost use Rattle.process.specs.Row.{processOf};
 ghost use Rattle.process.specs.Change.{RowBecame, BackupBecame, Drops};
+use crate::row::COMPLETE;
 use crate::row::EVENTS;
 use crate::row::INSTRUCTIONS;
 use crate::row::PC;
@@ -56,12 +57,12 @@ pub fn issue(row: &mut [u32; ROW])
     row[INSTRUCTIONS] = 0;
 }
 
-// A checkpoint lands: the backup keeps it, if the process is protected. How many messages that dropped.
+// A checkpoint lands: the backup keeps it, if there is one. How many messages that dropped.
 pub fn keep(row: &[u32; ROW], log: &mut [u64; LOG], head: &mut [u32; HEAD], c: Checkpoint) -> u32
     ensures { λ _. ⌜ BackupBecame (now (row .entry)) (now (log .entry)) (now (head .entry)) (now (log .exit)) (now (head .exit)) (keeps (checkpointOf c)) ⌝ }
     ensures { λ r. ⌜ Drops (now (row .entry)) (now (log .entry)) (now (head .entry)) (checkpointOf c) r ⌝ }
 {
-    if row[PROTECTED] != 0 {
+    if row[PROTECTED] == COMPLETE {
         let landed = sync_in(log, head, c);
         return total_dropped(landed);
     }

@@ -5,9 +5,10 @@ ghost use mathlib.Core.Path.{_≡_};
 ghost use mathlib.Core.List.{List};
 ghost use Prim.Native.Nat.{ℕ};
 ghost use Rattle.backup.specs.Replica.{arrive};
-ghost use Rattle.rules.specs.Moves.{counts as countsOf};
+ghost use Rattle.rules.specs.Moves.{onReplica, counts as countsOf};
 ghost use Rattle.process.specs.Change.{Backed, BackupBecame, Received};
 use crate::mailbox::append;
+use crate::row::COMPLETE;
 use crate::row::PROTECTED;
 use crate::row::ROW;
 use crate::row::UNREAD;
@@ -17,9 +18,9 @@ use backup::place::HEAD;
 use backup::place::arrive_in;
 use backup::place::count_in;
 
-// A word arrives at its backup too, if the process is protected.
+// A word arrives at its backup too, also at one that is being made: "then all that have arrived since issue" (W-210).
 fn save(row: &[u32; ROW], log: &mut [u64; LOG], head: &mut [u32; HEAD], port: u32, word: u32)
-    ensures { λ _. ⌜ Backed (now (row .entry)) (now (log .entry)) (now (head .entry)) (now (log .exit)) (now (head .exit)) (λ v. arrive v port word) ⌝ }
+    ensures { λ _. ⌜ Backed (now (row .entry)) (now (log .entry)) (now (head .entry)) (now (log .exit)) (now (head .exit)) onReplica (λ v. arrive v port word) ⌝ }
 {
     if row[PROTECTED] != 0 {
         arrive_in(log, head, port, word);
@@ -48,11 +49,11 @@ pub fn receive(
     row[UNREAD] = unread + 1;
 }
 
-// The sender's half: the backup counts the word, if the process is protected.
+// The sender's half: the backup counts the word, if there is one. A record that is being made counts none.
 pub fn counts(row: &[u32; ROW], head: &mut [u32; HEAD])
     ensures { λ _. ⌜ ((log : List ℕ) → BackupBecame (now (row .entry)) log (now (head .entry)) log (now (head .exit)) countsOf) ⌝ }
 {
-    if row[PROTECTED] == 0 {
+    if row[PROTECTED] != COMPLETE {
         return;
     }
     count_in(head);

@@ -7,3 +7,4 @@ pub mod mail;
 mod mailbox;
 mod promotion;
 pub mod row;
+pub mod transfer;

@@ -45,11 +45,14 @@ fn readdress(mail: &mut [u64; LOG], log: &[u64; LOG], len: usize, channels: [u32
     }
 }
 
-// The row of a promoted process: the backup's state and board, its count to suppress, and no backup.
+// The row of a promoted process: the backup's state and board, its count to suppress, and no backup. Its other board is the one that it
+// ran on.
 fn restore(row: &mut [u32; ROW], p: Promotion)
     ensures { λ _. ⌜ Restored (now (row .entry)) p (now (row .exit)) ⌝ }
 {
+    let board = row[BOARD];
     row[BOARD] = row[STANDBY];
+    row[STANDBY] = board;
     row[PC] = p.pc;
     row[R0] = p.r0;
     row[R1] = p.r1;

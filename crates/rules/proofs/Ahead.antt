@@ -10,7 +10,7 @@ use lib.ListN.{length}
 use Rattle.backup.specs.Replica.{Checkpoint}
 use Rattle.rules.specs.Table.{Table, Instruction, codeOf, limitOf}
 use Rattle.rules.specs.Machine.{Mail, Machine, Act, sent, delivered}
-use Rattle.rules.specs.Cabinet.{instructionsMost, Item, message, checkpoint}
+use Rattle.rules.specs.Cabinet.{instructionsMost, Item, message, checkpoint, transfer}
 use Rattle.rules.proofs.Steps.{Steps, step-later}
 use Rattle.rules.proofs.Runs.{Run, here, more, isSend, Silent, tally, busy, busy-snoc, length-snoc, Within}
 
@@ -18,16 +18,18 @@ use Rattle.rules.proofs.Runs.{Run, here, more, isSend, Silent, tally, b
 abbrev pub taken-at : Table → ℕ → List Act → Machine → Item
 taken-at t p acts m = checkpoint p (record { pc = m .pc; registers = m .registers; taken = tally t p acts })
 
--- how many items are checkpoints
+-- how many items are checkpoints or transfers
 abbrev pub checkpoints : List Item → ℕ
 checkpoints [] = 0
 checkpoints (message x ∷ q) = checkpoints q
 checkpoints (checkpoint p s ∷ q) = suc (checkpoints q)
+checkpoints (transfer p ∷ q) = suc (checkpoints q)
 
 pub checkpoints-append : (q r : List Item) → checkpoints (q ++ r) ≡ checkpoints q + checkpoints r
 checkpoints-append [] r = omega arith
 checkpoints-append (message x ∷ q) r = checkpoints-append q r
 checkpoints-append (checkpoint p s ∷ q) r = let h = checkpoints-append q r in omega arith
+checkpoints-append (transfer p ∷ q) r = let h = checkpoints-append q r in omega arith
 
 -- The lists of acts are those since the last checkpoint was issued, at the left end and at the right.
 pub data Ahead (t : Table) (p : ℕ) : List Act → Machine → List Item → List Act → Machine → Type 0 where
@@ -126,6 +128,10 @@ up-to-issue {t} {p} {u = u} {a = a} (issuing f r) =
       is-snapshot = ap (λ (l : List Act). taken-at t p l a) (sym (append-nil u));
       rest = r;
     }
+
+-- a transfer isn't among the items: it stands between two such stretches (Good's `Coming`)
+pub no-transfer : {t : Table} {p r : ℕ} {u v : List Act} {a b : Machine} {q : List Item} → Ahead t p u a (transfer r ∷ q) v b → ⊥
+no-transfer (silent e h r) = no-transfer r
 
 -- no item: silent steps only
 pub record UpToEnd (code : List Instruction) (a b : Machine) : Type 0 where

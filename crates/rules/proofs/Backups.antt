@@ -1,6 +1,6 @@
 -- Inside the cabinet no call of a backup is refused: each does what its name says.
 use mathlib.Core.Path.{_≡_, refl, ap, sym, _∙_}
-use mathlib.Core.Bool.{true}
+use mathlib.Core.Bool.{Bool, true, false, cond}
 use mathlib.Core.Option.{Option, some}
 use mathlib.Core.List.{List, [], _∷_, _++_, map, map-append}
 use Prim.Native.Nat.{ℕ, _≤_, _<_}
@@ -14,18 +14,26 @@ use Rattle.backup.specs.Accepts as accepts
 use Rattle.backup.specs.Accepts.{parts-fit, fail-over-accepted}
 use Rattle.rules.specs.Table.{Table, channelAt, codeOf, inputs, portOf}
 use Rattle.rules.specs.Machine.{Mail, Machine, Act, delivered}
-use Rattle.rules.specs.Cabinet.{Standby}
-use Rattle.rules.specs.Moves.{onReplica, recovered}
+use Rattle.rules.specs.Cabinet.{Standby, isComplete}
+use Rattle.rules.specs.Moves.{onReplica, onBackup, recovered}
 use Rattle.rules.specs.Judge.{Accepted}
 use Rattle.rules.proofs.Runs.{Run, here, more, tally}
 use Rattle.rules.proofs.Tables.{Stands, input, few-ports, step-low}
 use Rattle.rules.proofs.Good.{mailOf, stateOf, PortsBelow, no-ports, one-port, Kept}
 use Rattle.rules.proofs.Tally.{remaining-ports, run-logged}
 
--- a call on a process's backup, where it has one
+-- a call on a process's record, where it has one
 pub called : (call : Replica → Reply) {o : Option Standby} {s : Standby} {r : Replica} → o ≡ some s → call (s .replica) .replica ≡ r
-    → onReplica call o ≡ some (record { board = s .board; replica = r })
-called call {s = s} e f = ap (onReplica call) e ∙ ap (λ (r : Replica). some (record { board = s .board; replica = r })) f
+    → onReplica call o ≡ some (record { board = s .board; replica = r; complete = s .complete })
+called call {s = s} e f = ap (onReplica call) e ∙ ap (λ (r : Replica). some (record { board = s .board; replica = r; complete = s .complete })) f
+
+-- the same on a backup, and on a record that is being made, which is none yet
+pub called-backup : (call : Replica → Reply) {o : Option Standby} {s : Standby} {r : Replica} → o ≡ some s → s .complete ≡ true → call (s .replica) .replica ≡ r
+    → onBackup call o ≡ some (record { board = s .board; replica = r; complete = s .complete })
+called-backup call {o} {s} e h f = ap (λ (b : Bool). cond b (onReplica call o) o) (ap isComplete e ∙ h) ∙ called call {s = s} e f
+
+pub not-called : (call : Replica → Reply) {o : Option Standby} {s : Standby} → o ≡ some s → s .complete ≡ false → onBackup call o ≡ some s
+not-called call {o} e h = ap (λ (b : Bool). cond b (onReplica call o) o) (ap isComplete e ∙ h) ∙ e
 
 on-ports : {n : ℕ} {log : List Message} → n ≤ ports → PortsBelow n log → onPorts log ≡ true
 on-ports few no-ports = refl

@@ -17,9 +17,10 @@ use Rattle.rules.specs.Cabinet.{instructionsMost, savedMost, Standby, Si
 use Rattle.rules.specs.Judge.{Accepted}
 use Rattle.rules.specs.Bounds.{mails, issuedTakes, BackupBounds, Bounds}
 use Rattle.rules.proofs.Runs.{_then_, tally}
-use Rattle.rules.proofs.Ahead.{Ahead, UpToIssue, up-to-issue}
+use Rattle.rules.proofs.Ahead.{up-to-issue}
 use Rattle.rules.proofs.Tables.{few-ports, limit-high}
-use Rattle.rules.proofs.Good.{stateOf, Good, backed, alone, late, Backed, Kept, good-backed, good-span, good-small, backed-sent, good-kept, good-suppress}
+use Rattle.rules.proofs.Good.{stateOf, Link, trailing, coming, Good, backed, alone, late, Backed, Kept, good-backed, good-span, good-small, backed-sent, good-kept, good-suppress}
+use Rattle.rules.proofs.Links.{coming-no-checkpoint}
 use Rattle.rules.proofs.Backups.{run-low, arrive-number, count-number, counted-kept, sync-number, takes-over}
 use Rattle.rules.proofs.Invariant.{Invariant, mine, mine-same, machineAt, owner}
 use Rattle.rules.proofs.Room.{Room}
@@ -33,13 +34,17 @@ module _ (t : Table) (ok : Accepted t) (c : Cabinet) (s : Reference) (inv : Inva
   -- ---- the backup
 
   -- a checkpoint that is the oldest of p's own items finds what it says was taken
-  oldest-syncs : {items q : List Item} {y : Process} {m : Machine} {x : Checkpoint} (h : Backed t p items y m)
-      → UpToIssue t p (h .before) m (checkpoint p x) q (h .since) (y .machine) → syncNumber (h .standby .replica) x ≡ 0
-  oldest-syncs {x = x} h v =
-      let same : x ≡ record { pc = v .mid .pc; registers = v .mid .registers; taken = tally t p (h .before ++ v .acts) } = (let a = v .is-snapshot in cc) in
-      let few : h .standby .replica .sent < sentMost = (let a = backed-sent h in let b = limit-high t ok p in omega arith) in
-      sync-number t ok p in-table (h .standby .replica) (h .kept) few (h .replay .ran then v .to-mid) x
-      (ap (λ (z : Checkpoint). z .pc) same) (ap (λ (z : Checkpoint). z .registers) same) (ap (λ (z : Checkpoint). z .taken) same)
+  oldest-syncs : {q : List Item} {y : Process} {m : Machine} {x : Checkpoint} (h : Backed t p (checkpoint p x ∷ q) y m) → syncNumber (h .standby .replica) x ≡ 0
+  oldest-syncs {q} {y} {m} {x} h = go (h .link)
+    where
+      go : Link t p (h .standby) (checkpoint p x ∷ q) m (h .since) (y .machine) → syncNumber (h .standby .replica) x ≡ 0
+      go (trailing l) =
+          let v = up-to-issue (l .ahead) in
+          let same : x ≡ record { pc = v .mid .pc; registers = v .mid .registers; taken = tally t p (l .before ++ v .acts) } = (let a = v .is-snapshot in cc) in
+          let few : h .standby .replica .sent < sentMost = (let a = backed-sent h in let b = limit-high t ok p in omega arith) in
+          sync-number t ok p in-table (h .standby .replica) (h .kept) few (l .replay .ran then v .to-mid) x
+          (ap (λ (z : Checkpoint). z .pc) same) (ap (λ (z : Checkpoint). z .registers) same) (ap (λ (z : Checkpoint). z .taken) same)
+      go (coming l) = absurd (coming-no-checkpoint l)
 
   module _ (b : Standby) (e : processAt c p .standby ≡ some b) where
     few-sent : b .replica .sent ≤ limitOf t p
@@ -72,8 +77,7 @@ module _ (t : Table) (ok : Accepted t) (c : Cabinet) (s : Reference) (inv : Inva
         let o = owner t c s d (checkpoint p x) rest inv oldest in
         let items : mine t p (outboxAt c (processAt c p .board)) ≡ checkpoint p x ∷ mine t p rest =
         ap (λ (j : ℕ). mine t p (outboxAt c j)) (o .runs) ∙ ap (mine t p) oldest ∙ mine-same t p (checkpoint p x) rest refl in
-        by-backed (λ y. syncNumber (y .replica) x ≡ 0)
-        (λ h. oldest-syncs h (up-to-issue (subst (λ (q : List Item). Ahead t p (h .before) (machineAt s p) q (h .since) (processAt c p .machine)) items (h .ahead))))
+        good-backed (λ y. syncNumber (y .replica) x ≡ 0) (subst (λ (q : List Item). Good t p q (processAt c p) (machineAt s p)) items (inv .good p hp)) e oldest-syncs
 
     backup-bounds : BackupBounds t c p b
     unfolding occupancy

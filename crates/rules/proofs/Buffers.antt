@@ -58,7 +58,10 @@ module _ (t : Table) (n : ℕ) (c : Cabinet) (h : Many n c) where
     transmits = λ _ _ mail rest e. length-set (set (c .processes) _ _) _ _ ∙ one _ _;
     syncs = λ _ _ p k rest e. one p _;
     injects = λ _ _ _. one _ _;
+    completes = λ _ _ p rest e. one p _;
     crashes = λ _ _ _. crash-length t (r .a) 0 (c .processes) ∙ h;
+    rejoins = λ _ _. h;
+    rebacks = λ _ _ _ _ _ _ _. one (r .a) _;
   }
 
 pub processes-stay : (t : Table) (commands : List Command) → length (finished t commands .processes) ≡ length (t .processes)

@@ -6,7 +6,7 @@ use mathlib.Core.List.{List, [], _∷_, map}
 use Prim.Native.Nat.{ℕ}
 use lib.Dec.{eqb}
 use Rattle.rules.specs.Machine.{Mail}
-use Rattle.rules.specs.Moves.{Command, Answer, stepDone, issueDone, crashDone, received, queued, suppressed, transmitted, injected, syncKept, syncLost, refused, Numbers, numbered, numbers}
+use Rattle.rules.specs.Moves.{Command, Answer, stepDone, issueDone, crashDone, rejoinDone, rebackupDone, received, queued, suppressed, transmitted, injected, syncKept, syncLost, transferKept, refused, Numbers, numbered, numbers}
 use Rattle.rules.specs.Transparent.{traceOf, fedOf}
 
 -- document 01's own numbers: "5 sync carried [..] (process, 0)"
@@ -15,12 +15,15 @@ numbersBefore (syncKept p dropped) = numbered 5 p 0
 numbersBefore stepDone = numbers stepDone
 numbersBefore issueDone = numbers issueDone
 numbersBefore crashDone = numbers crashDone
+numbersBefore rejoinDone = numbers rejoinDone
+numbersBefore rebackupDone = numbers rebackupDone
 numbersBefore (received x) = numbers (received x)
 numbersBefore (queued x) = numbers (queued x)
 numbersBefore (suppressed x) = numbers (suppressed x)
 numbersBefore (transmitted x) = numbers (transmitted x)
 numbersBefore (injected x) = numbers (injected x)
 numbersBefore (syncLost p) = numbers (syncLost p)
+numbersBefore (transferKept p) = numbers (transferKept p)
 numbersBefore (refused why a) = numbers (refused why a)
 
 -- the two differ in the word of an answer 5 alone
@@ -30,12 +33,15 @@ same-code (syncKept p dropped) = refl
 same-code stepDone = refl
 same-code issueDone = refl
 same-code crashDone = refl
+same-code rejoinDone = refl
+same-code rebackupDone = refl
 same-code (received x) = refl
 same-code (queued x) = refl
 same-code (suppressed x) = refl
 same-code (transmitted x) = refl
 same-code (injected x) = refl
 same-code (syncLost p) = refl
+same-code (transferKept p) = refl
 same-code (refused why a) = refl
 
 -- what an answer adds to the bus order
@@ -48,12 +54,15 @@ same-added (syncKept p dropped) others = refl
 same-added stepDone others = refl
 same-added issueDone others = refl
 same-added crashDone others = refl
+same-added rejoinDone others = refl
+same-added rebackupDone others = refl
 same-added (received x) others = refl
 same-added (queued x) others = refl
 same-added (suppressed x) others = refl
 same-added (transmitted x) others = refl
 same-added (injected x) others = refl
 same-added (syncLost p) others = refl
+same-added (transferKept p) others = refl
 same-added (refused why a) others = refl
 
 -- "The bus order is unaffected."

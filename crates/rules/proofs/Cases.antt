@@ -29,6 +29,12 @@ feed k word = command 4 k word
 abbrev pub crash : ℕ → Command
 crash b = command 5 b 0
 
+abbrev pub rejoin : ℕ → Command
+rejoin b = command 6 b 0
+
+abbrev pub rebackup : ℕ → Command
+rebackup p = command 7 p 0
+
 abbrev pub times : {A : Type 0} → ℕ → List A → List A
 times zero l = []
 times (suc n) l = l ++ times n l

@@ -28,12 +28,16 @@ pub unread-occurs : (k : ℕ) (l : List Mail) → unreadOn k l ≡ occurs k (map
 unread-occurs k [] = refl
 unread-occurs k (x ∷ l) = let a = cond-more (eqb k (x .channel)) (unreadOn k l) in let b = unread-occurs k l in omega arith
 
-pub unread-append : (k : ℕ) (l : List Mail) (x : Mail) → unreadOn k (l ++ (x ∷ [])) ≡ unreadOn k l + same k (x .channel)
-unread-append k l x =
-    let a = unread-total k (l ++ (x ∷ [])) in
+pub unread-both : (k : ℕ) (l r : List Mail) → unreadOn k (l ++ r) ≡ unreadOn k l + unreadOn k r
+unread-both k l r =
+    let a = unread-total k (l ++ r) in
     let b = unread-total k l in
-    let d = total-append (onChannel k) l (x ∷ []) in
+    let c = unread-total k r in
+    let d = total-append (onChannel k) l r in
     omega arith
+
+pub unread-append : (k : ℕ) (l : List Mail) (x : Mail) → unreadOn k (l ++ (x ∷ [])) ≡ unreadOn k l + same k (x .channel)
+unread-append k l x = let a = unread-both k l (x ∷ []) in let b = unread-total k (x ∷ []) in omega arith
 
 -- ---- words in flight
 

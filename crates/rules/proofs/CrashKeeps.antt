@@ -1,25 +1,25 @@
--- The crash of a board keeps the invariant, if every process has a backup: the reference machine does nothing.
+-- The crash of a board keeps the invariant, if every process has a backup, and so does its return: the reference machine does nothing.
 use mathlib.Core.Logic.{_≢_}
 use mathlib.Core.Path.{_≡_, refl, ap, sym, _∙_, subst}
-use mathlib.Core.Bool.{Bool, true, false, not, cond, _&&_}
+use mathlib.Core.Bool.{Bool, true, false, not, cond}
 use mathlib.Core.Option.{Option, none, some}
 use mathlib.Core.List.{List, [], _∷_}
 use Prim.Native.Nat.{ℕ, zero, suc, _<_}
 use lib.Dec.{eqb}
-use lib.ListN.{length, getD, set, length-set, List·getD-eq-default}
+use lib.ListN.{length, getD, set, length-set}
 use lib.Seq.{getD-set-same, getD-set-other}
-use borrow.Author.Tests.{eqb-true, eqb-false, ne-eqb}
-use Rattle.facts.specs.Tests.{no-way, by-eq, by-lt, none-below}
+use borrow.Author.Tests.{eqb-true, eqb-false, not-false}
+use Rattle.facts.specs.Tests.{no-way, by-eq, none-below}
 use Rattle.rules.specs.Table.{Table}
 use Rattle.rules.specs.Reference.{Reference}
-use Rattle.rules.specs.Cabinet.{Standby, Process, Item, Cabinet, processAt, outboxAt, deadAt, isSome, protected}
-use Rattle.rules.specs.Moves.{promoted, unprotected, afterCrash, allAfterCrash, otherDead}
+use Rattle.rules.specs.Cabinet.{Standby, Process, Item, Cabinet, processAt, outboxAt, deadAt, isComplete, protected, someUnbacked}
+use Rattle.rules.specs.Moves.{promoted, unprotected, afterCrash, allAfterCrash}
 use Rattle.rules.specs.Judge.{Accepted}
 use Rattle.rules.proofs.Good.{Good}
 use Rattle.rules.proofs.GoodMoves.{good-promoted, good-unprotected}
 use Rattle.rules.proofs.Invariant.{mine, machineAt, Live, Seated, Invariant, in-table}
 use Rattle.rules.proofs.Crashed.{crash-length, crash-at}
-use Rattle.rules.proofs.Guards.{crashedBy}
+use Rattle.rules.proofs.Guards.{crashedBy, rejoinedBy}
 use Rattle.rules.proofs.Follow.{Follows, stay}
 
 -- ---- what the crash of board b makes of a process that has a backup
@@ -34,7 +34,7 @@ unfolding afterCrash
 fate t b p x safe = go (x .standby) refl
   where
     go : (o : Option Standby) → x .standby ≡ o → Fate t b p x (afterCrash t b p x o)
-    go none e = absurd (no-way (let d = ap isSome e in cc))
+    go none e = absurd (no-way (let d = ap isComplete e in cc))
     go (some s) e = by-board (eqb b (x .board)) (eqb b (s .board)) refl refl
       where
         by-board : (y z : Bool) → eqb b (x .board) ≡ y → eqb b (s .board) ≡ z → Fate t b p x (cond y (promoted t p s) (cond z (unprotected x) x))
@@ -77,7 +77,7 @@ fate-board (spared m k) n = refl
 
 -- ---- the invariant
 
-module _ {t : Table} (ok : Accepted t) {c : Cabinet} {s : Reference} (inv : Invariant t c s) (b : ℕ) (there : b < t .boards)
+module _ {t : Table} (ok : Accepted t) {c : Cabinet} {s : Reference} (inv : Invariant t c s) (b : ℕ)
     (safe : (p : ℕ) → p < length (c .processes) → protected (processAt c p) ≡ true) where
   crashed : Cabinet
   crashed = crashedBy t b c
@@ -103,11 +103,11 @@ module _ {t : Table} (ok : Accepted t) {c : Cabinet} {s : Reference} (inv : Inva
   unfolding unprotected
   good-then p hp (taken-over k e here) =
       subst (λ (l : List Item). Good t p l (promoted t p k) (machineAt s p)) (sym (lost p (promoted t p k .board) here))
-      (good-promoted ok (in-table inv hp) (inv .good p hp) e)
+      (good-promoted ok (in-table inv hp) (inv .good p hp) e (safe p hp))
   good-then p hp (bared k e n) =
       subst (λ (l : List Item). Good t p l (unprotected (processAt c p)) (machineAt s p))
       (sym (ap (mine t p) (same-outbox (processAt c p .board) n)))
-      (good-unprotected ok (in-table inv hp) (inv .good p hp) e)
+      (good-unprotected ok (in-table inv hp) (inv .good p hp) e (safe p hp))
   good-then p hp (spared n m) =
       subst (λ (l : List Item). Good t p l (processAt c p) (machineAt s p)) (sym (ap (mine t p) (same-outbox (processAt c p .board) n))) (inv .good p hp)
 
@@ -126,20 +126,50 @@ module _ {t : Table} (ok : Accepted t) {c : Cabinet} {s : Reference} (inv : Inva
             (λ n. ap (mine t p) (same-outbox k n) ∙ inv .own k p (λ hp g.
             h (rw same hp) (fate-board (fate-at p hp) (λ e. n (sym g ∙ e)) ∙ g)));
         seated = λ p hp. let h : p < length (c .processes) = rw same at hp in fate-seated (fate-at p h) (inv .seated p h);
-        unharmed = λ alive p hp. absurd (no-way (let a = alive b in let d = getD-set-same (c .dead) b true false (rw (inv .all-boards) there) in cc));
       }
 
 -- ---- the move
 
--- no board is dead at an accepted crash
-all-alive : (c : Cabinet) (b : ℕ) → deadAt c b ≡ false → otherDead c b ≡ false → (k : ℕ) → deadAt c k ≡ false
-all-alive c b h g k =
-    by-eq k b
-    (λ e. ap (deadAt c) e ∙ h)
-    (λ n. by-lt k (length (c .dead))
-    (λ l. rw (ne-eqb k b n) at (none-below (λ i. not (eqb i b) && deadAt c i) (length (c .dead)) g k l))
-    (λ l. List·getD-eq-default (c .dead) false l))
+-- 44 is not answered: every process has a backup
+pub all-backed : (c : Cabinet) → someUnbacked c ≡ false → (p : ℕ) → p < length (c .processes) → protected (processAt c p) ≡ true
+unfolding someUnbacked
+all-backed c h p hp = not-false _ (none-below (λ i. not (protected (processAt c i))) (length (c .processes)) h p hp)
 
-pub follow-crash : {t : Table} → Accepted t → {c : Cabinet} {s : Reference} → Invariant t c s → (b : ℕ) → b < t .boards → deadAt c b ≡ false → otherDead c b ≡ false
+pub follow-crash : {t : Table} → Accepted t → {c : Cabinet} {s : Reference} → Invariant t c s → (b : ℕ) → someUnbacked c ≡ false
     → Follows t (crashedBy t b c) s [] []
-follow-crash ok {c} inv b there alive no-other = stay (crash-invariant ok inv b there (inv .unharmed (all-alive c b alive no-other)))
+follow-crash ok {c} inv b safe = stay (crash-invariant ok inv b (all-backed c safe))
+
+-- ---- return
+
+live-again : {t : Table} {dead : List Bool} {b k : ℕ} → b < length dead → Live t dead k → Live t (set dead b false) k
+live-again {dead = dead} {b = b} {k = k} hb h =
+    record {
+      there = h .there;
+      live = by-eq k b
+          (λ e. rw e (getD-set-same dead b false false hb))
+          (λ n. getD-set-other dead b k false false n ∙ h .live);
+    }
+
+-- nothing runs on a dead board
+module _ {t : Table} {c : Cabinet} {s : Reference} (inv : Invariant t c s) (b : ℕ) (there : b < t .boards) (is-dead : deadAt c b ≡ true) where
+  elsewhere : (p : ℕ) → p < length (c .processes) → processAt c p .board ≢ b
+  elsewhere p hp e = no-way (let a = inv .seated p hp .at .live in let d = ap (deadAt c) e in cc)
+
+  pub rejoin-invariant : Invariant t (rejoinedBy b c) s
+  rejoin-invariant =
+      let hb : b < length (c .dead) = rw (inv .all-boards) there in
+      record {
+        same-number = inv .same-number;
+        all-processes = inv .all-processes;
+        all-outboxes = length-set (c .outboxes) b [] ∙ inv .all-outboxes;
+        all-boards = length-set (c .dead) b false ∙ inv .all-boards;
+        good = λ p hp. rw (getD-set-other (c .outboxes) b (processAt c p .board) [] [] (elsewhere p hp)) (inv .good p hp);
+        own = λ k p h. by-eq k b
+            (λ e. ap (mine t p) (emptied (c .outboxes) b k e))
+            (λ n. ap (mine t p) (getD-set-other (c .outboxes) b k [] [] n) ∙ inv .own k p h);
+        seated = λ p hp. let g = inv .seated p hp in
+            record { at = live-again hb (g .at); beside = λ k e. live-again hb (g .beside k e); apart = g .apart };
+      }
+
+  pub follow-rejoin : Follows t (rejoinedBy b c) s [] []
+  follow-rejoin = stay rejoin-invariant

@@ -10,7 +10,7 @@ use Rattle.rules.specs.Table.{Instruction, SET, ADD, TAKE, FIRST, SEND, 
 use Rattle.rules.specs.Format.{instruction}
 use Rattle.rules.specs.Cabinet.{Process, exhausted}
 use Rattle.rules.specs.Reasons.{refusalCause}
-use Rattle.rules.specs.Moves.{Move, stepMove, issueMove, transmitMove, injectMove, crashMove, unknown, moveOf, Refusal, unknownMove, strayWord, noProcess, noBoard, noChannel, transmitDead, crashDead, isHalted, noWordToTake, noWordForFirst, eventsFull, instructionsFull, sendBlocked, syncBlocked, sendHeld, injectHeld, noBackup, syncWaits, outboxEmpty, notOutside, otherCrashed, refusalNumber, missing, owedFor}
+use Rattle.rules.specs.Moves.{Move, stepMove, issueMove, transmitMove, injectMove, crashMove, rejoinMove, rebackupMove, unknown, moveOf, Refusal, unknownMove, strayWord, noProcess, noBoard, noChannel, transmitDead, crashDead, isHalted, noWordToTake, noWordForFirst, eventsFull, instructionsFull, sendBlocked, syncBlocked, rebackupBlocked, sendHeld, injectHeld, noBackup, syncWaits, rebackupWaits, outboxEmpty, notOutside, notBacked, boardLive, unready, hasBackup, refusalNumber, missing, owedFor}
 
 -- ---- moves
 
@@ -21,6 +21,8 @@ isFeed issueMove = false
 isFeed transmitMove = false
 isFeed injectMove = true
 isFeed crashMove = false
+isFeed rejoinMove = false
+isFeed rebackupMove = false
 isFeed unknown = false
 
 pub moveOf-feed : (n : ℕ) → isFeed (moveOf n) ≡ eqb n 4
@@ -30,16 +32,20 @@ moveOf-feed (suc (suc zero)) = refl
 moveOf-feed (suc (suc (suc zero))) = refl
 moveOf-feed (suc (suc (suc (suc zero)))) = refl
 moveOf-feed (suc (suc (suc (suc (suc zero))))) = refl
-moveOf-feed (suc (suc (suc (suc (suc (suc n)))))) = sym (ne-eqb (suc (suc (suc (suc (suc (suc n)))))) 4 (λ e. omega arith))
+moveOf-feed (suc (suc (suc (suc (suc (suc zero)))))) = refl
+moveOf-feed (suc (suc (suc (suc (suc (suc (suc zero))))))) = refl
+moveOf-feed (suc (suc (suc (suc (suc (suc (suc (suc n)))))))) = sym (ne-eqb (suc (suc (suc (suc (suc (suc (suc (suc n)))))))) 4 (λ e. omega arith))
 
-pub moveOf-unknown : (n : ℕ) → n ≢ 1 → n ≢ 2 → n ≢ 3 → n ≢ 4 → n ≢ 5 → moveOf n ≡ unknown
-moveOf-unknown zero a b c d e = refl
-moveOf-unknown (suc zero) a b c d e = absurd (a refl)
-moveOf-unknown (suc (suc zero)) a b c d e = absurd (b refl)
-moveOf-unknown (suc (suc (suc zero))) a b c d e = absurd (c refl)
-moveOf-unknown (suc (suc (suc (suc zero)))) a b c d e = absurd (d refl)
-moveOf-unknown (suc (suc (suc (suc (suc zero))))) a b c d e = absurd (e refl)
-moveOf-unknown (suc (suc (suc (suc (suc (suc n)))))) a b c d e = refl
+pub moveOf-unknown : (n : ℕ) → n ≢ 1 → n ≢ 2 → n ≢ 3 → n ≢ 4 → n ≢ 5 → n ≢ 6 → n ≢ 7 → moveOf n ≡ unknown
+moveOf-unknown zero a b c d e f g = refl
+moveOf-unknown (suc zero) a b c d e f g = absurd (a refl)
+moveOf-unknown (suc (suc zero)) a b c d e f g = absurd (b refl)
+moveOf-unknown (suc (suc (suc zero))) a b c d e f g = absurd (c refl)
+moveOf-unknown (suc (suc (suc (suc zero)))) a b c d e f g = absurd (d refl)
+moveOf-unknown (suc (suc (suc (suc (suc zero))))) a b c d e f g = absurd (e refl)
+moveOf-unknown (suc (suc (suc (suc (suc (suc zero)))))) a b c d e f g = absurd (f refl)
+moveOf-unknown (suc (suc (suc (suc (suc (suc (suc zero))))))) a b c d e f g = absurd (g refl)
+moveOf-unknown (suc (suc (suc (suc (suc (suc (suc (suc n)))))))) a b c d e f g = refl
 
 -- ---- instructions
 
@@ -55,10 +61,10 @@ instruction-none (suc (suc (suc (suc (suc (suc (suc n))))))) a operand h1 h2 h3 
 
 -- ---- refusals
 
--- "Refusals [..] are checked in the order written below": 32 to 44
+-- "Refusals [..] are checked in the order written below": 32 to 44; W-210: "New numbers: 48 [..]; 49 [..]; 50"
 pub record InList (n : ℕ) : Type 0 where
   pub low : 32 ≤ n
-  pub high : n ≤ 44
+  pub high : n ≤ 50
 
 pub refusalNumber-listed : (why : Refusal) → InList (refusalNumber why)
 unfolding refusalNumber
@@ -76,13 +82,18 @@ refusalNumber-listed eventsFull = record { low = omega arith; high = omega arith
 refusalNumber-listed instructionsFull = record { low = omega arith; high = omega arith }
 refusalNumber-listed sendBlocked = record { low = omega arith; high = omega arith }
 refusalNumber-listed syncBlocked = record { low = omega arith; high = omega arith }
+refusalNumber-listed rebackupBlocked = record { low = omega arith; high = omega arith }
 refusalNumber-listed sendHeld = record { low = omega arith; high = omega arith }
 refusalNumber-listed injectHeld = record { low = omega arith; high = omega arith }
 refusalNumber-listed noBackup = record { low = omega arith; high = omega arith }
 refusalNumber-listed syncWaits = record { low = omega arith; high = omega arith }
+refusalNumber-listed rebackupWaits = record { low = omega arith; high = omega arith }
 refusalNumber-listed outboxEmpty = record { low = omega arith; high = omega arith }
 refusalNumber-listed notOutside = record { low = omega arith; high = omega arith }
-refusalNumber-listed otherCrashed = record { low = omega arith; high = omega arith }
+refusalNumber-listed notBacked = record { low = omega arith; high = omega arith }
+refusalNumber-listed boardLive = record { low = omega arith; high = omega arith }
+refusalNumber-listed unready = record { low = omega arith; high = omega arith }
+refusalNumber-listed hasBackup = record { low = omega arith; high = omega arith }
 
 -- no refusal is a 4
 pub refusalNumber-not-4 : (why : Refusal) → eqb (refusalNumber why) 4 ≡ false

@@ -13,7 +13,7 @@ use Rattle.facts.specs.Counts.{total-one}
 use Rattle.rules.specs.Table.{Table, channelAt}
 use Rattle.rules.specs.Machine.{Mail}
 use Rattle.rules.specs.Reference.{Reference}
-use Rattle.rules.specs.Cabinet.{Item, message, checkpoint, Cabinet, processAt, outboxAt, isOn, queuedOn, inFlight}
+use Rattle.rules.specs.Cabinet.{Item, message, checkpoint, transfer, Cabinet, processAt, outboxAt, isOn, queuedOn, inFlight}
 use Rattle.rules.specs.Bounds.{OutboxBounds, ChannelBounds}
 use Rattle.rules.proofs.Invariant.{mine, ownerOf, Invariant}
 use Rattle.rules.proofs.Counting.{flight-total}
@@ -37,6 +37,12 @@ queued-mine t k (checkpoint p s ∷ q) = go (eqb (channelAt t k .sender) p) (que
   where
     go : (b : Bool) → queuedOn k q ≤ length (mine t (channelAt t k .sender) q)
         → queuedOn k q ≤ length (cond b (checkpoint p s ∷ mine t (channelAt t k .sender) q) (mine t (channelAt t k .sender) q))
+    go true h = omega arith
+    go false h = h
+queued-mine t k (transfer p ∷ q) = go (eqb (channelAt t k .sender) p) (queued-mine t k q)
+  where
+    go : (b : Bool) → queuedOn k q ≤ length (mine t (channelAt t k .sender) q)
+        → queuedOn k q ≤ length (cond b (transfer p ∷ mine t (channelAt t k .sender) q) (mine t (channelAt t k .sender) q))
     go true h = omega arith
     go false h = h
 

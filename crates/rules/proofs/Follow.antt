@@ -1,4 +1,5 @@
--- What each thing that a command does is followed by in the reference machine. A step and a sync are followed by nothing: it waits.
+-- What each thing that a command does is followed by in the reference machine. A step, a sync and a resync are followed by nothing: it waits.
+use mathlib.Core.Logic.{_≢_}
 use mathlib.Core.Path.{_≡_, refl, ap, sym, _∙_, subst}
 use mathlib.Core.Bool.{Bool, true, false, cond, _||_}
 use mathlib.Core.Option.{some}
@@ -8,22 +9,23 @@ use native.Mathlib.Omega.{arith}
 use lib.Dec.{eqb}
 use lib.ListN.{length, getD, set, length-set}
 use lib.Seq.{set-getD}
-use borrow.Author.Tests.{leb-false}
+use borrow.Author.Tests.{leb-false, eqb-true, eqb-false}
 use Rattle.facts.specs.Tests.{no-way, or-left, or-right}
-use Rattle.rules.specs.Table.{Table, channelAt, codeOf, limitOf, portOf}
+use Rattle.rules.specs.Table.{Table, channelAt, placementAt, codeOf, limitOf, portOf}
 use Rattle.rules.specs.Machine.{Mail, Machine, booted, Act, internal, took, sent, moved, localStep}
 use Rattle.rules.specs.Reference.{Reference, Action, referenceRun, injections}
-use Rattle.rules.specs.Cabinet.{instructionsMost, Process, Item, message, checkpoint, Cabinet, processAt, outboxAt, protected, limited, exhausted, overrun, owing, waiting}
-use Rattle.rules.specs.Moves.{Answer, numbers, withProcess, withOutbox, enqueue, advanced, counting, oneDone, oneSent, oneTaken, issued, snapshot}
+use Rattle.rules.specs.Cabinet.{instructionsMost, Standby, Process, Item, message, checkpoint, transfer, Cabinet, processAt, outboxAt, deadAt, protected, limited, otherBoard, exhausted, overrun, owing, waiting}
+use Rattle.rules.specs.Moves.{withProcess, withOutbox, enqueue, advanced, counting, oneDone, oneSent, oneTaken, issued, snapshot, copied, rebacking}
 use Rattle.rules.specs.Judge.{Accepted}
-use Rattle.rules.specs.Transparent.{traceOf}
 use Rattle.rules.proofs.Runs.{busy1, Allows}
-use Rattle.rules.proofs.Tables.{step-own}
+use Rattle.rules.proofs.Tables.{step-own, primary-ok, standby-ok, apart-ok}
 use Rattle.rules.proofs.Ahead.{checkpoints}
 use Rattle.rules.proofs.Good.{Good}
 use Rattle.rules.proofs.GoodMoves.{good-silent, good-suppressed, good-send, good-issued}
-use Rattle.rules.proofs.Invariant.{ownerOf, mine, machineAt, Invariant, in-table, its-outbox}
-use Rattle.rules.proofs.Frame.{SameSeat, same-boards, changed, OthersStay, change-same, join-others, join-own}
+use Rattle.rules.proofs.Copies.{copied-state, copied-kept}
+use Rattle.rules.proofs.Transfers.{good-rebacking}
+use Rattle.rules.proofs.Invariant.{ownerOf, mine, machineAt, Live, Seated, Invariant, in-table, its-outbox, Copyable}
+use Rattle.rules.proofs.Frame.{SameSeat, same-boards, seated-same, changed, OthersStay, change, join-others, join-own}
 use Rattle.rules.proofs.References.{run-append, injections-append}
 
 -- from s the reference machine can go on so that the invariant holds beside c, its trace has `trace` more, and its feeds are `fed`
@@ -34,10 +36,6 @@ pub record Follows (t : Table) (c : Cabinet) (s : Reference) (trace fed : List M
   pub invariant : Invariant t c end
   pub traced : end .trace ≡ s .trace ++ trace
   pub injected : injections actions ≡ fed
-
--- the words that an answer puts into the trace
-abbrev pub traced1 : Answer → List Mail
-traced1 a = traceOf (numbers a ∷ [])
 
 -- one after another
 pub follows-then : {t : Table} {c d : Cabinet} {s : Reference} {tr fd tr′ fd′ : List Mail} (f : Follows t c s tr fd) → Follows t d (f .end) tr′ fd′
@@ -91,34 +89,57 @@ none-waits t p (checkpoint r s ∷ q) h = go (eqb p r) (none-waits t p q) h
         → checkpoints (cond b (checkpoint r s ∷ mine t p q) (mine t p q)) ≡ 0
     go true ih g = absurd (no-way (cc))
     go false ih g = ih g
+none-waits t p (transfer r ∷ q) h = go (eqb p r) (none-waits t p q) h
+  where
+    go : (b : Bool) → (waiting p q ≡ false → checkpoints (mine t p q) ≡ 0) → b || waiting p q ≡ false
+        → checkpoints (cond b (transfer r ∷ mine t p q) (mine t p q)) ≡ 0
+    go true ih g = absurd (no-way (cc))
+    go false ih g = ih g
 
--- ---- one process steps, or issues a checkpoint
+-- ---- the other board of a process
+
+record Other (t : Table) (x : Process) (b : ℕ) : Type 0 where
+  pub there : b < t .boards
+  pub apart : b ≢ x .board
+
+other-board : (t : Table) → Accepted t → (p : ℕ) → p < length (t .processes) → (x : Process) → Other t x (otherBoard t p x)
+other-board t ok p hp x = go (eqb (x .board) (placementAt t p .primary)) refl
+  where
+    go : (b : Bool) → eqb (x .board) (placementAt t p .primary) ≡ b → Other t x (cond b (placementAt t p .standby) (placementAt t p .primary))
+    go true e = record { there = standby-ok t ok p hp; apart = λ f. apart-ok t ok p hp (f ∙ eqb-true _ _ e) }
+    go false e = record { there = primary-ok t ok p hp; apart = λ f. eqb-false _ _ e (sym f) }
+
+-- ---- one process steps, or issues a checkpoint or a transfer
 
 module _ {t : Table} (ok : Accepted t) {c : Cabinet} {s : Reference} (inv : Invariant t c s) (p : ℕ) (hp : p < length (c .processes)) where
   -- its own items aside, nothing else changes
-  wait : (y : Process) (outboxes : List (List Item)) → SameSeat y (processAt c p) → length outboxes ≡ length (c .outboxes) → OthersStay t p outboxes c
+  wait : (y : Process) (outboxes : List (List Item)) → y .board ≡ processAt c p .board → Seated t (c .dead) y → length outboxes ≡ length (c .outboxes) → OthersStay t p outboxes c
       → Good t p (mine t p (getD outboxes (processAt c p .board) [])) y (machineAt s p) → Follows t (changed p y outboxes c) s [] []
-  wait y outboxes seat same-length others good =
+  wait y outboxes same-board sits same-length others good =
       stay (subst (λ (l : List Machine). Invariant t (changed p y outboxes c) (record { machines = l; trace = s .trace })) (set-getD (s .machines) p booted)
-      (change-same inv p hp y seat (machineAt s p) outboxes others good (s .trace) same-length))
+      (change inv p hp y same-board sits (machineAt s p) outboxes others good (s .trace) same-length))
 
   -- no item joins an outbox
   wait-only : (y : Process) → SameSeat y (processAt c p) → Good t p (mine t p (outboxAt c (processAt c p .board))) y (machineAt s p)
       → Follows t (withProcess p y c) s [] []
-  wait-only y seat good = wait y (c .outboxes) seat refl (λ b j n. refl) good
+  wait-only y seat good = wait y (c .outboxes) (seat .board) (seated-same seat (inv .seated p hp)) refl (λ b j n. refl) good
 
   -- an item of its own joins its board's outbox
-  wait-joined : (y : Process) (item : Item) → SameSeat y (processAt c p) → ownerOf t item ≡ p
+  wait-joined : (y : Process) (item : Item) → y .board ≡ processAt c p .board → Seated t (c .dead) y → ownerOf t item ≡ p
       → Good t p (mine t p (outboxAt c (processAt c p .board)) ++ (item ∷ [])) y (machineAt s p)
       → Follows t (withProcess p y (withOutbox (processAt c p .board) (outboxAt c (processAt c p .board) ++ (item ∷ [])) c)) s [] []
-  wait-joined y item seat is-own good =
+  wait-joined y item same-board sits is-own good =
       let B : ℕ = processAt c p .board in
       let q : List Item = outboxAt c B ++ (item ∷ []) in
-      wait y (set (c .outboxes) B q) seat (length-set (c .outboxes) B q)
+      wait y (set (c .outboxes) B q) same-board sits (length-set (c .outboxes) B q)
       (λ b j n. join-others t (c .outboxes) B (its-outbox inv hp) item b j (λ e f. n (e ∙ is-own) f))
       (subst (λ (l : List Item). Good t p l y (machineAt s p))
       (sym (subst (λ (o : ℕ). mine t o (getD (set (c .outboxes) B q) B []) ≡ mine t o (outboxAt c B) ++ (item ∷ [])) is-own (join-own t (c .outboxes) B (its-outbox inv hp) item)))
       good)
+
+  -- its backup stands where it stood
+  same-seat : {y : Process} → SameSeat y (processAt c p) → Seated t (c .dead) y
+  same-seat seat = seated-same seat (inv .seated p hp)
 
   -- ---- step
 
@@ -150,7 +171,7 @@ module _ {t : Table} (ok : Accepted t) {c : Cabinet} {s : Reference} (inv : Inva
       → Follows t (withProcess p (advanced m (counting oneSent (processAt c p)) 0 (processAt c p)) (enqueue (processAt c p .board) (message mail) c)) s [] []
   unfolding advanced
   follow-sending m mail e z limit =
-      wait-joined (advanced m (counting oneSent (processAt c p)) 0 (processAt c p)) (message mail) (same-boards refl refl)
+      wait-joined (advanced m (counting oneSent (processAt c p)) 0 (processAt c p)) (message mail) refl (same-seat (same-boards refl refl))
       (step-own t ok p (in-table inv hp) (record { is = e }))
       (good-send ok (in-table inv hp) (inv .good p hp) z (record { is = e }) (allows-act (limitOf t p) (processAt c p) (sent mail) refl limit))
 
@@ -160,5 +181,31 @@ module _ {t : Table} (ok : Accepted t) {c : Cabinet} {s : Reference} (inv : Inva
       → Follows t (withProcess p (issued (processAt c p)) (enqueue (processAt c p .board) (checkpoint p (snapshot (processAt c p))) c)) s [] []
   unfolding issued
   follow-issue safe none-there =
-      wait-joined (issued (processAt c p)) (checkpoint p (snapshot (processAt c p))) (same-boards refl refl) refl
+      wait-joined (issued (processAt c p)) (checkpoint p (snapshot (processAt c p))) refl (same-seat (same-boards refl refl)) refl
       (good-issued ok (in-table inv hp) (inv .good p hp) safe (none-waits t p (outboxAt c (processAt c p .board)) none-there))
+
+  -- ---- resync
+
+  -- its record is being made on its other board
+  rebacking-seated : deadAt c (otherBoard t p (processAt c p)) ≡ false → Seated t (c .dead) (rebacking t p (processAt c p))
+  unfolding rebacking
+  rebacking-seated alive =
+      let x : Process = processAt c p in
+      let o = other-board t ok p (in-table inv hp) x in
+      let only : (k : Standby) → rebacking t p x .standby ≡ some k → otherBoard t p x ≡ k .board =
+      λ k e. (let same : record { board = otherBoard t p x; replica = copied t p (x .machine); complete = false } ≡ k = cc in ap (λ (z : Standby). z .board) same) in
+      record {
+        at = inv .seated p hp .at;
+        beside = λ k e. subst (Live t (c .dead)) (only k e) (record { there = o .there; live = alive });
+        apart = λ k e f. o .apart (only k e ∙ f);
+      }
+
+  pub follow-rebackup : Copyable t c p → protected (processAt c p) ≡ false → deadAt c (otherBoard t p (processAt c p)) ≡ false
+      → processAt c p .suppress ≡ 0 → waiting p (outboxAt c (processAt c p .board)) ≡ false
+      → Follows t (withProcess p (rebacking t p (processAt c p)) (enqueue (processAt c p .board) (transfer p) c)) s [] []
+  unfolding rebacking
+  follow-rebackup copies bare alive settled none-there =
+      let m : Machine = processAt c p .machine in
+      wait-joined (rebacking t p (processAt c p)) (transfer p) refl (rebacking-seated alive) refl
+      (good-rebacking (copied-kept t ok p (in-table inv hp) m (copies .own) (copies .short)) (copied-state t ok p (in-table inv hp) m (copies .own))
+      (none-waits t p (outboxAt c (processAt c p .board)) none-there) (inv .good p hp) bare settled)

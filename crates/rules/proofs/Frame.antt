@@ -2,7 +2,7 @@
 -- and transmit have in common. And when a word arrives.
 use mathlib.Core.Logic.{_≢_}
 use mathlib.Core.Path.{_≡_, refl, ap, sym, _∙_, subst}
-use mathlib.Core.Bool.{Bool, true}
+use mathlib.Core.Bool.{Bool, true, false, cond}
 use mathlib.Core.Option.{Option, none, some}
 use mathlib.Core.List.{List, [], _∷_, _++_, append-nil}
 use Prim.Native.Nat.{ℕ, _<_}
@@ -14,8 +14,8 @@ use Rattle.backup.specs.Replica.{Replica, Reply, arrive}
 use Rattle.rules.specs.Table.{Table, channelAt, portOf}
 use Rattle.rules.specs.Machine.{Mail, Machine, booted, delivered}
 use Rattle.rules.specs.Reference.{Reference, posted}
-use Rattle.rules.specs.Cabinet.{Standby, Process, Item, Cabinet, nobody, processAt, outboxAt, isSome, protected}
-use Rattle.rules.specs.Moves.{onReplica, receive, deliver}
+use Rattle.rules.specs.Cabinet.{Standby, Process, Item, Cabinet, nobody, processAt, outboxAt, isComplete}
+use Rattle.rules.specs.Moves.{onReplica, onBackup, completed, receive, deliver}
 use Rattle.rules.specs.Judge.{Accepted}
 use Rattle.rules.proofs.Good.{Good}
 use Rattle.rules.proofs.GoodMoves.{good-receive}
@@ -40,17 +40,19 @@ pub called-board : (call : Replica → Reply) (o : Option Standby) → boardOf (
 called-board call none = refl
 called-board call (some s) = refl
 
-pub same-protected : {x y : Process} → SameSeat x y → protected x ≡ protected y
-same-protected {x} {y} h = go (x .standby) (y .standby) (h .standby)
+pub called-backup-board : (call : Replica → Reply) (o : Option Standby) → boardOf (onBackup call o) ≡ boardOf o
+called-backup-board call o = go (isComplete o)
   where
-    go : (o u : Option Standby) → boardOf o ≡ boardOf u → isSome o ≡ isSome u
-    go none none e = refl
-    go none (some s) e = cc
-    go (some r) none e = cc
-    go (some r) (some s) e = refl
+    go : (b : Bool) → boardOf (cond b (onReplica call o) o) ≡ boardOf o
+    go true = called-board call o
+    go false = refl
+
+pub completed-board : (o : Option Standby) → boardOf (completed o) ≡ boardOf o
+completed-board none = refl
+completed-board (some s) = refl
 
 -- what holds of the board of y's backup holds of x's
-same-beside : {x y : Process} {s : Standby} (P : ℕ → Type 0) → SameSeat x y → x .standby ≡ some s → ((r : Standby) → y .standby ≡ some r → P (r .board)) → P (s .board)
+pub same-beside : {x y : Process} {s : Standby} (P : ℕ → Type 0) → SameSeat x y → x .standby ≡ some s → ((r : Standby) → y .standby ≡ some r → P (r .board)) → P (s .board)
 same-beside {x} {y} {s} P h e f = go (y .standby) (sym (h .standby) ∙ ap boardOf e) f
   where
     go : (u : Option Standby) → boardOf u ≡ some (s .board) → ((r : Standby) → u ≡ some r → P (r .board)) → P (s .board)
@@ -79,7 +81,7 @@ OthersStay t p outboxes c = (b j : ℕ) → (j ≡ p → b ≡ processAt c p .bo
 
 -- it runs where it ran; where its backup is then, if it has one, is any live board but its own
 module _ {t : Table} {c : Cabinet} {s : Reference} (inv : Invariant t c s) (p : ℕ) (hp : p < length (c .processes))
-    (x : Process) (same-board : x .board ≡ processAt c p .board) (sits : Seated t (c .dead) x) (safe : protected (processAt c p) ≡ true → protected x ≡ true)
+    (x : Process) (same-board : x .board ≡ processAt c p .board) (sits : Seated t (c .dead) x)
     (m : Machine) (outboxes : List (List Item)) (others : OthersStay t p outboxes c)
     (good-x : Good t p (mine t p (getD outboxes (processAt c p .board) [])) x m) (trace : List Mail) where
   is-x : processAt (changed p x outboxes c) p ≡ x
@@ -121,7 +123,6 @@ module _ {t : Table} {c : Cabinet} {s : Reference} (inv : Invariant t c s) (p : 
             let elsewhere : j < length (c .processes) → processAt c j .board ≡ b → ⊥ = λ hj e. h (rw length-set hj) (board-at j ∙ e) in
             others b j (λ e f. elsewhere (rw e hp) (ap (λ (i : ℕ). processAt c i .board) e ∙ sym f)) ∙ inv .own b j elsewhere;
         seated = λ j hj. each (λ i y. Seated t (c .dead) y) j sits (λ _. inv .seated j (rw length-set at hj));
-        unharmed = λ alive j hj. each (λ i y. protected y ≡ true) j (safe (inv .unharmed alive p hp)) (λ _. inv .unharmed alive j (rw length-set at hj));
       }
 
 -- its backup stands where it stood, too
@@ -129,7 +130,7 @@ pub change-same : {t : Table} {c : Cabinet} {s : Reference} (inv : Invariant t c
     → (m : Machine) (outboxes : List (List Item)) → OthersStay t p outboxes c → Good t p (mine t p (getD outboxes (processAt c p .board) [])) x m → (trace : List Mail)
     → length outboxes ≡ length (c .outboxes) → Invariant t (changed p x outboxes c) (put p m trace s)
 change-same inv p hp x seat =
-    change inv p hp x (seat .board) (seated-same seat (inv .seated p hp)) (λ h. same-protected seat ∙ h)
+    change inv p hp x (seat .board) (seated-same seat (inv .seated p hp))
 
 -- ---- a word arrives
 
@@ -152,7 +153,6 @@ deliver-keeps {t} {c} {s} mail ok inv room =
       good = inv .good;
       own = inv .own;
       seated = inv .seated;
-      unharmed = inv .unharmed;
     }))
 
 -- ---- an item joins, or leaves, the outbox of its process's board

@@ -1,7 +1,7 @@
 -- What holds of one process beside its machine in the reference: four machines over the same arrivals, the one in its backup, the
 -- reference one, snapshots that wait in an outbox, and the running one, lie on one deterministic path.
-use mathlib.Core.Path.{_≡_, subst}
-use mathlib.Core.Bool.{true}
+use mathlib.Core.Path.{_≡_, ap, subst}
+use mathlib.Core.Bool.{true, false}
 use mathlib.Core.Option.{none, some}
 use mathlib.Core.List.{List, [], _∷_, _++_, map}
 use Prim.Native.Nat.{ℕ, zero, suc, _+_, _*_, _≤_, _<_}
@@ -12,7 +12,7 @@ use Rattle.backup.specs.Limits.{logMost}
 use Rattle.backup.specs.Replica.{Message, Replica}
 use Rattle.rules.specs.Table.{Table, Instruction, codeOf, limitOf, inputs, channelOn}
 use Rattle.rules.specs.Machine.{Mail, Machine, Act}
-use Rattle.rules.specs.Cabinet.{instructionsMost, Standby, Process, Item}
+use Rattle.rules.specs.Cabinet.{instructionsMost, Standby, Process, Item, transfer, isComplete, protected}
 use Rattle.rules.proofs.Runs.{Run, _then_, sends, lastSend, countOf, busy, busy-append, sends-busy, Within, run-shorter}
 use Rattle.rules.proofs.Ahead.{Ahead, checkpoints, ahead-total, ahead-left}
 
@@ -44,21 +44,45 @@ pub record Replay (code : List Instruction) (a : Machine) (n : ℕ) (acts : List
   pub sent-so : n ≡ sends acts
   pub sealed : lastSend true acts ≡ true
 
--- with a backup: it is behind the reference machine m, which stands right after the last word transmitted since the backup's state, and m is
--- behind the running machine. `items` are the process's own in its board's outbox.
+-- How a backup s, the reference machine m and the running machine b lie on the path. `items` are the process's own in its board's outbox,
+-- `since` the acts since the last checkpoint or transfer was issued.
+
+-- a complete backup is behind m, which stands right after the last word transmitted since the backup's state, and m is behind b
+pub record Trailing (t : Table) (p : ℕ) (s : Standby) (items : List Item) (m : Machine) (since : List Act) (b : Machine) : Type 0 where
+  pub complete : s .complete ≡ true
+  pub before : List Act
+  pub replay : Replay (codeOf t p) (stateOf t p (s .replica)) (s .replica .sent) before m
+  pub ahead : Ahead t p before m items since b
+  pub one : checkpoints items ≤ 1
+
+-- of one that is being made the state is the process at its transfer's issue, with all that has arrived since: m is behind it, by the items in
+-- front of the transfer, and it is behind b, by those behind the transfer
+pub record Coming (t : Table) (p : ℕ) (s : Standby) (items : List Item) (m : Machine) (since : List Act) (b : Machine) : Type 0 where
+  pub incomplete : s .complete ≡ false
+  pub uncounted : s .replica .sent ≡ 0
+  pub old : List Item
+  pub new : List Item
+  pub is-items : items ≡ old ++ (transfer p ∷ new)
+  pub before : List Act
+  pub until : List Act
+  pub to-snapshot : Ahead t p before m old until (stateOf t p (s .replica))
+  pub ahead : Ahead t p [] (stateOf t p (s .replica)) new since b
+  pub none-else : checkpoints old + checkpoints new ≡ 0
+
+pub data Link (t : Table) (p : ℕ) (s : Standby) (items : List Item) (m : Machine) (since : List Act) (b : Machine) : Type 0 where
+  trailing : Trailing t p s items m since b → Link t p s items m since b
+  coming : Coming t p s items m since b → Link t p s items m since b
+
+-- with a backup, or one that is being made
 pub record Backed (t : Table) (p : ℕ) (items : List Item) (x : Process) (m : Machine) : Type 0 where
   pub standby : Standby
   pub is-standby : x .standby ≡ some standby
   pub kept : Kept t p (standby .replica)
   pub no-suppress : x .suppress ≡ 0
-  pub before : List Act
-  pub replay : Replay (codeOf t p) (stateOf t p (standby .replica)) (standby .replica .sent) before m
-  -- the acts since the last checkpoint was issued
   pub since : List Act
-  pub ahead : Ahead t p before m items since (x .machine)
+  pub link : Link t p standby items m since (x .machine)
   pub is-since : x .since ≡ countOf t p since
   pub few : Within (limitOf t p) since
-  pub one : checkpoints items ≤ 1
 
 -- with no backup, ahead of the reference machine
 pub record Alone (t : Table) (p : ℕ) (items : List Item) (x : Process) (m : Machine) : Type 0 where
@@ -67,6 +91,7 @@ pub record Alone (t : Table) (p : ℕ) (items : List Item) (x : Process) (m : Ma
   pub before : List Act
   pub since : List Act
   pub ahead : Ahead t p before m items since (x .machine)
+  pub one : checkpoints items ≤ 1
   pub low : x .machine .pc ≤ length (codeOf t p)
 
 -- with no backup, still rolling forward to the reference machine
@@ -84,6 +109,15 @@ pub data Good (t : Table) (p : ℕ) (items : List Item) (x : Process) (m : Machi
   late : Late t p items x m → Good t p items x m
 
 -- ---- what follows for the sizes
+
+-- where it is complete
+pub backed-trailing : {t : Table} {p : ℕ} {items : List Item} {x : Process} {m : Machine} (h : Backed t p items x m) → protected x ≡ true
+    → Trailing t p (h .standby) items m (h .since) (x .machine)
+backed-trailing {t} {p} {items} {x} {m} h safe = go (h .link)
+  where
+    go : Link t p (h .standby) items m (h .since) (x .machine) → Trailing t p (h .standby) items m (h .since) (x .machine)
+    go (trailing l) = l
+    go (coming l) = absurd (no-way (let a = l .incomplete in let b = ap isComplete (h .is-standby) in cc))
 
 -- a process with a standby is backed by it
 pub good-backed : {t : Table} {p : ℕ} {items : List Item} {x : Process} {m : Machine} {s : Standby} (P : Standby → Type 0)
@@ -106,16 +140,29 @@ once n (suc zero) h = omega arith
 once n (suc (suc k)) h = absurd (omega arith)
 
 backed-span : {t : Table} {p : ℕ} {items : List Item} {x : Process} {m : Machine} (h : Backed t p items x m) → Span t p x (h .standby)
-backed-span {t} {p} {items} h =
-    let v = ahead-total (h .ahead) in
-    let c = h .one in
-    let l = once (limitOf t p) (checkpoints items) c in
-    record {
-      acts = h .before ++ v .acts;
-      ran = h .replay .ran then v .ran;
-      instructions = omega (arith, v .instructions, h .few .instructions, length-append (h .before) (v .acts));
-      events = omega (arith, v .events, h .few .events, busy-append (h .before) (v .acts));
-    }
+backed-span {t} {p} {items} {x} {m} h = go (h .link)
+  where
+    go : Link t p (h .standby) items m (h .since) (x .machine) → Span t p x (h .standby)
+    go (trailing l) =
+        let v = ahead-total (l .ahead) in
+        let c = l .one in
+        let o = once (limitOf t p) (checkpoints items) c in
+        record {
+          acts = l .before ++ v .acts;
+          ran = l .replay .ran then v .ran;
+          instructions = omega (arith, v .instructions, h .few .instructions, length-append (l .before) (v .acts));
+          events = omega (arith, v .events, h .few .events, busy-append (l .before) (v .acts));
+        }
+    go (coming l) =
+        let v = ahead-total (l .ahead) in
+        let c = l .none-else in
+        let o = once (limitOf t p) (checkpoints (l .new)) (omega arith) in
+        record {
+          acts = v .acts;
+          ran = v .ran;
+          instructions = omega (arith, v .instructions, h .few .instructions);
+          events = omega (arith, v .events, h .few .events);
+        }
 
 pub good-span : {t : Table} {p : ℕ} {items : List Item} {x : Process} {m : Machine} {s : Standby} → Good t p items x m → x .standby ≡ some s → Span t p x s
 good-span {t} {p} {x = x} g e = good-backed (Span t p x) g e backed-span
@@ -126,11 +173,15 @@ pub record Small (t : Table) (p : ℕ) (x : Process) (s : Standby) : Type 0 wher
   pub log-fits : length (s .replica .log) ≤ length (x .machine .mailbox) + 2 * limitOf t p
 
 pub backed-sent : {t : Table} {p : ℕ} {items : List Item} {x : Process} {m : Machine} (h : Backed t p items x m) → h .standby .replica .sent ≤ limitOf t p
-backed-sent h =
-    let a = ahead-left (h .ahead) (h .few) .events in
-    let b = sends-busy (h .before) in
-    let c = h .replay .sent-so in
-    omega arith
+backed-sent {t} {p} {items} {x} {m} h = go (h .link)
+  where
+    go : Link t p (h .standby) items m (h .since) (x .machine) → h .standby .replica .sent ≤ limitOf t p
+    go (trailing l) =
+        let a = ahead-left (l .ahead) (h .few) .events in
+        let b = sends-busy (l .before) in
+        let c = l .replay .sent-so in
+        omega arith
+    go (coming l) = let a = l .uncounted in omega arith
 
 backed-small : {t : Table} {p : ℕ} {items : List Item} {x : Process} {m : Machine} (h : Backed t p items x m) → Small t p x (h .standby)
 unfolding stateOf

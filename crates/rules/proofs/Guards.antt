@@ -7,12 +7,12 @@ use Prim.Native.Nat.{ℕ, zero, suc, _<_}
 use lib.Dec.{eqb, leb}
 use lib.ListN.{length, set}
 use borrow.Author.Tests.{leb-false, not-false, eqb-true}
-use Rattle.facts.specs.Tests.{no-way}
+use Rattle.facts.specs.Tests.{no-way, or-left, or-right}
 use Rattle.backup.specs.Replica.{Checkpoint}
 use Rattle.rules.specs.Table.{Table, environment, channelAt, codeOf, limitOf, portOf}
 use Rattle.rules.specs.Machine.{Mail, Machine, internal, took, sent, Outcome, halted, noMail, moved, localStep}
-use Rattle.rules.specs.Cabinet.{outboxMost, Process, Item, message, checkpoint, Cabinet, processAt, outboxAt, deadAt, protected, overrun, owing, full, waiting}
-use Rattle.rules.specs.Moves.{Command, Refusal, Answer, stepDone, issueDone, crashDone, received, queued, suppressed, transmitted, injected, refused, Result, refuse, accept, guard, withProcess, withOutbox, enqueue, advanced, counting, oneDone, oneSent, oneTaken, send, stepFrom, step, issued, snapshot, issue, deliver, counts, keeps, landed, transmitItem, transmitOldest, transmit, inject, allAfterCrash, otherDead, crash, Move, stepMove, issueMove, transmitMove, injectMove, crashMove, unknown, moveOf, perform, judged, settle, turn, runFrom}
+use Rattle.rules.specs.Cabinet.{outboxMost, Process, Item, message, checkpoint, transfer, Cabinet, processAt, outboxAt, deadAt, protected, otherBoard, someUnbacked, overrun, owing, full, crowded, waiting}
+use Rattle.rules.specs.Moves.{Command, Refusal, Answer, stepDone, issueDone, crashDone, rejoinDone, rebackupDone, transferKept, received, queued, suppressed, transmitted, injected, refused, Result, refuse, accept, guard, withProcess, withOutbox, enqueue, advanced, counting, oneDone, oneSent, oneTaken, send, stepFrom, step, issued, snapshot, issue, deliver, counts, keeps, rebacked, landed, transmitItem, transmitOldest, transmit, inject, allAfterCrash, crash, rejoin, rebacking, rebackup, Move, stepMove, issueMove, transmitMove, injectMove, crashMove, rejoinMove, rebackupMove, unknown, moveOf, perform, judged, settle, turn, runFrom}
 
 -- ---- what each move can do
 
@@ -23,6 +23,14 @@ fedMail r = record { channel = r .a; word = r .word }
 -- the cabinet after a crash of board b
 abbrev pub crashedBy : Table → ℕ → Cabinet → Cabinet
 crashedBy t b c = record { processes = allAfterCrash t b 0 (c .processes); outboxes = set (c .outboxes) b []; dead = set (c .dead) b true }
+
+-- the cabinet after a return of board b
+abbrev pub rejoinedBy : ℕ → Cabinet → Cabinet
+rejoinedBy b c = record { processes = c .processes; outboxes = set (c .outboxes) b []; dead = set (c .dead) b false }
+
+-- the cabinet after a resync of process p
+abbrev pub rebackupBy : Table → ℕ → Cabinet → Cabinet
+rebackupBy t p c = withProcess p (rebacking t p (processAt c p)) (enqueue (processAt c p .board) (transfer p) c)
 
 -- what a command does in cabinet c, by its move, with the cabinet and the answer afterwards
 module _ (t : Table) (c : Cabinet) (r : Command) (P : Move → Cabinet → Answer → Type 0) where
@@ -55,9 +63,17 @@ module _ (t : Table) (c : Cabinet) (r : Command) (P : Move → Cabinet → Answe
     -- a sync is carried
     pub syncs : r .a < t .boards → deadAt c (r .a) ≡ false → (p : ℕ) (s : Checkpoint) (rest : List Item) → outboxAt c (r .a) ≡ checkpoint p s ∷ rest
         → P transmitMove (withProcess p (keeps s (processAt c p)) (withOutbox (r .a) rest c)) (landed p s (processAt c p))
+    -- a resync is carried
+    pub completes : r .a < t .boards → deadAt c (r .a) ≡ false → (p : ℕ) (rest : List Item) → outboxAt c (r .a) ≡ transfer p ∷ rest
+        → P transmitMove (withProcess p (rebacked (processAt c p)) (withOutbox (r .a) rest c)) (transferKept p)
     pub injects : r .a < length (t .channels) → channelAt t (r .a) .sender ≡ environment → full t c (r .a) ≡ false
         → P injectMove (deliver t (fedMail r) c) (injected (fedMail r))
-    pub crashes : r .a < t .boards → deadAt c (r .a) ≡ false → otherDead c (r .a) ≡ false → P crashMove (crashedBy t (r .a) c) crashDone
+    pub crashes : r .a < t .boards → deadAt c (r .a) ≡ false → someUnbacked c ≡ false → P crashMove (crashedBy t (r .a) c) crashDone
+    pub rejoins : r .a < t .boards → deadAt c (r .a) ≡ true → P rejoinMove (rejoinedBy (r .a) c) rejoinDone
+    -- a resync
+    pub rebacks : r .a < length (t .processes) → protected x ≡ false → deadAt c (otherBoard t (r .a) x) ≡ false → x .suppress ≡ 0 → crowded t c (r .a) ≡ false
+        → waiting (r .a) (outboxAt c (x .board)) ≡ false → leb outboxMost (length (outboxAt c (x .board))) ≡ false
+        → P rebackupMove (rebackupBy t (r .a) c) rebackupDone
 
   -- ---- the walk
 
@@ -92,9 +108,10 @@ module _ (t : Table) (c : Cabinet) (r : Command) (P : Move → Cabinet → Answe
     by-oldest l alive [] e = unmoved
     by-oldest l alive (message mail ∷ rest) e = leaves (d .transmits l alive mail rest e)
     by-oldest l alive (checkpoint p s ∷ rest) e = leaves (d .syncs l alive p s rest e)
+    by-oldest l alive (transfer p ∷ rest) e = leaves (d .completes l alive p rest e)
 
     by-move : (m : Move) → Yields m (perform t c r m)
-    unfolding perform step issue transmit inject crash
+    unfolding perform step issue transmit inject crash rejoin rebackup
     by-move stepMove = after-guard _ _ _ λ _. after-guard _ _ _ λ h. by-outcome (leb-false _ _ h) (localStep (codeOf t (r .a)) (x .machine)) refl
     by-move issueMove =
         after-guard _ _ _ λ _. after-guard _ _ _ λ h. after-guard _ _ _ λ safe. after-guard _ _ _ λ none-waits. after-guard _ _ _ λ free.
@@ -105,8 +122,15 @@ module _ (t : Table) (c : Cabinet) (r : Command) (P : Move → Cabinet → Answe
         after-guard _ _ _ λ h. after-guard _ _ _ λ outside. after-guard _ _ _ λ free.
         leaves (d .injects (leb-false _ _ h) (eqb-true _ _ (not-false _ outside)) free)
     by-move crashMove =
-        after-guard _ _ _ λ _. after-guard _ _ _ λ h. after-guard _ _ _ λ alive. after-guard _ _ _ λ none-dead.
-        leaves (d .crashes (leb-false _ _ h) alive none-dead)
+        after-guard _ _ _ λ _. after-guard _ _ _ λ h. after-guard _ _ _ λ alive. after-guard _ _ _ λ safe.
+        leaves (d .crashes (leb-false _ _ h) alive safe)
+    by-move rejoinMove =
+        after-guard _ _ _ λ _. after-guard _ _ _ λ h. after-guard _ _ _ λ fallen. leaves (d .rejoins (leb-false _ _ h) (not-false _ fallen))
+    by-move rebackupMove =
+        after-guard _ _ _ λ _. after-guard _ _ _ λ h. after-guard _ _ _ λ bare. after-guard _ _ _ λ ready. after-guard _ _ _ λ none-waits. after-guard _ _ _ λ free.
+        leaves (d .rebacks (leb-false _ _ h) (or-left (protected x) (deadAt c (otherBoard t (r .a) x)) bare) (or-right (protected x) (deadAt c (otherBoard t (r .a) x)) bare)
+        (eqb-true _ _ (not-false _ (or-left (not (eqb (x .suppress) 0)) (crowded t c (r .a)) ready)))
+        (or-right (not (eqb (x .suppress) 0)) (crowded t c (r .a)) ready) none-waits free)
     by-move unknown = unmoved
 
     after-settle : (m : Move) {result : Result} → ((why : Refusal) → P m c (refused why (r .a))) → Yields m result

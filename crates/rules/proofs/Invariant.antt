@@ -4,7 +4,7 @@ use mathlib.Core.Path.{_≡_, refl}
 use mathlib.Core.Bool.{Bool, true, false, cond}
 use mathlib.Core.Option.{some}
 use mathlib.Core.List.{List, [], _∷_, _++_}
-use Prim.Native.Nat.{ℕ, _<_}
+use Prim.Native.Nat.{ℕ, _≤_, _<_}
 use native.Mathlib.Omega.{arith}
 use lib.Dec.{eqb}
 use lib.ListN.{length, getD}
@@ -14,7 +14,7 @@ use Rattle.backup.specs.Limits.{logMost}
 use Rattle.rules.specs.Table.{Table, environment, channelAt}
 use Rattle.rules.specs.Machine.{Mail, Machine, booted}
 use Rattle.rules.specs.Reference.{Reference}
-use Rattle.rules.specs.Cabinet.{Standby, Process, Item, message, checkpoint, Cabinet, processAt, outboxAt, deadAt, protected, full}
+use Rattle.rules.specs.Cabinet.{Standby, Process, Item, message, checkpoint, transfer, Cabinet, processAt, outboxAt, unreadOn, full}
 use Rattle.rules.proofs.Good.{Good}
 
 -- ---- a process's own items of an outbox
@@ -23,6 +23,7 @@ use Rattle.rules.proofs.Good.{Good}
 abbrev pub ownerOf : Table → Item → ℕ
 ownerOf t (message x) = channelAt t (x .channel) .sender
 ownerOf t (checkpoint p s) = p
+ownerOf t (transfer p) = p
 
 abbrev pub mine : Table → ℕ → List Item → List Item
 mine t p [] = []
@@ -71,8 +72,6 @@ pub record Invariant (t : Table) (c : Cabinet) (s : Reference) : Type 0 where
   -- an item of p stands in the outbox of p's board, and in no other
   pub own : (b p : ℕ) → (p < length (c .processes) → processAt c p .board ≡ b → ⊥) → mine t p (outboxAt c b) ≡ []
   pub seated : (p : ℕ) → p < length (c .processes) → Seated t (c .dead) (processAt c p)
-  -- until a board crashes every process has a backup
-  pub unharmed : ((b : ℕ) → deadAt c b ≡ false) → (p : ℕ) → p < length (c .processes) → protected (processAt c p) ≡ true
 
 -- a process of the cabinet is one of the table and of the reference, and its board has an outbox
 module _ {t : Table} {c : Cabinet} {s : Reference} (inv : Invariant t c s) {p : ℕ} (hp : p < length (c .processes)) where
@@ -90,11 +89,18 @@ module _ {t : Table} {c : Cabinet} {s : Reference} (inv : Invariant t c s) {p : 
 abbrev pub RoomFor : Table → Cabinet → ℕ → Type 0
 RoomFor t c k = (s : Standby) → processAt c (channelAt t k .reader) .standby ≡ some s → length (s .replica .log) < logMost
 
+-- what makes a copy of p's unread words a log: they are few, and of channels that it reads
+pub record Copyable (t : Table) (c : Cabinet) (p : ℕ) : Type 0 where
+  pub short : length (processAt c p .machine .mailbox) ≤ logMost
+  pub own : (k : ℕ) → channelAt t k .reader ≢ p → unreadOn k (processAt c p .machine .mailbox) ≡ 0
+
 pub record Roomy (t : Table) (c : Cabinet) : Type 0 where
   -- for a feed that is not refused
   pub for-feed : (k : ℕ) → channelAt t k .sender ≡ environment → full t c k ≡ false → RoomFor t c k
   -- for the oldest item of an outbox
   pub for-oldest : (b : ℕ) (x : Mail) (rest : List Item) → outboxAt c b ≡ message x ∷ rest → RoomFor t c (x .channel)
+  -- for the copies of a resync
+  pub for-copies : (p : ℕ) → p < length (c .processes) → Copyable t c p
 
 -- ---- the oldest item of an outbox is one of a process that runs there
 

@@ -8,18 +8,19 @@ use Prim.Native.Nat.{ℕ, _+_, _*_, _≤_, _<_}
 use native.Mathlib.Omega.{arith}
 use lib.Dec.{eqb}
 use lib.ListN.{length, set, length-map}
+use lib.Seq.{getD-set-same}
 use Rattle.facts.specs.Tests.{no-way}
 use Rattle.facts.specs.Indexing.{getD-map}
 use Rattle.facts.specs.Counts.{occurs}
 use Rattle.backup.specs.Replica.{Checkpoint, count, sync}
 use Rattle.rules.specs.Table.{Table, environment, channelAt, codeOf, limitOf, nowhere}
 use Rattle.rules.specs.Machine.{Mail, Machine, Act, sent, moved, localStep, booted}
-use Rattle.rules.specs.Cabinet.{Standby, Since, Process, Item, message, checkpoint, Cabinet, nobody, processAt, outboxAt, limited, isSome, full, unreadOn, inFlight, placed, started}
-use Rattle.rules.specs.Moves.{withProcess, withOutbox, enqueue, advanced, issued, snapshot, deliver, counts, keeps, promoted, unprotected, afterCrash}
+use Rattle.rules.specs.Cabinet.{occupancyMost, Standby, Since, Process, Item, message, checkpoint, transfer, Cabinet, nobody, processAt, outboxAt, limited, isSome, full, unreadOn, inFlight, placed, started}
+use Rattle.rules.specs.Moves.{withProcess, withOutbox, enqueue, advanced, issued, snapshot, deliver, counts, keeps, rebacked, promoted, unprotected, afterCrash, rebacking}
 use Rattle.rules.proofs.Counting.{weight, step-unread, flight-join, flight-leave, flight-lost, flight-none}
 use Rattle.rules.proofs.Steps.{Steps}
-use Rattle.rules.proofs.Room.{Roomed, Room, change-room, admit, deliver-room, call-some}
-use Rattle.rules.proofs.Guards.{crashedBy}
+use Rattle.rules.proofs.Room.{Roomed, Room, change-by, change-room, admit, deliver-room, backup-some, completed-some}
+use Rattle.rules.proofs.Guards.{crashedBy, rejoinedBy}
 use Rattle.rules.proofs.Crashed.{crash-length, crash-at}
 
 module _ (t : Table) (c : Cabinet) (small : length (c .processes) ≤ environment) (rm : Room t [] c) where
@@ -94,13 +95,53 @@ module _ (t : Table) (c : Cabinet) (small : length (c .processes) ≤ environmen
   word-room b mail rest e =
       let sender : ℕ = channelAt t (mail .channel) .sender in
       deliver-room t _ mail (called-room b sender (message mail) rest (mail .channel ∷ []) e (λ k. omega arith) (counts (processAt c sender)) refl
-      (call-some count (processAt c sender .standby)))
+      (backup-some count (processAt c sender .standby)))
 
   pub sync-room : (b p : ℕ) (s : Checkpoint) (rest : List Item) → outboxAt c b ≡ checkpoint p s ∷ rest
       → Room t [] (withProcess p (keeps s (processAt c p)) (withOutbox b rest c))
   unfolding keeps
   sync-room b p s rest e =
-      called-room b p (checkpoint p s) rest [] e (λ k. omega arith) (keeps s (processAt c p)) refl (call-some (λ r. sync r s) (processAt c p .standby))
+      called-room b p (checkpoint p s) rest [] e (λ k. omega arith) (keeps s (processAt c p)) refl (backup-some (λ r. sync r s) (processAt c p .standby))
+
+  pub transfer-room : (b p : ℕ) (rest : List Item) → outboxAt c b ≡ transfer p ∷ rest
+      → Room t [] (withProcess p (rebacked (processAt c p)) (withOutbox b rest c))
+  unfolding rebacked
+  transfer-room b p rest e =
+      called-room b p (transfer p) rest [] e (λ k. omega arith) (rebacked (processAt c p)) refl (completed-some (processAt c p .standby))
+
+  -- ---- return
+
+  pub rejoin-room : (b : ℕ) → Room t [] (rejoinedBy b c)
+  rejoin-room b p hp =
+      let r = rm p hp in
+      record {
+        again = r .again;
+        few = r .few;
+        none-yet = r .none-yet;
+        room = λ k g. let a = r .room k g in let l = flight-lost k (c .outboxes) b in omega arith;
+        own = r .own;
+      }
+
+  -- ---- resync
+
+  -- no channel is crowded, so that nothing is there again
+  pub rebackup-room : (p : ℕ)
+      → ((k : ℕ) → channelAt t k .reader ≡ p → unreadOn k (processAt c p .machine .mailbox) + inFlight k (c .outboxes) ≤ occupancyMost)
+      → Room t [] (withProcess p (rebacking t p (processAt c p)) (enqueue (processAt c p .board) (transfer p) c))
+  unfolding rebacking
+  rebackup-room p few =
+      let joins : (k : ℕ) → inFlight k (set (c .outboxes) (processAt c p .board) (outboxAt c (processAt c p .board) ++ (transfer p ∷ []))) ≤ inFlight k (c .outboxes) =
+      λ k. (let j = flight-join k (c .outboxes) (processAt c p .board) (transfer p) in omega arith) in
+      change-by t [] [] c rm p (rebacking t p (processAt c p)) _
+      (λ k. let j = joins k in omega arith)
+      (λ hp. let e = getD-set-same (c .processes) p (rebacking t p (processAt c p)) nobody hp in
+      record {
+        again = [];
+        few = omega arith;
+        none-yet = λ _. refl;
+        room = λ k g. rw e (let a = few k g in let j = joins k in omega arith);
+        own = λ k g. rw e (rm p hp .own k g);
+      })
 
 -- ---- crash
 

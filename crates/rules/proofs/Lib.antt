@@ -9,8 +9,12 @@ pub mod Ahead
 pub mod Good
 pub mod Tally
 pub mod Replays
+pub mod Links
 pub mod Backups
 pub mod GoodMoves
+pub mod Carried
+pub mod Copies
+pub mod Transfers
 -- the whole cabinet, and each move followed by the reference machine:
 pub mod Invariant
 pub mod Guards
@@ -39,6 +43,12 @@ pub mod Transparency
 -- The bounds of every state that is reached, and what a crash there leaves to do again.
 pub mod Reached
 pub mod RollForward
+-- W-210 of every state that is reached: the record of a resync, what waits, what arrives meanwhile, the totals, and where a process's halves are.
+pub mod CopyCalls
+pub mod Pending
+pub mod Arrivals
+pub mod Totals
+pub mod Homes
 -- Tables and runs in bytes. What lists give is computed of two of them before it is proved of all.
 pub mod Valid
 pub mod FirstVersion
@@ -54,6 +64,7 @@ pub mod Marked
 pub mod MoveCases
 pub mod LongCases
 pub mod LimitCases
+pub mod RejoinCases
 pub mod ReasonCases
 pub mod FormatCases
 pub mod PageCases

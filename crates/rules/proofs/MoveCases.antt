@@ -73,7 +73,7 @@ orders =
     -- one sync may wait; "5 sync carried, 6 sync with no backup left"
     ∷ case (codesOf sample (sync 0 ∷ sync 0 ∷ carry 0 ∷ sync 0 ∷ crash 1 ∷ sync 0 ∷ carry 0 ∷ []))
     ((0 ∷ 41 ∷ 5 ∷ 0 ∷ 0 ∷ 40 ∷ 6 ∷ []) ∷ [])
-    -- "Carry: 34 board dead, 42 queue empty"; "44 another board has crashed", though nothing ran there
+    -- "Carry: 34 board dead, 42 queue empty"; 44 "while some process has no backup", as process 1 since its crash
     ∷ case (codesOf sender (crash 2 ∷ carry 2 ∷ carry 1 ∷ crash 0 ∷ crash 2 ∷ [])) ((0 ∷ 34 ∷ 42 ∷ 44 ∷ 34 ∷ []) ∷ [])
     ∷ []
 

@@ -2,15 +2,15 @@
 use mathlib.Core.Path.{_≡_, refl}
 use Prim.Native.Nat.{ℕ, _+_, _*_, _≤_, _<_}
 use native.Mathlib.Omega.{arith}
-use Rattle.rules.specs.Moves.{Refusal, unknownMove, strayWord, noProcess, noBoard, noChannel, transmitDead, crashDead, isHalted, noWordToTake, noWordForFirst, eventsFull, instructionsFull, sendBlocked, syncBlocked, sendHeld, injectHeld, noBackup, syncWaits, outboxEmpty, notOutside, otherCrashed, refusalNumber, Answer, stepDone, issueDone, crashDone, received, queued, suppressed, transmitted, injected, syncKept, syncLost, refused, numbers}
+use Rattle.rules.specs.Moves.{Refusal, unknownMove, strayWord, noProcess, noBoard, noChannel, transmitDead, crashDead, isHalted, noWordToTake, noWordForFirst, eventsFull, instructionsFull, sendBlocked, syncBlocked, rebackupBlocked, sendHeld, injectHeld, noBackup, syncWaits, rebackupWaits, outboxEmpty, notOutside, notBacked, boardLive, unready, hasBackup, refusalNumber, Answer, stepDone, issueDone, crashDone, rejoinDone, rebackupDone, received, queued, suppressed, transmitted, injected, syncKept, syncLost, transferKept, refused, numbers}
 use Rattle.rules.specs.Reasons.{refusalCause, causeOf, reasonOf}
 
--- no code is above 44, and no cause above 3
+-- no code is above 50, and no cause above 3
 pub record Small (code cause : ℕ) : Type 0 where
-  pub code-small : code ≤ 44
+  pub code-small : code ≤ 50
   pub cause-small : cause < 4
 
-small : {code cause : ℕ} → code ≤ 44 → cause < 4 → Small code cause
+small : {code cause : ℕ} → code ≤ 50 → cause < 4 → Small code cause
 small a b = record { code-small = a; cause-small = b }
 
 refusal-small : (why : Refusal) → Small (refusalNumber why) (refusalCause why)
@@ -29,19 +29,26 @@ refusal-small eventsFull = small (omega arith) (omega arith)
 refusal-small instructionsFull = small (omega arith) (omega arith)
 refusal-small sendBlocked = small (omega arith) (omega arith)
 refusal-small syncBlocked = small (omega arith) (omega arith)
+refusal-small rebackupBlocked = small (omega arith) (omega arith)
 refusal-small sendHeld = small (omega arith) (omega arith)
 refusal-small injectHeld = small (omega arith) (omega arith)
 refusal-small noBackup = small (omega arith) (omega arith)
 refusal-small syncWaits = small (omega arith) (omega arith)
+refusal-small rebackupWaits = small (omega arith) (omega arith)
 refusal-small outboxEmpty = small (omega arith) (omega arith)
 refusal-small notOutside = small (omega arith) (omega arith)
-refusal-small otherCrashed = small (omega arith) (omega arith)
+refusal-small notBacked = small (omega arith) (omega arith)
+refusal-small boardLive = small (omega arith) (omega arith)
+refusal-small unready = small (omega arith) (omega arith)
+refusal-small hasBackup = small (omega arith) (omega arith)
 
 pub answer-small : (x : Answer) → Small (numbers x .code) (causeOf x)
 unfolding numbers causeOf
 answer-small stepDone = small (omega arith) (omega arith)
 answer-small issueDone = small (omega arith) (omega arith)
 answer-small crashDone = small (omega arith) (omega arith)
+answer-small rejoinDone = small (omega arith) (omega arith)
+answer-small rebackupDone = small (omega arith) (omega arith)
 answer-small (received x) = small (omega arith) (omega arith)
 answer-small (queued x) = small (omega arith) (omega arith)
 answer-small (suppressed x) = small (omega arith) (omega arith)
@@ -49,6 +56,7 @@ answer-small (transmitted x) = small (omega arith) (omega arith)
 answer-small (injected x) = small (omega arith) (omega arith)
 answer-small (syncKept p dropped) = small (omega arith) (omega arith)
 answer-small (syncLost p) = small (omega arith) (omega arith)
+answer-small (transferKept p) = small (omega arith) (omega arith)
 answer-small (refused why a) = refusal-small why
 
 -- "The byte must be the cause that the rules give, and one byte never fits two causes."

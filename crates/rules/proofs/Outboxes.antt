@@ -11,7 +11,7 @@ use borrow.Author.Tests.{leb-false}
 use Rattle.facts.specs.Tests.{by-eq, by-lt}
 use Rattle.facts.specs.Indexing.{getD-replicate-any}
 use Rattle.rules.specs.Table.{Table}
-use Rattle.rules.specs.Cabinet.{outboxMost, Item, message, checkpoint, Cabinet, processAt, outboxAt, started}
+use Rattle.rules.specs.Cabinet.{outboxMost, Item, message, checkpoint, transfer, Cabinet, processAt, outboxAt, started}
 use Rattle.rules.specs.Moves.{Command, snapshot, deliver, runFrom}
 use Rattle.rules.specs.Bounds.{OutboxBounds}
 use Rattle.rules.proofs.Guards.{Leaves, after-run}
@@ -48,7 +48,10 @@ module _ (t : Table) (c : Cabinet) (h : OutboxBounds c) where
     transmits = λ _ _ mail rest e. left (r .a) (message mail) rest e;
     syncs = λ _ _ p k rest e. left (r .a) (checkpoint p k) rest e;
     injects = λ _ _ _. h;
+    completes = λ _ _ p rest e. left (r .a) (transfer p) rest e;
     crashes = λ _ _ _. replaced (c .outboxes) (r .a) [] h (omega arith);
+    rejoins = λ _ _. replaced (c .outboxes) (r .a) [] h (omega arith);
+    rebacks = λ _ _ _ _ _ _ free. joined (processAt c (r .a) .board) (transfer (r .a)) free;
   }
 
 start-short : (t : Table) → OutboxBounds (started t)

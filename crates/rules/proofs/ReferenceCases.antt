@@ -16,7 +16,7 @@ use Rattle.rules.specs.Transparency.{answersIn}
 use Rattle.rules.proofs.Cases.{runOf}
 use Rattle.rules.proofs.Marked.{sample, samplePage}
 
-abbrev mail : ℕ → ℕ → Mail
+abbrev pub mail : ℕ → ℕ → Mail
 mail channel word = record { channel = channel; word = word }
 
 abbrev plainRun : List Action → Option Reference

@@ -1,7 +1,7 @@
 -- Room: how many words of its channels a process has unread or in flight, and that changing one process and the outboxes keeps it.
 use mathlib.Core.Logic.{_≢_}
 use mathlib.Core.Path.{_≡_, refl, ap, sym, _∙_, subst}
-use mathlib.Core.Bool.{true, false}
+use mathlib.Core.Bool.{Bool, true, false, cond}
 use mathlib.Core.Option.{Option, none, some}
 use mathlib.Core.List.{List, [], _∷_, _++_}
 use Prim.Native.Nat.{ℕ, _+_, _*_, _≤_, _<_}
@@ -14,8 +14,8 @@ use Rattle.facts.specs.Counts.{same, occurs, same-yes, same-no}
 use Rattle.backup.specs.Replica.{Replica, Reply, arrive}
 use Rattle.rules.specs.Table.{Table, environment, channelAt, limitOf, portOf}
 use Rattle.rules.specs.Machine.{Mail, delivered}
-use Rattle.rules.specs.Cabinet.{occupancyMost, Standby, Process, Item, Cabinet, nobody, processAt, limited, isSome, unreadOn, inFlight, occupancy, full}
-use Rattle.rules.specs.Moves.{onReplica, receive, deliver}
+use Rattle.rules.specs.Cabinet.{occupancyMost, Standby, Process, Item, Cabinet, nobody, processAt, limited, isSome, isComplete, unreadOn, inFlight, occupancy, full}
+use Rattle.rules.specs.Moves.{onReplica, onBackup, completed, receive, deliver}
 use Rattle.rules.proofs.Counting.{unread-append}
 
 -- ---- what holds of each process
@@ -109,6 +109,17 @@ admit t c k small h rm p hp =
 pub call-some : (f : Replica → Reply) (o : Option Standby) → isSome (onReplica f o) ≡ isSome o
 call-some f none = refl
 call-some f (some s) = refl
+
+pub backup-some : (f : Replica → Reply) (o : Option Standby) → isSome (onBackup f o) ≡ isSome o
+backup-some f o = go (isComplete o)
+  where
+    go : (b : Bool) → isSome (cond b (onReplica f o) o) ≡ isSome o
+    go true = call-some f o
+    go false = refl
+
+pub completed-some : (o : Option Standby) → isSome (completed o) ≡ isSome o
+completed-some none = refl
+completed-some (some s) = refl
 
 pub deliver-room : (t : Table) (c : Cabinet) (mail : Mail) → Room t (mail .channel ∷ []) c → Room t [] (deliver t mail c)
 unfolding deliver receive delivered

@@ -1,8 +1,9 @@
--- While a process is protected, the saved words less those taken since the backup's state are its inbox, and its takes are few.
+-- While a process has a backup, or one is being made, the saved words less those taken since the backup's state are its inbox, and its takes
+-- are few.
 use mathlib.Core.Path.{_≡_, refl, ap, sym, _∙_}
 use mathlib.Core.Bool.{Bool, true, false, cond}
-use mathlib.Core.List.{List, [], _∷_, map}
-use Prim.Native.Nat.{ℕ, suc, _≤_}
+use mathlib.Core.List.{List, [], _∷_, _++_, map}
+use Prim.Native.Nat.{ℕ, suc, _+_, _≤_}
 use native.Mathlib.Omega.{arith}
 use lib.Dec.{eqb}
 use lib.ListN.{length, getD, set}
@@ -13,11 +14,11 @@ use Rattle.backup.specs.Limits.{ports}
 use Rattle.backup.specs.Replica.{Message, takenOn, remaining}
 use Rattle.rules.specs.Table.{Table, codeOf, inputs, portOf}
 use Rattle.rules.specs.Machine.{Machine, Act, internal, took, sent}
-use Rattle.rules.specs.Cabinet.{Process, Item, message, checkpoint, noTakes}
+use Rattle.rules.specs.Cabinet.{Standby, Process, Item, message, checkpoint, transfer, noTakes}
 use Rattle.rules.specs.Bounds.{mails, issuedTakes}
 use Rattle.rules.proofs.Runs.{Run, here, more, _then_, tally, busy}
 use Rattle.rules.proofs.Ahead.{Ahead, level, silent, sending, issuing, taken-at, checkpoints}
-use Rattle.rules.proofs.Good.{mailOf, stateOf, PortsBelow, Backed}
+use Rattle.rules.proofs.Good.{mailOf, stateOf, PortsBelow, Link, trailing, coming, Backed}
 use Rattle.rules.proofs.Tally.{run-logged, remaining-ports, none-dropped, none-taken}
 use Rattle.rules.proofs.Invariant.{mine, ownerOf}
 
@@ -53,11 +54,24 @@ issued-mine t p (checkpoint r s ∷ q) = go (eqb p r) refl (issued-mine t p q)
         → issuedTakes p (cond b (checkpoint r s ∷ mine t p q) (mine t p q)) ≡ cond b (s .taken) (issuedTakes p q)
     go true e h = rw e
     go false e h = h
+issued-mine t p (transfer r ∷ q) = go (eqb p r) ∙ issued-mine t p q
+  where
+    go : (b : Bool) → issuedTakes p (cond b (transfer r ∷ mine t p q) (mine t p q)) ≡ issuedTakes p (mine t p q)
+    go true = refl
+    go false = refl
 
 none-issued : (p : ℕ) (q : List Item) → checkpoints q ≡ 0 → issuedTakes p q ≡ noTakes
 none-issued p [] h = refl
 none-issued p (message x ∷ q) h = none-issued p q h
 none-issued p (checkpoint r s ∷ q) h = absurd (omega arith)
+none-issued p (transfer r ∷ q) h = absurd (omega arith)
+
+-- none beside a transfer
+none-beside : (p r : ℕ) (old new : List Item) → checkpoints old + checkpoints new ≡ 0 → issuedTakes p (old ++ (transfer r ∷ new)) ≡ noTakes
+none-beside p r [] new h = none-issued p new (omega arith)
+none-beside p r (message x ∷ old) new h = none-beside p r old new h
+none-beside p r (checkpoint j s ∷ old) new h = absurd (omega arith)
+none-beside p r (transfer j ∷ old) new h = absurd (omega arith)
 
 -- ---- the inbox
 
@@ -80,10 +94,18 @@ module _ (t : Table) (p : ℕ) (few : length (inputs t p) ≤ ports) where
       ∙ ap (λ (l : List Message). mails t p (remaining (tally t p v) l)) (sym no-more)
       ∙ then-on
 
+  link-saved : (q : List Item) (s : Standby) {m b : Machine} {v : List Act} → PortsBelow (length (inputs t p)) (s .replica .log) → Link t p s (mine t p q) m v b
+      → mails t p (remaining (tally t p v) (remaining (issuedTakes p q) (s .replica .log))) ≡ b .mailbox
+  unfolding stateOf
+  link-saved q s {v = v} below (trailing l) =
+      ap (λ (n : List ℕ). mails t p (remaining (tally t p v) (remaining n (s .replica .log)))) (sym (issued-mine t p q))
+      ∙ ahead-saved (stateOf t p (s .replica)) (s .replica .log) refl below (l .replay .ran) (l .ahead) (l .one)
+  link-saved q s {v = v} below (coming l) =
+      let none-here : issuedTakes p q ≡ noTakes = sym (issued-mine t p q) ∙ ap (issuedTakes p) (l .is-items) ∙ none-beside p p (l .old) (l .new) (l .none-else) in
+      let none-behind : issuedTakes p (l .new) ≡ noTakes = none-issued p (l .new) (let a = l .none-else in omega arith) in
+      ap (λ (n : List ℕ). mails t p (remaining (tally t p v) (remaining n (s .replica .log)))) (none-here ∙ sym none-behind)
+      ∙ ahead-saved (stateOf t p (s .replica)) (s .replica .log) refl below here (l .ahead) (let a = l .none-else in omega arith)
+
   pub backed-saved : (q : List Item) {x : Process} {m : Machine} (h : Backed t p (mine t p q) x m)
       → mails t p (remaining (x .since .taken) (remaining (issuedTakes p q) (h .standby .replica .log))) ≡ x .machine .mailbox
-  unfolding stateOf
-  backed-saved q h =
-      rw (h .is-since)
-      (ap (λ (l : List ℕ). mails t p (remaining (tally t p (h .since)) (remaining l (h .standby .replica .log)))) (sym (issued-mine t p q))
-      ∙ ahead-saved (stateOf t p (h .standby .replica)) (h .standby .replica .log) refl (h .kept .on-inputs) (h .replay .ran) (h .ahead) (h .one))
+  backed-saved q h = rw (h .is-since) (link-saved q (h .standby) (h .kept .on-inputs) (h .link))

@@ -11,13 +11,13 @@ use Rattle.backup.specs.Replica.{initial}
 use Rattle.rules.specs.Table.{Table, Placement, placementAt}
 use Rattle.rules.specs.Machine.{booted}
 use Rattle.rules.specs.Reference.{referenceStart}
-use Rattle.rules.specs.Cabinet.{Standby, Process, placed, started, nobody, processAt, outboxAt, protected}
+use Rattle.rules.specs.Cabinet.{Standby, Process, placed, started, nobody, processAt, outboxAt}
 use Rattle.rules.specs.Moves.{Command}
 use Rattle.rules.specs.Judge.{Accepted}
 use Rattle.rules.proofs.Runs.{here}
 use Rattle.rules.proofs.Ahead.{level}
 use Rattle.rules.proofs.Tables.{primary-ok, standby-ok, apart-ok}
-use Rattle.rules.proofs.Good.{stateOf, no-ports, Good, backed}
+use Rattle.rules.proofs.Good.{stateOf, no-ports, trailing, Good, backed}
 use Rattle.rules.proofs.Invariant.{mine, machineAt, Live, Seated, Invariant}
 use Rattle.rules.proofs.Keep.{start-room}
 use Rattle.rules.proofs.Turn.{FollowsRun, run-follows}
@@ -27,17 +27,14 @@ good-placed : (t : Table) (p : ℕ) (x : Placement) → Good t p [] (placed x) b
 unfolding placed booted stateOf
 good-placed t p x =
     backed record {
-      standby = record { board = x .standby; replica = initial };
+      standby = record { board = x .standby; replica = initial; complete = true };
       is-standby = refl;
       kept = record { on-inputs = no-ports; short = omega arith; low = omega arith };
       no-suppress = refl;
-      before = [];
-      replay = record { ran = here; sent-so = refl; sealed = refl };
       since = [];
-      ahead = level;
+      link = trailing record { complete = refl; before = []; replay = record { ran = here; sent-so = refl; sealed = refl }; ahead = level; one = omega arith };
       is-since = refl;
       few = record { instructions = omega arith; events = omega arith };
-      one = omega arith;
     }
 
 module _ (t : Table) (ok : Accepted t) where
@@ -47,8 +44,8 @@ module _ (t : Table) (ok : Accepted t) where
   seated-placed : (p : ℕ) → p < length (t .processes) → Seated t (replicate (t .boards) false) (placed (placementAt t p))
   unfolding placed
   seated-placed p h =
-      let only : (s : Standby) → some (record { board = placementAt t p .standby; replica = initial }) ≡ some s → placementAt t p .standby ≡ s .board =
-      λ s e. (let same : record { board = placementAt t p .standby; replica = initial } ≡ s = cc in ap (λ (k : Standby). k .board) same) in
+      let only : (s : Standby) → some (record { board = placementAt t p .standby; replica = initial; complete = true }) ≡ some s → placementAt t p .standby ≡ s .board =
+      λ s e. (let same : record { board = placementAt t p .standby; replica = initial; complete = true } ≡ s = cc in ap (λ (k : Standby). k .board) same) in
       record {
         at = live (placementAt t p .primary) (primary-ok t ok p h);
         beside = λ s e. subst (Live t (replicate (t .boards) false)) (only s e) (live (placementAt t p .standby) (standby-ok t ok p h));
@@ -83,10 +80,6 @@ module _ (t : Table) (ok : Accepted t) where
   unfolding started
   none-dead = refl
 
-  all-protected : (x : Placement) → protected (placed x) ≡ true
-  unfolding placed
-  all-protected x = refl
-
   pub start-invariant : Invariant t (started t) (referenceStart t)
   start-invariant =
       record {
@@ -100,7 +93,6 @@ module _ (t : Table) (ok : Accepted t) where
             (rw (outbox-is, machine-is p h) (good-placed t p (placementAt t p)));
         own = λ b p h. ap (mine t p) (outbox-is b);
         seated = λ p hp. let h : p < length (t .processes) = rw processes at hp in rw (none-dead, process-is p h) (seated-placed p h);
-        unharmed = λ _ p hp. let h : p < length (t .processes) = rw processes at hp in ap protected (process-is p h) ∙ all-protected (placementAt t p);
       }
 
 -- the run of any list of commands from the start

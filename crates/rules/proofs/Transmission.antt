@@ -1,6 +1,6 @@
 -- Transmission and feeds, followed by the reference machine: the steps that lead up to the item, or the same feed.
 use mathlib.Core.Path.{_≡_, refl, ap, sym, _∙_, subst}
-use mathlib.Core.Bool.{true, false}
+use mathlib.Core.Bool.{Bool, true, false, cond}
 use mathlib.Core.Option.{Option, none, some}
 use mathlib.Core.List.{List, [], _∷_, _++_, append-nil}
 use Prim.Native.Nat.{ℕ, zero, suc, _<_}
@@ -13,14 +13,15 @@ use Rattle.backup.specs.Replica.{Replica, Checkpoint, answer, counted, countNum
 use Rattle.rules.specs.Table.{Table, environment, channelAt, codeOf}
 use Rattle.rules.specs.Machine.{Mail, Machine, sent}
 use Rattle.rules.specs.Reference.{Reference, Action, posted, withMachine, act, injections}
-use Rattle.rules.specs.Cabinet.{Standby, Process, Item, message, checkpoint, Cabinet, nobody, processAt, outboxAt, protected, full}
-use Rattle.rules.specs.Moves.{withProcess, withOutbox, onReplica, counts, keeps, deliver}
+use Rattle.rules.specs.Cabinet.{Standby, Process, Item, message, checkpoint, transfer, isComplete, Cabinet, nobody, processAt, outboxAt, full}
+use Rattle.rules.specs.Moves.{withProcess, withOutbox, onReplica, onBackup, counts, keeps, rebacked, deliver}
 use Rattle.rules.specs.Judge.{Accepted}
 use Rattle.rules.proofs.Steps.{Steps}
 use Rattle.rules.proofs.Good.{Good}
-use Rattle.rules.proofs.GoodMoves.{Transmitted, Synced, good-counts, good-keeps}
+use Rattle.rules.proofs.Carried.{Transmitted, Synced, good-counts, good-keeps}
+use Rattle.rules.proofs.Transfers.{good-rebacked}
 use Rattle.rules.proofs.Invariant.{ownerOf, mine, machineAt, Seated, Invariant, in-table, in-reference, its-outbox, RoomFor, Roomy, owner}
-use Rattle.rules.proofs.Frame.{SameSeat, called-board, same-protected, seated-same, OthersStay, change, change-same, deliver-keeps, leave-others, leave-own}
+use Rattle.rules.proofs.Frame.{SameSeat, called-backup-board, completed-board, seated-same, OthersStay, change, change-same, deliver-keeps, leave-others, leave-own}
 use Rattle.rules.proofs.References.{run-append, run-one, injections-append, steps, injections-steps, act-sent, put-put, put-get, put-length, run-silent}
 use Rattle.rules.proofs.Follow.{Follows}
 
@@ -34,11 +35,18 @@ count-log r = go (countNumber r)
     go (suc n) = refl
 
 counted-room : (o : Option Standby) → ((s : Standby) → o ≡ some s → length (s .replica .log) < logMost)
-    → (s : Standby) → onReplica count o ≡ some s → length (s .replica .log) < logMost
-counted-room none h s e = absurd (no-way (cc))
-counted-room (some r) h s e =
-    let same : record { board = r .board; replica = count (r .replica) .replica } ≡ s = cc in
-    subst (λ (k : Standby). length (k .replica .log) < logMost) same (rw (count-log (r .replica)) (h r refl))
+    → (s : Standby) → onBackup count o ≡ some s → length (s .replica .log) < logMost
+counted-room o h s = go (isComplete o)
+  where
+    after : (o : Option Standby) → ((s : Standby) → o ≡ some s → length (s .replica .log) < logMost) → onReplica count o ≡ some s → length (s .replica .log) < logMost
+    after none h e = absurd (no-way (cc))
+    after (some r) h e =
+        let same : record { board = r .board; replica = count (r .replica) .replica; complete = r .complete } ≡ s = cc in
+        subst (λ (k : Standby). length (k .replica .log) < logMost) same (rw (count-log (r .replica)) (h r refl))
+
+    go : (b : Bool) → cond b (onReplica count o) o ≡ some s → length (s .replica .log) < logMost
+    go true e = after o h e
+    go false e = h s e
 
 -- the process that sends on a word's channel
 abbrev senderOf : Table → Mail → ℕ
@@ -86,7 +94,7 @@ module _ {t : Table} (ok : Accepted t) {c : Cabinet} {s : Reference} (inv : Inva
         ran = run-append t s (steps p (v .steps .acts)) (Action.step p ∷ []) mid up-to-mid
             ∙ run-one t mid (Action.step p) end (acts ∙ ap (λ (z : Reference). some (posted t mail z)) (put-put p (v .mid) s (v .last)));
         invariant = deliver-keeps mail ok
-            (change-same inv p hp (counts (processAt c p)) (record { board = refl; standby = called-board count (processAt c p .standby) }) (v .last)
+            (change-same inv p hp (counts (processAt c p)) (record { board = refl; standby = called-backup-board count (processAt c p .standby) }) (v .last)
             (set (c .outboxes) B rest) (others (message mail) is-own rest oldest) (v .good) (s .trace) (length-set (c .outboxes) B rest))
             (room-left t c (mail .channel) p B rest hp room);
         traced = refl;
@@ -96,17 +104,17 @@ module _ {t : Table} (ok : Accepted t) {c : Cabinet} {s : Reference} (inv : Inva
   -- ---- an item that leads the reference machine silently to where the process's backup then stands
 
   follow-synced : (item : Item) → ownerOf t item ≡ p → (y : Process) → y .board ≡ processAt c p .board → Seated t (c .dead) y
-      → (protected (processAt c p) ≡ true → protected y ≡ true) → (rest : List Item) → outboxAt c (processAt c p .board) ≡ item ∷ rest
+      → (rest : List Item) → outboxAt c (processAt c p .board) ≡ item ∷ rest
       → Synced t p (mine t p (getD (set (c .outboxes) (processAt c p .board) rest) (processAt c p .board) [])) y (machineAt s p)
       → Follows t (withProcess p y (withOutbox (processAt c p .board) rest c)) s [] []
   unfolding withMachine
-  follow-synced item is-own y same-board sits safe rest oldest v =
+  follow-synced item is-own y same-board sits rest oldest v =
       let B : ℕ = processAt c p .board in
       record {
         actions = steps p (v .steps .acts);
         end = withMachine p (v .mid) s;
         ran = run-silent t p (v .steps .to-mid) refl (v .steps .silent-there) s (in-reference inv hp) refl;
-        invariant = change inv p hp y same-board sits safe (v .mid) (set (c .outboxes) B rest) (others item is-own rest oldest) (v .good) (s .trace)
+        invariant = change inv p hp y same-board sits (v .mid) (set (c .outboxes) B rest) (others item is-own rest oldest) (v .good) (s .trace)
             (length-set (c .outboxes) B rest);
         traced = sym (append-nil (s .trace));
         injected = injections-steps p (v .steps .acts);
@@ -118,10 +126,19 @@ module _ {t : Table} (ok : Accepted t) {c : Cabinet} {s : Reference} (inv : Inva
       → Follows t (withProcess p (keeps k (processAt c p)) (withOutbox (processAt c p .board) rest c)) s [] []
   unfolding keeps
   follow-checkpoint k rest oldest v =
-      let seat : SameSeat (keeps k (processAt c p)) (processAt c p) = record { board = refl; standby = called-board (λ r. sync r k) (processAt c p .standby) } in
-      follow-synced (checkpoint p k) refl (keeps k (processAt c p)) refl (seated-same seat (inv .seated p hp)) (λ h. same-protected seat ∙ h) rest oldest v
+      let seat : SameSeat (keeps k (processAt c p)) (processAt c p) = record { board = refl; standby = called-backup-board (λ r. sync r k) (processAt c p .standby) } in
+      follow-synced (checkpoint p k) refl (keeps k (processAt c p)) refl (seated-same seat (inv .seated p hp)) rest oldest v
 
-  -- ---- either, from the board that p runs on
+  -- a transfer is one
+  follow-completed : (rest : List Item) → outboxAt c (processAt c p .board) ≡ transfer p ∷ rest
+      → Synced t p (mine t p (getD (set (c .outboxes) (processAt c p .board) rest) (processAt c p .board) [])) (rebacked (processAt c p)) (machineAt s p)
+      → Follows t (withProcess p (rebacked (processAt c p)) (withOutbox (processAt c p .board) rest c)) s [] []
+  unfolding rebacked
+  follow-completed rest oldest v =
+      let seat : SameSeat (rebacked (processAt c p)) (processAt c p) = record { board = refl; standby = completed-board (processAt c p .standby) } in
+      follow-synced (transfer p) refl (rebacked (processAt c p)) refl (seated-same seat (inv .seated p hp)) rest oldest v
+
+  -- ---- each, from the board that p runs on
 
   transmits-word : (b : ℕ) (mail : Mail) (rest : List Item) → processAt c p .board ≡ b → senderOf t mail ≡ p → outboxAt c b ≡ message mail ∷ rest
       → RoomFor t c (mail .channel)
@@ -139,6 +156,13 @@ module _ {t : Table} (ok : Accepted t) {c : Cabinet} {s : Reference} (inv : Inva
       (λ oldest. follow-checkpoint k rest oldest (good-keeps ok (in-table inv hp) k
       (subst (λ (l : List Item). Good t p l (processAt c p) (machineAt s p)) (items (checkpoint p k) refl rest oldest) (inv .good p hp))))
 
+  transmits-transfer : (b : ℕ) (rest : List Item) → processAt c p .board ≡ b → outboxAt c b ≡ transfer p ∷ rest
+      → Follows t (withProcess p (rebacked (processAt c p)) (withOutbox b rest c)) s [] []
+  transmits-transfer b rest runs =
+      subst (λ (B : ℕ). outboxAt c B ≡ transfer p ∷ rest → Follows t (withProcess p (rebacked (processAt c p)) (withOutbox B rest c)) s [] []) runs
+      (λ oldest. follow-completed rest oldest (good-rebacked
+      (subst (λ (l : List Item). Good t p l (processAt c p) (machineAt s p)) (items (transfer p) refl rest oldest) (inv .good p hp))))
+
 module _ {t : Table} (ok : Accepted t) {c : Cabinet} {s : Reference} (inv : Invariant t c s) where
   pub follow-transmit : Roomy t c → (b : ℕ) (mail : Mail) (rest : List Item) → outboxAt c b ≡ message mail ∷ rest
       → Follows t (deliver t mail (withProcess (senderOf t mail) (counts (processAt c (senderOf t mail))) (withOutbox b rest c))) s (mail ∷ []) []
@@ -151,6 +175,12 @@ module _ {t : Table} (ok : Accepted t) {c : Cabinet} {s : Reference} (inv : Inva
   follow-sync b p k rest oldest =
       let o = owner t c s b (checkpoint p k) rest inv oldest in
       transmits-checkpoint ok inv p (o .there) b k rest (o .runs) oldest
+
+  pub follow-transfer : (b p : ℕ) (rest : List Item) → outboxAt c b ≡ transfer p ∷ rest
+      → Follows t (withProcess p (rebacked (processAt c p)) (withOutbox b rest c)) s [] []
+  follow-transfer b p rest oldest =
+      let o = owner t c s b (transfer p) rest inv oldest in
+      transmits-transfer ok inv p (o .there) b rest (o .runs) oldest
 
   -- ---- feed
 

@@ -11,13 +11,14 @@ use Rattle.rules.specs.Reference.{Reference}
 use Rattle.rules.specs.Cabinet.{Cabinet, processAt, protected}
 use Rattle.rules.specs.Moves.{Command, Move, transmitMove, moveOf, Refusal, Answer, syncKept, syncLost, droppedFrom, refused, Numbers, numbers, turn, runFrom}
 use Rattle.rules.specs.Judge.{Accepted}
+use Rattle.rules.specs.Rebackup.{busWords}
 use Rattle.rules.specs.Transparent.{traceOf, fedOf}
 use Rattle.rules.proofs.Invariant.{Invariant, Roomy}
 use Rattle.rules.proofs.Decoded.{isFeed, moveOf-feed, refusalNumber-not-4}
 use Rattle.rules.proofs.Guards.{fedMail, Done, yields-turn}
-use Rattle.rules.proofs.Follow.{Follows, traced1, stay, follows-then, follow-computing, follow-taking, follow-suppressing, follow-sending, follow-issue}
-use Rattle.rules.proofs.Transmission.{follow-transmit, follow-sync, follow-inject}
-use Rattle.rules.proofs.CrashKeeps.{follow-crash}
+use Rattle.rules.proofs.Follow.{Follows, stay, follows-then, follow-computing, follow-taking, follow-suppressing, follow-sending, follow-issue, follow-rebackup}
+use Rattle.rules.proofs.Transmission.{follow-transmit, follow-sync, follow-transfer, follow-inject}
+use Rattle.rules.proofs.CrashKeeps.{follow-crash, follow-rejoin}
 use Rattle.rules.proofs.Room.{Room}
 use Rattle.rules.proofs.Sizes.{roomy}
 use Rattle.rules.proofs.KeepRoom.{turn-room}
@@ -28,7 +29,7 @@ use Rattle.rules.proofs.KeepRoom.{turn-room}
 abbrev fedBy : Move → Command → Answer → List Mail
 fedBy m r a = cond (isFeed m && eqb (numbers a .code) 4) (record { channel = r .a; word = r .word } ∷ []) []
 
-refused-trace : (why : Refusal) (a : ℕ) → traced1 (refused why a) ≡ []
+pub refused-trace : (why : Refusal) (a : ℕ) → busWords (refused why a) ≡ []
 unfolding traceOf numbers
 refused-trace why a = rw (refusalNumber-not-4 why)
 
@@ -43,7 +44,7 @@ refused-feed m r why = rw (refusalNumber-not-4 why) (go (isFeed m))
 -- what a command does is followed by actions with its trace, if it carries a word, and its feed, if it is one
 module _ {t : Table} (ok : Accepted t) {c : Cabinet} {s : Reference} (inv : Invariant t c s) (room : Roomy t c) (r : Command) where
   abbrev Followed : Move → Cabinet → Answer → Type 0
-  Followed m d a = Follows t d s (traced1 a) (fedBy m r a)
+  Followed m d a = Follows t d s (busWords a) (fedBy m r a)
 
   -- a carried sync has no word on the bus, whether a backup kept it or none is left
   landed-silent : (p dropped : ℕ) (y : Bool) {d : Cabinet} → Follows t d s [] [] → Followed transmitMove d (cond y (syncKept p dropped) (syncLost p))
@@ -64,11 +65,14 @@ module _ {t : Table} (ok : Accepted t) {c : Cabinet} {s : Reference} (inv : Inva
     issues = λ h safe none-waits _. follow-issue ok inv (r .a) (there h) safe none-waits;
     transmits = λ _ _ mail rest e. follow-transmit ok inv room (r .a) mail rest e;
     syncs = λ _ _ p k rest e. landed-silent p (droppedFrom k (processAt c p .standby)) (protected (processAt c p)) (follow-sync ok inv (r .a) p k rest e);
+    completes = λ _ _ p rest e. follow-transfer ok inv (r .a) p rest e;
     injects = λ h outside free. follow-inject ok inv room (fedMail r) h outside free;
-    crashes = λ h alive none-dead. follow-crash ok inv (r .a) h alive none-dead;
+    crashes = λ _ _ safe. follow-crash ok inv (r .a) safe;
+    rejoins = λ h fallen. follow-rejoin inv (r .a) h fallen;
+    rebacks = λ h bare alive settled _ none-waits _. follow-rebackup ok inv (r .a) (there h) (room .for-copies (r .a) (there h)) bare alive settled none-waits;
   }
 
-  turn-follows : Follows t (turn t c r .cabinet) s (traced1 (turn t c r .answer)) (fedBy (moveOf (r .move)) r (turn t c r .answer))
+  pub turn-follows : Follows t (turn t c r .cabinet) s (busWords (turn t c r .answer)) (fedBy (moveOf (r .move)) r (turn t c r .answer))
   turn-follows =
       yields-turn t c r Followed done-follows
       (λ m why. subst₂ (Follows t c s) (sym (refused-trace why (r .a))) (sym (refused-feed m r why)) (stay inv))
@@ -80,7 +84,7 @@ cons-by : {A : Type 0} (b : Bool) (x : A) (l : List A) → cond b (x ∷ []) [] 
 cons-by true x l = refl
 cons-by false x l = refl
 
-trace-cons : (n : Numbers) (l : List Numbers) → traceOf (n ∷ []) ++ traceOf l ≡ traceOf (n ∷ l)
+pub trace-cons : (n : Numbers) (l : List Numbers) → traceOf (n ∷ []) ++ traceOf l ≡ traceOf (n ∷ l)
 unfolding traceOf
 trace-cons n l = cons-by (eqb (n .code) 4) (record { channel = n .a; word = n .word }) (traceOf l)
 

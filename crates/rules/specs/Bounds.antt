@@ -13,7 +13,7 @@ use Rattle.facts.specs.Counts.{total}
 use Rattle.backup.specs.Replica.{Message, Checkpoint, counted, takenOn, remaining, arriveNumber, countNumber, syncNumber, failOver}
 use Rattle.rules.specs.Table.{Table, environment, channelAt, codeOf, limitOf, inputs, portOf, channelOn}
 use Rattle.rules.specs.Machine.{Mail}
-use Rattle.rules.specs.Cabinet.{outboxMost, limitMost, instructionsMost, occupancyMost, savedMost, Standby, Item, message, checkpoint, Cabinet, noTakes, processAt, outboxAt, deadAt, queuedOn, inFlight, occupancy, full}
+use Rattle.rules.specs.Cabinet.{outboxMost, limitMost, instructionsMost, occupancyMost, savedMost, Standby, Item, message, checkpoint, transfer, Cabinet, noTakes, processAt, outboxAt, deadAt, queuedOn, inFlight, occupancy, full}
 
 -- saved words as an inbox: "the saved words as inbox"
 abbrev pub mails : Table → ℕ → List Message → List Mail
@@ -24,6 +24,7 @@ abbrev pub issuedTakes : ℕ → List Item → List ℕ
 issuedTakes p [] = noTakes
 issuedTakes p (message x ∷ q) = issuedTakes p q
 issuedTakes p (checkpoint r s ∷ q) = cond (eqb p r) (s .taken) (issuedTakes p q)
+issuedTakes p (transfer r ∷ q) = issuedTakes p q
 
 -- The backup of process p, which is s, inside cabinet c.
 pub record BackupBounds (t : Table) (c : Cabinet) (p : ℕ) (s : Standby) : Type 0 where

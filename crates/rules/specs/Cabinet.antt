@@ -5,10 +5,10 @@ use mathlib.Core.List.{List, [], _∷_, _++_, map}
 use Prim.Native.Nat.{ℕ, zero, suc, _+_}
 use lib.Dec.{eqb, ltb, leb}
 use lib.ListN.{length, getD, set, replicate}
-use Rattle.facts.specs.Tests.{allOf, allBelow}
+use Rattle.facts.specs.Tests.{anyBelow, allOf, allBelow}
 use Rattle.backup.specs.Replica.{Replica, Checkpoint, initial}
 pub use Rattle.rules.specs.Sizes.{outboxMost, limitMost, instructionsMost, occupancyMost, savedMost}
-use Rattle.rules.specs.Table.{Table, Placement, environment, channelAt, codeOf}
+use Rattle.rules.specs.Table.{Table, Placement, environment, channelAt, placementAt, codeOf, inputs, channelOn}
 use Rattle.rules.specs.Machine.{Mail, Machine, booted, Outcome, halted, noMail, moved, localStep}
 
 -- ---- the state
@@ -17,6 +17,8 @@ use Rattle.rules.specs.Machine.{Mail, Machine, booted, Outcome, halted, 
 pub record Standby : Type 0 where
   pub board : ℕ
   pub replica : Replica
+  -- false while it is being made: from a resync's issue until its entry is carried (W-210)
+  pub complete : Bool
 
 -- what is counted since the last checkpoint was issued
 pub record Since : Type 0 where
@@ -36,10 +38,13 @@ pub record Process : Type 0 where
   pub since : Since
   pub standby : Option Standby
 
--- "An entry of an outgoing queue is a word or a sync". A word names its channel and so, by the table, its sender.
+-- "An entry of an outgoing queue is a word or a sync". A word names its channel and so, by the table, its sender. W-210: "its snapshot and
+-- copies of all its unread words join the queue as one entry", a state transfer to a new backup (document 02: resync). It names the process:
+-- snapshot and copies stand in the record that is being made, which from issue on saves what arrives.
 pub data Item : Type 0 where
   message : Mail → Item
   checkpoint : ℕ → Checkpoint → Item
+  transfer : ℕ → Item
 
 pub record Cabinet : Type 0 where
   pub processes : List Process
@@ -63,7 +68,7 @@ placed x = record {
   board = x .primary;
   suppress = 0;
   since = noneSince;
-  standby = some (record { board = x .standby; replica = initial });
+  standby = some (record { board = x .standby; replica = initial; complete = true });
 }
 
 -- "every board live, [..] inboxes and queues empty"
@@ -95,13 +100,27 @@ abbrev pub isSome : {A : Type 0} → Option A → Bool
 isSome none = false
 isSome (some a) = true
 
--- has a live backup (backed): what a sync and a sender's count ask
-abbrev pub protected : Process → Bool
-protected x = isSome (x .standby)
+abbrev pub isComplete : Option Standby → Bool
+isComplete none = false
+isComplete (some s) = s .complete
 
--- "A backed process has acts": its events and instructions are counted, and limited by 37; what arrives for it is saved
+-- has a live backup (backed). W-210: "Until the entry is carried the process has no backup."
+abbrev pub protected : Process → Bool
+protected x = isComplete (x .standby)
+
+-- "A backed process has acts": its events and instructions are counted, and limited by 37; what arrives for it is saved. W-210: "from then on
+-- 37 limits the process as if it were backed", from a resync's issue on.
 abbrev pub limited : Process → Bool
 limited x = isSome (x .standby)
+
+-- "its other table board": of its two boards of the table the one on which it doesn't run now
+abbrev pub otherBoard : Table → ℕ → Process → ℕ
+otherBoard t p x = cond (eqb (x .board) (placementAt t p .primary)) (placementAt t p .standby) (placementAt t p .primary)
+
+-- "while some process has no backup"
+unfoldable pub someUnbacked : Cabinet → Bool
+unfolding nobody
+someUnbacked c = anyBelow (λ p. not (protected (processAt c p))) (length (c .processes))
 
 -- "37 if backed and acts are 8"; W-207: for 8 stands the process's own limit
 unfoldable pub exhausted : ℕ → Process → Bool
@@ -123,9 +142,11 @@ unreadOn k (x ∷ l) =
     let others = unreadOn k l in
     cond (eqb k (x .channel)) (suc others) others
 
+-- W-210: "Those copies count on no channel, neither for 39 and 49 nor in the totals."
 abbrev pub isOn : ℕ → Item → Bool
 isOn k (message x) = eqb k (x .channel)
 isOn k (checkpoint p s) = false
+isOn k (transfer p) = false
 
 -- how many words of channel k wait in an outbox, and in all of them
 abbrev pub queuedOn : ℕ → List Item → ℕ
@@ -148,10 +169,16 @@ unfoldable pub full : Table → Cabinet → ℕ → Bool
 unfolding occupancy
 full t c k = not (eqb (channelAt t k .reader) environment) && leb occupancyMost (occupancy t c k)
 
--- a checkpoint of process p waits in an outbox
+-- "on one channel it reads, more than 8 words unread and in queues together"
+unfoldable pub crowded : Table → Cabinet → ℕ → Bool
+unfolding occupancy inputs
+crowded t c p = anyBelow (λ i. ltb occupancyMost (occupancy t c (channelOn t p i))) (length (inputs t p))
+
+-- a sync of process p waits in an outbox, or a resync: "41 (for a waiting resync too)"
 abbrev pub isCheckpointOf : ℕ → Item → Bool
 isCheckpointOf p (message x) = false
 isCheckpointOf p (checkpoint q s) = eqb p q
+isCheckpointOf p (transfer q) = eqb p q
 
 abbrev pub waiting : ℕ → List Item → Bool
 waiting p [] = false

@@ -1,16 +1,18 @@
--- Documents 01 and 02 as definitions: read Sizes, Table, Machine, Reference, Cabinet, Moves and Reasons in this order, then Transparent; for
--- the bytes Bytes, Format, Schedule, Run and Transparency, and Page.
+-- Documents 01 and 02 as definitions: read Sizes, Table, Machine, Reference, Cabinet, Answers, Moves and Reasons in this order, then
+-- Transparent; for the bytes Bytes, Format, Schedule, Run and Transparency, and Page.
 pub mod Sizes
 pub mod Table
 pub mod Machine
 pub mod Reference
 pub mod Cabinet
+pub mod Answers
 pub mod Moves
 pub mod Reasons
 pub mod Judge
 pub mod Bounds
 pub mod RollForward
 pub mod Transparent
+pub mod Rebackup
 pub mod Bytes
 pub mod Format
 pub mod FirstVersion

@@ -1,102 +1,18 @@
--- The five moves, every refusal in its order, and what each replies (document 01, "The cabinet's moves", "What each move replies").
+-- The seven moves and every refusal in its order (document 01, "The cabinet's moves", "What each move replies"; document 02, W-210).
 use mathlib.Core.Bool.{Bool, true, false, not, cond, _&&_, _||_}
 use mathlib.Core.Option.{Option, none, some}
 use mathlib.Core.List.{List, [], _∷_, _++_, map}
 use Prim.Native.Nat.{ℕ, zero, suc, _+_}
 use lib.Dec.{eqb, ltb, leb}
 use lib.ListN.{length, getD, set}
-use Rattle.facts.specs.Tests.{anyBelow}
 use Rattle.backup.specs.Report.{totalDropped, syncReport}
 use Rattle.backup.specs.Replica.{Message, Replica, Checkpoint, Reply, FailOver, arrive, count, sync, failOver}
 use Rattle.rules.specs.Table.{Table, Instruction, SET, ADD, TAKE, FIRST, SEND, JUMP, NONE, environment, channelAt, codeOf, limitOf, portOf, channelOn}
 use Rattle.rules.specs.Machine.{Mail, Machine, Act, internal, took, sent, Outcome, halted, noMail, moved, instructionAt, localStep, delivered}
-use Rattle.rules.specs.Cabinet.{outboxMost, Standby, Since, Process, Item, message, checkpoint, Cabinet, noneSince, nobody, processAt, outboxAt, deadAt, protected, limited, exhausted, overrun, owing, full, waiting}
-
--- a schedule's record, one command (document 01: "records of six bytes: move, a, word")
-pub record Command : Type 0 where
-  pub move : ℕ
-  pub a : ℕ
-  pub word : ℕ
-
--- ---- answers
-
--- why a record is refused, with what told it apart: several have one number
-pub data Refusal : Type 0 where
-  -- "an unknown move or a word that should be 0"
-  unknownMove strayWord : Refusal
-  -- "a is no process, board or channel of this table"
-  noProcess noBoard noChannel : Refusal
-  -- of a carry, and of a crash
-  transmitDead crashDead : Refusal
-  isHalted : Refusal
-  -- of a TAKE, and of a FIRST
-  noWordToTake noWordForFirst : Refusal
-  -- a sync is owed: for the acts, and for the instructions alone (W-204)
-  eventsFull instructionsFull : Refusal
-  -- of a SEND, and of a sync
-  sendBlocked syncBlocked : Refusal
-  -- of a SEND, and of a feed
-  sendHeld injectHeld : Refusal
-  noBackup syncWaits outboxEmpty notOutside otherCrashed : Refusal
-
-unfoldable pub refusalNumber : Refusal → ℕ
-refusalNumber unknownMove = 32
-refusalNumber strayWord = 32
-refusalNumber noProcess = 33
-refusalNumber noBoard = 33
-refusalNumber noChannel = 33
-refusalNumber transmitDead = 34
-refusalNumber crashDead = 34
-refusalNumber isHalted = 35
-refusalNumber noWordToTake = 36
-refusalNumber noWordForFirst = 36
-refusalNumber eventsFull = 37
-refusalNumber instructionsFull = 37
-refusalNumber sendBlocked = 38
-refusalNumber syncBlocked = 38
-refusalNumber sendHeld = 39
-refusalNumber injectHeld = 39
-refusalNumber noBackup = 40
-refusalNumber syncWaits = 41
-refusalNumber outboxEmpty = 42
-refusalNumber notOutside = 43
-refusalNumber otherCrashed = 44
-
-pub data Answer : Type 0 where
-  -- a step, a sync and a crash that are done
-  stepDone issueDone crashDone : Answer
-  received queued suppressed : Mail → Answer
-  -- on the bus: a word that was carried, and one that was fed
-  transmitted injected : Mail → Answer
-  -- of a process: a sync that its backup kept, with how many words that dropped, and one with no backup left
-  syncKept : ℕ → ℕ → Answer
-  syncLost : ℕ → Answer
-  refused : Refusal → ℕ → Answer
-
--- "One six-byte answer a record: code, a, word."
-pub record Numbers : Type 0 where
-  pub code : ℕ
-  pub a : ℕ
-  pub word : ℕ
-
-abbrev pub numbered : ℕ → ℕ → ℕ → Numbers
-numbered code a word = record { code = code; a = a; word = word }
-
--- "0 done (0, 0). 1 took, 2 queued, 3 held back, 4 word on the bus (channel, word); a feed answers 4. 5 sync carried, 6 sync with no
--- backup left (process, 0). Refusals repeat a with word 0". W-202: "A carried sync then answers 5 with the total dropped as its word".
-unfoldable pub numbers : Answer → Numbers
-unfolding refusalNumber
-numbers stepDone = numbered 0 0 0
-numbers issueDone = numbered 0 0 0
-numbers crashDone = numbered 0 0 0
-numbers (received x) = numbered 1 (x .channel) (x .word)
-numbers (queued x) = numbered 2 (x .channel) (x .word)
-numbers (suppressed x) = numbered 3 (x .channel) (x .word)
-numbers (transmitted x) = numbered 4 (x .channel) (x .word)
-numbers (injected x) = numbered 4 (x .channel) (x .word)
-numbers (syncKept p dropped) = numbered 5 p dropped
-numbers (syncLost p) = numbered 6 p 0
-numbers (refused why a) = numbered (refusalNumber why) a 0
+use Rattle.rules.specs.Cabinet.{outboxMost, Standby, Since, Process, Item, message, checkpoint, transfer, isComplete, Cabinet, noneSince, nobody, processAt, outboxAt, deadAt, protected, limited, otherBoard, someUnbacked, exhausted, overrun, owing, full, crowded, waiting}
+pub use Rattle.rules.specs.Answers.{Command, Refusal, unknownMove, strayWord, noProcess, noBoard, noChannel, transmitDead, crashDead, isHalted, noWordToTake, noWordForFirst, eventsFull, instructionsFull, sendBlocked, syncBlocked, rebackupBlocked, sendHeld, injectHeld, syncWaits, rebackupWaits, noBackup, outboxEmpty, notOutside, notBacked, boardLive, unready, hasBackup}
+pub use Rattle.rules.specs.Answers.{Answer, stepDone, issueDone, crashDone, rejoinDone, rebackupDone, received, queued, suppressed, transmitted, injected, syncKept, syncLost, transferKept, refused, Numbers, numbered}
+unfoldable pub use Rattle.rules.specs.Answers.{refusalNumber, numbers}
 
 -- what a move comes to: a refusal, or the cabinet afterwards and the answer
 pub data Result : Type 0 where
@@ -121,7 +37,11 @@ enqueue b item c = withOutbox b (outboxAt c b ++ (item ∷ [])) c
 
 abbrev pub onReplica : (Replica → Reply) → Option Standby → Option Standby
 onReplica call none = none
-onReplica call (some s) = some (record { board = s .board; replica = call (s .replica) .replica })
+onReplica call (some s) = some (record { board = s .board; replica = call (s .replica) .replica; complete = s .complete })
+
+-- the same on a backup; a record that is being made is none yet
+abbrev pub onBackup : (Replica → Reply) → Option Standby → Option Standby
+onBackup call standby = cond (isComplete standby) (onReplica call standby) standby
 
 -- a process with another backup, or none
 abbrev pub withStandby : Option Standby → Process → Process
@@ -180,8 +100,8 @@ missing (JUMP a n) = noWordToTake
 missing NONE = noWordToTake
 
 -- "Step: 35 halted. For TAKE and FIRST: 36 no such word, then 37 if backed and acts are 8. [..] SET, ADD and JUMP always succeed." W-207:
--- the limit of the process's placement is asked for, not 8. W-204: after 64 instructions "every kind of instruction then answers 37, TAKE and FIRST still answering 36 first when no word is there. This
--- amends the sentence that SET, ADD and JUMP always succeed."
+-- the limit of the process's placement is asked for, not 8. W-204: after 64 instructions "every kind of instruction then answers 37, TAKE and
+-- FIRST still answering 36 first when no word is there. This amends the sentence that SET, ADD and JUMP always succeed."
 unfoldable pub stepFrom : Table → Cabinet → ℕ → Process → Outcome → Result
 unfolding send advanced exhausted overrun owing missing
 stepFrom t c p x halted = refuse isHalted
@@ -219,7 +139,8 @@ issue t c p =
 
 -- ---- 3 carry, 4 feed
 
--- the reader's half of a delivery: "to the reader's inbox, the reader's backup record"
+-- the reader's half of a delivery: "to the reader's inbox, the reader's backup record", to one that is being made too: "then all that have
+-- arrived since issue"
 unfoldable pub receive : Table → ℕ → Mail → Process → Process
 unfolding delivered arrive
 receive t p mail x = record {
@@ -240,12 +161,12 @@ deliver t mail c =
 -- the sender's half: "the sender's backup record, which counts it and keeps no copy"
 unfoldable pub counts : Process → Process
 unfolding count
-counts x = withStandby (onReplica count (x .standby)) x
+counts x = withStandby (onBackup count (x .standby)) x
 
 -- "A sync replaces the state in the process's backup record"
 unfoldable pub keeps : Checkpoint → Process → Process
 unfolding sync
-keeps s x = withStandby (onReplica (λ r. sync r s) (x .standby)) x
+keeps s x = withStandby (onBackup (λ r. sync r s) (x .standby)) x
 
 -- "the total dropped": of the words saved in the backup, by the report of the record's sync
 abbrev pub droppedFrom : Checkpoint → Option Standby → ℕ
@@ -256,14 +177,24 @@ droppedFrom s (some b) = totalDropped (syncReport (b .replica) s)
 abbrev pub landed : ℕ → Checkpoint → Process → Answer
 landed p s x = cond (protected x) (syncKept p (droppedFrom s (x .standby))) (syncLost p)
 
+-- W-210: "When that entry is carried, its other table board holds a new record with those words, then all that have arrived since issue, and
+-- count 0."
+abbrev pub completed : Option Standby → Option Standby
+completed none = none
+completed (some s) = some (record { board = s .board; replica = s .replica; complete = true })
+
+unfoldable pub rebacked : Process → Process
+rebacked x = withStandby (completed (x .standby)) x
+
 -- "A word goes, in one move, to the reader's inbox, the reader's backup record, and the sender's backup record."
 unfoldable pub transmitItem : Table → Cabinet → Item → Result
-unfolding deliver counts keeps nobody
+unfolding deliver counts keeps rebacked nobody
 transmitItem t c (message mail) =
     let sender = channelAt t (mail .channel) .sender in
     accept (deliver t mail (withProcess sender (counts (processAt c sender)) c)) (transmitted mail)
 transmitItem t c (checkpoint p s) =
     accept (withProcess p (keeps s (processAt c p)) c) (landed p s (processAt c p))
+transmitItem t c (transfer p) = accept (withProcess p (rebacked (processAt c p)) c) (transferKept p)
 
 -- "Carry looks at the oldest entry; with none the answer is 42."
 unfoldable pub transmitOldest : Table → Cabinet → ℕ → List Item → Result
@@ -316,28 +247,69 @@ unfolding afterCrash
 allAfterCrash t b p [] = []
 allAfterCrash t b p (x ∷ l) = afterCrash t b p x (x .standby) ∷ allAfterCrash t b (suc p) l
 
--- a board other than b is dead
-abbrev pub otherDead : Cabinet → ℕ → Bool
-otherDead c b = anyBelow (λ k. not (eqb k b) && deadAt c k) (length (c .dead))
-
--- "Crash: 34 already dead, 44 another board has crashed." "its queue is lost"
+-- "Crash: 34 already dead". W-210: "Crash refuses with 44 now exactly while some process has no backup." "its queue is lost"
 unfoldable pub crash : Table → Cabinet → ℕ → Result
-unfolding allAfterCrash
+unfolding allAfterCrash someUnbacked
 crash t c b =
     guard (deadAt c b) crashDead
-    (guard (otherDead c b) otherCrashed
+    (guard (someUnbacked c) notBacked
     (accept (record {
       processes = allAfterCrash t b 0 (c .processes);
       outboxes = set (c .outboxes) b [];
       dead = set (c .dead) b true;
     }) crashDone))
 
+-- ---- 6 return
+
+-- reintegration of a board (document 02: return): "Move 6 returns board a with an empty queue; nothing runs there yet." "48, a return of a
+-- live board, after 33"
+unfoldable pub rejoin : Table → Cabinet → ℕ → Result
+rejoin t c b =
+    guard (not (deadAt c b)) boardLive
+    (accept (record { processes = c .processes; outboxes = set (c .outboxes) b []; dead = set (c .dead) b false }) rejoinDone)
+
+-- ---- 7 resync
+
+-- "its snapshot and copies of all its unread words", as the record that they make, with "count 0"
+unfoldable pub copied : Table → ℕ → Machine → Replica
+copied t p m = record {
+  log = map (λ (x : Mail). record { port = portOf t p (x .channel); word = x .word }) (m .mailbox);
+  sent = 0;
+  pc = m .pc;
+  registers = m .registers;
+}
+
+-- "Acts, instructions and takes per slot start from 0 at issue". The new record is on "its other table board".
+unfoldable pub rebacking : Table → ℕ → Process → Process
+unfolding copied
+rebacking t p x = record {
+  machine = x .machine;
+  board = x .board;
+  suppress = x .suppress;
+  since = noneSince;
+  standby = some (record { board = otherBoard t p x; replica = copied t p (x .machine); complete = false });
+}
+
+-- state transfer to a new backup (document 02: resync). "Move 7 refuses in the order 50, 49, 41 (for a waiting resync too), 38." "49, hold-back
+-- above 0 or, on one channel it reads, more than 8 words unread and in queues together; 50, the process has a backup or its other table board
+-- is dead."
+unfoldable pub rebackup : Table → Cabinet → ℕ → Result
+unfolding rebacking crowded nobody
+rebackup t c p =
+    let x = processAt c p in
+    guard (protected x || deadAt c (otherBoard t p x)) hasBackup
+    (guard (not (eqb (x .suppress) 0) || crowded t c p) unready
+    (guard (waiting p (outboxAt c (x .board))) rebackupWaits
+    (guard (leb outboxMost (length (outboxAt c (x .board)))) rebackupBlocked
+    (accept (withProcess p (rebacking t p x) (enqueue (x .board) (transfer p) c)) rebackupDone))))
+
 -- ---- one command
 
 pub data Move : Type 0 where
-  stepMove issueMove transmitMove injectMove crashMove unknown : Move
+  stepMove issueMove transmitMove injectMove crashMove rejoinMove rebackupMove unknown : Move
 
--- "1 step process a", "2 sync process a", "3 carry board a", "4 feed outside channel a", "5 crash board a"
+-- "1 step process a", "2 sync process a", "3 carry board a", "4 feed outside channel a", "5 crash board a". W-210: "Move 6 returns board a",
+-- "Move 7 resyncs process a". "Neither move is unknown any more under 32, and both take 33."
 abbrev pub moveOf : ℕ → Move
 moveOf zero = unknown
 moveOf (suc zero) = stepMove
@@ -345,7 +317,9 @@ moveOf (suc (suc zero)) = issueMove
 moveOf (suc (suc (suc zero))) = transmitMove
 moveOf (suc (suc (suc (suc zero)))) = injectMove
 moveOf (suc (suc (suc (suc (suc zero))))) = crashMove
-moveOf (suc (suc (suc (suc (suc (suc n)))))) = unknown
+moveOf (suc (suc (suc (suc (suc (suc zero)))))) = rejoinMove
+moveOf (suc (suc (suc (suc (suc (suc (suc zero))))))) = rebackupMove
+moveOf (suc (suc (suc (suc (suc (suc (suc (suc n)))))))) = unknown
 
 -- "a word that should be 0": "The word is 0 except in a feed."
 abbrev pub wordless : Command → Result → Result
@@ -363,12 +337,14 @@ ofChannel t r rest = guard (leb (length (t .channels)) (r .a)) noChannel rest
 
 -- "Any record: 32 for an unknown move or a word that should be 0; 33 [..]", then the move
 unfoldable pub perform : Table → Cabinet → Command → Move → Result
-unfolding step issue transmit inject crash
+unfolding step issue transmit inject crash rejoin rebackup
 perform t c r stepMove = wordless r (ofProcess t r (step t c (r .a)))
 perform t c r issueMove = wordless r (ofProcess t r (issue t c (r .a)))
 perform t c r transmitMove = wordless r (ofBoard t r (transmit t c (r .a)))
 perform t c r injectMove = ofChannel t r (inject t c (record { channel = r .a; word = r .word }))
 perform t c r crashMove = wordless r (ofBoard t r (crash t c (r .a)))
+perform t c r rejoinMove = wordless r (ofBoard t r (rejoin t c (r .a)))
+perform t c r rebackupMove = wordless r (ofProcess t r (rebackup t c (r .a)))
 perform t c r unknown = refuse unknownMove
 
 unfoldable pub judged : Table → Cabinet → Command → Result

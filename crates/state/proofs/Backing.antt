@@ -26,7 +26,7 @@ backup-changed {t} {s} {entries} {c} h small p hp log head change b same-board s
     let is : processOf row mail log head ≡ change (processAt c p) = b .process-is ∙ ap change (sym (at-process h p hp)) in
     let u = totalled-same (h .totalled)
     (occupancy-mailbox t c p (rw (how-many h) hp) (processOf row mail log head) (ap (λ (x : Process). x .machine .mailbox) is ∙ same-mailbox (processAt c p))) in
-    let whole = changed h small p hp row mail log head (s .totals) (b .kept-again) (ap (λ (x : Process). x .board) is ∙ same-board (processAt c p)) u in
+    let whole = changed h small p hp row mail log head (s .totals) (b .kept-again) (b .seated-again) (ap (λ (x : Process). x .board) is ∙ same-board (processAt c p)) u in
     subst (λ (x : Process). Holds t (storeOf (s .rows) (s .mails) (set (s .logs) p log) (set (s .heads) p head) (s .boards) (s .totals) (s .waits)) entries (withProcess p x c)) is
     (subst (λ (l : List (List ℕ)). Holds t (storeOf (s .rows) l (set (s .logs) p log) (set (s .heads) p head) (s .boards) (s .totals) (s .waits)) entries (withProcess p (processOf row mail log head) c)) (set-getD (s .mails) p [])
     (subst (λ (l : List (List ℕ)). Holds t (storeOf l (set (s .mails) p mail) (set (s .logs) p log) (set (s .heads) p head) (s .boards) (s .totals) (s .waits)) entries (withProcess p (processOf row mail log head) c)) (set-getD (s .rows) p [])

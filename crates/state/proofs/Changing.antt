@@ -9,9 +9,9 @@ use lib.Seq.{getD-set-same, getD-set-other, set-getD}
 use Rattle.facts.specs.Tests.{by-eq}
 use Rattle.facts.specs.Lists.{listed}
 use Rattle.facts.specs.Rings.{listed-set, getD-listed, listed-length}
-use Rattle.process.specs.Row.{processOf, Kept}
+use Rattle.process.specs.Row.{processOf, Kept, Seated}
 use Rattle.process.specs.Change.{Became}
-use Rattle.rules.specs.Table.{Table, channelAt}
+use Rattle.rules.specs.Table.{Table, channelAt, placementAt}
 use Rattle.rules.specs.Cabinet as rules
 use Rattle.rules.specs.Cabinet.{Cabinet, Process, nobody, processAt, outboxAt, unreadOn, waiting}
 use Rattle.rules.specs.Moves.{withProcess}
@@ -66,6 +66,13 @@ module _ {t : Table} {s : Store} {entries : List Entry} {c : Cabinet} (h : Holds
       → Kept (getD (set (s .rows) p row) p []) (getD (set (s .mails) p mail) p []) (getD (set (s .logs) p log) p []) (getD (set (s .heads) p head) p [])
   kept-here k = rw (row-here, mail-here, log-here, head-here) k
 
+  seated-then : ((x y : ℕ) → Seated x y (getD (s .rows) p []) → Seated x y row) → (q : ℕ) → q < length (t .processes)
+      → Seated (placementAt t q .primary) (placementAt t q .standby) (getD (set (s .rows) p row) q [])
+  seated-then stays q l =
+      by-eq q p
+      (λ f. subst (λ (i : ℕ). Seated (placementAt t i .primary) (placementAt t i .standby) (getD (set (s .rows) p row) i [])) (sym f) (rw row-here (stays _ _ (h .seated p hp))))
+      (λ n. rw (getD-set-other (s .rows) p q row [] n) (h .seated q l))
+
   processes-then : set (c .processes) p (processOf row mail log head) ≡ listed (processIn after) (length (t .processes))
   processes-then =
       ap (λ (l : List Process). set l p (processOf row mail log head)) (h .processes)
@@ -81,13 +88,14 @@ module _ {t : Table} {s : Store} {entries : List Entry} {c : Cabinet} (h : Holds
       (λ f. rw f (ap (λ (x : Process). x .board) at-p ∙ e))
       (λ n. ap (λ (x : Process). x .board) (getD-set-other (c .processes) p q (processOf row mail log head) nobody n))
 
-  pub changed : Kept row mail log head → processOf row mail log head .board ≡ processAt c p .board → Totalled t totals (withProcess p (processOf row mail log head) c)
+  pub changed : Kept row mail log head → ((x y : ℕ) → Seated x y (getD (s .rows) p []) → Seated x y row) → processOf row mail log head .board ≡ processAt c p .board → Totalled t totals (withProcess p (processOf row mail log head) c)
       → Holds t after entries (withProcess p (processOf row mail log head) c)
-  changed k e u = record {
+  changed k stays e u = record {
     processes = processes-then;
     outboxes = h .outboxes;
     dead = h .dead;
     kept = λ q l. by-eq q p (λ f. rw f (kept-here k)) (λ n. kept-there q n l);
+    seated = seated-then stays;
     first-small = h .first-small;
     count-small = h .count-small;
     board-length = h .board-length;
@@ -115,7 +123,7 @@ row-changed {t} {s} {entries} {c} h small p hp row change b same-board same-mail
     let is : processOf row mail log head ≡ change (processAt c p) = b .process-is ∙ ap change (sym (at-process h p hp)) in
     let u : Totalled t (s .totals) (withProcess p (processOf row mail log head) c) =
     totalled-same (h .totalled) (occupancy-mailbox t c p (rw (how-many h) hp) (processOf row mail log head) (ap (λ (x : Process). x .machine .mailbox) is ∙ same-mailbox)) in
-    let whole = changed h small p hp row mail log head (s .totals) (b .kept-again) (ap (λ (x : Process). x .board) is ∙ same-board) u in
+    let whole = changed h small p hp row mail log head (s .totals) (b .kept-again) (b .seated-again) (ap (λ (x : Process). x .board) is ∙ same-board) u in
     subst (λ (x : Process). Holds t (storeOf (set (s .rows) p row) (s .mails) (s .logs) (s .heads) (s .boards) (s .totals) (s .waits)) entries (withProcess p x c)) is
     (subst (λ (l : List (List ℕ)). Holds t (storeOf (set (s .rows) p row) l (s .logs) (s .heads) (s .boards) (s .totals) (s .waits)) entries (withProcess p (processOf row mail log head) c)) (set-getD (s .mails) p [])
     (subst (λ (l : List (List ℕ)). Holds t (storeOf (set (s .rows) p row) (set (s .mails) p mail) l (s .heads) (s .boards) (s .totals) (s .waits)) entries (withProcess p (processOf row mail log head) c)) (set-getD (s .logs) p [])

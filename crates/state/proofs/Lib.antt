@@ -13,5 +13,6 @@ pub mod Arrivals
 pub mod Owners
 pub mod Counters
 pub mod Waits
-pub mod Unharmed
+pub mod Joining
+pub mod Searching
 pub mod Held

@@ -2,7 +2,7 @@
 -- other, a mailbox has words of its process's channels only.
 use mathlib.Core.Logic.{_≢_}
 use mathlib.Core.Path.{_≡_, refl, ap, sym, _∙_}
-use mathlib.Core.Bool.{false}
+use mathlib.Core.Bool.{true, false}
 use mathlib.Core.List.{List, [], _∷_}
 use Prim.Native.Nat.{ℕ, _<_}
 use native.Mathlib.Omega.{arith}
@@ -12,12 +12,12 @@ use Rattle.facts.specs.Tests.{no-way}
 use Rattle.backup.specs.Replica.{Checkpoint}
 use Rattle.rules.specs.Table.{Table, environment, channelAt}
 use Rattle.rules.specs.Machine.{Mail}
-use Rattle.rules.specs.Cabinet.{Item, message, checkpoint, Cabinet, processAt, outboxAt, unreadOn, queuedOn, inFlight, waiting}
+use Rattle.rules.specs.Cabinet.{Item, message, checkpoint, transfer, Cabinet, processAt, outboxAt, deadAt, unreadOn, queuedOn, inFlight, waiting}
 use Rattle.rules.proofs.Invariant.{ownerOf, mine, mine-same, mine-other, owner}
 use Rattle.state.specs.Moved.{Reachable}
 use Rattle.state.proofs.Ends.{small}
 use Rattle.state.proofs.Known.{known}
-use Rattle.state.proofs.Reaching.{channel-bounds}
+use Rattle.state.proofs.Reaching.{bounds, channel-bounds}
 
 -- ---- a queue with no item of process p
 
@@ -35,12 +35,14 @@ module _ (t : Table) where
       rw (ne-eqb k (x .channel) (λ e. first-other (channelAt t k .sender) (message x) q h (ap (λ (j : ℕ). channelAt t j .sender) e)))
       (none-queued k q (rest-other (channelAt t k .sender) (message x) q h))
   none-queued k (checkpoint p s ∷ q) h = none-queued k q (rest-other (channelAt t k .sender) (checkpoint p s) q h)
+  none-queued k (transfer p ∷ q) h = none-queued k q (rest-other (channelAt t k .sender) (transfer p) q h)
 
-  -- no checkpoint of p
+  -- no checkpoint or transfer of p
   pub none-waiting : (p : ℕ) (q : List Item) → mine t p q ≡ [] → waiting p q ≡ false
   none-waiting p [] h = refl
   none-waiting p (message x ∷ q) h = none-waiting p q (rest-other p (message x) q h)
   none-waiting p (checkpoint r s ∷ q) h = rw (ne-eqb p r (first-other p (checkpoint r s) q h)) (none-waiting p q (rest-other p (checkpoint r s) q h))
+  none-waiting p (transfer r ∷ q) h = rw (ne-eqb p r (first-other p (transfer r) q h)) (none-waiting p q (rest-other p (transfer r) q h))
 
 module _ {t : Table} {c : Cabinet} (r : Reachable t c) where
   -- ---- the oldest entry is one of a process that runs there
@@ -57,6 +59,19 @@ module _ {t : Table} {c : Cabinet} (r : Reachable t c) where
   pub checkpoint-owner : (b p : ℕ) (s : Checkpoint) (rest : List Item) → outboxAt c b ≡ checkpoint p s ∷ rest
       → (p < length (t .processes)) × (processAt c p .board ≡ b)
   checkpoint-owner b p s rest e = owned b (checkpoint p s) rest e
+
+  pub transfer-owner : (b p : ℕ) (rest : List Item) → outboxAt c b ≡ transfer p ∷ rest → (p < length (t .processes)) × (processAt c p .board ≡ b)
+  transfer-owner b p rest e = owned b (transfer p) rest e
+
+  -- so that a dead board has no entry: every process runs on a live one
+  pub dead-empty : (b : ℕ) → deadAt c b ≡ true → outboxAt c b ≡ []
+  dead-empty b dead = go (outboxAt c b) refl
+    where
+      go : (q : List Item) → outboxAt c b ≡ q → q ≡ []
+      go [] e = refl
+      go (item ∷ rest) e =
+          let o = owned b item rest e in
+          absurd (no-way (let a = bounds r (ownerOf t item) (o .0) .live in let d = ap (deadAt c) (o .1) in cc))
 
   -- ---- elsewhere nothing of p
 

@@ -83,6 +83,7 @@ module _ {t : Table} {s : Store} {entries : List Entry} {c : Cabinet} (h : Holds
     outboxes = outboxes-then;
     dead = h .dead ∙ listed-same (deadIn (s .boards)) (deadIn (set (s .boards) b board)) (t .boards) (λ i l. dead-same i);
     kept = h .kept;
+    seated = h .seated;
     first-small = λ i l. by-eq i b (λ e. rw (e, here, u .is-first) first-fits) (λ n. rw (there i n) (h .first-small i l));
     count-small = λ i l. by-eq i b (λ e. rw (e, here, u .is-count) count-fits) (λ n. rw (there i n) (h .count-small i l));
     board-length = λ i l. by-eq i b (λ e. rw (e, here) (u .three)) (λ n. rw (there i n) (h .board-length i l));

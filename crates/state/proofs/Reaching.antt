@@ -1,16 +1,12 @@
--- What is known of a cabinet that a list of commands reaches: the bounds of the rules; and what a process's row says of it.
+-- What is known of a cabinet that a list of commands reaches: the bounds of the rules.
 use mathlib.Core.Path.{_≡_, refl, ap, sym, _∙_, subst}
-use mathlib.Core.Bool.{Bool, true, false, not, cond}
-use mathlib.Core.Option.{Option, none, some}
 use mathlib.Core.List.{List, []}
 use Prim.Native.Nat.{ℕ, _≤_, _<_}
-use lib.Dec.{eqb}
 use lib.ListN.{length, getD, length-map}
 use Rattle.facts.specs.Rings.{listed-length, ring}
-use Rattle.process.specs.Row.{processOf, standbyOf}
 use Rattle.rules.specs.Table.{Table}
 use Rattle.rules.specs.Judge.{Accepted}
-use Rattle.rules.specs.Cabinet.{Cabinet, Standby, started, isSome, protected}
+use Rattle.rules.specs.Cabinet.{Cabinet, started}
 use Rattle.rules.specs.Moves.{runFrom}
 use Rattle.rules.specs.Bounds.{Bounds, OutboxBounds, ChannelBounds}
 use Rattle.rules.proofs.Reached.{bounded, channels-bounded}
@@ -28,15 +24,6 @@ module _ {t : Table} {c : Cabinet} (r : Reachable t c) where
 
   pub channel-bounds : (k : ℕ) → ChannelBounds t c k
   channel-bounds k = subst (λ (x : Cabinet). ChannelBounds t x k) (sym (r .is-reached)) (channels-bounded (r .accepted) (r .commands) k)
-
--- a process is protected where its row says so
-pub protected-is : (row mail log head : List ℕ) → protected (processOf row mail log head) ≡ not (eqb (getD row 12 0) 0)
-unfolding processOf standbyOf
-protected-is row mail log head = go (eqb (getD row 12 0) 0) _
-  where
-    go : (b : Bool) (x : Standby) → isSome (cond b none (some x)) ≡ not b
-    go true x = refl
-    go false x = refl
 
 -- a queue has as many entries as its board's row says
 pub queue-length : (boards : List (List ℕ)) (entries : List Entry) (b : ℕ) → length (outboxIn boards entries b) ≡ countIn boards b

@@ -125,6 +125,7 @@ retotalled h totals u = record {
   outboxes = h .outboxes;
   dead = h .dead;
   kept = h .kept;
+  seated = h .seated;
   first-small = h .first-small;
   count-small = h .count-small;
   board-length = h .board-length;

@@ -8,14 +8,14 @@ use lib.ListN.{length, getD}
 use Rattle.facts.specs.Lists.{listed}
 use Rattle.facts.specs.Rings.{ring}
 use Rattle.backup.specs.Place.{checkpointOf}
-use Rattle.process.specs.Row.{processOf, Kept}
-use Rattle.rules.specs.Table.{Table}
+use Rattle.process.specs.Row.{processOf, Kept, Seated}
+use Rattle.rules.specs.Table.{Table, placementAt}
 use Rattle.rules.specs.Machine.{Mail}
 use Rattle.rules.specs.Cabinet as rules
 use Rattle.rules.specs.Cabinet.{Cabinet, Process, outboxMost, occupancy, waiting, processAt, outboxAt}
 use Rattle.state.specs.declared.entry.Entry.{Entry}
 use Rattle.state.specs.declared.entry.Item.{Item}
-use Rattle.state.specs.declared.entry.Item.the-variants.{Word, Sync}
+use Rattle.state.specs.declared.entry.Item.the-variants.{Word, Sync, Transfer}
 
 -- ---- the lists
 
@@ -53,6 +53,7 @@ deadIn boards b = not (eqb (getD (getD boards b []) 2 0) 0)
 abbrev pub itemOf : Item → rules.Item
 itemOf (Word channel word) = rules.message (record { channel = channel; word = word })
 itemOf (Sync process c) = rules.checkpoint process (checkpointOf c)
+itemOf (Transfer process) = rules.transfer process
 
 -- what stands where no entry was ever put
 unfoldable pub blankEntry : Entry
@@ -82,6 +83,8 @@ pub record Holds (t : Table) (s : Store) (entries : List Entry) (c : Cabinet) : 
   pub dead : c .dead ≡ listed (deadIn (s .boards)) (t .boards)
   -- each process's lists are kept, and each ring is one
   pub kept : (p : ℕ) → p < length (t .processes) → Kept (getD (s .rows) p []) (getD (s .mails) p []) (getD (s .logs) p []) (getD (s .heads) p [])
+  -- and each row has the process's two boards of the table
+  pub seated : (p : ℕ) → p < length (t .processes) → Seated (placementAt t p .primary) (placementAt t p .standby) (getD (s .rows) p [])
   pub first-small : (b : ℕ) → b < t .boards → firstIn (s .boards) b < outboxMost
   pub count-small : (b : ℕ) → b < t .boards → countIn (s .boards) b ≤ outboxMost
   pub board-length : (b : ℕ) → b < t .boards → length (getD (s .boards) b []) ≡ 3

@@ -1,8 +1,9 @@
-// An entry of an outgoing queue: a word, which names its channel, or a checkpoint, which names its process and has its numbers as single
-// fields. All queues together are one flat array of these entries, a ring of 32 for each board.
+// An entry of an outgoing queue: a word, which names its channel; a checkpoint, which names its process and has its numbers as single
+// fields; or a state transfer, which names its process. All queues together are one flat array of these entries, a ring of 32 for each board.
 use backup::place::Checkpoint;
 
-// Document 01: "An entry of an outgoing queue is a word or a sync".
+// Document 01: "An entry of an outgoing queue is a word or a sync". W-210: or a resync, "its snapshot and copies of all its unread words [..]
+// as one entry". Snapshot and copies stand in the record that is being made.
 pub enum Item {
     Word {
         channel: u32,
@@ -11,6 +12,9 @@ pub enum Item {
     Sync {
         process: u32,
         checkpoint: Checkpoint,
+    },
+    Transfer {
+        process: u32,
     },
 }
 

@@ -23,71 +23,39 @@ use Rattle.state.specs.declared.entry.Item.the-variants.{Sync}
 use Rattle.state.specs.declared.moved.Moved.{Moved}
 use Rattle.backup.specs.declared.place.Checkpoint as code
 use Rattle.backup.specs.Place.{checkpointOf}
-use Rattle.rules.proofs.Counting.{weight, flight-joined}
+use Rattle.rules.proofs.Counting.{weight}
 use Rattle.state.specs.Board.{placeOf, pushedIn}
 use Rattle.state.specs.Store.{itemOf, Store, storeOf, Holds, processIn, outboxIn, firstIn, countIn, flag}
 use Rattle.state.specs.Moved.{Reachable, Turned, refusedWith, answerOf}
 use Rattle.step.specs.Issues.{Issues}
-use Rattle.state.proofs.Reading.{at-process, at-outbox, how-many-boards}
-use Rattle.state.proofs.Queueing.{QueueThen, joined}
-use Rattle.state.proofs.Totals.{occupancy-outbox, totalled-same}
+use Rattle.state.proofs.Reading.{at-process}
+use Rattle.state.proofs.Joining.{is-protected, board-is, board-there, queue-has, waits-on, waits-off, Waiter, waiter-joins}
 use Rattle.state.proofs.Changing.{row-changed}
-use Rattle.state.proofs.Reaching.{bounds, protected-is, queue-length}
 use Rattle.state.proofs.Refusing.{turned-down}
 
--- a waiting flag that is 0, or not
-flag-off : (b : Bool) (n : ℕ) → n ≡ flag b → n ≡ 0 → b ≡ false
-flag-off true n e z = absurd (omega arith)
-flag-off false n e z = refl
-
-flag-on : (b : Bool) (n : ℕ) → n ≡ flag b → (n ≡ 0 → ⊥) → b ≡ true
-flag-on true n e z = refl
-flag-on false n e z = absurd (z e)
-
 module _ {t : Table} {s : Store} {entries : List Entry} {c : Cabinet} (reach : Reachable t c) (h : Holds t s entries c) (p : ℕ) (hp : p < length (t .processes)) where
-  x-is : processAt c p ≡ processIn s p
-  x-is = at-process h p hp
-
-  pub is-protected : (b : Bool) → not (eqb (getD (getD (s .rows) p []) 12 0) 0) ≡ b → protected (processAt c p) ≡ b
-  is-protected b e = ap protected x-is ∙ protected-is _ _ _ _ ∙ e
-
-  pub board-is : processAt c p .board ≡ getD (getD (s .rows) p []) 0 0
-  unfolding processOf
-  board-is = ap (λ (x : Process). x .board) x-is
-
-  pub board-there : getD (getD (s .rows) p []) 0 0 < t .boards
-  board-there = rw (← board-is) (bounds reach p hp .board)
-
-  pub queue-is : outboxAt c (processAt c p .board) ≡ outboxIn (s .boards) entries (getD (getD (s .rows) p []) 0 0)
-  queue-is = ap (outboxAt c) board-is ∙ at-outbox h (getD (getD (s .rows) p []) 0 0) board-there
-
-  pub queue-has : length (outboxAt c (processAt c p .board)) ≡ countIn (s .boards) (getD (getD (s .rows) p []) 0 0)
-  queue-has = ap (λ (l : List _). length l) queue-is ∙ queue-length (s .boards) entries (getD (getD (s .rows) p []) 0 0)
-
-  pub refused-40 : getD (getD (s .rows) p []) 12 0 ≡ 0 → issue t c p ≡ refuse noBackup
+  pub refused-40 : (getD (getD (s .rows) p []) 12 0 ≡ 1 → ⊥) → issue t c p ≡ refuse noBackup
   unfolding issue guard
-  refused-40 z = rw (is-protected false (rw (eq-eqb _ 0 z)))
+  refused-40 z = rw (is-protected reach h p hp false (ne-eqb _ 1 z))
 
-  pub refused-41 : (getD (getD (s .rows) p []) 12 0 ≡ 0 → ⊥) → (getD (s .waits) p 0 ≡ 0 → ⊥) → issue t c p ≡ refuse syncWaits
+  pub refused-41 : getD (getD (s .rows) p []) 12 0 ≡ 1 → (getD (s .waits) p 0 ≡ 0 → ⊥) → issue t c p ≡ refuse syncWaits
   unfolding issue guard
-  refused-41 n w = rw (is-protected true (rw (ne-eqb _ 0 n)), flag-on (waiting p (outboxAt c (processAt c p .board))) (getD (s .waits) p 0) (h .waits-is p hp) w)
+  refused-41 n w = rw (is-protected reach h p hp true (eq-eqb _ 1 n), waits-on reach h p hp w)
 
-  pub refused-38 : (getD (getD (s .rows) p []) 12 0 ≡ 0 → ⊥) → getD (s .waits) p 0 ≡ 0 → outboxMost ≤ countIn (s .boards) (getD (getD (s .rows) p []) 0 0)
+  pub refused-38 : getD (getD (s .rows) p []) 12 0 ≡ 1 → getD (s .waits) p 0 ≡ 0 → outboxMost ≤ countIn (s .boards) (getD (getD (s .rows) p []) 0 0)
       → issue t c p ≡ refuse syncBlocked
   unfolding issue guard
-  refused-38 n w l = rw (is-protected true (rw (ne-eqb _ 0 n)), flag-off (waiting p (outboxAt c (processAt c p .board))) (getD (s .waits) p 0) (h .waits-is p hp) w, le-leb outboxMost (length (outboxAt c (processAt c p .board))) (rw queue-has l))
+  refused-38 n w l = rw (is-protected reach h p hp true (eq-eqb _ 1 n), waits-off reach h p hp w, le-leb outboxMost (length (outboxAt c (processAt c p .board))) (rw (queue-has reach h p hp) l))
 
-  pub accepted-so : (getD (getD (s .rows) p []) 12 0 ≡ 0 → ⊥) → getD (s .waits) p 0 ≡ 0 → countIn (s .boards) (getD (getD (s .rows) p []) 0 0) < outboxMost
+  pub accepted-so : getD (getD (s .rows) p []) 12 0 ≡ 1 → getD (s .waits) p 0 ≡ 0 → countIn (s .boards) (getD (getD (s .rows) p []) 0 0) < outboxMost
       → issue t c p ≡ accept (withProcess p (issued (processAt c p)) (enqueue (processAt c p .board) (rules.checkpoint p (snapshot (processAt c p))) c)) issueDone
   unfolding issue guard
-  accepted-so n w l = rw (is-protected true (rw (ne-eqb _ 0 n)), flag-off (waiting p (outboxAt c (processAt c p .board))) (getD (s .waits) p 0) (h .waits-is p hp) w, lt-leb outboxMost (length (outboxAt c (processAt c p .board))) (rw queue-has l))
+  accepted-so n w l = rw (is-protected reach h p hp true (eq-eqb _ 1 n), waits-off reach h p hp w, lt-leb outboxMost (length (outboxAt c (processAt c p .board))) (rw (queue-has reach h p hp) l))
 
 -- ---- the checkpoint joins
 
--- a checkpoint waits in a queue that it joined, and whatever waited before waits still
-waiting-joined : (q p : ℕ) (l : List rules.Item) (x : Checkpoint) → waiting q (l ++ (rules.checkpoint p x ∷ [])) ≡ (waiting q l || eqb q p)
-waiting-joined q p [] x = or-false (eqb q p)
-waiting-joined q p (i ∷ l) x = ap (λ (b : Bool). isCheckpointOf q i || b) (waiting-joined q p l x) ∙ sym (or-assoc (isCheckpointOf q i) (waiting q l) (eqb q p))
+sync-waits : (p : ℕ) (k : Checkpoint) (item : rules.Item) → item ≡ rules.checkpoint p k → Waiter p item
+sync-waits p k item e = record { its = λ q. ap (isCheckpointOf q) e; no-word = λ i. ap (weight i) e }
 
 module _ {t : Table} {s : Store} {entries : List Entry} {c : Cabinet} (reach : Reachable t c) (h : Holds t s entries c) (p : ℕ) (hp : p < length (t .processes))
     (row′ : List ℕ) (x : Entry) (k : Checkpoint) (is-item : itemOf (x .item) ≡ rules.checkpoint p k)
@@ -95,45 +63,8 @@ module _ {t : Table} {s : Store} {entries : List Entry} {c : Cabinet} (reach : R
   abbrev b : ℕ
   b = getD (getD (s .rows) p []) 0 0
 
-  hb : b < t .boards
-  hb = board-there reach h p hp
-
   abbrev board : List ℕ
   board = getD (s .boards) b []
-
-  -- the flags afterwards: p's is on
-  waits-then : (q : ℕ) → q < length (t .processes)
-      → getD (set (s .waits) p 1) q 0 ≡ flag (waiting q (getD (set (c .outboxes) b (outboxAt c b ++ (itemOf (x .item) ∷ []))) (processAt c q .board) []))
-  waits-then q hq =
-      let joined-q : List rules.Item = outboxAt c b ++ (itemOf (x .item) ∷ []) in
-      let there : b < length (c .outboxes) = rw (how-many-boards h) hb in
-      let old = h .waits-is q hq in
-      by-eq (processAt c q .board) b
-      (λ e. let same : getD (set (c .outboxes) b joined-q) (processAt c q .board) [] ≡ joined-q = rw e (getD-set-same (c .outboxes) b joined-q [] there) in
-      let now-waits : waiting q joined-q ≡ (waiting q (outboxAt c b) || eqb q p) = ap (λ (i : rules.Item). waiting q (outboxAt c b ++ (i ∷ []))) is-item ∙ waiting-joined q p (outboxAt c b) k in
-      by-eq q p
-      (λ f. rw (same, now-waits, eq-eqb q p f, or-true) (rw f (getD-set-same (s .waits) p 1 0 (let l = h .waits-length in let z = reach .accepted .processes-high in omega arith))))
-      (λ n. rw (same, now-waits, ne-eqb q p n, or-false) (getD-set-other (s .waits) p q 1 0 n ∙ old ∙ ap (λ (i : ℕ). flag (waiting q (outboxAt c i))) e)))
-      (λ n. let same : getD (set (c .outboxes) b joined-q) (processAt c q .board) [] ≡ outboxAt c (processAt c q .board) = getD-set-other (c .outboxes) b (processAt c q .board) joined-q [] n in
-      let other : q ≢ p = λ f. n (ap (λ (i : ℕ). processAt c i .board) f ∙ board-is reach h p hp) in
-      rw same (getD-set-other (s .waits) p q 1 0 other ∙ old))
-
-  queue-then : QueueThen t s c b (pushedIn board) (s .totals) (set (s .waits) p 1) (firstIn (s .boards) b) (suc (countIn (s .boards) b)) (outboxAt c b ++ (itemOf (x .item) ∷ []))
-  queue-then =
-      let l = h .board-length b hb in
-      record {
-        is-first = getD-set-other board 1 0 ((getD board 1 0 + 1) % 2 ^ 32) 0 (λ e. omega arith);
-        is-count = getD-set-same board 1 ((getD board 1 0 + 1) % 2 ^ 32) 0 (omega arith) ∙ omega arith;
-        is-dead = getD-set-other board 1 2 ((getD board 1 0 + 1) % 2 ^ 32) 0 (λ e. omega arith);
-        three = length-set board 1 _ ∙ l;
-        totalled-then = totalled-same (h .totalled) (λ i.
-            let a = flight-joined i (c .outboxes) b (itemOf (x .item)) (rw (how-many-boards h) hb) in
-            let d : weight i (itemOf (x .item)) ≡ 0 = ap (weight i) is-item in
-            let e = occupancy-outbox t c b (outboxAt c b ++ (itemOf (x .item) ∷ [])) i 0 0 (omega arith) in
-            omega arith);
-        waiting-there = waits-then;
-        waits-long = length-set (s .waits) p 1 ∙ h .waits-length;
-      }
 
   -- the lists afterwards hold the rules' cabinet afterwards
   pub issue-holds : RowBecame (getD (s .rows) p []) row′ issued
@@ -141,7 +72,7 @@ module _ {t : Table} {s : Store} {entries : List Entry} {c : Cabinet} (reach : R
       (set entries (placeOf board b) x) (withProcess p (issued (processAt c p)) (enqueue b (itemOf (x .item)) c))
   unfolding issued
   issue-holds became =
-      let first = joined h (reach .accepted .boards-high) b hb (pushedIn board) (s .totals) (set (s .waits) p 1) x few queue-then in
+      let first = waiter-joins reach h p hp x (sync-waits p k (itemOf (x .item)) is-item) few in
       row-changed first (reach .accepted .processes-high) p hp row′ issued (became _ _ _ (h .kept p hp)) refl refl
 
 -- ---- what the move promises
@@ -156,11 +87,11 @@ at-its-index {rows} {boards} {rows′} {boards′} {waits} {waits′} {r} p a is
 }
 
 module _ (rows boards : List (List ℕ)) (waits : List ℕ) (p : ℕ) (r : Moved) where
-  pub issues-40 : getD (getD rows p []) 12 0 ≡ 0 → r ≡ refusedWith 40 0 p → Issues rows boards waits p rows boards waits r
+  pub issues-40 : (getD (getD rows p []) 12 0 ≡ 1 → ⊥) → r ≡ refusedWith 40 0 p → Issues rows boards waits p rows boards waits r
   unfolding refusalNumber refusalCause
   issues-40 z e = record { turned = λ t mails logs heads totals entries c command reach h f hp. turned-down command p noBackup h (refused-40 reach h p hp z) f e }
 
-  pub issues-41 : (getD (getD rows p []) 12 0 ≡ 0 → ⊥) → (getD waits p 0 ≡ 0 → ⊥) → r ≡ refusedWith 41 0 p → Issues rows boards waits p rows boards waits r
+  pub issues-41 : getD (getD rows p []) 12 0 ≡ 1 → (getD waits p 0 ≡ 0 → ⊥) → r ≡ refusedWith 41 0 p → Issues rows boards waits p rows boards waits r
   unfolding refusalNumber refusalCause
   issues-41 n w e = record { turned = λ t mails logs heads totals entries c command reach h f hp. turned-down command p syncWaits h (refused-41 reach h p hp n w) f e }
 
@@ -170,7 +101,7 @@ module _ (rows boards : List (List ℕ)) (waits : List ℕ) (p : ℕ) (r : Moved
         → Holds t (storeOf rows mails logs heads boards totals waits) entries c → p < length (t .processes) → b ≡ getD (getD rows p []) 0 0
     the-board reach h hp = is-b (let a = board-there reach h p hp in let z = reach .accepted .boards-high in omega arith)
 
-    pub issues-38 : (getD (getD rows p []) 12 0 ≡ 0 → ⊥) → getD waits p 0 ≡ 0 → outboxMost ≤ getD (getD boards b []) 1 0 → r ≡ refusedWith 38 1 p
+    pub issues-38 : getD (getD rows p []) 12 0 ≡ 1 → getD waits p 0 ≡ 0 → outboxMost ≤ getD (getD boards b []) 1 0 → r ≡ refusedWith 38 1 p
         → Issues rows boards waits p rows boards waits r
     unfolding refusalNumber refusalCause
     issues-38 n w l e = record {
@@ -178,7 +109,7 @@ module _ (rows boards : List (List ℕ)) (waits : List ℕ) (p : ℕ) (r : Moved
           turned-down command p syncBlocked h (refused-38 reach h p hp n w (rw (← the-board reach h hp) l)) f e;
     }
 
-    pub issues-done : (row′ : List ℕ) (k : code.Checkpoint) → (getD (getD rows p []) 12 0 ≡ 0 → ⊥) → getD waits p 0 ≡ 0 → getD (getD boards b []) 1 0 < outboxMost
+    pub issues-done : (row′ : List ℕ) (k : code.Checkpoint) → getD (getD rows p []) 12 0 ≡ 1 → getD waits p 0 ≡ 0 → getD (getD boards b []) 1 0 < outboxMost
         → RowBecame (getD rows p []) row′ issued → ((mail log head : List ℕ) → checkpointOf k ≡ snapshot (processOf (getD rows p []) mail log head))
         → placeOf (getD boards b []) b < 512 → r ≡ record { answer = answerOf 0 1 0 0; at = placeOf (getD boards b []) b; entry = record { item = Sync p k } }
         → Issues rows boards waits p (set rows p row′) (set boards b (pushedIn (getD boards b []))) (set waits p 1) r

@@ -39,7 +39,7 @@ use Rattle.state.proofs.Refusing.{turned-down}
 use Rattle.step.specs.Parts.{owingIn, blameIn, SendTurns}
 use Rattle.state.specs.Channel.{heldIn}
 use Rattle.state.proofs.Held.{full-is, occupancy-small}
-use Rattle.step.proofs.Issuing.{board-is, board-there, queue-has}
+use Rattle.state.proofs.Joining.{board-is, board-there, queue-has}
 use Rattle.step.proofs.Stepping.{turned-to, machine-is, step-is, owing-is, blame-is, instructions-room, events-room}
 
 -- a word that joins a queue is no checkpoint

@@ -133,7 +133,7 @@ module _ {t : Table} {s : Store} {entries : List Entry} {c : Cabinet} (reach : R
     unfolding advanced
     take-holds =
         let u : List ℕ = set (s .totals) (x .channel) left in
-        let whole = changed h (reach .accepted .processes-high) p hp row′ mail′ log head u (became .kept-again) (ap (λ (y : Process). y .board) now-is) totals-then in
+        let whole = changed h (reach .accepted .processes-high) p hp row′ mail′ log head u (became .kept-again) (became .seated-again) (ap (λ (y : Process). y .board) now-is) totals-then in
         let rows′ : List (List ℕ) = set (s .rows) p row′ in
         let mails′ : List (List ℕ) = set (s .mails) p mail′ in
         let now : Process = processOf row′ mail′ log head in

@@ -3,6 +3,7 @@ ghost use mathlib.Core.Path.{_≡_};
 ghost use Rattle.step.specs.Issues.{Issues};
 use process::checkpoint;
 use process::row::BOARD;
+use process::row::COMPLETE;
 use process::row::PROTECTED;
 use process::row::ROW;
 use state::board::BOARD_ROW;
@@ -26,7 +27,7 @@ pub fn issue(
     ensures { λ r. ⌜ Issues (now (rows .entry)) (now (boards .entry)) (now (waits .entry)) a (now (rows .exit)) (now (boards .exit)) (now (waits .exit)) r ⌝ }
 {
     let p = index16(a);
-    if rows[p][PROTECTED] == 0 {
+    if rows[p][PROTECTED] != COMPLETE {
         return refused(40, 0, a);
     }
     if waits[p] != 0 {

@@ -2,6 +2,7 @@
 //! proved call's bytes give; and its reasons, every one of them, beside those that are written by hand from document 02. The simulator has
 //! no part in this.
 use crate::call::ks_run;
+use crate::returned;
 use outside::rules::generate::{encode_schedule, encode_table};
 use outside::rules::lent::Lent;
 use outside::rules::limits;
@@ -13,11 +14,11 @@ use outside::rules::run::{Outcome, Run};
 use outside::rules::sample::{carry, crash, feed, sample_schedule, step, sync, SAMPLE};
 
 pub struct Case {
-    name: &'static str,
+    pub name: &'static str,
     pub table: Vec<u8>,
     pub records: Vec<Record>,
     /// The page's last lines.
-    lines: &'static [&'static str],
+    pub lines: &'static [&'static str],
 }
 
 fn table(boards: u8, channels: &[(u8, u8)], processes: &[(u8, u8, &[Instruction])]) -> Vec<u8> {
@@ -32,7 +33,7 @@ fn said(boards: u8, channels: &[(u8, u8)], processes: &[(u8, u8, &[Instruction])
 }
 
 /// One process that sends a word again and again to the outside.
-fn sender() -> Vec<u8> {
+pub fn sender() -> Vec<u8> {
     let send = Send { a: 0, channel: 0 };
     table(2, &[(0, OUTSIDE)], &[(0, 1, &[Set { a: 0, word: 9 }, send, send, send, Jump { a: 0, place: 1 }])])
 }
@@ -61,7 +62,7 @@ fn waiting() -> Vec<u8> {
 
 /// Process 0 on board 0 and process 1 on board 1, each the other's backup board. Process 1 sends what it takes from the outside, to the
 /// outside and to process 0.
-fn crossed() -> Vec<u8> {
+pub fn crossed() -> Vec<u8> {
     let both = [Take { a: 0, channel: 0 }, Send { a: 0, channel: 1 }, Send { a: 0, channel: 2 }, Jump { a: 0, place: 0 }];
     table(3, &[(OUTSIDE, 1), (1, OUTSIDE), (1, 0)], &[(0, 1, &[Take { a: 0, channel: 2 }]), (1, 0, &both)])
 }
@@ -96,7 +97,7 @@ fn two_limits() -> Vec<u8> {
 }
 
 /// One process that adds up what it takes, and sends nothing.
-fn adder() -> Vec<u8> {
+pub fn adder() -> Vec<u8> {
     let program = [Set { a: 2, word: 1 }, Take { a: 0, channel: 0 }, Add { a: 1, b: 0 }, Jump { a: 2, place: 1 }];
     table(2, &[(OUTSIDE, 0)], &[(0, 1, &program)])
 }
@@ -221,6 +222,7 @@ pub fn cases() -> Vec<Case> {
         &held,
         &["10 39 0 0", "11 0 0 0", "12 1 0 4", "13 4 0 4", "process 0 1 2 8 0 4 0 1 0", "quiet 0"],
     );
+    // Nobody has lost a backup, so that another board may be pulled (W-210).
     case(
         "a board on which nothing ran",
         waiting(),
@@ -229,10 +231,10 @@ pub fn cases() -> Vec<Case> {
             "1 0 0 0",
             "2 0 0 0",
             "3 5 0 0",
-            "4 44 0 0",
+            "4 0 0 0",
             "5 34 3 0",
-            "process 0 0 0 0 0 0 0 0 0",
-            "process 1 0 0 0 0 0 0 0 0",
+            "process 0 1 0 0 0 0 0 0 0",
+            "process 1 2 0 0 0 0 0 0 0",
             "quiet 1",
         ],
     );
@@ -343,6 +345,7 @@ pub fn cases() -> Vec<Case> {
             "quiet 0",
         ],
     );
+    cases.extend(returned::cases());
     cases
 }
 

@@ -17,13 +17,13 @@ fn enough() -> Lent<usize> {
 }
 
 /// A run with buffers as long as needed, or longer.
-fn compare(comparison: &mut Comparison, random: &mut Random, kind: &'static str, table: &[u8], records: &[Record]) {
+pub fn compare(comparison: &mut Comparison, random: &mut Random, kind: &'static str, table: &[u8], records: &[Record]) {
     let buffers = Lent::needed(records.len(), table[4] as usize).map(|needed| needed + random.pick(&[0, 0, 1, 7, 19, 20, 40]));
     comparison.run(kind, table, &encode_schedule(records), buffers);
 }
 
 /// A sound table: any, the largest, or one whose programs go round for ever.
-fn some_table(random: &mut Random) -> Table {
+pub fn some_table(random: &mut Random) -> Table {
     match random.below(40) {
         0 => largest(random),
         1..=19 => {
@@ -51,7 +51,7 @@ pub fn long(comparison: &mut Comparison, random: &mut Random) {
 }
 
 /// The cabinet after some records.
-fn after<'t>(table: &'t Table, records: &[Record]) -> Cabinet<'t> {
+pub fn after<'t>(table: &'t Table, records: &[Record]) -> Cabinet<'t> {
     let mut cabinet = Cabinet::new(table);
     records.iter().for_each(|&record| {
         cabinet.answer(record);
@@ -103,8 +103,8 @@ pub fn garbage(comparison: &mut Comparison, random: &mut Random) {
     let records: Vec<Record> = (0..length)
         .map(|_| match random.below(3) {
             0 => Record { kind: random.below(256) as u8, a: random.below(256) as u8, word: random.word() },
-            1 => Record { kind: random.below(8) as u8, a: random.below(34) as u8, word: any_word(random) },
-            _ => Record { kind: 1 + random.below(5) as u8, a: random.below(16) as u8, word: 0 },
+            1 => Record { kind: random.below(9) as u8, a: random.below(34) as u8, word: any_word(random) },
+            _ => Record { kind: 1 + random.below(7) as u8, a: random.below(16) as u8, word: 0 },
         })
         .collect();
     compare(comparison, random, "garbage", &encode_table(&table), &records);

@@ -1,11 +1,14 @@
 //! The proved run of a schedule against the simulator, on generated tables and schedules: `cabinet [--runs N] [--seed N]`.
 //!
 //! First the service desk's cases, with lines and reasons written by hand; then these and document 01's sample, cut after each record and
-//! with each board pulled at each place; then saved lists as long as each limit lets them get; then random runs of every kind of input.
+//! with each board pulled at each place; then saved lists as long as each limit lets them get; then random runs of every kind of input, until
+//! there are N runs, N with a return or a resync that was done, and a sixth of N with three crashes or more.
 mod call;
 mod compare;
 mod desk;
 mod inputs;
+mod repairs;
+mod returned;
 mod seen;
 
 use compare::Comparison;
@@ -56,6 +59,15 @@ fn round(comparison: &mut Comparison, random: &mut Random) {
     if random.once_in(4) {
         inputs::long(comparison, random);
     }
+    (0..2).for_each(|_| repairs::returned(comparison, random));
+    repairs::pulled_again(comparison, random);
+    for _ in 0..60 {
+        let crashes = 3 + random.below(6) as usize;
+        repairs::often(comparison, random, crashes, 800);
+    }
+    if random.once_in(2) {
+        repairs::often(comparison, random, 400, 7_000);
+    }
 }
 
 /// The value of an option, if it is given.
@@ -80,7 +92,7 @@ fn main() {
         comparison.run("reasons by hand", &encode_table(&case.table), &encode_schedule(&case.records), buffers);
     }
     (1..=16).for_each(|limit| fullest(&mut comparison, limit));
-    while comparison.seen.runs < runs {
+    while comparison.seen.runs < runs || comparison.seen.returned < runs || comparison.seen.thrice < runs / 6 {
         round(&mut comparison, &mut random);
     }
     let met = comparison.seen.report();

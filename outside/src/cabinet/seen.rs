@@ -25,6 +25,9 @@ struct Kind {
     quiet: u64,
     crashed: u64,
     hold_back: u64,
+    /// Had a return or a resync that was done; had three crashes or more that were.
+    returned: u64,
+    thrice: u64,
 }
 
 /// What a table may have, as a test of it.
@@ -62,6 +65,10 @@ fn calculates(instruction: &Instruction) -> bool {
 #[derive(Default)]
 pub struct Seen {
     pub runs: u64,
+    /// Runs with a return or a resync that was done, and with three crashes or more that were.
+    pub returned: u64,
+    pub thrice: u64,
+    most_crashes: u64,
     /// By the bytes of the list of reasons: each code with each cause.
     reasons: BTreeMap<u8, u64>,
     /// Runs refused with 11 for the list of reasons alone.
@@ -102,14 +109,20 @@ impl Seen {
             TRAITS.iter().zip(&mut self.traits).for_each(|((_, test), n)| *n += test(&table) as u64);
             self.silent = table.processes.iter().map(|process| process.program.iter().all(calculates)).collect();
         }
-        let mut crashed = false;
+        let (mut crashes, mut returns) = (0, 0);
         run.lent.reasons.iter().take(run.outcome.records).for_each(|&reason| *self.reasons.entry(reason).or_default() += 1);
         for (answer, record) in run.lent.answers.chunks_exact(6).zip(schedule[3..].chunks_exact(6)) {
             kind.accepted += (answer[0] < 32) as u64;
-            crashed |= record[0] == 5 && answer[0] == 0;
+            crashes += (record[0] == 5 && answer[0] == 0) as u64;
+            returns += (record[0] >= 6 && answer[0] == 0) as u64;
             self.ran_long += (answer[0] == 37 && self.silent[record[1] as usize]) as u64;
         }
-        kind.crashed += crashed as u64;
+        kind.crashed += (crashes > 0) as u64;
+        kind.returned += (returns > 0) as u64;
+        kind.thrice += (crashes >= 3) as u64;
+        self.returned += (returns > 0) as u64;
+        self.thrice += (crashes >= 3) as u64;
+        self.most_crashes = self.most_crashes.max(crashes);
         let lines = run.lent.report.chunks_exact(20).take(table[4] as usize);
         kind.hold_back += lines.clone().any(|line| line[3] > 0) as u64;
         self.most_records = self.most_records.max(run.outcome.records);
@@ -120,8 +133,8 @@ impl Seen {
     /// Prints all counts; false if something was never met.
     pub fn report(&self) -> bool {
         println!(
-            "{:<22}{:>8}{:>10}{:>10}{:>9}{:>8}{:>9}{:>11}",
-            "", "runs", "records", "accepted", "refused", "quiet", "crashed", "hold-back"
+            "{:<22}{:>8}{:>10}{:>10}{:>9}{:>8}{:>9}{:>10}{:>8}{:>11}",
+            "", "runs", "records", "accepted", "refused", "quiet", "crashed", "returned", "thrice", "hold-back"
         );
         let mut all = Kind { name: "all", ..Kind::default() };
         for k in &self.kinds {
@@ -132,6 +145,8 @@ impl Seen {
             all.refused += k.refused;
             all.quiet += k.quiet;
             all.crashed += k.crashed;
+            all.returned += k.returned;
+            all.thrice += k.thrice;
             all.hold_back += k.hold_back;
         }
         print_kind(&all);
@@ -139,8 +154,8 @@ impl Seen {
             self.kinds.iter().filter(|k| SOUND.contains(&k.name)).fold((0, 0), |(n, m), k| (n + k.accepted, m + k.records));
         println!("of the {} records of sound runs {:.1}% were accepted", sound.1, percent(sound.0, sound.1));
         println!(
-            "longest schedule {} records; at an end at most {} unread words and {} hold-back",
-            self.most_records, self.most_unread, self.most_hold_back
+            "longest schedule {} records; at most {} crashes in one; at an end at most {} unread words and {} hold-back",
+            self.most_records, self.most_crashes, self.most_unread, self.most_hold_back
         );
         let tables: Vec<String> = TRAITS.iter().zip(&self.traits).map(|((name, _), n)| format!("{name} {n}")).collect();
         println!("tables with: {}", tables.join(", "));
@@ -181,7 +196,7 @@ fn percent(part: u64, all: u64) -> f64 {
 fn print_kind(k: &Kind) {
     let share = percent(k.accepted, k.records);
     println!(
-        "{:<22}{:>8}{:>10}{:>9.1}%{:>9}{:>8}{:>9}{:>11}",
-        k.name, k.runs, k.records, share, k.refused, k.quiet, k.crashed, k.hold_back
+        "{:<22}{:>8}{:>10}{:>9.1}%{:>9}{:>8}{:>9}{:>10}{:>8}{:>11}",
+        k.name, k.runs, k.records, share, k.refused, k.quiet, k.crashed, k.returned, k.thrice, k.hold_back
     );
 }

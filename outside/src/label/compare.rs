@@ -15,6 +15,9 @@ pub struct Counts {
     pub runs: u64,
     pub quiet: u64,
     pub crashed: u64,
+    /// Runs with three crashes or more, and the most of one run.
+    pub thrice: u64,
+    pub crashes: usize,
     /// The most cartons and labels of one run.
     pub cartons: usize,
     pub labels: usize,
@@ -53,7 +56,10 @@ fn wrong(counts: &mut Counts, first: u32, records: &[Record], buffers: Lent<usiz
     let answers: Vec<Answer> = lent.answers[..written.answers].chunks_exact(6).map(answer).collect();
     let (cartons, outlet) = seen(records, &answers);
     counts.quiet += wanted.outcome.quiet as u64;
-    counts.crashed += answers.iter().zip(records).any(|(answer, record)| (record.kind, answer.code) == (5, 0)) as u64;
+    let crashes = answers.iter().zip(records).filter(|(answer, record)| (record.kind, answer.code) == (5, 0)).count();
+    counts.crashed += (crashes > 0) as u64;
+    counts.thrice += (crashes >= 3) as u64;
+    counts.crashes = counts.crashes.max(crashes);
     counts.cartons = counts.cartons.max(cartons.len());
     counts.labels = counts.labels.max(outlet.len() / 2);
     fault(first, &cartons, &outlet, wanted.outcome.quiet)

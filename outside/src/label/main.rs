@@ -1,7 +1,7 @@
 //! The proved label line against the simulator on a table written from document 02: `label [--seed N]`.
 //!
 //! The table of first serials at both ends; schedules of several kinds, each with a crash of either board at each of its places and then
-//! led on until it is quiet; buffers that are too short; and schedules of 10,000 records.
+//! led on until it is quiet; buffers that are too short; schedules of 10,000 records; and crash after crash.
 mod call;
 mod compare;
 mod line;
@@ -13,6 +13,7 @@ use outside::random::Random;
 use outside::rules::generate::{continued, encode_table};
 use outside::rules::lent::Lent;
 use outside::rules::reader::{judge_table, Record, Table};
+use outside::rules::repairs::crash_after_crash;
 use outside::rules::sample::{carry, crash, feed, step};
 use outside::rules::simulator::Cabinet;
 
@@ -119,6 +120,16 @@ fn pulled(counts: &mut Counts, first: u32, table: &Table, records: &[Record]) {
     }
 }
 
+/// Crash after crash (W-211): boards are pulled, returned and resynced again and again while cartons are fed and printed; then it is led on
+/// until it is quiet.
+fn often(counts: &mut Counts, random: &mut Random, first: u32, table: &Table) {
+    for i in 0..400 {
+        let (crashes, records) = if i % 100 == 0 { (400, 8_000) } else { (3 + random.below(8) as usize, 1_000) };
+        let records = crash_after_crash(random, table, crashes, records);
+        compare(counts, first, &records, enough());
+    }
+}
+
 /// As many cartons as 10,000 records can feed and print, with a crash somewhere among them.
 fn long(counts: &mut Counts, first: u32, table: &Table, place: usize, board: u8) {
     let mut led = Led::new(table, &[]);
@@ -157,12 +168,15 @@ fn main() {
         for place in [0, 1, 4999, 5000, 5001, 9999, 10_000] {
             long(&mut counts, first, &table, place, (place % 2) as u8);
         }
+        often(&mut counts, &mut random, first, &table);
     }
     for first in REFUSED {
         compare(&mut counts, first, &[feed(SCANNER, 7), step(0)], enough());
         compare(&mut counts, first, &[], Lent::all(0));
     }
-    let Counts { runs, quiet, crashed, cartons, labels } = counts;
+    let Counts { runs, quiet, crashed, thrice, crashes, cartons, labels } = counts;
     assert!(quiet > runs / 3 && crashed > runs / 2 && labels > 500, "too little was met");
+    assert!(thrice >= 1_900 && crashes >= 200, "too few crashes: {thrice} runs with three or more, {crashes} at most");
     println!("label: ok, {runs} runs, {crashed} with a crash, {quiet} quiet, up to {cartons} cartons and {labels} labels in one");
+    println!("label: {thrice} runs with three crashes or more, up to {crashes} in one");
 }

@@ -48,8 +48,8 @@ fn any_records(random: &mut Random) -> Vec<Record> {
     let length = random.below(60);
     let record = |random: &mut Random| match random.below(3) {
         0 => Record { kind: random.below(256) as u8, a: random.below(256) as u8, word: random.word() },
-        1 => Record { kind: random.below(8) as u8, a: random.below(34) as u8, word: random.pick(&[0, 1, u32::MAX]) },
-        _ => Record { kind: 1 + random.below(5) as u8, a: random.below(16) as u8, word: 0 },
+        1 => Record { kind: random.below(9) as u8, a: random.below(34) as u8, word: random.pick(&[0, 1, u32::MAX]) },
+        _ => Record { kind: 1 + random.below(7) as u8, a: random.below(16) as u8, word: 0 },
     };
     (0..length).map(|_| record(random)).collect()
 }

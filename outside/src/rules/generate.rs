@@ -188,14 +188,18 @@ fn weighted(random: &mut Random, weights: &[u32]) -> usize {
 
 /// How often each move is tried, of all together, and how many times in a row.
 struct Habits {
-    weights: [u32; 5],
+    weights: [u32; 7],
     row: u32,
 }
 
 fn habits(random: &mut Random) -> Habits {
-    // Now and then inboxes and saved lists are filled, and syncs wait long.
-    let weights = if random.once_in(6) { [30, 4, 1, 60, 1] } else { [40, 3, 30, 15, 2] };
-    let seldom = random.pick(&[0, 1, 2, 2, 2, 3, 4, 5, 5]);
+    // Now and then inboxes and saved lists are filled, and syncs wait long; or queues are filled.
+    let weights = match random.below(12) {
+        0..=1 => [30, 4, 1, 60, 1, 1, 3],
+        2 => [60, 8, 0, 20, 1, 1, 5],
+        _ => [40, 3, 30, 15, 2, 2, 5],
+    };
+    let seldom = random.pick(&[0, 1, 2, 2, 2, 3, 4, 5, 6, 7, 7]);
     let mut habits = Habits { weights, row: random.pick(&[1, 1, 4, 12]) };
     if let Some(weight) = habits.weights.get_mut(seldom) {
         *weight = 1;
@@ -209,6 +213,20 @@ fn likely(random: &mut Random, table: &Table, cabinet: &Cabinet, habits: &Habits
     let kind = weighted(random, &habits.weights) as u8 + 1;
     match kind {
         1 | 2 => Record { kind, a: p, word: 0 },
+        // A board that is dead, and a process that has no backup, where there is one.
+        6 => {
+            let dead: Vec<u8> = (0..table.boards).filter(|&board| cabinet.dead(board)).collect();
+            Record {
+                kind,
+                a: if dead.is_empty() { random.below(table.boards as u32) as u8 } else { random.pick(&dead) },
+                word: 0,
+            }
+        }
+        7 => {
+            let bare: Vec<u8> =
+                (0..table.processes.len() as u8).filter(|&p| cabinet.processes[p as usize].backup.is_none()).collect();
+            Record { kind, a: if bare.is_empty() { p } else { random.pick(&bare) }, word: 0 }
+        }
         3 => Record { kind, a: cabinet.processes[p as usize].board, word: 0 },
         4 => {
             let outside: Vec<u8> = table.sends(OUTSIDE as usize).collect();
@@ -221,7 +239,7 @@ fn likely(random: &mut Random, table: &Table, cabinet: &Cabinet, habits: &Habits
 
 /// A record that makes no sense, most often; a crash is not among them.
 fn garbage(random: &mut Random) -> Record {
-    let kind = random.pick(&[0, 1, 2, 3, 4, 6, 7, 8, 255]);
+    let kind = random.pick(&[0, 1, 2, 3, 4, 6, 7, 8, 9, 255]);
     let a = random.pick(&[0, 1, 15, 16, 31, 32, 255]);
     let word = random.pick(&[0, 0, 1, u32::MAX]);
     Record { kind, a, word }
@@ -236,26 +254,26 @@ fn crash(random: &mut Random, table: &Table) -> Record {
 }
 
 /// A schedule while it is written, and the cabinet that it leaves.
-struct Writing<'a, 't> {
+pub(super) struct Writing<'a, 't> {
     table: &'t Table,
-    cabinet: Cabinet<'t>,
+    pub(super) cabinet: Cabinet<'t>,
     habits: Habits,
-    random: &'a mut Random,
-    schedule: Vec<Record>,
+    pub(super) random: &'a mut Random,
+    pub(super) schedule: Vec<Record>,
     /// How many of the records are refused, and how many were tried and refused since one was accepted.
     refused: usize,
     in_vain: u32,
 }
 
 impl<'a, 't> Writing<'a, 't> {
-    fn new(random: &'a mut Random, table: &'t Table, cabinet: Cabinet<'t>) -> Writing<'a, 't> {
+    pub(super) fn new(random: &'a mut Random, table: &'t Table, cabinet: Cabinet<'t>) -> Writing<'a, 't> {
         let habits = habits(random);
         Writing { table, cabinet, habits, random, schedule: Vec::new(), refused: 0, in_vain: 0 }
     }
 
     /// One record, some times in a row as long as it is accepted. What is refused changes nothing, so that most of it can be left out:
     /// one in eight is refused at most, unless hardly anything can be accepted any more.
-    fn go_on(&mut self, most: usize) {
+    pub(super) fn go_on(&mut self, most: usize) {
         let record = likely(self.random, self.table, &self.cabinet, &self.habits);
         for _ in 0..1 + self.random.below(self.habits.row) {
             let answer = self.cabinet.answer(record);
@@ -268,9 +286,9 @@ impl<'a, 't> Writing<'a, 't> {
                     self.refused += 1;
                     self.schedule.push(record);
                 }
-                // A full queue refuses a sync as well, which is seldom tried by itself; it too changes nothing.
-                if answer.code == 38 && self.schedule.len() < most {
-                    self.schedule.push(Record { kind: 2, ..record });
+                // A full queue refuses a sync and a resync as well, which are seldom tried by themselves; it too changes nothing.
+                if answer.code == 38 && self.schedule.len() + 1 < most {
+                    self.schedule.extend([2, 7].map(|kind| Record { kind, ..record }));
                 }
                 return;
             }
@@ -290,6 +308,12 @@ pub fn schedule(random: &mut Random, table: &Table, records: usize) -> Vec<Recor
             let record = crash(writing.random, table);
             writing.cabinet.answer(record);
             writing.schedule.push(record);
+            // Nothing is carried from a dead board.
+            if writing.random.once_in(4) && writing.schedule.len() < records {
+                let carry = Record { kind: 3, ..record };
+                writing.cabinet.answer(carry);
+                writing.schedule.push(carry);
+            }
             let again = crash_at + 1 + writing.random.below(20) as usize;
             crash_at = if writing.random.once_in(3) { again } else { records };
         } else {

@@ -12,11 +12,14 @@ pub mod page;
 pub mod plain;
 pub mod reader;
 pub mod reasons;
+pub mod repairs;
 pub mod run;
 pub mod sample;
 pub mod simulator;
 
 #[cfg(test)]
 mod marked;
+#[cfg(test)]
+mod returns;
 #[cfg(test)]
 mod runs;

@@ -1,30 +1,33 @@
 //! The list of reasons: document 02, W-206. Which bytes can be in it, and records for each of them, by hand.
 use super::reader::Instruction::{Add, First, Jump, Send, Set, Take};
 use super::reader::{Channel, Instruction, Process, Record, Table, OUTSIDE};
-use super::sample::{carry, crash, feed, step, sync};
+use super::sample::{carry, crash, feed, give_back, resync, step, sync};
 
 /// Every code, and its causes: "The cause is 0 except here."
-pub const CAUSES: [(u8, &[u8]); 20] = [
-    (0, &[0, 1, 2]), // "1 for a sync, 2 for a crash"
+pub const CAUSES: [(u8, &[u8]); 23] = [
+    (0, &[0, 1, 2, 3]), // "1 for a sync, 2 for a crash"; W-210: "cause 3 under code 0 means a return or a resync"
     (1, &[0]),
     (2, &[0]),
     (3, &[0]),
     (4, &[0, 1]), // "1 for a feed"
-    (5, &[0]),
+    (5, &[0, 3]), // W-210: "under 5, 38 and 41 a resync"
     (6, &[0]),
     (32, &[0, 1]),    // "1 when the move is known and the word is at fault"
     (33, &[0, 1, 2]), // "1 for a board, 2 for a channel"
     (34, &[0, 1]),    // "1 for a crash"
     (35, &[0]),
-    (36, &[0, 1]), // "1 for FIRST"
-    (37, &[0, 1]), // "1 when only the 64 instructions are to blame"
-    (38, &[0, 1]), // "1 for a sync"
-    (39, &[0, 1]), // "1 for a feed"
+    (36, &[0, 1]),    // "1 for FIRST"
+    (37, &[0, 1]),    // "1 when only the 64 instructions are to blame"
+    (38, &[0, 1, 3]), // "1 for a sync"
+    (39, &[0, 1]),    // "1 for a feed"
     (40, &[0]),
-    (41, &[0]),
+    (41, &[0, 3]),
     (42, &[0]),
     (43, &[0]),
     (44, &[0]),
+    (48, &[0]),
+    (49, &[0]),
+    (50, &[0]),
 ];
 
 /// Every byte that can be in the list.
@@ -74,7 +77,7 @@ pub fn by_hand() -> Vec<ByHand> {
         cases.push(ByHand { name, table, records: records.to_vec(), last: last.to_vec() });
     };
     let any = |kind, a, word| Record { kind, a, word };
-    let records = [any(0, 0, 0), any(6, 0, 1), any(255, 255, 1), any(1, 0, 1), any(5, 255, 1)];
+    let records = [any(0, 0, 0), any(8, 0, 1), any(255, 255, 1), any(1, 0, 1), any(5, 255, 1)];
     case(
         "an unknown move has cause 0, with or without a word",
         one(&[]),
@@ -115,6 +118,18 @@ pub fn by_hand() -> Vec<ByHand> {
     for program in [set, add, jump] {
         case("the same at a SET, ADD or JUMP: always the instructions", one(&program), &fed_steps(65), &[(37, 1)]);
     }
+    // W-210: moves 6 and 7.
+    let records = [any(6, 9, 1), any(7, 9, 1), give_back(2), resync(1), give_back(0), resync(0)];
+    let last = [(32, 1), (32, 1), (33, 1), (33, 0), (48, 0), (50, 0)];
+    case("a return and a resync that can't be", one(&[]), &records, &last);
+    let records = [sync(0), crash(1), resync(0), give_back(1), resync(0), carry(0), resync(0), resync(0), carry(0), sync(0)];
+    let last = [(0, 1), (0, 2), (50, 0), (0, 3), (41, 3), (6, 0), (0, 3), (41, 3), (5, 3), (0, 1)];
+    case("returned and resynced, with an old sync waiting at first", one(&[]), &records, &last);
+    let records = [step(0), carry(0), crash(0), give_back(0), resync(0), step(0), resync(0)];
+    case("a resync with hold-back", one(&send), &records, &[(0, 2), (0, 3), (49, 0), (3, 0), (0, 3)]);
+    let (table, records) = full();
+    let records = [&records[..32], &[crash(1), give_back(1), resync(4), sync(4)]].concat();
+    case("queue full, for a resync", table, &records, &[(0, 2), (0, 3), (38, 3), (40, 0)]);
     case("eight acts don't stop a SET", one(&round(0, take, 3)), &fed_steps(23), &[(0, 0)]);
     cases
 }
@@ -127,8 +142,8 @@ mod tests {
     #[test]
     fn each_byte_is_another() {
         let all: Vec<u8> = reasons().collect();
-        assert_eq!(all.len(), 31);
-        assert!(all.windows(2).all(|pair| pair[0] < pair[1]) && all.iter().all(|&byte| byte <= 4 * 44 + 3));
+        assert_eq!(all.len(), 38);
+        assert!(all.windows(2).all(|pair| pair[0] < pair[1]) && all.iter().all(|&byte| byte <= 4 * 50 + 3));
     }
 
     #[test]

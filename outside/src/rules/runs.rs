@@ -5,6 +5,7 @@ use super::loops::loops;
 use super::plain::transparent;
 use super::reader::{judge_schedule, judge_table};
 use super::reasons::reasons;
+use super::repairs::{crash_after_crash, row};
 use super::simulator::Cabinet;
 use crate::random::Random;
 
@@ -63,4 +64,25 @@ fn runs_are_transparent() {
     reasons().for_each(|reason| assert!(seen[reason as usize] > 0, "no answer {} with cause {}", reason / 4, reason % 4));
     assert_eq!(seen.iter().filter(|&&n| n > 0).count(), reasons().count(), "a reason that there isn't");
     assert!(quiet > 100, "only {quiet} runs end quiet");
+}
+
+/// W-211: crash after crash, with a quiet end on every table whose runs come to rest.
+#[test]
+fn crashes_after_crashes_are_transparent() {
+    let mut random = Random::new(SEED);
+    let (mut thrice, mut most) = (0, 0);
+    for i in 0..1_500 {
+        let table = row(&mut random);
+        let (crashes, records) = if i % 100 == 0 { (400, 7_000) } else { (3 + random.below(8) as usize, 1_000) };
+        let schedule = crash_after_crash(&mut random, &table, crashes, records);
+        let mut cabinet = Cabinet::new(&table);
+        let run: Vec<_> = schedule.into_iter().map(|record| (record, cabinet.answer(record))).collect();
+        let crashed = run.iter().filter(|(record, answer)| (record.kind, answer.code) == (5, 0)).count();
+        assert!(cabinet.quiet(), "a run of {} records doesn't come to rest: {table:?} {cabinet:?} {run:?}", run.len());
+        transparent(&table, &run, &cabinet).unwrap_or_else(|fault| panic!("{fault}: {table:?} {run:?}"));
+        thrice += (crashed >= 3) as u32;
+        most = most.max(crashed);
+    }
+    println!("three crashes or more {thrice}, at most {most}");
+    assert!(thrice > 1_300 && most >= 200, "three crashes or more {thrice}, at most {most}");
 }

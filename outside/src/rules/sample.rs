@@ -27,6 +27,16 @@ pub fn crash(a: u8) -> Record {
     Record { kind: 5, a, word: 0 }
 }
 
+/// W-210: "Move 6 returns board a".
+pub fn give_back(a: u8) -> Record {
+    Record { kind: 6, a, word: 0 }
+}
+
+/// W-210: "Move 7 resyncs process a".
+pub fn resync(a: u8) -> Record {
+    Record { kind: 7, a, word: 0 }
+}
+
 /// "feed 0 with 5, then 7; step 0 three times; carry 0; step four times; crash 0; step seven times; carry 1; step"
 pub fn sample_schedule() -> Vec<Record> {
     let mut records = vec![feed(0, 5), feed(0, 7)];

@@ -1,4 +1,4 @@
-//! The cabinet: document 01, "The cabinet's moves" and "What each move replies", on growing lists.
+//! The cabinet: document 01, "The cabinet's moves" and "What each move replies", with W-210's two moves, on growing lists.
 //!
 //! For each channel the total of its unread and queued words is kept, so that no move counts them.
 use super::backup::{Backup, Message, Snapshot};
@@ -43,17 +43,32 @@ impl Answer {
     }
 }
 
-/// "An entry of an outgoing queue is a word or a sync"
-#[derive(Clone, Copy, Debug, PartialEq, Eq)]
+/// "An entry of an outgoing queue is a word or a sync"; W-210: "its snapshot and copies of all its unread words join the queue as one
+/// entry".
+#[derive(Clone, Debug, PartialEq, Eq)]
 enum Entry {
     Word { channel: u8, word: u32 },
     Sync { process: u8, snapshot: Snapshot },
+    Resync { process: u8, snapshot: Snapshot, copies: Vec<Message> },
+}
+
+/// What of a process waits in its board's queue, beside words.
+#[derive(Clone, Debug, PartialEq, Eq)]
+enum Waiting {
+    Nothing,
+    Sync,
+    /// With the words "that have arrived since issue".
+    Resync {
+        arrived: Vec<Message>,
+    },
 }
 
 #[derive(Clone, Debug)]
 pub struct Process<'t> {
     program: &'t [Instruction],
     limit: u8,
+    /// Its two boards in the table.
+    homes: [u8; 2],
     pub board: u8,
     pub place: u8,
     pub registers: [u32; 4],
@@ -65,8 +80,7 @@ pub struct Process<'t> {
     /// W-204: "instructions done since its last sync was issued"
     instructions: u32,
     taken: [u32; 4],
-    /// Whether a sync of it waits in its board's queue.
-    waiting: bool,
+    waiting: Waiting,
     pub backup: Option<Backup>,
 }
 
@@ -75,6 +89,7 @@ impl<'t> Process<'t> {
         Process {
             program: &given.program,
             limit: given.limit,
+            homes: [given.primary, given.backup],
             board: given.primary,
             place: 0,
             registers: [0; 4],
@@ -83,7 +98,7 @@ impl<'t> Process<'t> {
             acts: 0,
             instructions: 0,
             taken: [0; 4],
-            waiting: false,
+            waiting: Waiting::Nothing,
             backup: Some(Backup::new(given.backup)),
         }
     }
@@ -93,14 +108,36 @@ impl<'t> Process<'t> {
         self.program.get(self.place as usize).copied()
     }
 
-    /// A word reaches the inbox and the backup record, if there is one.
+    /// A word reaches the inbox and the backup record, if there is one; a resync that waits will bring it there too.
     fn arrive(&mut self, message: Message) {
         self.inbox.push_back(message);
+        if let Waiting::Resync { arrived } = &mut self.waiting {
+            arrived.push(message);
+        }
         if let Some(backup) = &mut self.backup {
             backup.saved.push(message);
             // W-207: "at most 32 plus twice the limit saved words"
             debug_assert!(backup.saved.len() <= 32 + 2 * self.limit as usize, "more saved words than the limit allows");
         }
+    }
+
+    /// W-210: "its other table board", of its two the one on which it doesn't run.
+    pub fn other_board(&self) -> u8 {
+        let [primary, backup] = self.homes;
+        if self.board == primary {
+            backup
+        } else {
+            primary
+        }
+    }
+
+    pub fn resyncs(&self) -> bool {
+        matches!(self.waiting, Waiting::Resync { .. })
+    }
+
+    /// Whether 37 limits it: backed, or W-210, "from then on 37 limits the process as if it were backed".
+    fn limited(&self) -> bool {
+        self.backup.is_some() || self.resyncs()
     }
 
     /// Where the oldest unread word is whose channel is in the mask.
@@ -110,13 +147,13 @@ impl<'t> Process<'t> {
 
     /// W-204: "A backed process now also owes a sync after 64 instructions"
     fn ran_long(&self) -> bool {
-        self.backup.is_some() && self.instructions >= 64
+        self.limited() && self.instructions >= 64
     }
 
-    /// "37 if backed and acts are 8", in W-207 the process's limit; or for its instructions; with the cause. W-206: "Code 37: 1 when only the 64 instructions are to
-    /// blame".
+    /// "37 if backed and acts are 8", in W-207 the process's limit; or for its instructions; with the cause. W-206: "Code 37: 1 when only
+    /// the 64 instructions are to blame".
     fn must_sync(&self) -> Option<u8> {
-        let acted = self.backup.is_some() && self.acts >= self.limit as u32;
+        let acted = self.limited() && self.acts >= self.limit as u32;
         (acted || self.ran_long()).then_some(if acted { 0 } else { 1 })
     }
 
@@ -126,6 +163,15 @@ impl<'t> Process<'t> {
         self.taken[message.slot as usize] += 1;
         self.acts += 1;
         message
+    }
+
+    /// What a sync or a resync brings; acts, instructions and takes start from 0.
+    fn issue(&mut self) -> Snapshot {
+        let snapshot = Snapshot { registers: self.registers, place: self.place, taken: self.taken };
+        self.acts = 0;
+        self.instructions = 0;
+        self.taken = [0; 4];
+        snapshot
     }
 }
 
@@ -144,7 +190,8 @@ pub struct Cabinet<'t> {
     queues: Vec<VecDeque<Entry>>,
     /// Unread and queued words of each channel together.
     totals: Vec<u32>,
-    crashed: Option<u8>,
+    /// Which boards have crashed and not returned.
+    dead: Vec<bool>,
 }
 
 impl<'t> Cabinet<'t> {
@@ -157,7 +204,7 @@ impl<'t> Cabinet<'t> {
             processes: table.processes.iter().map(Process::new).collect(),
             queues: vec![VecDeque::new(); table.boards as usize],
             totals: vec![0; table.channels.len()],
-            crashed: None,
+            dead: vec![false; table.boards as usize],
         }
     }
 
@@ -168,8 +215,9 @@ impl<'t> Cabinet<'t> {
         // "32 for an unknown move or a word that should be 0; 33 if a is no process, board or channel of this table". W-206: "Code 33: 1
         // for a board, 2 for a channel."
         let (among, cause) = match record.kind {
-            1 | 2 => (self.processes.len(), 0),
-            3 | 5 => (self.queues.len(), 1),
+            // W-210: "under 33, move 6 has cause 1 and move 7 cause 0"
+            1 | 2 | 7 => (self.processes.len(), 0),
+            3 | 5 | 6 => (self.queues.len(), 1),
             4 => (self.wires.len(), 2),
             _ => return refused(32),
         };
@@ -185,8 +233,18 @@ impl<'t> Cabinet<'t> {
             2 => self.sync(a),
             3 => self.carry(a),
             4 => self.feed(a, record.word),
-            _ => self.crash(a),
+            5 => self.crash(a),
+            6 => self.give_back(a),
+            _ => self.resync(a),
         }
+    }
+
+    pub fn boards(&self) -> u8 {
+        self.dead.len() as u8
+    }
+
+    pub fn dead(&self, board: u8) -> bool {
+        self.dead[board as usize]
     }
 
     /// "A channel is held when its unread words and those in the queues are 8 or more together. A channel read by the outside is
@@ -278,25 +336,21 @@ impl<'t> Cabinet<'t> {
         if process.backup.is_none() {
             return Answer::refused(40, p);
         }
-        if process.waiting {
+        if process.waiting != Waiting::Nothing {
             return Answer::refused(41, p);
         }
         if queue.len() >= 32 {
             return Answer::refused(38, p).because(1);
         }
-        let snapshot = Snapshot { registers: process.registers, place: process.place, taken: process.taken };
-        queue.push_back(Entry::Sync { process: p as u8, snapshot });
-        process.waiting = true;
-        process.acts = 0;
-        process.instructions = 0;
-        process.taken = [0; 4];
+        queue.push_back(Entry::Sync { process: p as u8, snapshot: process.issue() });
+        process.waiting = Waiting::Sync;
         // W-206: "Code 0: 1 for a sync, 2 for a crash."
         DONE.because(1)
     }
 
     fn carry(&mut self, board: usize) -> Answer {
         // "Carry: 34 board dead, 42 queue empty."
-        if self.crashed == Some(board as u8) {
+        if self.dead[board] {
             return Answer::refused(34, board);
         }
         match self.queues[board].pop_front() {
@@ -317,7 +371,7 @@ impl<'t> Cabinet<'t> {
             }
             Some(Entry::Sync { process, snapshot }) => {
                 let of = &mut self.processes[process as usize];
-                of.waiting = false;
+                of.waiting = Waiting::Nothing;
                 // W-202: "A carried sync then answers 5 with the total dropped as its word".
                 let (code, word) = match &mut of.backup {
                     Some(backup) => (5, backup.sync(snapshot)),
@@ -325,7 +379,27 @@ impl<'t> Cabinet<'t> {
                 };
                 Answer::new(code, process, word)
             }
+            Some(Entry::Resync { process, snapshot, copies }) => {
+                self.new_record(process as usize, snapshot, copies);
+                // W-210: "Its carry answers 5 with word 0"; cause 3 "under 5, 38 and 41 a resync"
+                Answer::new(5, process, 0).because(3)
+            }
         }
+    }
+
+    /// W-210: "When that entry is carried, its other table board holds a new record with those words, then all that have arrived since
+    /// issue, and count 0."
+    fn new_record(&mut self, p: usize, snapshot: Snapshot, copies: Vec<Message>) {
+        let process = &mut self.processes[p];
+        let Waiting::Resync { arrived } = std::mem::replace(&mut process.waiting, Waiting::Nothing) else {
+            unreachable!("a resync waits")
+        };
+        let mut record = Backup::new(process.other_board());
+        record.saved = [copies, arrived].concat();
+        record.place = snapshot.place;
+        record.registers = snapshot.registers;
+        debug_assert!(record.saved.len() <= 32 + 2 * process.limit as usize, "more saved words than the limit allows");
+        process.backup = Some(record);
     }
 
     fn feed(&mut self, channel: usize, word: u32) -> Answer {
@@ -344,12 +418,15 @@ impl<'t> Cabinet<'t> {
     }
 
     fn crash(&mut self, board: usize) -> Answer {
-        // "Crash: 34 already dead, 44 another board has crashed." W-206: "Code 34: 1 for a crash."
-        match self.crashed {
-            Some(dead) if dead as usize == board => return Answer::refused(34, board).because(1),
-            Some(_) => return Answer::refused(44, board),
-            None => self.crashed = Some(board as u8),
+        // "Crash: 34 already dead"; W-206: "Code 34: 1 for a crash."
+        if self.dead[board] {
+            return Answer::refused(34, board).because(1);
         }
+        // W-210: "Crash refuses with 44 now exactly while some process has no backup."
+        if self.processes.iter().any(|process| process.backup.is_none()) {
+            return Answer::refused(44, board);
+        }
+        self.dead[board] = true;
         // "its queue is lost"
         for entry in self.queues[board].drain(..) {
             if let Entry::Word { channel, .. } = entry {
@@ -371,6 +448,7 @@ impl<'t> Cabinet<'t> {
             *process = Process {
                 program: process.program,
                 limit: process.limit,
+                homes: process.homes,
                 board: backup.board,
                 place: backup.place,
                 registers: backup.registers,
@@ -379,11 +457,51 @@ impl<'t> Cabinet<'t> {
                 acts: 0,
                 instructions: 0,
                 taken: [0; 4],
-                waiting: false,
+                waiting: Waiting::Nothing,
                 backup: None,
             };
         }
         DONE.because(2)
+    }
+
+    /// W-210: "Move 6 returns board a with an empty queue; nothing runs there yet."
+    fn give_back(&mut self, board: usize) -> Answer {
+        // "48, a return of a live board, after 33"
+        if !self.dead[board] {
+            return Answer::refused(48, board);
+        }
+        self.dead[board] = false;
+        self.queues[board].clear();
+        // "cause 3 under code 0 means a return or a resync, which there count as one cause"
+        DONE.because(3)
+    }
+
+    /// W-210: "Move 7 resyncs process a: its snapshot and copies of all its unread words join the queue as one entry."
+    fn resync(&mut self, p: usize) -> Answer {
+        let process = &self.processes[p];
+        let queue = &self.queues[process.board as usize];
+        // "Move 7 refuses in the order 50, 49, 41 (for a waiting resync too), 38."
+        // "50, the process has a backup or its other table board is dead"
+        if process.backup.is_some() || self.dead[process.other_board() as usize] {
+            return Answer::refused(50, p);
+        }
+        // "49, hold-back above 0 or, on one channel it reads, more than 8 words unread and in queues together"
+        let crowded = (0..self.wires.len()).any(|k| self.wires[k].reader as usize == p && self.totals[k] > 8);
+        if process.hold_back > 0 || crowded {
+            return Answer::refused(49, p);
+        }
+        if process.waiting != Waiting::Nothing {
+            return Answer::refused(41, p).because(3);
+        }
+        if queue.len() >= 32 {
+            return Answer::refused(38, p).because(3);
+        }
+        let process = &mut self.processes[p];
+        let copies = process.inbox.iter().copied().collect();
+        let snapshot = process.issue();
+        process.waiting = Waiting::Resync { arrived: Vec::new() };
+        self.queues[process.board as usize].push_back(Entry::Resync { process: p as u8, snapshot, copies });
+        DONE.because(3)
     }
 
     /// "Quiet: each process is halted or would answer 36, and no queue has an entry."

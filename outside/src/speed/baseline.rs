@@ -31,9 +31,12 @@ struct Snapshot {
 enum Entry {
     Word { channel: u8, word: u32 },
     Sync { process: u8, snapshot: Snapshot },
+    Resync { process: u8 },
 }
 
+/// A backup record; not yet complete while the resync that brings it waits.
 struct Backup {
+    complete: bool,
     saved: Vec<Message>,
     registers: [u32; 4],
     board: u8,
@@ -74,6 +77,8 @@ struct Process<'t> {
     inbox: VecDeque<Message>,
     registers: [u32; 4],
     taken: [u8; 4],
+    /// Its two boards in the table.
+    homes: [u8; 2],
     board: u8,
     place: u8,
     hold_back: u8,
@@ -87,6 +92,15 @@ struct Process<'t> {
 }
 
 impl Process<'_> {
+    /// Its backup record, if it has one.
+    fn backed(&mut self) -> Option<&mut Backup> {
+        self.backup.as_mut().filter(|backup| backup.complete)
+    }
+
+    fn other_board(&self) -> u8 {
+        self.homes[(self.board == self.homes[0]) as usize]
+    }
+
     fn arrive(&mut self, message: Message) {
         self.inbox.push_back(message);
         if let Some(backup) = &mut self.backup {
@@ -165,7 +179,7 @@ struct Cabinet<'t> {
     channels: Vec<Channel>,
     processes: Vec<Process<'t>>,
     queues: Vec<VecDeque<Entry>>,
-    crashed: Option<usize>,
+    dead: Vec<bool>,
 }
 
 impl<'t> Cabinet<'t> {
@@ -182,6 +196,7 @@ impl<'t> Cabinet<'t> {
             inbox: VecDeque::new(),
             registers: [0; 4],
             taken: [0; 4],
+            homes: [given.primary, given.backup],
             board: given.primary,
             place: 0,
             hold_back: 0,
@@ -189,18 +204,25 @@ impl<'t> Cabinet<'t> {
             acts: 0,
             instructions: 0,
             waiting: false,
-            backup: Some(Backup { saved: Vec::new(), registers: [0; 4], board: given.backup, place: 0, count: 0 }),
+            backup: Some(Backup {
+                complete: true,
+                saved: Vec::new(),
+                registers: [0; 4],
+                board: given.backup,
+                place: 0,
+                count: 0,
+            }),
         };
         Cabinet {
             channels: table.channels.iter().enumerate().map(channel).collect(),
             processes: table.processes.iter().map(process).collect(),
             queues: (0..table.boards).map(|_| VecDeque::new()).collect(),
-            crashed: None,
+            dead: vec![false; table.boards as usize],
         }
     }
 
     fn answer(&mut self, kind: u8, a: usize, word: u32) -> Answer {
-        if !(1..=5).contains(&kind) {
+        if !(1..=7).contains(&kind) {
             return Err(code(32));
         }
         if word != 0 && kind != 4 {
@@ -212,8 +234,10 @@ impl<'t> Cabinet<'t> {
             3 if a < self.queues.len() => self.carry(a),
             4 if a < self.channels.len() => self.feed(a, word),
             5 if a < self.queues.len() => self.crash(a),
-            1 | 2 => Err(code(33)),
-            3 | 5 => Err(code(33) + 1),
+            6 if a < self.queues.len() => self.give_back(a),
+            7 if a < self.processes.len() => self.resync(a),
+            1 | 2 | 7 => Err(code(33)),
+            3 | 5 | 6 => Err(code(33) + 1),
             _ => Err(code(33) + 2),
         }
     }
@@ -281,7 +305,7 @@ impl<'t> Cabinet<'t> {
     fn sync(&mut self, p: usize) -> Answer {
         let process = &mut self.processes[p];
         let queue = &mut self.queues[process.board as usize];
-        if process.backup.is_none() {
+        if process.backed().is_none() {
             return Err(code(40));
         }
         if process.waiting {
@@ -300,7 +324,7 @@ impl<'t> Cabinet<'t> {
     }
 
     fn carry(&mut self, board: usize) -> Answer {
-        if self.crashed == Some(board) {
+        if self.dead[board] {
             return Err(code(34));
         }
         match self.queues[board].pop_front() {
@@ -311,7 +335,7 @@ impl<'t> Cabinet<'t> {
                     Some(reader) => reader.arrive(Message { word, channel: k, slot: channel.slot }),
                     None => channel.total -= 1,
                 }
-                if let Some(backup) = &mut self.processes[channel.sender as usize].backup {
+                if let Some(backup) = self.processes[channel.sender as usize].backed() {
                     backup.count += 1;
                 }
                 Ok((code(4), k, word))
@@ -319,8 +343,14 @@ impl<'t> Cabinet<'t> {
             Some(Entry::Sync { process: p, snapshot }) => {
                 let process = &mut self.processes[p as usize];
                 process.waiting = false;
-                let Some(backup) = &mut process.backup else { return Ok((code(6), p, 0)) };
+                let Some(backup) = process.backed() else { return Ok((code(6), p, 0)) };
                 Ok((code(5), p, backup.sync(&snapshot)))
+            }
+            Some(Entry::Resync { process: p }) => {
+                let process = &mut self.processes[p as usize];
+                process.waiting = false;
+                process.backup.iter_mut().for_each(|backup| backup.complete = true);
+                Ok((code(5) + 3, p, 0))
             }
         }
     }
@@ -339,11 +369,13 @@ impl<'t> Cabinet<'t> {
     }
 
     fn crash(&mut self, board: usize) -> Answer {
-        match self.crashed {
-            Some(dead) if dead == board => return Err(code(34) + 1),
-            Some(_) => return Err(code(44)),
-            None => self.crashed = Some(board),
+        if self.dead[board] {
+            return Err(code(34) + 1);
         }
+        if self.processes.iter_mut().any(|process| process.backed().is_none()) {
+            return Err(code(44));
+        }
+        self.dead[board] = true;
         for entry in self.queues[board].drain(..) {
             if let Entry::Word { channel, .. } = entry {
                 self.channels[channel as usize].total -= 1;
@@ -364,6 +396,41 @@ impl<'t> Cabinet<'t> {
             }
         }
         done(2)
+    }
+
+    fn give_back(&mut self, board: usize) -> Answer {
+        if !self.dead[board] {
+            return Err(code(48));
+        }
+        self.dead[board] = false;
+        done(3)
+    }
+
+    fn resync(&mut self, p: usize) -> Answer {
+        let process = &mut self.processes[p];
+        let board = process.other_board();
+        if process.backed().is_some() || self.dead[board as usize] {
+            return Err(code(50));
+        }
+        let crowded = |channel: &Channel| channel.reader as usize == p && channel.total > HELD;
+        if process.hold_back > 0 || self.channels.iter().any(crowded) {
+            return Err(code(49));
+        }
+        if process.waiting {
+            return Err(code(41) + 3);
+        }
+        let queue = &mut self.queues[process.board as usize];
+        if queue.len() >= QUEUE {
+            return Err(code(38) + 3);
+        }
+        queue.push_back(Entry::Resync { process: p as u8 });
+        let (saved, registers, place) = (process.inbox.iter().copied().collect(), process.registers, process.place);
+        process.backup = Some(Backup { complete: false, saved, registers, board, place, count: 0 });
+        process.waiting = true;
+        process.acts = 0;
+        process.instructions = 0;
+        process.taken = [0; 4];
+        done(3)
     }
 
     fn quiet(&self) -> bool {

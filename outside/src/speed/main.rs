@@ -11,6 +11,7 @@ use mixes::{empty, inputs, Input, PROCESSES, RECORDS};
 use outside::random::Random;
 use outside::rules::generate::{encode_schedule, encode_table, schedule, table};
 use outside::rules::lent::Lent;
+use outside::rules::repairs::row;
 use std::time::Instant;
 
 const SEED: u64 = 0xE703_7ED1_A0B4_28DB;
@@ -68,7 +69,7 @@ fn time(input: &Input, repetitions: u64) -> [[f64; 2]; 2] {
 /// The plain run is a right one: on generated runs it equals the simulator's.
 fn check_plain(random: &mut Random) {
     for _ in 0..2_000 {
-        let table = table(random);
+        let table = if random.once_in(2) { row(random) } else { table(random) };
         let schedule = encode_schedule(&schedule(random, &table, 200));
         let table = encode_table(&table);
         let wanted = outside::rules::run::run(&table, &schedule, Lent::needed(200, 16));

@@ -175,9 +175,16 @@ impl Samples {
     fn turn(&mut self, who: usize) -> u64 {
         let start = Instant::now();
         match who {
-            0 => self.logs.iter_mut().zip(&mut self.in_place).for_each(|(log, s)| unsafe { sync_in_place(log, &mut s.head, &s.checkpoint, &mut s.reply) }),
+            0 => self
+                .logs
+                .iter_mut()
+                .zip(&mut self.in_place)
+                .for_each(|(log, s)| unsafe { sync_in_place(log, &mut s.head, &s.checkpoint, &mut s.reply) }),
             1 => self.plain.iter_mut().for_each(|s| sync_plain(&mut s.record, &s.checkpoint, &mut s.reply)),
-            _ => self.by_value.iter_mut().for_each(|s| unsafe { sync_by_value(&mut s.log, &mut s.head, &s.checkpoint, &mut s.reply) }),
+            _ => self
+                .by_value
+                .iter_mut()
+                .for_each(|s| unsafe { sync_by_value(&mut s.log, &mut s.head, &s.checkpoint, &mut s.reply) }),
         }
         start.elapsed().as_nanos() as u64
     }
@@ -226,14 +233,22 @@ fn main() {
     let repetitions = option("--repetitions").unwrap_or(REPETITIONS).max(1);
     let seed = option("--seed").unwrap_or(SEED);
     let only = option("--row");
-    println!("nanoseconds a sync, the quickest (and the median) of {repetitions} repetitions over {RECORDS} records, seed {seed}");
+    println!(
+        "nanoseconds a sync, the quickest (and the median) of {repetitions} repetitions over {RECORDS} records, seed {seed}"
+    );
     println!("{:>5} | {:<12}|{:>16} |{:>16} |{:>16} | in place to plain", "saved", "taken", "in place", "plain", "by value");
     for (i, row) in ROWS.iter().enumerate().filter(|(i, _)| only.is_none_or(|only| only == *i as u64)) {
         let [ours, plain, value] = time(&mut Random::new(seed + i as u64), row, repetitions);
         let pair = |[least, median]: [f64; 2]| format!("{least:.1} ({median:.1})");
         println!(
             "{:>5} | {:<12}|{:>16} |{:>16} |{:>16} |{:>6.2} ({:.2})",
-            row.saved, row.name(), pair(ours), pair(plain), pair(value), ours[0] / plain[0], ours[1] / plain[1]
+            row.saved,
+            row.name(),
+            pair(ours),
+            pair(plain),
+            pair(value),
+            ours[0] / plain[0],
+            ours[1] / plain[1]
         );
     }
 }

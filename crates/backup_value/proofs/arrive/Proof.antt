@@ -24,7 +24,7 @@ returns : tie.Need-returns
 returns c =
     let o = c .before .before .before .before .before .before .before .opened in
     answered-so (c .before .before .before .before .before .before .before .before .args .b) (o .result) (o .ensures) (c .settled .result) _ (c .before .arrive-in .result) (c .before .arrive-in .last .0) (c .before .arrive-in .last .1 .0) (c .before .before .before .before .before .before .if1 .taken)
-    (c .before .arrive-in .ensures) (c .settled .ensures)
+    (c .before .arrive-in .ensures .0) (c .settled .ensures)
 
 unfit-requires : tie.Need-unfit-requires
 unfit-requires c κs = search needs

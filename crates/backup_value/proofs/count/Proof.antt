@@ -24,7 +24,7 @@ returns : tie.Need-returns
 returns c =
     let o = c .before .before .before .before .before .before .opened in
     answered-so (c .before .before .before .before .before .before .before .args .b) (o .result) (o .ensures) (c .settled .result) _ (c .before .count-in .result) (c .before .before .before .before .before .before .before .args .b .log) (c .before .count-in .last .0) (c .before .before .before .before .before .if1 .taken)
-    (c .before .count-in .ensures (c .before .before .before .before .before .before .before .args .b .log)) (c .settled .ensures)
+    (c .before .count-in .ensures .0 (c .before .before .before .before .before .before .before .args .b .log)) (c .settled .ensures)
 
 unfit-requires : tie.Need-unfit-requires
 unfit-requires c κs = search needs

@@ -39,7 +39,7 @@ returns c =
       rw (t .reply-is) (answered-so b (o .result) (o .ensures) (r .result) _ (k .result .landed .number) (k .last .0) (k .last .1 .0) y (k .ensures .0) (r .ensures)),
       (
         t .report-is ∙ report-so b (o .result) (o .ensures) y _ (k .result .landed) (k .ensures .1 .0),
-        rounds-so b (o .result) (o .ensures) y _ (k .result .landed .number) (k .result .rounds) _ (k .ensures .1 .1) (ap (λ (x : Reply). x .number) (t .reply-is) ∙ r .ensures .number-is),
+        rounds-so b (o .result) (o .ensures) y _ (k .result .landed .number) (k .result .rounds) _ (k .ensures .1 .1 .0) (ap (λ (x : Reply). x .number) (t .reply-is) ∙ r .ensures .number-is),
       ),
     )
 

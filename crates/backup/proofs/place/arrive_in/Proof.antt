@@ -1,4 +1,7 @@
-use Rattle.backup.proofs.Arriving.{arrive-21, arrive-22, arrive-done}
+use Rattle.backup.proofs.Arriving.{arrive-21, arrive-22, arrive-done, arrive-number-21, arrive-number-22, arrive-number-0}
+use Prim.Native.Nat.{_≤_, _<_}
+use lib.ListN.{getD}
+use Rattle.backup.specs.Limits.{logMost}
 use native.Mathlib.Omega.{arith}
 use borrow.Author.Needs.{needs}
 use Rattle.backup.proofs.place.arrive_in.Statement.{statement}
@@ -10,7 +13,9 @@ use Rattle.backup.proofs.place.bump.Reads as bump-reads
 use Rattle.backup.proofs.place.wide.Reads as wide-reads
 
 returns : tie.Need-returns
-returns c = let a = c .before .args in arrive-21 (a .log .now) (a .head .now) (a .port) (a .word) (c .if1 .taken)
+returns c =
+    let a = c .before .args in
+    (arrive-21 (a .log .now) (a .head .now) (a .port) (a .word) (c .if1 .taken), arrive-number-21 (a .head .now) (a .port) (c .if1 .taken))
 
 element-copy-out-wide : tie.Need-element-copy-out-wide
 element-copy-out-wide c = search needs
@@ -22,7 +27,9 @@ returns-2 : tie.Need-returns-2
 returns-2 c =
     let s = c .before .before .before .before in
     let w = c .before .wide .ensures in
-    arrive-22 (s .args .log .now) (s .args .head .now) (s .args .port) (s .args .word) (c .before .before .before .if1 .left) (let t = c .if2 .taken in omega arith)
+    let h = c .before .before .before .if1 .left in
+    let k : logMost ≤ getD (s .args .head .now) 0 0 = (let t = c .if2 .taken in omega arith) in
+    (arrive-22 (s .args .log .now) (s .args .head .now) (s .args .port) (s .args .word) h k, arrive-number-22 (s .args .head .now) (s .args .port) h k)
 
 packed-requires : tie.Need-packed-requires
 packed-requires c κs = search needs
@@ -49,8 +56,12 @@ returns-3 : tie.Need-returns-3
 returns-3 c =
     let s = c .before .before .before .before .before .before .before .before .before .before in
     let w = c .before .before .before .before .before .before .before .wide .ensures in
-    rw (c .bump2 .ensures, c .before .wide2 .ensures, c .before .before .before .bump .ensures, c .before .before .before .before .before .packed .ensures, w)
-    (arrive-done (s .args .log .now) (s .args .head .now) (s .args .port) (s .args .word) (c .before .before .before .before .before .before .before .before .before .if1 .left) (s .fits .word .fits) (let t = c .before .before .before .before .before .before .if2 .left in omega arith))
+    let h = c .before .before .before .before .before .before .before .before .before .if1 .left in
+    let k : getD (s .args .head .now) 0 0 < logMost = (let t = c .before .before .before .before .before .before .if2 .left in omega arith) in (
+      rw (c .bump2 .ensures, c .before .wide2 .ensures, c .before .before .before .bump .ensures, c .before .before .before .before .before .packed .ensures, w)
+          (arrive-done (s .args .log .now) (s .args .head .now) (s .args .port) (s .args .word) h (s .fits .word .fits) k),
+      arrive-number-0 (s .args .head .now) (s .args .port) h k,
+    )
 
 pub arrive-in-spec : {M : Type 1} → statement M
 arrive-in-spec =

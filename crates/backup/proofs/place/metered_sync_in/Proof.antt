@@ -1,10 +1,12 @@
 use mathlib.Core.Path.{_≡_, refl, sym, _∙_, subst}
-use Prim.Native.Nat.{ℕ, _-_, _≤_}
+use Prim.Native.Nat.{ℕ, _-_, _≤_, _<_}
 use lib.ListN.{getD}
+use Rattle.backup.specs.Limits.{logMost}
 use Rattle.backup.specs.Rounds.{allTaken}
 use Rattle.backup.specs.Place.{takenOf, Compacted}
 use Rattle.backup.proofs.Compacting.{compacted-none}
 use Rattle.backup.proofs.Syncing.{sync-20, sync-21, sync-23, sync-done, sync-emptied, reports-refused, reports-done, rounds-refused, rounds-none, rounds-emptied, rounds-all}
+use Rattle.backup.proofs.Syncing.{sync-number-20, sync-number-21, sync-number-23, sync-number-0}
 use native.Mathlib.Omega.{arith}
 use borrow.Author.Needs.{needs}
 use Rattle.backup.proofs.place.metered_sync_in.Statement.{statement}
@@ -32,8 +34,10 @@ refusal-requires c κs = search needs
 returns : tie.Need-returns
 returns c =
     let a = c .before .before .before .before .args in
-    let k = sync-20 (a .log .now) (a .head .now) (a .c) (let w = c .before .before .wide .ensures in let t = c .before .if1 .taken in omega arith) in
-    rw (c .refusal .ensures) (k, (reports-refused (a .log .now) (a .head .now) (a .c) 19 _ _ k, rounds-refused (a .log .now) (a .head .now) (a .c) 19))
+    let n : logMost < getD (a .head .now) 0 0 = (let w = c .before .before .wide .ensures in let t = c .before .if1 .taken in omega arith) in
+    let k = sync-20 (a .log .now) (a .head .now) (a .c) n in
+    rw (c .refusal .ensures)
+    (k, (reports-refused (a .log .now) (a .head .now) (a .c) 19 _ _ k, (rounds-refused (a .log .now) (a .head .now) (a .c) 19, sync-number-20 (a .head .now) (a .c) n)))
 
 refusal-requires-2 : tie.Need-refusal-requires-2
 refusal-requires-2 c κs = search needs
@@ -41,8 +45,10 @@ refusal-requires-2 c κs = search needs
 returns-2 : tie.Need-returns-2
 returns-2 c =
     let a = c .before .before .before .before .before .before .args in
+    let u : getD (a .head .now) 0 0 ≤ logMost = (let w = c .before .before .before .before .wide .ensures in let t = c .before .before .before .if1 .left in omega arith) in
     let k = sync-21 (a .log .now) (a .head .now) (a .c) (c .before .if2 .taken) in
-    rw (c .refusal2 .ensures) (k, (reports-refused (a .log .now) (a .head .now) (a .c) 20 _ _ k, rounds-refused (a .log .now) (a .head .now) (a .c) 20))
+    rw (c .refusal2 .ensures)
+    (k, (reports-refused (a .log .now) (a .head .now) (a .c) 20 _ _ k, (rounds-refused (a .log .now) (a .head .now) (a .c) 20, sync-number-21 (a .head .now) (a .c) u (c .before .if2 .taken))))
 
 lacks-requires : tie.Need-lacks-requires
 lacks-requires c κs = search needs
@@ -53,8 +59,12 @@ refusal-requires-3 c κs = search needs
 returns-3 : tie.Need-returns-3
 returns-3 c =
     let a = c .before .before .before .before .before .before .before .before .before .args in
-    let k = sync-23 (a .log .now) (a .head .now) (a .c) (c .before .before .before .before .if2 .left) (sym (c .before .before .lacks .ensures) ∙ c .before .if3 .taken) in
-    rw (c .refusal3 .ensures) (k, (reports-refused (a .log .now) (a .head .now) (a .c) 22 _ _ k, rounds-refused (a .log .now) (a .head .now) (a .c) 22))
+    let u : getD (a .head .now) 0 0 ≤ logMost = (let w = c .before .before .before .before .before .before .before .wide .ensures in let t = c .before .before .before .before .before .before .if1 .left in omega arith) in
+    let h = c .before .before .before .before .if2 .left in
+    let l = sym (c .before .before .lacks .ensures) ∙ c .before .if3 .taken in
+    let k = sync-23 (a .log .now) (a .head .now) (a .c) h l in
+    rw (c .refusal3 .ensures)
+    (k, (reports-refused (a .log .now) (a .head .now) (a .c) 22 _ _ k, (rounds-refused (a .log .now) (a .head .now) (a .c) 22, sync-number-23 (a .head .now) (a .c) u h l)))
 
 all-taken-requires : tie.Need-all-taken-requires
 all-taken-requires c κs = search needs
@@ -79,9 +89,10 @@ returns-4 c =
     let n : c .before .before .before .before .less .result ≡ getD (a .head .now) 0 0 - allTaken (takenOf (a .c)) = (let l = c .before .before .before .before .less .ensures in omega arith) in
     let h = c .before .before .before .before .before .before .before .before .before .before .if2 .left in
     let f = sym (c .before .before .before .before .before .before .before .before .lacks .ensures) ∙ c .before .before .before .before .before .before .before .if3 .left in
+    let u : getD (a .head .now) 0 0 ≤ logMost = (let t = c .before .before .before .before .before .before .before .before .before .before .before .before .if1 .left in omega arith) in
     let y = sym z ∙ c .before .before .if4 .taken in
     let k = sync-done (a .log .now) (a .head .now) (a .c) (getD (a .head .now) 0 0) (a .log .now) h f (compacted-none (a .log .now) (getD (a .head .now) 0 0) (takenOf (a .c)) refl y) in
-    rw (c .report .ensures, c .before .before .before .restate .ensures, n) (k, (reports-done (a .log .now) (a .head .now) (a .c) _ _ 0 k, rounds-none (a .log .now) (a .head .now) (a .c) y))
+    rw (c .report .ensures, c .before .before .before .restate .ensures, n) (k, (reports-done (a .log .now) (a .head .now) (a .c) _ _ 0 k, (rounds-none (a .log .now) (a .head .now) (a .c) y, sync-number-0 (a .head .now) (a .c) u h f)))
 
 report-requires-2 : tie.Need-report-requires-2
 report-requires-2 c κs = search needs
@@ -94,11 +105,12 @@ returns-5 c =
     let n : c .before .before .before .before .before .less .result ≡ getD (a .head .now) 0 0 - allTaken (takenOf (a .c)) = (let l = c .before .before .before .before .before .less .ensures in omega arith) in
     let h = c .before .before .before .before .before .before .before .before .before .before .before .if2 .left in
     let f = sym (c .before .before .before .before .before .before .before .before .before .lacks .ensures) ∙ c .before .before .before .before .before .before .before .before .if3 .left in
+    let u : getD (a .head .now) 0 0 ≤ logMost = (let t = c .before .before .before .before .before .before .before .before .before .before .before .before .before .if1 .left in omega arith) in
     let t = c .before .before .if5 .taken in
     let few : getD (a .head .now) 0 0 ≤ allTaken (takenOf (a .c)) = omega arith in
     let k = sync-emptied (a .log .now) (a .head .now) (a .c) h f few in
     rw (c .report2 .ensures, c .before .before .before .before .restate .ensures, n)
-    (k, (reports-done (a .log .now) (a .head .now) (a .c) _ _ 0 k, rounds-emptied (a .log .now) (a .head .now) (a .c) (λ e. c .before .before .before .if4 .left (z ∙ e)) few))
+    (k, (reports-done (a .log .now) (a .head .now) (a .c) _ _ 0 k, (rounds-emptied (a .log .now) (a .head .now) (a .c) (λ e. c .before .before .before .if4 .left (z ∙ e)) few, sync-number-0 (a .head .now) (a .c) u h f)))
 
 compact-requires : tie.Need-compact-requires
 compact-requires c κs = search needs
@@ -114,6 +126,7 @@ returns-6 c =
     let n : c .before .before .before .before .before .before .before .less .result ≡ getD (a .head .now) 0 0 - allTaken (takenOf (a .c)) = (let l = c .before .before .before .before .before .before .before .less .ensures in omega arith) in
     let h = c .before .before .before .before .before .before .before .before .before .before .before .before .before .if2 .left in
     let f = sym (c .before .before .before .before .before .before .before .before .before .before .before .lacks .ensures) ∙ c .before .before .before .before .before .before .before .before .before .before .if3 .left in
+    let u : getD (a .head .now) 0 0 ≤ logMost = (let t = c .before .before .before .before .before .before .before .before .before .before .before .before .before .before .before .if1 .left in omega arith) in
     let t = c .before .before .before .before .if5 .left in
     let p = c .before .before .compact in
     let k = sync-done (a .log .now) (a .head .now) (a .c) (p .result .kept) (p .last .0) h f
@@ -122,7 +135,7 @@ returns-6 c =
       k,
       (
         reports-done (a .log .now) (a .head .now) (a .c) _ _ (p .result .rounds) k,
-        rounds-all (a .log .now) (a .head .now) (a .c) _ (λ e. c .before .before .before .before .before .if4 .left (z ∙ e)) (omega arith) (p .ensures .1 ∙ w),
+        (rounds-all (a .log .now) (a .head .now) (a .c) _ (λ e. c .before .before .before .before .before .if4 .left (z ∙ e)) (omega arith) (p .ensures .1 ∙ w), sync-number-0 (a .head .now) (a .c) u h f),
       ),
     )
 

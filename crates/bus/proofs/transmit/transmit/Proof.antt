@@ -1,5 +1,5 @@
 use mathlib.Core.Path.{sym, _∙_}
-use Rattle.bus.proofs.Transmitting.{at-its-board, transmits-34, transmits-42, transmits-word, transmits-sync, not-both}
+use Rattle.bus.proofs.Transmitting.{at-its-board, transmits-34, transmits-42, transmits-word, transmits-sync, transmits-transfer}
 use native.Mathlib.Omega.{arith}
 use borrow.Author.Needs.{needs}
 use Rattle.bus.proofs.transmit.transmit.Statement.{statement}
@@ -9,6 +9,7 @@ use Rattle.bus.proofs.transmit.transmit.Lts as lts
 use Rattle.bus.proofs.queue.peek.Reads as peek-reads
 use Rattle.bus.proofs.queue.pop.Reads as pop-reads
 use Rattle.bus.proofs.sync.transmit_sync.Reads as transmit-sync-reads
+use Rattle.bus.proofs.transfer.transmit_transfer.Reads as transmit-transfer-reads
 use Rattle.bus.proofs.word.transmit_word.Reads as transmit-word-reads
 use Rattle.state.proofs.board.index16.Reads as index16-reads
 use Rattle.state.proofs.moved.refusal.Reads as refusal-reads
@@ -75,48 +76,53 @@ enum-known-item-2 c = search needs
 transmit-word-requires : tie.Need-transmit-word-requires
 transmit-word-requires c κs = search needs
 
+enum-known-item-3 : tie.Need-enum-known-item-3
+enum-known-item-3 c = search needs
+
+transmit-sync-requires : tie.Need-transmit-sync-requires
+transmit-sync-requires c κs = search needs
+
+enum-known-item-4 : tie.Need-enum-known-item-4
+enum-known-item-4 c = search needs
+
+transmit-transfer-requires : tie.Need-transmit-transfer-requires
+transmit-transfer-requires c κs = search needs
+
 returns-3 : tie.Need-returns-3
 returns-3 c =
     let s = c .before .before .before .before .before .before .before .before .before .before .before .before .before .before .before .before .before .before .before in
     let b = c .before .before .before .before .before .before .before .before .before .before .before .before .before .before .before .before .before .before .index16 in
     let i = c .before .before .before .before .before .before .before .before .before .before .before .before .item .given in
     let x = c .before .before .before .before .before .before .before .item2 .given in
-    let w = c .transmit-word in
+    let y = c .transmit-word in
     at-its-board (b .result) (s .args .a) (b .ensures .1)
-    (λ e. transmits-word (s .args .sender .now) (s .args .reader .now) (s .args .port .now) (s .args .rows .now) (s .args .mails .now) (s .args .logs .now) (s .args .heads .now) (s .args .boards .now) (s .args .totals .now) (s .args .waits .now) (b .result) (s .args .oldest) _ (c .before .before .before .before .before .before .before .before .before .before .before .before .before .before .before .before .if1 .left) (i .0 .0) (sym (c .before .before .before .before .before .before .before .before .before .before .before .before .before .before .peek .ensures) ∙ i .1) (c .before .before .before .before .before .before .before .before .before .pop .last .0) (c .before .before .before .before .before .before .before .before .before .pop .ensures)
-    (x .0 .0) (x .0 .1 .0) (x .1) (w .last .1 .1 .1 .0) (w .last .1 .1 .1 .1 .0) (w .last .1 .1 .1 .1 .1 .0) (w .last .1 .1 .1 .1 .1 .1 .0) (w .last .1 .1 .1 .1 .1 .1 .1 .0) (w .ensures))
-
-enum-told-2 : tie.Need-enum-told-2
-enum-told-2 c = search needs
-
-enum-known-item-3 : tie.Need-enum-known-item-3
-enum-known-item-3 c = search needs
-
-enum-told-3 : tie.Need-enum-told-3
-enum-told-3 c = search needs
-
-refusal-requires-3 : tie.Need-refusal-requires-3
-refusal-requires-3 c κs = search needs
+    (λ e. transmits-word (s .args .sender .now) (s .args .reader .now) (s .args .port .now) (s .args .rows .now) (s .args .mails .now) (s .args .logs .now) (s .args .heads .now) (s .args .boards .now) (s .args .totals .now) (s .args .waits .now) (b .result) (s .args .oldest) _
+    (c .before .before .before .before .before .before .before .before .before .before .before .before .before .before .before .before .if1 .left) (i .0 .0) (sym (c .before .before .before .before .before .before .before .before .before .before .before .before .before .before .peek .ensures) ∙ i .1) (c .before .before .before .before .before .before .before .before .before .pop .last .0) (c .before .before .before .before .before .before .before .before .before .pop .ensures)
+    (x .0 .0) (x .0 .1 .0) (x .1) (y .last .1 .1 .1 .0) (y .last .1 .1 .1 .1 .0) (y .last .1 .1 .1 .1 .1 .0) (y .last .1 .1 .1 .1 .1 .1 .0) (y .last .1 .1 .1 .1 .1 .1 .1 .0) (y .ensures))
 
 returns-4 : tie.Need-returns-4
 returns-4 c =
-    let sync = c .before .before .before .enum-told2 .given in
-    let word = c .before .enum-told3 .given in
-    not-both _ (word .0 .0) (word .0 .1 .0) (sync .0 .0) (sync .0 .1 .0) (word .1) (sync .1)
-
-transmit-sync-requires : tie.Need-transmit-sync-requires
-transmit-sync-requires c κs = search needs
-
-returns-5 : tie.Need-returns-5
-returns-5 c =
-    let s = c .before .before .before .before .before .before .before .before .before .before .before .before .before .before .before .before .before .before .before .before in
-    let b = c .before .before .before .before .before .before .before .before .before .before .before .before .before .before .before .before .before .before .before .index16 in
-    let i = c .before .before .before .before .before .before .before .before .before .before .before .before .before .item .given in
+    let s = c .before .before .before .before .before .before .before .before .before .before .before .before .before .before .before .before .before .before in
+    let b = c .before .before .before .before .before .before .before .before .before .before .before .before .before .before .before .before .before .index16 in
+    let i = c .before .before .before .before .before .before .before .before .before .before .before .item .given in
     let x = c .before .before .before .before .before .before .item3 .given in
     let y = c .transmit-sync in
     at-its-board (b .result) (s .args .a) (b .ensures .1)
-    (λ e. transmits-sync (s .args .sender .now) (s .args .reader .now) (s .args .port .now) (s .args .rows .now) (s .args .mails .now) (s .args .logs .now) (s .args .heads .now) (s .args .boards .now) (s .args .totals .now) (s .args .waits .now) (b .result) (s .args .oldest) _ (c .before .before .before .before .before .before .before .before .before .before .before .before .before .before .before .before .before .if1 .left) (i .0 .0) (sym (c .before .before .before .before .before .before .before .before .before .before .before .before .before .before .before .peek .ensures) ∙ i .1) (c .before .before .before .before .before .before .before .before .before .before .pop .last .0) (c .before .before .before .before .before .before .before .before .before .before .pop .ensures)
+    (λ e. transmits-sync (s .args .sender .now) (s .args .reader .now) (s .args .port .now) (s .args .rows .now) (s .args .mails .now) (s .args .logs .now) (s .args .heads .now) (s .args .boards .now) (s .args .totals .now) (s .args .waits .now) (b .result) (s .args .oldest) _
+    (c .before .before .before .before .before .before .before .before .before .before .before .before .before .before .before .if1 .left) (i .0 .0) (sym (c .before .before .before .before .before .before .before .before .before .before .before .before .before .peek .ensures) ∙ i .1) (c .before .before .before .before .before .before .before .before .pop .last .0) (c .before .before .before .before .before .before .before .before .pop .ensures)
     (x .0 .0) (x .0 .1 .0) (x .1) (y .last .1 .0) (y .last .1 .1 .0) (y .last .1 .1 .1 .0) (y .ensures))
+
+returns-5 : tie.Need-returns-5
+returns-5 c =
+    let s = c .before .before .before .before .before .before .before .before .before .before .before .before .before .before .before .before in
+    let b = c .before .before .before .before .before .before .before .before .before .before .before .before .before .before .before .index16 in
+    let i = c .before .before .before .before .before .before .before .before .before .item .given in
+    let x = c .before .before .before .before .item4 .given in
+    let y = c .transmit-transfer in
+    at-its-board (b .result) (s .args .a) (b .ensures .1)
+    (λ e. transmits-transfer (s .args .sender .now) (s .args .reader .now) (s .args .port .now) (s .args .rows .now) (s .args .mails .now) (s .args .logs .now) (s .args .heads .now) (s .args .boards .now) (s .args .totals .now) (s .args .waits .now) (b .result) (s .args .oldest) _
+    (c .before .before .before .before .before .before .before .before .before .before .before .before .before .if1 .left) (i .0 .0) (sym (c .before .before .before .before .before .before .before .before .before .before .before .peek .ensures) ∙ i .1) (c .before .before .before .before .before .before .pop .last .0) (c .before .before .before .before .before .before .pop .ensures)
+    (x .0 .0) (x .1) (y .last .0) (y .last .1 .0) (y .ensures))
 
 pub transmit-spec : {M : Type 1} → statement M
 transmit-spec =
@@ -140,11 +146,10 @@ transmit-spec =
     pop-requires
     enum-known-item-2
     transmit-word-requires
-    returns-3
-    enum-told-2
     enum-known-item-3
-    enum-told-3
-    refusal-requires-3
-    returns-4
     transmit-sync-requires
+    enum-known-item-4
+    transmit-transfer-requires
+    returns-3
+    returns-4
     returns-5)

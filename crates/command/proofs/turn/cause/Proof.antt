@@ -24,6 +24,12 @@ fault-requires-4 c κs = search needs
 fault-requires-5 : tie.Need-fault-requires-5
 fault-requires-5 c κs = search needs
 
+fault-requires-6 : tie.Need-fault-requires-6
+fault-requires-6 c κs = search needs
+
+fault-requires-7 : tie.Need-fault-requires-7
+fault-requires-7 c κs = search needs
+
 returns : tie.Need-returns
 unfolding causeBy
 returns c = rw (c .fault .ensures, c .before .match .keys1)
@@ -46,7 +52,17 @@ returns-5 c = rw (c .fault5 .ensures, c .before .match .keys5)
 
 returns-6 : tie.Need-returns-6
 unfolding causeBy
-returns-6 c = let n = c .match .rest in sym (unknown-cause _ _ (n .0 .0 .0 .0 .1) (n .0 .0 .0 .1) (n .0 .0 .1) (n .0 .1) (n .1))
+returns-6 c = rw (c .fault6 .ensures, c .before .match .keys6)
+
+returns-7 : tie.Need-returns-7
+unfolding causeBy
+returns-7 c = rw (c .fault7 .ensures, c .before .match .keys7)
+
+returns-8 : tie.Need-returns-8
+unfolding causeBy
+returns-8 c =
+    let n = c .match .rest in
+    sym (unknown-cause _ _ (n .0 .0 .0 .0 .0 .0 .1) (n .0 .0 .0 .0 .0 .1) (n .0 .0 .0 .0 .1) (n .0 .0 .0 .1) (n .0 .0 .1) (n .0 .1) (n .1))
 
 pub cause-spec : {M : Type 1} → statement M
 cause-spec =
@@ -57,9 +73,13 @@ cause-spec =
     fault-requires-3
     fault-requires-4
     fault-requires-5
+    fault-requires-6
+    fault-requires-7
     returns
     returns-2
     returns-3
     returns-4
     returns-5
-    returns-6)
+    returns-6
+    returns-7
+    returns-8)

@@ -24,6 +24,12 @@ beyond-requires-4 c κs = search needs
 beyond-requires-5 : tie.Need-beyond-requires-5
 beyond-requires-5 c κs = search needs
 
+beyond-requires-6 : tie.Need-beyond-requires-6
+beyond-requires-6 c κs = search needs
+
+beyond-requires-7 : tie.Need-beyond-requires-7
+beyond-requires-7 c κs = search needs
+
 returns : tie.Need-returns
 unfolding numberOf
 returns c = rw (c .beyond .ensures, c .before .match .keys1)
@@ -46,7 +52,17 @@ returns-5 c = rw (c .beyond5 .ensures, c .before .match .keys5)
 
 returns-6 : tie.Need-returns-6
 unfolding numberOf
-returns-6 c = let n = c .match .rest in sym (unknown-number _ _ _ _ _ (n .0 .0 .0 .0 .1) (n .0 .0 .0 .1) (n .0 .0 .1) (n .0 .1) (n .1))
+returns-6 c = rw (c .beyond6 .ensures, c .before .match .keys6)
+
+returns-7 : tie.Need-returns-7
+unfolding numberOf
+returns-7 c = rw (c .beyond7 .ensures, c .before .match .keys7)
+
+returns-8 : tie.Need-returns-8
+unfolding numberOf
+returns-8 c =
+    let n = c .match .rest in
+    sym (unknown-number _ _ _ _ _ (n .0 .0 .0 .0 .0 .0 .1) (n .0 .0 .0 .0 .0 .1) (n .0 .0 .0 .0 .1) (n .0 .0 .0 .1) (n .0 .0 .1) (n .0 .1) (n .1))
 
 pub number-spec : {M : Type 1} → statement M
 number-spec =
@@ -57,9 +73,13 @@ number-spec =
     beyond-requires-3
     beyond-requires-4
     beyond-requires-5
+    beyond-requires-6
+    beyond-requires-7
     returns
     returns-2
     returns-3
     returns-4
     returns-5
-    returns-6)
+    returns-6
+    returns-7
+    returns-8)

@@ -25,7 +25,7 @@ returns c =
     let y = c .before .before .before .before .if1 .taken in (
       keeps-became (a .row .now) (a .log .now) (a .head .now) (k .last .0) (k .last .1 .0) (checkpointOf (a .c))
           (backed-call (a .row .now) (a .log .now) (a .head .now) (λ v. sync v (checkpointOf (a .c))) (k .last .0) (k .last .1 .0) (k .result .number) y (k .ensures .0)),
-      drops-so (a .row .now) (a .log .now) (a .head .now) (a .c) (k .result) _ y (k .ensures .1) (c .total-dropped .ensures),
+      drops-so (a .row .now) (a .log .now) (a .head .now) (a .c) (k .result) _ y (k .ensures .1 .0) (c .total-dropped .ensures),
     )
 
 returns-2 : tie.Need-returns-2

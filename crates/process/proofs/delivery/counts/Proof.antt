@@ -26,7 +26,7 @@ returns-2 c =
     let a = c .before .before .before .before .args in
     let k = c .count-in in
     counts-became (a .row .now) log (a .head .now) log (k .last .0)
-    (backed-call (a .row .now) log (a .head .now) count log (k .last .0) (k .result) (c .before .before .if1 .left) (k .ensures log))
+    (backed-call (a .row .now) log (a .head .now) count log (k .last .0) (k .result) (c .before .before .if1 .left) (k .ensures .0 log))
 
 pub counts-spec : {M : Type 1} → statement M
 counts-spec = tie.close (tie.spec element-copy-out-if1 returns count-in-requires returns-2)

@@ -24,7 +24,7 @@ wide-requires c κs = search needs
 returns : tie.Need-returns
 returns c =
     let a = c .before .before .before .args in
-    let n = ap (λ (p : Promotion). p .len) (c .before .before .fail-over-in .ensures) in
+    let n = ap (λ (p : Promotion). p .len) (c .before .before .fail-over-in .ensures .0) in
     promoted-none (a .row .now) (a .mail .now) (a .log .now) (a .head .now) (a .channels) (let w = c .before .wide .ensures in let t = c .if1 .taken in omega arith)
 
 readdress-requires : tie.Need-readdress-requires
@@ -36,7 +36,7 @@ restore-requires c κs = search needs
 returns-2 : tie.Need-returns-2
 returns-2 c =
     let a = c .before .before .before .before .before .before .before .args in
-    let e = c .before .before .before .before .before .before .fail-over-in .ensures in
+    let e = c .before .before .before .before .before .before .fail-over-in .ensures .0 in
     let n = c .before .before .before .before .before .wide .ensures ∙ ap (λ (p : Promotion). p .len) e in
     let mail = c .before .before .readdress in
     let row = c .restore in

@@ -52,8 +52,8 @@ loop-again c =
     let t = c .before .before .before .before .before .loop-test .taken in
     let s = c .before .before .before .before .before .before .before .pre in
     filling-on (a .mail .now) (a .log .now) (a .len) (a .t4) (l .mail) (l .i) (l .inv) (c .before .before .before .wide .result) (c .before .before .word-in .result) (c .append .last .0) t s
-    (c .before .before .before .wide .ensures ∙ ap (λ (n : ℕ). n % 4) (c .before .before .before .before .port-in .ensures (omega arith)))
-    (c .before .before .word-in .ensures (omega arith)) (c .append .ensures)
+    (c .before .before .before .wide .ensures ∙ ap (λ (n : ℕ). n % 4) (c .before .before .before .before .port-in .ensures .0 (omega arith)))
+    (c .before .before .word-in .ensures .0 (omega arith)) (c .append .ensures)
 
 returns : tie.Need-returns Inv-loop μ-loop
 returns c =

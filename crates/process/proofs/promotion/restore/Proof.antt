@@ -8,6 +8,9 @@ use Rattle.process.proofs.promotion.restore.Tie as tie
 use Rattle.process.proofs.promotion.restore.Reads as reads
 use Rattle.process.proofs.promotion.restore.Lts as lts
 
+element-copy-out-board : tie.Need-element-copy-out-board
+element-copy-out-board c = search needs
+
 element-copy-out-row : tie.Need-element-copy-out-row
 element-copy-out-row c = search needs
 
@@ -56,10 +59,13 @@ element-write-row-14 c = search needs
 element-write-row-15 : tie.Need-element-write-row-15
 element-write-row-15 c = search needs
 
+element-write-row-16 : tie.Need-element-write-row-16
+element-write-row-16 c = search needs
+
 returns : tie.Need-returns
 unfolding restoredIn
 returns c =
-    let a = c .before .args in
+    let a = c .before .before .args in
     record {
       row-is = refl;
       words = λ h. restored-words (a .row .now) (a .p) (omega arith) (omega arith) (omega arith) (omega arith) (omega arith) (omega arith) (omega arith) (record { word = h }) .word;
@@ -69,6 +75,7 @@ pub restore-spec : {M : Type 1} → statement M
 restore-spec =
     tie.close
     (tie.spec
+    element-copy-out-board
     element-copy-out-row
     element-write-row
     element-write-row-2
@@ -85,4 +92,5 @@ restore-spec =
     element-write-row-13
     element-write-row-14
     element-write-row-15
+    element-write-row-16
     returns)

@@ -1,0 +1,191 @@
+-- A resync as a change of one process: what is true between two copies, and that the record's own calls make the record that the rules name.
+use mathlib.Core.Path.{_≡_, refl, ap, sym, _∙_}
+use mathlib.Core.Bool.{Bool, true, false, cond}
+use mathlib.Core.Option.{Option, none, some}
+use mathlib.Core.List.{List, [], _∷_, _++_, map, map-append, append-assoc, append-nil}
+use Prim.Native.Nat.{ℕ, suc, _+_, _%_, _≤_, _<_, _^_}
+use native.Mathlib.Omega.{arith}
+use native.Mathlib.Numerals.{add-one}
+use lib.Dec.{eqb}
+use lib.ListN.{length, getD, set, length-set, length-map, length-append}
+use borrow.Author.Tests.{eq-eqb, ne-eqb}
+use Rattle.facts.specs.Indexing.{getD-replicate-any}
+use Rattle.facts.specs.Lists.{prefix, prefix-more, length-prefix, listed, listed-same, map-listed, prefix-listed}
+use Rattle.backup.specs.Limits.{logMost, ports, pcMost}
+use Rattle.backup.specs.Replica.{Message, Replica, Reply, Checkpoint, initial, arrive, arrived, sync, synced, fit}
+use Rattle.backup.specs.Accepts.{arrive-accepted, sync-accepted}
+use Rattle.backup.specs.Place.{viewIn, Sound, Called, Fresh, checkpointOf}
+use Rattle.backup.specs.declared.place.Checkpoint as code
+use Rattle.rules.specs.Table.{Table, placementAt, portOf}
+use Rattle.rules.specs.Machine.{Mail, Machine}
+use Rattle.rules.specs.Cabinet.{Process, Standby, Since, noTakes, noneSince, otherBoard}
+use Rattle.rules.specs.Moves.{withStandby, completed, issued, snapshot, copied, rebacking, rebacked}
+use Rattle.process.specs.Row.{mailIn, mailsIn, machineOf, standbyOf, processOf, Kept, Seated}
+use Rattle.process.specs.Change.{Became, RowBecame}
+use Rattle.process.specs.Transfer.{portFor, copyOf, withMore, Copied, OnPorts, Rebacks}
+use Rattle.process.proofs.Rows.{Words, stored, spelled, seated-cell}
+
+-- ---- the copies
+
+-- i of len words are in the record
+pub record Copying (mail : List ℕ) (len : ℕ) (port log₀ head₀ log head : List ℕ) (i : ℕ) : Type 0 where
+  pub looked : i ≤ len
+  pub sound : Sound log₀ head₀ → Sound log head
+  pub value : Sound log₀ head₀ → ((j : ℕ) → j < len → portFor port (mailIn (getD mail j 0)) < ports) → length (viewIn log₀ head₀ .log) + len ≤ logMost
+      → viewIn log head ≡ withMore (map (copyOf port) (mailsIn i mail)) (viewIn log₀ head₀)
+
+same-log : (r : Replica) (l : List Message) → r .log ≡ l → r ≡ record { log = l; sent = r .sent; pc = r .pc; registers = r .registers }
+same-log r l e = λ i. record { log = e i; sent = r .sent; pc = r .pc; registers = r .registers }
+
+pub copying-start : (mail : List ℕ) (len : ℕ) (port log head : List ℕ) → Copying mail len port log head log head 0
+copying-start mail len port log head =
+    record { looked = omega arith; sound = λ s. s; value = λ s p l. same-log (viewIn log head) _ (sym (append-nil (viewIn log head .log))) }
+
+copies-more : (port mail : List ℕ) (n : ℕ) → map (copyOf port) (mailsIn (suc n) mail) ≡ map (copyOf port) (mailsIn n mail) ++ (copyOf port (mailIn (getD mail n 0)) ∷ [])
+copies-more port mail n =
+    ap (λ (l : List ℕ). map (copyOf port) (map mailIn l)) (prefix-more n mail)
+    ∙ ap (map (copyOf port)) (map-append mailIn (prefix n mail) (getD mail n 0 ∷ []))
+    ∙ map-append (copyOf port) (mailsIn n mail) (mailIn (getD mail n 0) ∷ [])
+
+copies-length : (port mail : List ℕ) (n : ℕ) → length (map (copyOf port) (mailsIn n mail)) ≡ n
+copies-length port mail n = length-map (mailsIn n mail) (copyOf port) ∙ length-map (prefix n mail) mailIn ∙ length-prefix n mail
+
+module _ (mail : List ℕ) (len : ℕ) (port log₀ head₀ log head : List ℕ) (i : ℕ) (f : Copying mail len port log₀ head₀ log head i) where
+  pub copying-on : (number : ℕ) (log′ head′ : List ℕ) → i < len
+      → Called log head log′ head′ number (λ v. arrive v (portFor port (mailIn (getD mail i 0))) (mailIn (getD mail i 0) .word))
+      → Copying mail len port log₀ head₀ log′ head′ (i + 1)
+  copying-on number log′ head′ l c =
+      let x : Mail = mailIn (getD mail i 0) in
+      let q : ℕ = portFor port x in
+      let copies : ℕ → List Message = λ n. map (copyOf port) (mailsIn n mail) in
+      record {
+        looked = omega arith;
+        sound = λ s. c .sound-again (f .sound s);
+        value = λ s p room.
+            let r : Replica = viewIn log₀ head₀ in
+            let v : viewIn log head ≡ withMore (copies i) r = f .value s p room in
+            let few : length (viewIn log head .log) < logMost =
+            (let a = ap (λ (y : Replica). length (y .log)) v in let b = length-append (r .log) (copies i) in let d = copies-length port mail i in omega arith) in
+            c .value-is (f .sound s)
+            ∙ ap (λ (y : Reply). y .replica) (arrive-accepted (viewIn log head) q (x .word) (f .sound s .is-fit) (p i l) few)
+            ∙ ap (λ (y : Replica). arrived y q (x .word)) v
+            ∙ ap (λ (m : List Message). record { log = m; sent = r .sent; pc = r .pc; registers = r .registers })
+            (append-assoc (r .log) (copies i) (copyOf port x ∷ []) ∙ ap (λ (m : List Message). r .log ++ m) (sym (rw add-one (copies-more port mail i))));
+      }
+
+  pub copying-end : len ≤ i → Copied mail len port log₀ head₀ log head
+  copying-end h =
+      let e : i ≡ len = (let l = f .looked in omega arith) in
+      record { sound-again = f .sound; value-is = λ s p l. f .value s p l ∙ ap (λ (n : ℕ). withMore (map (copyOf port) (mailsIn n mail)) (viewIn log₀ head₀)) e }
+
+-- ---- the record
+
+spread : (mail : List ℕ) (f : Mail → Message) (n : ℕ) → map f (mailsIn n mail) ≡ listed (λ i. f (mailIn (getD mail i 0))) n
+spread mail f n =
+    ap (λ (l : List ℕ). map f (map mailIn l)) (prefix-listed n mail) ∙ ap (map f) (map-listed mailIn (λ i. getD mail i 0) n) ∙ map-listed f (λ i. mailIn (getD mail i 0)) n
+
+-- with the table's ports, the copies that the rules make
+routed-copies : (t : Table) (p : ℕ) (port row mail : List ℕ) → OnPorts t p port row mail
+    → map (copyOf port) (mailsIn (getD row 14 0) mail) ≡ map (λ (x : Mail). record { port = portOf t p (x .channel); word = x .word }) (mailsIn (getD row 14 0) mail)
+routed-copies t p port row mail on =
+    let n : ℕ = getD row 14 0 in
+    spread mail (copyOf port) n
+    ∙ listed-same (λ i. copyOf port (mailIn (getD mail i 0))) (λ i. record { port = portOf t p (mailIn (getD mail i 0) .channel); word = mailIn (getD mail i 0) .word }) n
+    (λ i l. ap (λ (q : ℕ). record { port = q; word = mailIn (getD mail i 0) .word }) (on i l .0))
+    ∙ sym (spread mail (λ (x : Mail). record { port = portOf t p (x .channel); word = x .word }) n)
+
+-- a fresh record keeps a snapshot with no takes whole
+kept-whole : (c : Checkpoint) → c .taken ≡ noTakes → c .pc ≤ pcMost → sync initial c ≡ record { number = 0; replica = record { log = []; sent = 0; pc = c .pc; registers = c .registers } }
+unfolding fit
+kept-whole c e l =
+    sync-accepted initial c refl l (λ p h. let a : getD (c .taken) p 0 ≡ 0 = ap (λ (t : List ℕ). getD t p 0) e ∙ getD-replicate-any {A = ℕ} 4 p 0 in omega arith)
+
+-- ---- the process
+
+module _ (row mail log head port : List ℕ) where
+  pub rebacks-none : logMost < getD row 14 0 → Rebacks row mail log head port row log head
+  rebacks-none h k t p on low s = absurd (let u = k .unread in omega arith)
+
+  module _ (row₁ : List ℕ) (became : RowBecame row row₁ issued) (head₁ : List ℕ) (fresh : length log ≡ logMost → length head ≡ 11 → Fresh log head₁)
+      (c : code.Checkpoint) (snap : (mail log head : List ℕ) → checkpointOf c ≡ snapshot (processOf row₁ mail log head))
+      (number : ℕ) (log₂ head₂ : List ℕ) (called : Called log head₁ log₂ head₂ number (λ v. sync v (checkpointOf c)))
+      (log₃ head₃ : List ℕ) (copy : Copied mail (getD row 14 0) port log₂ head₂ log₃ head₃) where
+    module _ (k : Kept row mail log head) (t : Table) (p : ℕ) (on : OnPorts t p port row mail) (low : getD row 1 0 ≤ pcMost) where
+      abbrev x : Process
+      x = processOf row mail log head
+
+      new : Fresh log head₁
+      new = fresh (k .sound .log-length) (k .sound .head-length)
+
+      is-issued : processOf row₁ mail log head ≡ issued x
+      is-issued = became mail log head k .process-is
+
+      taken-none : checkpointOf c ≡ record { pc = x .machine .pc; registers = x .machine .registers; taken = noTakes }
+      unfolding issued
+      taken-none = snap mail log head ∙ ap snapshot is-issued
+
+      begun : viewIn log₂ head₂ ≡ record { log = []; sent = 0; pc = x .machine .pc; registers = x .machine .registers }
+      unfolding processOf machineOf
+      begun =
+          called .value-is (new .is-sound) ∙ ap (λ (v : Replica). sync v (checkpointOf c) .replica) (new .value-is)
+          ∙ ap (λ (r : Reply). r .replica) (kept-whole (checkpointOf c) (ap (λ (y : Checkpoint). y .taken) taken-none) (let e = ap (λ (y : Checkpoint). y .pc) taken-none in omega arith))
+          ∙ ap (λ (y : Checkpoint). record { log = []; sent = 0; pc = y .pc; registers = y .registers }) taken-none
+
+      record-is : viewIn log₃ head₃ ≡ copied t p (x .machine)
+      unfolding processOf machineOf copied
+      record-is =
+          copy .value-is (called .sound-again (new .is-sound)) (λ i l. rw (on i l .0) (on i l .1)) (let e = ap (λ (v : Replica). length (v .log)) begun in let u = k .unread in omega arith)
+          ∙ ap (withMore (map (copyOf port) (mailsIn (getD row 14 0) mail))) begun
+          ∙ ap (λ (l : List Message). record { log = l; sent = 0; pc = x .machine .pc; registers = x .machine .registers }) (routed-copies t p port row mail on)
+
+      other-there : Seated (placementAt t p .primary) (placementAt t p .standby) row → getD row₁ 13 0 ≡ otherBoard t p x
+      unfolding processOf issued
+      other-there s =
+          became mail log head k .seated-again (placementAt t p .primary) (placementAt t p .standby) s .other-is
+          ∙ ap (λ (y : Process). otherBoard t p y) is-issued
+
+    pub rebacks-so : Rebacks row mail log head port (set row₁ 12 2) log₃ head₃
+    unfolding processOf machineOf standbyOf issued rebacking
+    rebacks-so k t p on low s =
+        let z = became mail log head k .kept-again .row-length in
+        let y : Process = processOf row mail log head in
+        let b = other-there k t p on low s in
+        let v = record-is k t p on low in
+        record {
+          process-is =
+              spelled row₁ (λ (r : List ℕ). processOf (set r 12 2) mail log₃ head₃) z
+              ∙ ap (withStandby (some (record { board = getD row₁ 13 0; replica = viewIn log₃ head₃; complete = false }))) (is-issued k t p on low)
+              ∙ (λ i. record { machine = y .machine; board = y .board; suppress = y .suppress; since = noneSince; standby = some (record { board = b i; replica = v i; complete = false }) });
+          kept-again = record {
+            row-length = length-set row₁ 12 2 ∙ z;
+            mail-length = k .mail-length;
+            unread = rw (spelled row₁ (λ (r : List ℕ). getD (set r 12 2) 14 0) z) (became mail log head k .kept-again .unread);
+            words = stored {l = row₁} 12 2 (omega arith) (record { word = became mail log head k .kept-again .words }) .word;
+            flag = rw (spelled row₁ (λ (r : List ℕ). getD (set r 12 2) 12 0) z) (omega arith);
+            sound = copy .sound-again (called .sound-again (new k t p on low .is-sound));
+          };
+          seated-again = λ x y s. seated-cell 12 2 (λ e. omega arith) (λ e. omega arith) x y (became mail log head k .seated-again x y s);
+        }
+
+-- ---- the carry
+
+pub completed-none : (row : List ℕ) → getD row 12 0 ≡ 0 → RowBecame row row rebacked
+unfolding processOf machineOf standbyOf rebacked
+completed-none row z mail log head k = record { process-is = rw (eq-eqb (getD row 12 0) 0 z); kept-again = k; seated-again = λ x y s. s }
+
+pub completed-so : (row : List ℕ) → (getD row 12 0 ≡ 0 → ⊥) → RowBecame row (set row 12 1) rebacked
+unfolding processOf machineOf standbyOf rebacked
+completed-so row n mail log head k =
+    let z = k .row-length in
+    record {
+      process-is = rw (ne-eqb (getD row 12 0) 0 n) (spelled row (λ (r : List ℕ). processOf (set r 12 1) mail log head) z);
+      kept-again = record {
+        row-length = length-set row 12 1 ∙ z;
+        mail-length = k .mail-length;
+        unread = rw (spelled row (λ (r : List ℕ). getD (set r 12 1) 14 0) z) (k .unread);
+        words = stored {l = row} 12 1 (omega arith) (record { word = k .words }) .word;
+        flag = rw (spelled row (λ (r : List ℕ). getD (set r 12 1) 12 0) z) (omega arith);
+        sound = k .sound;
+      };
+      seated-again = seated-cell 12 1 (λ e. omega arith) (λ e. omega arith);
+    }

@@ -1,0 +1,76 @@
+// A resync, in one process: the record that its issue makes, and that its carry completes it.
+// Document 02, W-210: "its snapshot and copies of all its unread words join the queue as one entry." "When that entry is carried, its other
+// table board holds a new record with those words, then all that have arrived since issue, and count 0." While a process has no backup its
+// log and its head are free: the new record is made there at issue, and from then on what arrives is saved in it.
+ghost use mathlib.Core.List.{List};
+ghost use Prim.Native.Nat.{ℕ, _≤_};
+ghost use Rattle.backup.specs.Limits.{logMost};
+ghost use Rattle.rules.specs.Moves.{rebacked};
+ghost use Rattle.process.specs.Change.{RowBecame};
+ghost use Rattle.process.specs.Transfer.{Copied, Rebacks};
+use crate::checkpoint::issue;
+use crate::checkpoint::snapshot;
+use crate::mail::channel_of;
+use crate::mail::word_of;
+use crate::row::COMING;
+use crate::row::COMPLETE;
+use crate::row::PROTECTED;
+use crate::row::ROW;
+use crate::row::UNREAD;
+use crate::row::wide;
+use backup::limits::LOG;
+use backup::place::HEAD;
+use backup::place::arrive_in;
+use backup::place::new_in;
+use backup::place::sync_in;
+
+// Copies of the first len words of a mailbox join a log, each by its channel's port.
+fn copy(
+    mail: &[u64; LOG],
+    len: usize,
+    port: &[u32; 32],
+    log: &mut [u64; LOG],
+    head: &mut [u32; HEAD],
+)
+    requires { ⌜ len ≤ logMost ⌝ }
+    ensures { λ _. ⌜ Copied (now (mail .entry)) len (now (port .entry)) (now (log .entry)) (now (head .entry)) (now (log .exit)) (now (head .exit)) ⌝ }
+{
+    let mut i = 0;
+    while i < len {
+        let x = mail[i];
+        let k = wide(channel_of(x)) % 32;
+        arrive_in(log, head, port[k], word_of(x));
+        i += 1;
+    }
+}
+
+// "Acts, instructions and takes per slot start from 0 at issue": so the snapshot has no takes, and a fresh record keeps it whole. No mailbox
+// has more words than a log; of one that says so nothing changes.
+pub fn reback(
+    row: &mut [u32; ROW],
+    mail: &[u64; LOG],
+    log: &mut [u64; LOG],
+    head: &mut [u32; HEAD],
+    port: &[u32; 32],
+)
+    ensures { λ _. ⌜ Rebacks (now (row .entry)) (now (mail .entry)) (now (log .entry)) (now (head .entry)) (now (port .entry)) (now (row .exit)) (now (log .exit)) (now (head .exit)) ⌝ }
+{
+    let len = wide(row[UNREAD]);
+    if len > LOG {
+        return;
+    }
+    issue(row);
+    new_in(head);
+    sync_in(log, head, snapshot(row));
+    copy(mail, len, port, log, head);
+    row[PROTECTED] = COMING;
+}
+
+// The entry is carried: the record that was being made is a backup.
+pub fn complete(row: &mut [u32; ROW])
+    ensures { λ _. ⌜ RowBecame (now (row .entry)) (now (row .exit)) rebacked ⌝ }
+{
+    if row[PROTECTED] != 0 {
+        row[PROTECTED] = COMPLETE;
+    }
+}

@@ -1,0 +1,3 @@
+-- What moves 6 and 7 promise.
+pub mod Rejoins
+pub mod Rebackups
