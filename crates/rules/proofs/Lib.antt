@@ -49,6 +49,8 @@ pub mod Pending
 pub mod Arrivals
 pub mod Totals
 pub mod Homes
+-- W-211: backed again, and nothing again.
+pub mod Recovery
 -- Tables and runs in bytes. What lists give is computed of two of them before it is proved of all.
 pub mod Valid
 pub mod FirstVersion
@@ -75,3 +77,5 @@ pub mod BusOrder
 pub mod OneCause
 -- Demand 3 of every accepted run.
 pub mod Theorem
+-- W-211, computed.
+pub mod CrashAfterCrash

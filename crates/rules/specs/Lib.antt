@@ -13,6 +13,7 @@ pub mod Bounds
 pub mod RollForward
 pub mod Transparent
 pub mod Rebackup
+pub mod Recovery
 pub mod Bytes
 pub mod Format
 pub mod FirstVersion
