@@ -1,8 +1,8 @@
 //! One run of the label line by the proved call and by the simulator, compared byte by byte; and its labels, held against the sequence.
 use crate::call::ks_label_run;
-use crate::line::{fault, seen, table, SERIAL_MOST};
 use outside::rules::generate::{encode_schedule, encode_table};
 use outside::rules::lent::Lent;
+use outside::rules::line::{fault, seen, table, SERIAL_MOST};
 use outside::rules::reader::{record, Record};
 use outside::rules::run::{run, Outcome};
 use outside::rules::simulator::Answer;

@@ -4,14 +4,13 @@
 //! led on until it is quiet; buffers that are too short; schedules of 10,000 records; and crash after crash.
 mod call;
 mod compare;
-mod line;
 
 use call::ks_label_table;
 use compare::{compare, Counts};
-use line::{table, SCANNER, SERIAL_MOST};
 use outside::random::Random;
 use outside::rules::generate::{continued, encode_table};
 use outside::rules::lent::Lent;
+use outside::rules::line::{table, SCANNER, SERIAL_MOST};
 use outside::rules::reader::{judge_table, Record, Table};
 use outside::rules::repairs::crash_after_crash;
 use outside::rules::sample::{carry, crash, feed, step};

@@ -7,6 +7,7 @@ pub mod damage;
 pub mod generate;
 pub mod lent;
 pub mod limits;
+pub mod line;
 pub mod loops;
 pub mod page;
 pub mod plain;

@@ -1,79 +1,36 @@
-//! How long the proved run of a schedule takes, beside a plain one in Rust: `speed [--repetitions N] [--seed N]`.
-//!
-//! Both are called in turn on the same bytes in one process; who is first changes. Before each run, outside the time taken, the lent
-//! buffers are filled with other bytes; after each, number, answers, reasons and report of both are compared.
+//! How long the proved run of a schedule takes, beside a plain one in Rust, and beside a loop that only decodes records and writes answers:
+//! `speed [--repetitions N] [--seed N] [--mix TEXT]`. What it prints is Markdown, as docs/SPEED.md has it. With `--mix`, only mixes with this
+//! text in their name.
 mod baseline;
 #[path = "../cabinet/call.rs"]
 mod call;
+mod floor;
 mod mixes;
+mod tables;
+mod timing;
 
-use mixes::{empty, inputs, Input, PROCESSES, RECORDS};
+use mixes::{claimed, others, Input, Mix, RECORDS};
 use outside::random::Random;
 use outside::rules::generate::{encode_schedule, encode_table, schedule, table};
 use outside::rules::lent::Lent;
-use outside::rules::repairs::row;
-use std::time::Instant;
+use outside::rules::repairs::{crash_after_crash, row};
+use timing::time;
 
 const SEED: u64 = 0xE703_7ED1_A0B4_28DB;
 const REPETITIONS: u64 = 400;
 
-type Call = fn(&[u8], &[u8], Lent<&mut [u8]>) -> u64;
-const CALLS: [Call; 2] = [call::ks_run, baseline::run];
-
-/// What one call lends, and how long each of its runs took, in nanoseconds.
-struct Timed {
-    lent: Lent<Vec<u8>>,
-    returned: u64,
-    times: Vec<u64>,
-}
-
-impl Timed {
-    fn new() -> Timed {
-        Timed { lent: Lent::needed(RECORDS, PROCESSES as usize).filled(0), returned: 0, times: Vec::new() }
-    }
-
-    fn run(&mut self, call: Call, input: &Input, filler: u8) {
-        self.lent.each_mut().map(|buffer| buffer.fill(filler));
-        let lent = self.lent.lend();
-        let start = Instant::now();
-        self.returned = call(&input.table, &input.schedule, lent);
-        self.times.push(start.elapsed().as_nanos() as u64);
-    }
-
-    /// The least time and the median, for one record of 10,000.
-    fn figures(&mut self) -> [f64; 2] {
-        self.times.sort_unstable();
-        [self.times[0], self.times[self.times.len() / 2]].map(|time| time as f64 / RECORDS as f64)
-    }
-}
-
-/// Times one input; the first runs are not counted.
-fn time(input: &Input, repetitions: u64) -> [[f64; 2]; 2] {
-    let mut timed = [Timed::new(), Timed::new()];
-    for i in 0..repetitions + 10 {
-        for turn in 0..2 {
-            let who = (turn + i as usize) % 2;
-            timed[who].run(CALLS[who], input, i as u8);
-        }
-        let [ours, plain] = &timed;
-        let same = ours.returned == plain.returned && ours.lent == plain.lent;
-        let accepted = ours.returned as u8 == 0 && ours.returned >> 32 == input.schedule.len() as u64 / 6;
-        assert!(same && accepted, "{}: the runs differ", input.name);
-        if i < 10 {
-            timed.iter_mut().for_each(|timed| timed.times.clear());
-        }
-    }
-    timed.map(|mut timed| timed.figures())
-}
+/// The mixes of which it is shown that time grows as records do.
+const GROWTH: [&str; 3] = ["steps mostly", "feeds, full inboxes", "the even mix"];
 
 /// The plain run is a right one: on generated runs it equals the simulator's.
 fn check_plain(random: &mut Random) {
-    for _ in 0..2_000 {
-        let table = if random.once_in(2) { row(random) } else { table(random) };
-        let schedule = encode_schedule(&schedule(random, &table, 200));
-        let table = encode_table(&table);
-        let wanted = outside::rules::run::run(&table, &schedule, Lent::needed(200, 16));
-        let mut lent = Lent::needed(200, 16).filled(0);
+    for i in 0..2_000 {
+        let table = if i % 2 == 0 { row(random) } else { table(random) };
+        let records = if i % 4 == 0 { crash_after_crash(random, &table, 3, 150) } else { schedule(random, &table, 200) };
+        let lengths = Lent::needed(records.len(), table.processes.len());
+        let (table, schedule) = (encode_table(&table), encode_schedule(&records));
+        let wanted = outside::rules::run::run(&table, &schedule, lengths);
+        let mut lent = lengths.filled(0);
         let returned = baseline::run(&table, &schedule, lent.lend());
         assert!(returned == wanted.outcome.returned() && returned as u8 == 0, "the plain run returns {returned:#x}");
         assert!(lent == wanted.lent, "the plain run is none");
@@ -81,36 +38,87 @@ fn check_plain(random: &mut Random) {
 }
 
 /// The value of an option, if it is given.
-fn option(name: &str) -> Option<u64> {
-    let mut arguments = std::env::args().skip_while(|argument| argument != name).skip(1);
-    arguments.next().map(|value| value.parse().unwrap_or_else(|_| panic!("{name} takes a number")))
+fn option(name: &str) -> Option<String> {
+    std::env::args().skip_while(|argument| argument != name).nth(1)
+}
+
+fn number(name: &str) -> Option<u64> {
+    option(name).map(|value| value.parse().unwrap_or_else(|_| panic!("{name} takes a number")))
+}
+
+/// What is asked for: how many rounds are timed, by which seed, and of which mixes.
+struct Asked {
+    repetitions: u64,
+    seed: u64,
+    named: String,
+}
+
+impl Asked {
+    fn mixes(&self, among: Vec<Mix>) -> impl Iterator<Item = Mix> + '_ {
+        among.into_iter().filter(|mix| mix.name.contains(&self.named))
+    }
+
+    /// A line for each mix, in nanoseconds a record; the largest ratios, and the least share of records not refused.
+    fn print_mixes(&self, among: Vec<Mix>) -> ([f64; 2], f64) {
+        println!("| mix | step | sync | carry | feed | other | not refused | ours | median | plain | median | floor | ratio | of medians |");
+        println!("|---|---|---|---|---|---|---|---|---|---|---|---|---|---|");
+        let (mut worst, mut least) = ([0.0f64; 2], 100.0f64);
+        for mix in self.mixes(among) {
+            let input = mix.draw(&mut Random::new(self.seed), RECORDS);
+            let shares: Vec<String> = input.moves.iter().map(|share| format!("{share:.0}%")).collect();
+            let accepted = input.accepted;
+            let [ours, plain, floor] = time(&[input], self.repetitions);
+            let ratio = [ours.least / plain.least, ours.median / plain.median];
+            let times = [ours.least, ours.median, plain.least, plain.median, floor.least];
+            let times: Vec<String> = times.iter().map(|time| format!("{:.1}", time / RECORDS as f64)).collect();
+            let (shares, times) = (shares.join(" | "), times.join(" | "));
+            println!("| {} | {shares} | {accepted:.1}% | {times} | {:.2} | {:.2} |", mix.name, ratio[0], ratio[1]);
+            worst = [worst[0].max(ratio[0]), worst[1].max(ratio[1])];
+            least = least.min(accepted);
+        }
+        (worst, least)
+    }
+
+    /// Whole calls with 0, 100, 1,000 and 10,000 records in microseconds, and what a record takes above a call with none. A round has 10,000
+    /// records, of as many runs as that makes, each drawn by itself: no run is repeated so soon that its branches are known by heart.
+    fn print_growth(&self, among: Vec<Mix>) {
+        println!("| mix | whose | no records | 100 | 1,000 | 10,000 | a record of 100 | of 1,000 | of 10,000 |");
+        println!("|---|---|---|---|---|---|---|---|---|");
+        for mix in self.mixes(among).filter(|mix| GROWTH.contains(&mix.name)) {
+            let mut random = Random::new(self.seed);
+            let times = [0, 100, 1_000, RECORDS].map(|records| {
+                let runs = RECORDS / records.max(100);
+                let inputs: Vec<Input> = (0..runs).map(|_| mix.draw(&mut random, records)).collect();
+                time(&inputs, self.repetitions).map(|figures| (records as f64, figures.least / runs as f64))
+            });
+            for (who, whose) in ["ours", "plain"].into_iter().enumerate() {
+                let none = times[0][who].1;
+                let calls = times.map(|time| format!("{:.1}", time[who].1 / 1000.0));
+                let each = times.map(|time| time[who]).map(|(records, time)| format!("{:.1} ns", (time - none) / records));
+                println!("| {} | {whose} | {} | {} |", mix.name, calls.join(" | "), each[1..].join(" | "));
+            }
+        }
+    }
 }
 
 fn main() {
-    let repetitions = option("--repetitions").unwrap_or(REPETITIONS).max(1);
-    let seed = option("--seed").unwrap_or(SEED);
-    check_plain(&mut Random::new(seed));
-    println!("{RECORDS} records on {PROCESSES} processes, {repetitions} repetitions, seed {seed}; buffers filled before each run, untimed");
-    println!("nanoseconds a record, whole calls (table and schedule judged, answers, reasons and report written)");
+    let asked = Asked {
+        repetitions: number("--repetitions").unwrap_or(REPETITIONS).max(1),
+        seed: number("--seed").unwrap_or(SEED),
+        named: option("--mix").unwrap_or_default(),
+    };
+    check_plain(&mut Random::new(asked.seed));
     println!(
-        "{:<22}|{:>6}{:>6}{:>7}{:>6}{:>10} |{:>8}{:>8} |{:>8}{:>8} |{:>7}{:>7}",
-        "mix", "step", "sync", "carry", "feed", "accepted", "min", "median", "plain", "median", "ratio", "median"
+        "{RECORDS} records, {} repetitions, seed {}. Buffers are filled before each run, outside the time.",
+        asked.repetitions, asked.seed
     );
-    let mut worst = [0.0f64; 2];
-    for input in inputs(&mut Random::new(seed)) {
-        let [ours, plain] = time(&input, repetitions);
-        let ratio = [ours[0] / plain[0], ours[1] / plain[1]];
-        let [step, sync, carry, feed, _] = input.moves;
-        println!(
-            "{:<22}|{step:>5.0}%{sync:>5.0}%{carry:>6.0}%{feed:>5.0}%{:>9.1}% |{:>8.1}{:>8.1} |{:>8.1}{:>8.1} |{:>7.2}{:>7.2}",
-            input.name, input.accepted, ours[0], ours[1], plain[0], plain[1], ratio[0], ratio[1]
-        );
-        worst = [worst[0].max(ratio[0]), worst[1].max(ratio[1])];
-    }
-    let [ours, plain] = time(&empty(), repetitions).map(|[least, _]| least * RECORDS as f64 / 1000.0);
-    println!("with no records at all a call takes {ours:.1} microseconds, plain {plain:.1}");
-    println!(
-        "every run's number, answers, reasons and report were equal; the largest ratio is {:.2} (of medians {:.2})",
-        worst[0], worst[1]
-    );
+    println!("Whole calls: table and schedule judged, answers, reasons and report written.");
+    println!("\n16 processes, nanoseconds a record, the quickest run and the median:\n");
+    let (worst, least) = asked.print_mixes(claimed());
+    println!("\nThe label line, of 2 processes, and records that are refused mostly:\n");
+    asked.print_mixes(others());
+    println!("\nWhole calls, the quickest, in microseconds, and nanoseconds a record above a call with none:\n");
+    asked.print_growth(claimed());
+    println!("\nEvery run's number, answers, reasons and report were those of the plain run. On 16 processes, with {least:.1}% or more of the records");
+    println!("not refused, the largest ratio is {:.2}, of medians {:.2}.", worst[0], worst[1]);
 }
