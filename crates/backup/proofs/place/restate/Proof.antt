@@ -25,17 +25,14 @@ element-write-head-5 c = search needs
 element-write-head-6 : tie.Need-element-write-head-6
 element-write-head-6 c = search needs
 
-element-write-head-7 : tie.Need-element-write-head-7
-element-write-head-7 c = search needs
-
 element-copy-out-minus : tie.Need-element-copy-out-minus
 element-copy-out-minus c = search needs
 
 minus-requires : tie.Need-minus-requires
 minus-requires c κs = search needs
 
-element-write-head-8 : tie.Need-element-write-head-8
-element-write-head-8 c = search needs
+element-write-head-7 : tie.Need-element-write-head-7
+element-write-head-7 c = search needs
 
 element-copy-out-minus-2 : tie.Need-element-copy-out-minus-2
 element-copy-out-minus-2 c = search needs
@@ -43,8 +40,8 @@ element-copy-out-minus-2 c = search needs
 minus-requires-2 : tie.Need-minus-requires-2
 minus-requires-2 c κs = search needs
 
-element-write-head-9 : tie.Need-element-write-head-9
-element-write-head-9 c = search needs
+element-write-head-8 : tie.Need-element-write-head-8
+element-write-head-8 c = search needs
 
 element-copy-out-minus-3 : tie.Need-element-copy-out-minus-3
 element-copy-out-minus-3 c = search needs
@@ -52,8 +49,8 @@ element-copy-out-minus-3 c = search needs
 minus-requires-3 : tie.Need-minus-requires-3
 minus-requires-3 c κs = search needs
 
-element-write-head-10 : tie.Need-element-write-head-10
-element-write-head-10 c = search needs
+element-write-head-9 : tie.Need-element-write-head-9
+element-write-head-9 c = search needs
 
 element-copy-out-minus-4 : tie.Need-element-copy-out-minus-4
 element-copy-out-minus-4 c = search needs
@@ -61,8 +58,8 @@ element-copy-out-minus-4 c = search needs
 minus-requires-4 : tie.Need-minus-requires-4
 minus-requires-4 c κs = search needs
 
-element-write-head-11 : tie.Need-element-write-head-11
-element-write-head-11 c = search needs
+element-write-head-10 : tie.Need-element-write-head-10
+element-write-head-10 c = search needs
 
 returns : tie.Need-returns
 unfolding restatedIn
@@ -78,17 +75,16 @@ restate-spec =
     element-write-head-4
     element-write-head-5
     element-write-head-6
-    element-write-head-7
     element-copy-out-minus
     minus-requires
-    element-write-head-8
+    element-write-head-7
     element-copy-out-minus-2
     minus-requires-2
-    element-write-head-9
+    element-write-head-8
     element-copy-out-minus-3
     minus-requires-3
-    element-write-head-10
+    element-write-head-9
     element-copy-out-minus-4
     minus-requires-4
-    element-write-head-11
+    element-write-head-10
     returns)
