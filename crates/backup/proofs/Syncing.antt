@@ -1,20 +1,19 @@
 -- A checkpoint in place: the head tells its number, what was taken is dropped, and the head is written anew.
-use mathlib.Core.Path.{_≡_, refl, ap, sym, _∙_, subst}
+use mathlib.Core.Path.{_≡_, refl, ap, sym, _∙_}
 use mathlib.Core.Bool.{Bool, true, false, cond}
-use mathlib.Core.List.{List, [], _∷_}
+use mathlib.Core.List.{List}
 use Prim.Native.Nat.{ℕ, zero, suc, _+_, _-_, _≤_, _<_}
 use native.Mathlib.Omega.{arith}
 use lib.Dec.{ltb}
-use lib.ListN.{length, getD, set, length-set}
-use lib.Seq.{getD-set-same, getD-set-other}
+use lib.ListN.{getD, set}
 use borrow.Author.Tests.{le-ltb, ltb-false}
 use Rattle.facts.specs.Tests.{any-same}
-use Rattle.facts.specs.Lists.{listed, listed-same, written-out}
+use Rattle.facts.specs.Lists.{listed-same}
 use Rattle.backup.specs.Limits.{logMost, ports, pcMost}
 use Rattle.backup.specs.Replica.{Replica, savedOn, takenOn, remaining, lacking, answer, sync, syncNumber, synced}
 use Rattle.backup.specs.Laws.{saved-remaining}
 use Rattle.backup.specs.Accepts.{fit-parts, enough, answer-number, answer-done, sync-accepted, synced-fit}
-use Rattle.backup.specs.Place.{messages, viewIn, tallyIn, headLength, Sound, Called, takenOf, checkpointOf, lacksIn, syncNumberIn, Dropped, restatedIn, reportOf, refusedOf, landedIn, Reports}
+use Rattle.backup.specs.Place.{viewIn, tallyIn, Sound, Called, takenOf, checkpointOf, lacksIn, syncNumberIn, Dropped, restatedIn, reportOf, refusedOf, landedIn, Reports}
 use Rattle.backup.specs.Report.{syncReport}
 use Rattle.backup.specs.ReportLaws.{syncReport-accepted, syncReport-refused, gone-taken}
 use Rattle.backup.specs.Rounds.{allTaken, syncRounds, OnePass, onePass-by}
@@ -27,37 +26,6 @@ lacks-same log head taken s =
     any-same (λ p. ltb (savedOn p (viewIn log head .log)) (takenOn taken p)) (λ p. ltb (tallyIn head p) (takenOn taken p)) ports
     (λ p l. ap (λ (n : ℕ). ltb n (takenOn taken p)) (sym (s .tallies p l)))
 
--- ---- the head after a checkpoint, cell by cell
-
--- a head, written out
-spelled : List ℕ → List ℕ
-spelled head = listed (λ i. getD head i 0) headLength
-
-view-restated : (log head : List ℕ) (c : Checkpoint) → length head ≡ headLength
-    → viewIn log (restatedIn head c) ≡ record { log = messages (getD head 0 0) log; sent = 0; pc = c .pc; registers = c .r0 ∷ c .r1 ∷ c .r2 ∷ c .r3 ∷ [] }
-unfolding viewIn restatedIn spelled
-view-restated log head c h =
-    subst (λ (l : List ℕ). viewIn log (restatedIn l c) ≡ record { log = messages (getD l 0 0) log; sent = 0; pc = c .pc; registers = c .r0 ∷ c .r1 ∷ c .r2 ∷ c .r3 ∷ [] })
-    (sym (written-out head headLength 0 h)) refl
-
-tally-spelled : (head : List ℕ) (c : Checkpoint) (p : ℕ) → p < ports → tallyIn (restatedIn (spelled head) c) p ≡ tallyIn (spelled head) p - takenOn (takenOf c) p
-unfolding restatedIn spelled
-tally-spelled head c zero h = refl
-tally-spelled head c (suc zero) h = refl
-tally-spelled head c (suc (suc zero)) h = refl
-tally-spelled head c (suc (suc (suc zero))) h = refl
-tally-spelled head c (suc (suc (suc (suc p)))) h = absurd (omega arith)
-
-tally-restated : (head : List ℕ) (c : Checkpoint) → length head ≡ headLength → (p : ℕ) → p < ports
-    → tallyIn (restatedIn head c) p ≡ tallyIn head p - takenOn (takenOf c) p
-unfolding spelled
-tally-restated head c h p l =
-    subst (λ (k : List ℕ). tallyIn (restatedIn k c) p ≡ tallyIn k p - takenOn (takenOf c) p) (sym (written-out head headLength 0 h)) (tally-spelled head c p l)
-
-length-restated : (head : List ℕ) (c : Checkpoint) → length (restatedIn head c) ≡ length head
-unfolding restatedIn
-length-restated head c = simp length-set
-
 -- ---- its number
 
 -- of a sound backup the head tells the definition's number
@@ -68,13 +36,13 @@ sync-number-same log head c s =
     rw (s .is-fit, le-ltb logMost (getD head 0 0) n, lacks-same log head (takenOf c) s)
 
 -- what a head that is not refused has
-pub record Lands (head : List ℕ) (c : Checkpoint) : Type 0 where
-  pub few : getD head 0 0 ≤ logMost
-  pub pc-small : c .pc ≤ pcMost
-  pub has : lacksIn head (takenOf c) ≡ false
+record Lands (head : List ℕ) (c : Checkpoint) : Type 0 where
+  few : getD head 0 0 ≤ logMost
+  pc-small : c .pc ≤ pcMost
+  has : lacksIn head (takenOf c) ≡ false
 
-pub sync-lands : (head : List ℕ) (c : Checkpoint) → syncNumberIn head c ≡ 0 → Lands head c
-sync-lands head c h = go (ltb logMost (getD head 0 0)) (ltb pcMost (c .pc)) (lacksIn head (takenOf c)) refl refl refl h
+lands-by : (head : List ℕ) (c : Checkpoint) → syncNumberIn head c ≡ 0 → Lands head c
+lands-by head c h = go (ltb logMost (getD head 0 0)) (ltb pcMost (c .pc)) (lacksIn head (takenOf c)) refl refl refl h
   where
     go : (a b d : Bool) → ltb logMost (getD head 0 0) ≡ a → ltb pcMost (c .pc) ≡ b → lacksIn head (takenOf c) ≡ d
         → _≡_ {A = ℕ} (cond a 20 (cond b 21 (cond d 23 0))) 0 → Lands head c
@@ -114,37 +82,50 @@ module _ (log head : List ℕ) (c : Checkpoint) (number : ℕ) (e : number ≡ s
 
 -- ---- done
 
-module _ (log head log′ : List ℕ) (c : Checkpoint) (h : Lands head c) (d : Dropped log (getD head 0 0) (takenOf c) log′) where
-  stay : ℕ
-  stay = getD head 0 0 - allTaken (takenOf c)
+module _ (head : List ℕ) (c : Checkpoint) where
+  -- the head afterwards
+  landed : List ℕ
+  landed = set (restatedIn head c) 0 (getD (restatedIn head c) 0 0 - allTaken (takenOf c))
 
+  tally-landed : (p : ℕ) → p < ports → tallyIn landed p ≡ tallyIn head p - takenOn (takenOf c) p
+  unfolding landed restatedIn
+  tally-landed zero l = refl
+  tally-landed (suc zero) l = refl
+  tally-landed (suc (suc zero)) l = refl
+  tally-landed (suc (suc (suc zero))) l = refl
+  tally-landed (suc (suc (suc (suc p)))) l = absurd (omega arith)
+
+  pub lands-few : syncNumberIn head c ≡ 0 → getD (restatedIn head c) 0 0 ≤ logMost
+  unfolding restatedIn
+  lands-few z = lands-by head c z .few
+
+module _ (log head log′ : List ℕ) (c : Checkpoint) (z : syncNumberIn head c ≡ 0) (d : Dropped log (getD (restatedIn head c) 0 0) (takenOf c) log′) where
   -- what a sound backup comes to
-  left-by : Sound log head → Left log′ (restatedIn (set head 0 stay) c) (synced (viewIn log head) (checkpointOf c))
-  unfolding stay viewIn
-  left-by s =
-      let l : length (set head 0 stay) ≡ headLength = length-set head 0 stay ∙ s .head-length in
-      let n : getD (set head 0 stay) 0 0 ≡ stay = getD-set-same head 0 stay 0 (let a = s .head-length in omega arith) in
-      let r : messages stay log′ ≡ remaining (takenOf c) (viewIn log head .log) =
-      d .rest (s .log-length) (fit-parts (viewIn log head) (s .is-fit) .on-ports) (lacks-same log head (takenOf c) s ∙ h .has) in
-      record {
-        log-length = d .same-length ∙ s .log-length;
-        head-length = length-restated (set head 0 stay) c ∙ l;
-        view = view-restated log′ (set head 0 stay) c l ∙ same-replica (ap (λ (k : ℕ). messages k log′) n ∙ r) refl refl refl;
-        is-fit = synced-fit (viewIn log head) (checkpointOf c) (s .is-fit) (h .pc-small);
-        tallies = λ p k.
-            tally-restated (set head 0 stay) c l p k
-            ∙ ap (λ (x : ℕ). x - takenOn (takenOf c) p) (getD-set-other head 0 (7 + p) stay 0 (λ e. omega arith) ∙ s .tallies p k)
-            ∙ sym (saved-remaining p (takenOf c) (viewIn log head .log));
-      }
+  left-by : Sound log head → Left log′ (landed head c) (synced (viewIn log head) (checkpointOf c))
+  unfolding landed restatedIn viewIn
+  left-by s = record {
+    log-length = d .same-length ∙ s .log-length;
+    head-length = refl;
+    view = same-replica (d .rest (s .log-length) (fit-parts (viewIn log head) (s .is-fit) .on-ports) (lacks-same log head (takenOf c) s ∙ lands-by head c z .has)) refl refl refl;
+    is-fit = synced-fit (viewIn log head) (checkpointOf c) (s .is-fit) (lands-by head c z .pc-small);
+    tallies = λ p l.
+        tally-landed head c p l ∙ ap (λ (n : ℕ). n - takenOn (takenOf c) p) (s .tallies p l) ∙ sym (saved-remaining p (takenOf c) (viewIn log head .log));
+  }
 
-  pub sync-done : Called log head log′ (restatedIn (set head 0 (getD head 0 0 - allTaken (takenOf c))) c) 0 (λ v. sync v (checkpointOf c))
-  unfolding stay
+  pub sync-done : Called log head log′ (set (restatedIn head c) 0 (getD (restatedIn head c) 0 0 - allTaken (takenOf c))) 0 (λ v. sync v (checkpointOf c))
+  unfolding landed
   sync-done =
-      accepted-so log head log′ (restatedIn (set head 0 stay) c) (λ v. sync v (checkpointOf c)) (synced (viewIn log head) (checkpointOf c))
+      accepted-so log head log′ (landed head c) (λ v. sync v (checkpointOf c)) (synced (viewIn log head) (checkpointOf c))
       (λ s.
-      sync-accepted (viewIn log head) (checkpointOf c) (s .is-fit) (h .pc-small)
-      (enough (takenOf c) (viewIn log head .log) (lacks-same log head (takenOf c) s ∙ h .has)))
+      sync-accepted (viewIn log head) (checkpointOf c) (s .is-fit) (lands-by head c z .pc-small)
+      (enough (takenOf c) (viewIn log head .log) (lacks-same log head (takenOf c) s ∙ lands-by head c z .has)))
       left-by
+
+-- its rounds are those of a drop on the head as it was
+pub rounds-done : (log head : List ℕ) (c : Checkpoint) (rounds : ℕ) → rounds ≡ syncRounds 0 (viewIn log (restatedIn head c)) (checkpointOf c)
+    → OnePass (viewIn log head) (checkpointOf c) 0 rounds
+unfolding syncRounds viewIn restatedIn
+rounds-done log head c rounds e = onePass-by (viewIn log head) (checkpointOf c) 0 rounds e
 
 -- ---- the report
 

@@ -117,14 +117,11 @@ pub record Dropped (log : List ℕ) (len : ℕ) (taken : List ℕ) (log′ : Lis
   pub rest : length log ≡ logMost → onPorts (messages len log) ≡ true → lacking taken (messages len log) ≡ false
       → messages (len - allTaken taken) log′ ≡ remaining taken (messages len log)
 
--- the head after a checkpoint, but for how many messages stay
+-- the head after a checkpoint, but for how many messages stay: its state, no count, and the tallies less what was taken
 unfoldable pub restatedIn : List ℕ → Checkpoint → List ℕ
 restatedIn head c =
-    let h = set (set (set (set (set (set head 1 0) 2 (c .pc)) 3 (c .r0)) 4 (c .r1)) 5 (c .r2)) 6 (c .r3) in
-    let a = set h 7 (getD h 7 0 - c .t0) in
-    let b = set a 8 (getD a 8 0 - c .t1) in
-    let d = set b 9 (getD b 9 0 - c .t2) in
-    set d 10 (getD d 10 0 - c .t3)
+    getD head 0 0 ∷ 0 ∷ c .pc ∷ c .r0 ∷ c .r1 ∷ c .r2 ∷ c .r3
+    ∷ (tallyIn head 0 - c .t0) ∷ (tallyIn head 1 - c .t1) ∷ (tallyIn head 2 - c .t2) ∷ (tallyIn head 3 - c .t3) ∷ []
 
 -- what a sync's reply reports
 abbrev pub reportOf : Landed → Report

@@ -119,17 +119,7 @@ pub fn new_in(head: &mut [u32; HEAD])
     ensures { λ _. ⌜ (length (now (head .entry)) ≡ headLength → now (head .exit) ≡ freshHead) ⌝ }
     ensures { λ _. ⌜ ((log : List ℕ) → length log ≡ logMost → length (now (head .entry)) ≡ headLength → Fresh log (now (head .exit))) ⌝ }
 {
-    head[LEN] = FRESH;
-    head[SENT] = FRESH;
-    head[PC] = FRESH;
-    head[R0] = FRESH;
-    head[R1] = FRESH;
-    head[R2] = FRESH;
-    head[R3] = FRESH;
-    head[SAVED0] = FRESH;
-    head[SAVED1] = FRESH;
-    head[SAVED2] = FRESH;
-    head[SAVED3] = FRESH;
+    *head = [FRESH; HEAD];
 }
 
 // A message arrived: 0, or 21 or 22.
@@ -290,16 +280,19 @@ fn drop_taken(log: &mut [u64; LOG], head: &mut [u32; HEAD], c: Checkpoint) -> us
 fn restate(head: &mut [u32; HEAD], c: Checkpoint)
     ensures { λ _. ⌜ now (head .exit) ≡ restatedIn (now (head .entry)) c ⌝ }
 {
-    head[SENT] = 0;
-    head[PC] = c.pc;
-    head[R0] = c.r0;
-    head[R1] = c.r1;
-    head[R2] = c.r2;
-    head[R3] = c.r3;
-    head[SAVED0] = minus(head[SAVED0], c.t0);
-    head[SAVED1] = minus(head[SAVED1], c.t1);
-    head[SAVED2] = minus(head[SAVED2], c.t2);
-    head[SAVED3] = minus(head[SAVED3], c.t3);
+    *head = [
+        head[LEN],
+        0,
+        c.pc,
+        c.r0,
+        c.r1,
+        c.r2,
+        c.r3,
+        minus(head[SAVED0], c.t0),
+        minus(head[SAVED1], c.t1),
+        minus(head[SAVED2], c.t2),
+        minus(head[SAVED3], c.t3),
+    ];
 }
 
 // A sync that is refused drops nothing, and says so.
@@ -341,8 +334,8 @@ pub fn metered_sync_in(log: &mut [u64; LOG], head: &mut [u32; HEAD], c: Checkpoi
     if number > 0 {
         return refusal(number);
     }
-    let rounds = drop_taken(log, head, c);
     restate(head, c);
+    let rounds = drop_taken(log, head, c);
     report(head, c, rounds)
 }
 

@@ -1,7 +1,6 @@
 use mathlib.Core.Path.{_≡_, sym}
-use Rattle.backup.specs.Rounds.{onePass-by}
-use Rattle.backup.specs.Place.{viewIn, checkpointOf, syncNumberIn}
-use Rattle.backup.proofs.Syncing.{sync-lands, sync-refused, reports-refused, rounds-refused, sync-done, reports-done}
+use Rattle.backup.specs.Place.{syncNumberIn}
+use Rattle.backup.proofs.Syncing.{lands-few, sync-refused, reports-refused, rounds-refused, sync-done, reports-done, rounds-done}
 use native.Mathlib.Omega.{arith}
 use borrow.Author.Needs.{needs}
 use Rattle.backup.proofs.place.metered_sync_in.Statement.{statement}
@@ -30,13 +29,14 @@ returns c =
     let k = c .before .before .sync-number .result in
     rw (c .refusal .ensures) (sync-refused l h (a .c) k e n, (reports-refused l h (a .c) k e n, (rounds-refused l h (a .c) k e n, e)))
 
-drop-taken-requires : tie.Need-drop-taken-requires
-drop-taken-requires c κs =
-    let a = c .before .before .before .before .before .args in
-    sync-lands (a .head .now) (a .c) (let e = c .before .before .before .sync-number .ensures in let t = c .before .before .if1 .left in omega arith) .few
-
 restate-requires : tie.Need-restate-requires
 restate-requires c κs = search needs
+
+drop-taken-requires : tie.Need-drop-taken-requires
+drop-taken-requires c κs =
+    let a = c .before .before .before .before .before .before .before .args in
+    let z : syncNumberIn (a .head .now) (a .c) ≡ 0 = (let e = c .before .before .before .before .before .sync-number .ensures in let t = c .before .before .before .before .if1 .left in omega arith) in
+    rw (c .before .before .restate .ensures) (lands-few (a .head .now) (a .c) z)
 
 report-requires : tie.Need-report-requires
 report-requires c κs = search needs
@@ -44,11 +44,13 @@ report-requires c κs = search needs
 returns-2 : tie.Need-returns-2
 returns-2 c =
     let a = c .before .before .before .before .before .before .before .before .before .before .args in
-    let d = c .before .before .before .before .drop-taken in
     let z : syncNumberIn (a .head .now) (a .c) ≡ 0 = (let e = c .before .before .before .before .before .before .before .before .sync-number .ensures in let t = c .before .before .before .before .before .before .before .if1 .left in omega arith) in
-    let k = sync-done (a .log .now) (a .head .now) (d .last .0) (a .c) (sync-lands (a .head .now) (a .c) z) (d .ensures .0) in
-    rw (c .report .ensures, c .before .before .restate .ensures, d .ensures .1 .0)
-    (k, (reports-done (a .log .now) (a .head .now) (a .c) _ _ (d .result) k, (onePass-by (viewIn (a .log .now) (a .head .now)) (checkpointOf (a .c)) 0 (d .result) (d .ensures .1 .1), sym z)))
+    let l = a .log .now in
+    let h = a .head .now in
+    let d = c .before .before .drop-taken in
+    let w = rw (c .before .before .before .before .before .restate .ensures) at (d .ensures) in
+    let k = sync-done l h (d .last .0) (a .c) z (w .0) in
+    rw (c .report .ensures, w .1 .0) (k, (reports-done l h (a .c) _ _ (d .result) k, (rounds-done l h (a .c) (d .result) (w .1 .1), sym z)))
 
 pub metered-sync-in-spec : {M : Type 1} → statement M
 metered-sync-in-spec =
@@ -57,7 +59,7 @@ metered-sync-in-spec =
     sync-number-requires
     refusal-requires
     returns
-    drop-taken-requires
     restate-requires
+    drop-taken-requires
     report-requires
     returns-2)
