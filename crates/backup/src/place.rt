@@ -168,7 +168,7 @@ fn lacks(head: &[u32; HEAD], c: Checkpoint) -> bool
     head[SAVED0] < c.t0
 }
 
-// What a sync answers: 0, or 20, 21 or 23.
+// What a sync answers: 20 where the log is said to be longer than its array, 21, 23, or 0.
 fn sync_number(head: &[u32; HEAD], c: Checkpoint) -> u8
     ensures { λ r. ⌜ r ≡ syncNumberIn (now (head .entry)) c ⌝ }
 {
@@ -198,16 +198,9 @@ fn together(n0: u32, n1: u32, n2: u32, n3: u32) -> usize
     wide(n0) + wide(n1) + wide(n2) + wide(n3)
 }
 
-// How many messages were taken, on all ports together.
-fn all_taken(c: Checkpoint) -> usize
-    ensures { λ r. ⌜ r ≡ allTaken (takenOf c) ⌝ }
-{
-    together(c.t0, c.t1, c.t2, c.t3)
-}
-
 // Drops the oldest messages of each port, as many as were taken on it, in one pass over the first len, and says its rounds. The first loop
-// goes as far as the first message that stays, or the last that can go before it; the second to the last that goes, and takes no branch by
-// what a message does; the third moves up what stands behind.
+// goes as far as the first message that stays, over no more than were taken; the second to the last that goes, and takes no branch by what a
+// message does; the third moves up what stands behind.
 fn compact(log: &mut [u64; LOG], len: usize, taken: [u32; 4], all: usize) -> usize
     requires { ⌜ len ≤ logMost ⌝ }
     requires { ⌜ all ≤ len ⌝ }
@@ -257,14 +250,14 @@ fn compact(log: &mut [u64; LOG], len: usize, taken: [u32; 4], all: usize) -> usi
 }
 
 // Drops what was taken, writes how many messages stay, and says in how many rounds. Where nothing was taken, or all that was saved, nothing
-// moves, and there is no round.
+// moves, and there is none.
 fn drop_taken(log: &mut [u64; LOG], head: &mut [u32; HEAD], c: Checkpoint) -> usize
     requires { ⌜ getD (now head) 0 0 ≤ logMost ⌝ }
     ensures { λ _. ⌜ Dropped (now (log .entry)) (getD (now (head .entry)) 0 0) (takenOf c) (now (log .exit)) ⌝ }
     ensures { λ _. ⌜ now (head .exit) ≡ set (now (head .entry)) 0 (getD (now (head .entry)) 0 0 - allTaken (takenOf c)) ⌝ }
     ensures { λ r. ⌜ r ≡ syncRounds 0 (viewIn (now (log .entry)) (now (head .entry))) (checkpointOf c) ⌝ }
 {
-    let all = all_taken(c);
+    let all = together(c.t0, c.t1, c.t2, c.t3);
     if all == 0 {
         return 0;
     }

@@ -12,18 +12,18 @@ use Rattle.backup.proofs.place.drop_taken.Statement.{statement}
 use Rattle.backup.proofs.place.drop_taken.Tie as tie
 use Rattle.backup.proofs.place.drop_taken.Reads as reads
 use Rattle.backup.proofs.place.drop_taken.Lts as lts
-use Rattle.backup.proofs.place.all_taken.Reads as all-taken-reads
+use Rattle.backup.proofs.place.together.Reads as together-reads
 use Rattle.backup.proofs.place.compact.Reads as compact-reads
 use Rattle.backup.proofs.place.less.Reads as less-reads
 use Rattle.backup.proofs.place.wide.Reads as wide-reads
 
-all-taken-requires : tie.Need-all-taken-requires
-all-taken-requires c κs = search needs
+together-requires : tie.Need-together-requires
+together-requires c κs = search needs
 
 returns : tie.Need-returns
 returns c =
     let a = c .before .before .args in
-    let z = sym (c .before .all-taken .ensures) ∙ c .if1 .taken in
+    let z = sym (c .before .together .ensures) ∙ c .if1 .taken in
     let n : getD (a .head .now) 0 0 - allTaken (takenOf (a .c)) ≡ getD (a .head .now) 0 0 = omega arith in (
       dropped-none (a .log .now) (getD (a .head .now) 0 0) (takenOf (a .c)) refl z,
       (sym (ap (set (a .head .now) 0) n ∙ set-getD (a .head .now) 0 0), sym (syncRounds-none (viewIn (a .log .now) (a .head .now)) (checkpointOf (a .c)) z)),
@@ -48,7 +48,7 @@ returns-2 : tie.Need-returns-2
 returns-2 c =
     let a = c .before .before .before .before .before .before .args in
     let w = c .before .before .wide .ensures in
-    let z = c .before .before .before .before .before .all-taken .ensures in
+    let z = c .before .before .before .before .before .together .ensures in
     let n : c .before .less .result ≡ getD (a .head .now) 0 0 - allTaken (takenOf (a .c)) = (let l = c .before .less .ensures in omega arith) in
     let few : getD (a .head .now) 0 0 ≤ allTaken (takenOf (a .c)) = (let t = c .if2 .taken in omega arith) in (
       dropped-all (a .log .now) (getD (a .head .now) 0 0) (takenOf (a .c)) few,
@@ -65,7 +65,7 @@ returns-3 : tie.Need-returns-3
 returns-3 c =
     let a = c .before .before .before .before .before .before .before .before .args in
     let w = c .before .before .before .before .wide .ensures in
-    let z = c .before .before .before .before .before .before .before .all-taken .ensures in
+    let z = c .before .before .before .before .before .before .before .together .ensures in
     let n : c .before .before .before .less .result ≡ getD (a .head .now) 0 0 - allTaken (takenOf (a .c)) = (let l = c .before .before .before .less .ensures in omega arith) in
     let t = c .before .before .if2 .left in
     let p = c .compact in
@@ -82,7 +82,7 @@ pub drop-taken-spec : {M : Type 1} → statement M
 drop-taken-spec =
     tie.close
     (tie.spec
-    all-taken-requires
+    together-requires
     returns
     element-copy-out-wide
     wide-requires
