@@ -1,0 +1,13 @@
+use native.Mathlib.Omega.{arith}
+use borrow.Author.Needs.{needs}
+use Rattle.plan.proofs.length.Statement.{statement}
+use Rattle.plan.proofs.length.Tie as tie
+
+program-requires : tie.Need-program-requires
+program-requires c κs = search needs
+
+returns : tie.Need-returns
+returns c h = c .program .ensures h (omega arith)
+
+pub length-spec : {M : Type 1} → statement M
+length-spec = tie.close (tie.spec program-requires returns)

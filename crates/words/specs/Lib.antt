@@ -1,0 +1,2 @@
+-- Numbers that hold two words.
+pub mod Words
