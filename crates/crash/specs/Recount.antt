@@ -7,6 +7,7 @@ use lib.ListN.{getD}
 use Rattle.backup.specs.Limits.{logMost}
 use Rattle.rules.specs.Cabinet.{unreadOn}
 use Rattle.process.specs.Row.{mailsIn}
+use Rattle.plan.specs.Plan.{readerIn}
 use Rattle.crash.specs.Each.{Each}
 
 -- how many unread words of channel k a row and a mailbox have
@@ -26,7 +27,7 @@ moreBy x y = (x + y) % 2 ^ 32
 
 -- each of the first n totals less, or more, the unread words of its channel
 abbrev pub Dropped : ℕ → List ℕ → List (List ℕ) → List (List ℕ) → List ℕ → List ℕ → Type 0
-Dropped n reader rows mails totals totals′ = Each (λ k x. lessBy x (unreadIn rows mails (getD reader k 0) k)) n totals totals′
+Dropped n wires rows mails totals totals′ = Each (λ k x. lessBy x (unreadIn rows mails (readerIn wires k) k)) n totals totals′
 
 abbrev pub Added : ℕ → List ℕ → List (List ℕ) → List (List ℕ) → List ℕ → List ℕ → Type 0
-Added n reader rows mails totals totals′ = Each (λ k x. moreBy x (unreadIn rows mails (getD reader k 0) k)) n totals totals′
+Added n wires rows mails totals totals′ = Each (λ k x. moreBy x (unreadIn rows mails (readerIn wires k) k)) n totals totals′

@@ -13,6 +13,7 @@ pub mod Arrivals
 pub mod Owners
 pub mod Counters
 pub mod Waits
+pub mod Flagging
 pub mod Joining
 pub mod Searching
 pub mod Held
