@@ -16,12 +16,12 @@ use Rattle.rules.specs.Table.{Instruction}
 use Rattle.rules.specs.Machine.{Mail, Machine}
 use Rattle.rules.specs.Cabinet.{Since, Process}
 use Rattle.rules.specs.Moves.{advanced, counting, oneTaken}
-use Rattle.process.specs.Row.{rowLength, mailIn, mailsIn, machineOf, standbyOf, processOf, Kept}
+use Rattle.process.specs.Row.{rowLength, pcIn, eventsIn, flagIn, unreadIn, mailIn, mailsIn, machineOf, standbyOf, processOf, Kept}
 use Rattle.process.specs.Change.{Became}
 use Rattle.instruction.specs.Mailbox.{Removed}
 use Rattle.instruction.specs.Instruction.{loaded, loadedIn, Loads, afterTake, bumped, oneIn, tallied, Room, TallyRoom, Intends, Takes}
 use Rattle.instruction.specs.declared.instruction.Intent.the-variants.{Take}
-use Rattle.process.proofs.Rows.{seated-same, spelled, limited-is}
+use Rattle.process.proofs.Rows.{seated-same, spelled, limited-is, waits-cell}
 use Rattle.instruction.proofs.Cells.{seated-on, kept-cell, kept-mail, bumped-is, tally-fits, tallied-is, anotherTake, counting-taken, one-less, going}
 use Rattle.instruction.proofs.Done.{and-done, act-and-done, act-same}
 
@@ -105,21 +105,21 @@ one-same : (row : List ℕ) (i v : ℕ) → 12 ≢ i → oneIn (set row i v) ≡
 one-same row i v n = ap (λ (x : ℕ). cond (eqb x 0) 0 1) (getD-set-other row i 12 v 0 n)
 
 -- the counters of a row: two of acts, and the place
-counters-moved : (row : List ℕ) (u port : ℕ) → port < 4 → Room row 1 → getD row 7 0 + oneIn row < 2 ^ 32 → getD row (8 + port) 0 + oneIn row < 2 ^ 32
+counters-moved : (row : List ℕ) (u port : ℕ) → port < 4 → Room row 1 → eventsIn row + oneIn row < 2 ^ 32 → getD row (8 + port) 0 + oneIn row < 2 ^ 32
     → bumped (tallied (tallied (set row 14 u) (8 + port % 4)) 7) 1
-    ≡ set (set (set (set row 14 u) (8 + port % 4) (getD row (8 + port) 0 + oneIn row)) 7 (getD row 7 0 + oneIn row)) 1 (suc (getD row 1 0))
+    ≡ set (set (set (set row 14 u) (8 + port % 4) (getD row (8 + port) 0 + oneIn row)) 7 (eventsIn row + oneIn row)) 1 (suc (pcIn row))
 counters-moved row u port h r1 r7 rp =
     let i = 8 + port % 4 in
     let n : i ≡ 8 + port = omega arith in
     let t = getD row (8 + port) 0 + oneIn row in
-    let e = getD row 7 0 + oneIn row in
+    let e = eventsIn row + oneIn row in
     let one = one-same row 14 u (λ z. omega arith) in
     let one′ : oneIn (set (set row 14 u) i t) ≡ oneIn row = one-same (set row 14 u) i t (λ z. omega arith) ∙ one in
     let a : getD (set row 14 u) i 0 ≡ getD row (8 + port) 0 = getD-set-other row 14 i u 0 (λ z. omega arith) ∙ ap (λ (j : ℕ). getD row j 0) n in
     let a′ : getD (set row 14 u) i 0 + oneIn (set row 14 u) ≡ t = (λ j. a j + one j) in
-    let b : getD (set (set row 14 u) i t) 7 0 ≡ getD row 7 0 = getD-set-other (set row 14 u) i 7 t 0 (λ z. omega arith) ∙ getD-set-other row 14 7 u 0 (λ z. omega arith) in
-    let b′ : getD (set (set row 14 u) i t) 7 0 + oneIn (set (set row 14 u) i t) ≡ e = (λ j. b j + one′ j) in
-    let c : getD (set (set (set row 14 u) i t) 7 e) 1 0 ≡ getD row 1 0 =
+    let b : eventsIn (set (set row 14 u) i t) ≡ eventsIn row = getD-set-other (set row 14 u) i 7 t 0 (λ z. omega arith) ∙ getD-set-other row 14 7 u 0 (λ z. omega arith) in
+    let b′ : eventsIn (set (set row 14 u) i t) + oneIn (set (set row 14 u) i t) ≡ e = (λ j. b j + one′ j) in
+    let c : pcIn (set (set (set row 14 u) i t) 7 e) ≡ pcIn row =
     getD-set-other (set (set row 14 u) i t) 7 1 e 0 (λ z. omega arith) ∙ getD-set-other (set row 14 u) i 1 t 0 (λ z. omega arith) ∙ getD-set-other row 14 1 u 0 (λ z. omega arith) in
     ap (λ (r : List ℕ). bumped (tallied r 7) 1) (tallied-is (set row 14 u) i (rw a′ rp) ∙ ap (set (set row 14 u) i) a′)
     ∙ ap (λ (r : List ℕ). bumped r 1) (tallied-is (set (set row 14 u) i t) 7 (rw b′ r7) ∙ ap (set (set (set row 14 u) i t) 7) b′)
@@ -140,10 +140,10 @@ taken-at row mail log head (suc (suc (suc (suc port)))) h = absurd (omega arith)
 same-counts : {l k : List Mail} {p q t s e f : ℕ} (port : ℕ) (x : Process) → l ≡ k → p ≡ q → t ≡ s → e ≡ f → counted l p port t e x ≡ counted k q port s f x
 same-counts port x a b c d = λ i. counted (a i) (b i) port (c i) (d i) x
 
-module _ (row mail : List ℕ) (code a at port : ℕ) (inside : at < getD row 14 0)
+module _ (row mail : List ℕ) (code a at port : ℕ) (inside : at < unreadIn row)
     (row₁ : List ℕ) (load : Loads row code a (getD mail at 0) row₁)
-    (u : ℕ) (less : (u + 1) % 2 ^ 32 ≡ getD row₁ 14 0) (fits : u < 2 ^ 32)
-    (mail′ : List ℕ) (out : Removed mail (getD row 14 0) at mail′) where
+    (u : ℕ) (less : (u + 1) % 2 ^ 32 ≡ unreadIn row₁) (fits : u < 2 ^ 32)
+    (mail′ : List ℕ) (out : Removed mail (unreadIn row) at mail′) where
   pub takes : Takes row mail code a at port (tallied (bumped (tallied (tallied (set row₁ 14 u) (8 + port % 4)) 7) 1) 15) mail′
   unfolding processOf machineOf advanced
   takes = record { untouched = λ l. absurd (omega arith); became = whole }
@@ -172,15 +172,15 @@ module _ (row mail : List ℕ) (code a at port : ℕ) (inside : at < getD row 14
           let s7 = beyond 7 (omega arith) in
           let s14 = beyond 14 (omega arith) in
           let sp = beyond (8 + port) (omega arith) in
-          let off : Bool = eqb (getD row 12 0) 0 in
+          let off : Bool = eqb (flagIn row) 0 in
           let s12 : oneIn row₁ ≡ oneIn row = ap (λ (f : ℕ). cond (eqb f 0) 0 1) (beyond 12 (omega arith)) in
           let t = getD row₁ (8 + port) 0 + oneIn row₁ in
-          let e = getD row₁ 7 0 + oneIn row₁ in
-          let p = suc (getD row₁ 1 0) in
+          let e = eventsIn row₁ + oneIn row₁ in
+          let p = suc (pcIn row₁) in
           let was : Process = processOf row mail log head in
           let y : Process = withRegisters (loaded code a x (machineOf row mail .registers)) was in
-          let one : u ≡ getD row 14 0 - 1 = omega arith in
-          let rest : mailsIn u mail′ ≡ removeAt at (mailsIn (getD row 14 0) mail) =
+          let one : u ≡ unreadIn row - 1 = omega arith in
+          let rest : mailsIn u mail′ ≡ removeAt at (mailsIn (unreadIn row) mail) =
           ap (λ (c : ℕ). mailsIn c mail′) one ∙ out .rest (k .mail-length) most inside in
           let loads : processOf row₁ mail log head ≡ y =
           rw (load .is) (load-process row mail log head (k .row-length) x code a (q .first) (q .pair)) in
@@ -206,6 +206,10 @@ module _ (row mail : List ℕ) (code a at port : ℕ) (inside : at < getD row 14
                 (seated-on 7 e (omega arith) (λ z. omega arith) v w
                 (seated-on (8 + port % 4) t (omega arith) (λ z. omega arith) v w
                 (seated-on {row = row₁} 14 u (omega arith) (λ z. omega arith) v w (seated-same {row = row} {row′ = row₁} (same 0 (omega arith)) (beyond 13 (omega arith)) v w s))));
+            waits-again =
+                waits-cell (set (set (set row₁ 14 u) (8 + port % 4) t) 7 e) 1 p (λ z. omega arith)
+                ∙ waits-cell (set (set row₁ 14 u) (8 + port % 4) t) 7 e (λ z. omega arith)
+                ∙ waits-cell (set row₁ 14 u) (8 + port % 4) t (λ z. omega arith) ∙ waits-cell row₁ 14 u (λ z. omega arith) ∙ beyond 16 (omega arith);
           })
 
       whole : (program : List Instruction) (n operand : ℕ) (log head : List ℕ) → Kept row mail log head
@@ -220,10 +224,11 @@ module _ (row mail : List ℕ) (code a at port : ℕ) (inside : at < getD row 14
             process-is = d .process-is ∙ ap (λ (s : Since). advanced (afterTake code a at row mail) s (y .suppress) y) (act-and-done (anotherTake port) y);
             kept-again = d .kept-again;
             seated-again = d .seated-again;
+            waits-again = d .waits-again;
           }
 
 -- no unread word there, or a mailbox with more words than it can hold
-pub takes-none : (row mail : List ℕ) (code a at port : ℕ) → (getD row 14 0 ≤ logMost → at < getD row 14 0 → ⊥) → Takes row mail code a at port row mail
+pub takes-none : (row mail : List ℕ) (code a at port : ℕ) → (unreadIn row ≤ logMost → at < unreadIn row → ⊥) → Takes row mail code a at port row mail
 takes-none row mail code a at port l = record {
   untouched = λ h. (refl, refl);
   became = λ program n operand log head k i h r7 rp room. absurd (l (k .unread) (i .inside at refl));

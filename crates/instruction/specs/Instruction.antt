@@ -13,7 +13,7 @@ use Rattle.rules.specs.Machine.{Mail, Machine, Outcome, halted, noMail, moved, 
 use Rattle.rules.specs.Format.{instruction}
 use Rattle.rules.specs.Cabinet.{Process}
 use Rattle.rules.specs.Moves.{advanced, counting, oneDone, oneSent, oneTaken}
-use Rattle.process.specs.Row.{mailIn, mailsIn, machineOf, Kept}
+use Rattle.process.specs.Row.{pcIn, suppressIn, flagIn, unreadIn, mailIn, mailsIn, machineOf, Kept}
 use Rattle.process.specs.Change.{Became}
 use Rattle.instruction.specs.Mailbox.{names}
 use Rattle.instruction.specs.declared.instruction.Intent.{Intent}
@@ -31,8 +31,8 @@ pub record InRange (code a operand : ℕ) : Type 0 where
 pub record Fetched (program : List Instruction) (row : List ℕ) (n code a operand : ℕ) : Type 0 where
   pub length-is : length program ≡ n
   pub few : n ≤ pcMost
-  pub instruction-is : getD row 1 0 < n → getD program (getD row 1 0) (SET 0 0) ≡ instruction code a operand
-  pub in-range : getD row 1 0 < n → InRange code a operand
+  pub instruction-is : pcIn row < n → getD program (pcIn row) (SET 0 0) ≡ instruction code a operand
+  pub in-range : pcIn row < n → InRange code a operand
 
 -- ---- what it would do
 
@@ -70,11 +70,11 @@ outcomeOf row mail code a operand (Send channel word) = moved (afterSend (machin
 pub record Intends (program : List Instruction) (row mail : List ℕ) (n code a operand : ℕ) (intent : Intent) : Type 0 where
   pub fetched : Fetched program row n code a operand
   pub outcome : localStep program (machineOf row mail) ≡ outcomeOf row mail code a operand intent
-  pub inside : (at : ℕ) → intent ≡ Take at → at < getD row 14 0
+  pub inside : (at : ℕ) → intent ≡ Take at → at < unreadIn row
 
 abbrev pub Examined : List ℕ → List ℕ → ℕ → ℕ → ℕ → ℕ → Intent → Type 0
 Examined row mail n code a operand intent =
-    (program : List Instruction) → Fetched program row n code a operand → getD row 14 0 ≤ logMost → Intends program row mail n code a operand intent
+    (program : List Instruction) → Fetched program row n code a operand → unreadIn row ≤ logMost → Intends program row mail n code a operand intent
 
 -- a TAKE or a FIRST, from n words
 abbrev pub Sought : List ℕ → ℕ → ℕ → ℕ → Intent → Type 0
@@ -93,7 +93,7 @@ bumped row i = set row i ((getD row i 0 + 1) % 2 ^ 32)
 
 -- what an act or an instruction of the process counts for: 1 where it is limited, and 0 where it is not
 abbrev pub oneIn : List ℕ → ℕ
-oneIn row = cond (eqb (getD row 12 0) 0) 0 1
+oneIn row = cond (eqb (flagIn row) 0) 0 1
 
 -- one more in a counter that is counted on while the process is limited
 abbrev pub tallied : List ℕ → ℕ → List ℕ
@@ -120,7 +120,7 @@ Room row i = getD row i 0 + 1 < 2 ^ 32
 
 -- the same of a counter that is counted on while the process is limited
 abbrev pub TallyRoom : List ℕ → ℕ → Type 0
-TallyRoom row i = (getD row 12 0 ≡ 0 → ⊥) → Room row i
+TallyRoom row i = (flagIn row ≡ 0 → ⊥) → Room row i
 
 -- A SET, an ADD or a JUMP was done: machine, and an instruction more that is counted.
 abbrev pub Computes : List ℕ → ℕ → ℕ → ℕ → List ℕ → Type 0
@@ -131,7 +131,7 @@ Computes row code a operand row′ =
 
 -- A word was taken that had come in on a port: machine, and what is counted. Nothing changes where no unread word stands there.
 pub record Takes (row mail : List ℕ) (code a at port : ℕ) (row′ mail′ : List ℕ) : Type 0 where
-  pub untouched : getD row 14 0 ≤ at → (row′ ≡ row) × (mail′ ≡ mail)
+  pub untouched : unreadIn row ≤ at → (row′ ≡ row) × (mail′ ≡ mail)
   pub became : (program : List Instruction) (n operand : ℕ) (log head : List ℕ) → Kept row mail log head
       → Intends program row mail n code a operand (Take at) → port < ports → TallyRoom row 7 → TallyRoom row (8 + port) → TallyRoom row 15
       → Became row mail log head row′ mail′ log head
@@ -141,12 +141,12 @@ pub record Takes (row mail : List ℕ) (code a at port : ℕ) (row′ mail′ : 
 abbrev pub Suppresses : List ℕ → List ℕ → Type 0
 Suppresses row row′ =
     (program : List Instruction) (n code a operand channel word left : ℕ) (mail log head : List ℕ) → Kept row mail log head
-    → Intends program row mail n code a operand (Send channel word) → getD row 6 0 ≡ suc left
+    → Intends program row mail n code a operand (Send channel word) → suppressIn row ≡ suc left
     → Became row mail log head row′ mail log head (λ x. advanced (afterSend (machineOf row mail)) (x .since) left x)
 
 -- A SEND was queued, there being none to suppress: machine, and what is counted.
 abbrev pub Queues : List ℕ → List ℕ → Type 0
 Queues row row′ =
     (program : List Instruction) (n code a operand channel word : ℕ) (mail log head : List ℕ) → Kept row mail log head
-    → Intends program row mail n code a operand (Send channel word) → getD row 6 0 ≡ 0 → TallyRoom row 7 → TallyRoom row 15
+    → Intends program row mail n code a operand (Send channel word) → suppressIn row ≡ 0 → TallyRoom row 7 → TallyRoom row 15
     → Became row mail log head row′ mail log head (λ x. advanced (afterSend (machineOf row mail)) (counting oneSent x) 0 x)

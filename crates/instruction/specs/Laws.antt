@@ -12,6 +12,7 @@ use Rattle.facts.specs.Tests.{no-way, and-left, and-right, allOf, all-below, al
 use Rattle.rules.specs.Table.{Table, Instruction, SET, codeOf}
 use Rattle.rules.specs.Format.{instruction}
 use Rattle.rules.specs.Judge.{reads, sends, instructionOk, instructionsOk, Accepted}
+use Rattle.process.specs.Row.{pcIn}
 use Rattle.instruction.specs.Instruction.{InRange, Fetched}
 
 one-register : (code a operand : ℕ) → ltb a 4 ≡ true → code ≢ 2 → code ≢ 4 → InRange code a operand
@@ -33,7 +34,7 @@ in-range t p n (suc (suc (suc (suc (suc (suc (suc code))))))) a operand h = absu
 
 -- a program of an accepted table
 pub fetched : (t : Table) (p : ℕ) → Accepted t → p < length (t .processes) → (row : List ℕ) (code a operand : ℕ)
-    → (getD row 1 0 < length (codeOf t p) → getD (codeOf t p) (getD row 1 0) (SET 0 0) ≡ instruction code a operand)
+    → (pcIn row < length (codeOf t p) → getD (codeOf t p) (pcIn row) (SET 0 0) ≡ instruction code a operand)
     → Fetched (codeOf t p) row (length (codeOf t p)) code a operand
 unfolding instructionsOk
 fetched t p ok h row code a operand e = record {
@@ -43,7 +44,7 @@ fetched t p ok h row code a operand e = record {
   in-range = λ l.
       in-range t p (length (codeOf t p)) code a operand
       (rw (← e l)
-      (all-at (instructionOk t p (length (codeOf t p))) (codeOf t p) (getD row 1 0) (SET 0 0)
+      (all-at (instructionOk t p (length (codeOf t p))) (codeOf t p) (pcIn row) (SET 0 0)
       (all-below (λ q. allOf (instructionOk t q (length (codeOf t q))) (codeOf t q)) (length (t .processes)) (ok .instructions) p h)
       l));
 }

@@ -20,7 +20,7 @@ use process::row::ROW;
 use process::row::SUPPRESS;
 use process::row::T0;
 use process::row::UNREAD;
-use process::row::wide;
+use words::wide;
 
 // What the instruction at a process's place would do.
 pub enum Intent {

@@ -20,10 +20,10 @@ use Rattle.rules.specs.Table.{Table, placementAt, portOf}
 use Rattle.rules.specs.Machine.{Mail, Machine}
 use Rattle.rules.specs.Cabinet.{Process, Standby, Since, noTakes, noneSince, otherBoard}
 use Rattle.rules.specs.Moves.{withStandby, completed, issued, snapshot, copied, rebacking, rebacked}
-use Rattle.process.specs.Row.{mailIn, mailsIn, machineOf, standbyOf, processOf, Kept, Seated}
+use Rattle.process.specs.Row.{pcIn, flagIn, standbyBoardIn, unreadIn, checkpointIn, mailIn, mailsIn, machineOf, standbyOf, processOf, Kept, Seated}
 use Rattle.process.specs.Change.{Became, RowBecame}
 use Rattle.process.specs.Transfer.{portFor, copyOf, withMore, Copied, OnPorts, Rebacks}
-use Rattle.process.proofs.Rows.{Words, stored, spelled, seated-cell}
+use Rattle.process.proofs.Rows.{Words, stored, spelled, seated-cell, waits-cell, checkpoint-is}
 
 -- ---- the copies
 
@@ -86,9 +86,9 @@ spread mail f n =
 
 -- with the table's ports, the copies that the rules make
 routed-copies : (t : Table) (p : ℕ) (port row mail : List ℕ) → OnPorts t p port row mail
-    → map (copyOf port) (mailsIn (getD row 14 0) mail) ≡ map (λ (x : Mail). record { port = portOf t p (x .channel); word = x .word }) (mailsIn (getD row 14 0) mail)
+    → map (copyOf port) (mailsIn (unreadIn row) mail) ≡ map (λ (x : Mail). record { port = portOf t p (x .channel); word = x .word }) (mailsIn (unreadIn row) mail)
 routed-copies t p port row mail on =
-    let n : ℕ = getD row 14 0 in
+    let n : ℕ = unreadIn row in
     spread mail (copyOf port) n
     ∙ listed-same (λ i. copyOf port (mailIn (getD mail i 0))) (λ i. record { port = portOf t p (mailIn (getD mail i 0) .channel); word = mailIn (getD mail i 0) .word }) n
     (λ i l. ap (λ (q : ℕ). record { port = q; word = mailIn (getD mail i 0) .word }) (on i l .0))
@@ -103,14 +103,14 @@ kept-whole c e l =
 -- ---- the process
 
 module _ (row mail log head port : List ℕ) where
-  pub rebacks-none : logMost < getD row 14 0 → Rebacks row mail log head port row log head
+  pub rebacks-none : logMost < unreadIn row → Rebacks row mail log head port row log head
   rebacks-none h k t p on low s = absurd (let u = k .unread in omega arith)
 
   module _ (row₁ : List ℕ) (became : RowBecame row row₁ issued) (head₁ : List ℕ) (fresh : length log ≡ logMost → length head ≡ 11 → Fresh log head₁)
-      (c : code.Checkpoint) (snap : (mail log head : List ℕ) → checkpointOf c ≡ snapshot (processOf row₁ mail log head))
+      (c : code.Checkpoint) (snap : c ≡ checkpointIn row₁)
       (number : ℕ) (log₂ head₂ : List ℕ) (called : Called log head₁ log₂ head₂ number (λ v. sync v (checkpointOf c)))
-      (log₃ head₃ : List ℕ) (copy : Copied mail (getD row 14 0) port log₂ head₂ log₃ head₃) where
-    module _ (k : Kept row mail log head) (t : Table) (p : ℕ) (on : OnPorts t p port row mail) (low : getD row 1 0 ≤ pcMost) where
+      (log₃ head₃ : List ℕ) (copy : Copied mail (unreadIn row) port log₂ head₂ log₃ head₃) where
+    module _ (k : Kept row mail log head) (t : Table) (p : ℕ) (on : OnPorts t p port row mail) (low : pcIn row ≤ pcMost) where
       abbrev x : Process
       x = processOf row mail log head
 
@@ -122,7 +122,7 @@ module _ (row mail log head port : List ℕ) where
 
       taken-none : checkpointOf c ≡ record { pc = x .machine .pc; registers = x .machine .registers; taken = noTakes }
       unfolding issued
-      taken-none = snap mail log head ∙ ap snapshot is-issued
+      taken-none = ap checkpointOf snap ∙ checkpoint-is row₁ mail log head ∙ ap snapshot is-issued
 
       begun : viewIn log₂ head₂ ≡ record { log = []; sent = 0; pc = x .machine .pc; registers = x .machine .registers }
       unfolding processOf machineOf
@@ -135,10 +135,10 @@ module _ (row mail log head port : List ℕ) where
       unfolding processOf machineOf copied
       record-is =
           copy .value-is (called .sound-again (new .is-sound)) (λ i l. rw (on i l .0) (on i l .1)) (let e = ap (λ (v : Replica). length (v .log)) begun in let u = k .unread in omega arith)
-          ∙ ap (withMore (map (copyOf port) (mailsIn (getD row 14 0) mail))) begun
+          ∙ ap (withMore (map (copyOf port) (mailsIn (unreadIn row) mail))) begun
           ∙ ap (λ (l : List Message). record { log = l; sent = 0; pc = x .machine .pc; registers = x .machine .registers }) (routed-copies t p port row mail on)
 
-      other-there : Seated (placementAt t p .primary) (placementAt t p .standby) row → getD row₁ 13 0 ≡ otherBoard t p x
+      other-there : Seated (placementAt t p .primary) (placementAt t p .standby) row → standbyBoardIn row₁ ≡ otherBoard t p x
       unfolding processOf issued
       other-there s =
           became mail log head k .seated-again (placementAt t p .primary) (placementAt t p .standby) s .other-is
@@ -154,38 +154,40 @@ module _ (row mail log head port : List ℕ) where
         record {
           process-is =
               spelled row₁ (λ (r : List ℕ). processOf (set r 12 2) mail log₃ head₃) z
-              ∙ ap (withStandby (some (record { board = getD row₁ 13 0; replica = viewIn log₃ head₃; complete = false }))) (is-issued k t p on low)
+              ∙ ap (withStandby (some (record { board = standbyBoardIn row₁; replica = viewIn log₃ head₃; complete = false }))) (is-issued k t p on low)
               ∙ (λ i. record { machine = y .machine; board = y .board; suppress = y .suppress; since = noneSince; standby = some (record { board = b i; replica = v i; complete = false }) });
           kept-again = record {
             row-length = length-set row₁ 12 2 ∙ z;
             mail-length = k .mail-length;
-            unread = rw (spelled row₁ (λ (r : List ℕ). getD (set r 12 2) 14 0) z) (became mail log head k .kept-again .unread);
+            unread = rw (spelled row₁ (λ (r : List ℕ). unreadIn (set r 12 2)) z) (became mail log head k .kept-again .unread);
             words = stored {l = row₁} 12 2 (omega arith) (record { word = became mail log head k .kept-again .words }) .word;
-            flag = rw (spelled row₁ (λ (r : List ℕ). getD (set r 12 2) 12 0) z) (omega arith);
+            flag = rw (spelled row₁ (λ (r : List ℕ). flagIn (set r 12 2)) z) (omega arith);
             sound = copy .sound-again (called .sound-again (new k t p on low .is-sound));
           };
           seated-again = λ x y s. seated-cell 12 2 (λ e. omega arith) (λ e. omega arith) x y (became mail log head k .seated-again x y s);
+          waits-again = waits-cell row₁ 12 2 (λ e. omega arith) ∙ became mail log head k .waits-again;
         }
 
 -- ---- the carry
 
-pub completed-none : (row : List ℕ) → getD row 12 0 ≡ 0 → RowBecame row row rebacked
+pub completed-none : (row : List ℕ) → flagIn row ≡ 0 → RowBecame row row rebacked
 unfolding processOf machineOf standbyOf rebacked
-completed-none row z mail log head k = record { process-is = rw (eq-eqb (getD row 12 0) 0 z); kept-again = k; seated-again = λ x y s. s }
+completed-none row z mail log head k = record { process-is = rw (eq-eqb (flagIn row) 0 z); kept-again = k; seated-again = λ x y s. s; waits-again = refl }
 
-pub completed-so : (row : List ℕ) → (getD row 12 0 ≡ 0 → ⊥) → RowBecame row (set row 12 1) rebacked
+pub completed-so : (row : List ℕ) → (flagIn row ≡ 0 → ⊥) → RowBecame row (set row 12 1) rebacked
 unfolding processOf machineOf standbyOf rebacked
 completed-so row n mail log head k =
     let z = k .row-length in
     record {
-      process-is = rw (ne-eqb (getD row 12 0) 0 n) (spelled row (λ (r : List ℕ). processOf (set r 12 1) mail log head) z);
+      process-is = rw (ne-eqb (flagIn row) 0 n) (spelled row (λ (r : List ℕ). processOf (set r 12 1) mail log head) z);
       kept-again = record {
         row-length = length-set row 12 1 ∙ z;
         mail-length = k .mail-length;
-        unread = rw (spelled row (λ (r : List ℕ). getD (set r 12 1) 14 0) z) (k .unread);
+        unread = rw (spelled row (λ (r : List ℕ). unreadIn (set r 12 1)) z) (k .unread);
         words = stored {l = row} 12 1 (omega arith) (record { word = k .words }) .word;
-        flag = rw (spelled row (λ (r : List ℕ). getD (set r 12 1) 12 0) z) (omega arith);
+        flag = rw (spelled row (λ (r : List ℕ). flagIn (set r 12 1)) z) (omega arith);
         sound = k .sound;
       };
       seated-again = seated-cell 12 1 (λ e. omega arith) (λ e. omega arith);
+      waits-again = waits-cell row 12 1 (λ e. omega arith);
     }

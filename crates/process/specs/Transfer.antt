@@ -10,7 +10,7 @@ use Rattle.backup.specs.Place.{viewIn, Sound}
 use Rattle.rules.specs.Table.{Table, placementAt, portOf}
 use Rattle.rules.specs.Machine.{Mail}
 use Rattle.rules.specs.Moves.{rebacking}
-use Rattle.process.specs.Row.{mailIn, mailsIn, Kept, Seated}
+use Rattle.process.specs.Row.{pcIn, unreadIn, mailIn, mailsIn, Kept, Seated}
 use Rattle.process.specs.Change.{Became}
 
 -- the port of a word by the plan's list, in which each channel has its own, and the word as a message
@@ -33,10 +33,10 @@ pub record Copied (mail : List ℕ) (len : ℕ) (port log head log′ head′ : 
 -- each unread word is on a port of process p, which the plan's list has
 abbrev pub OnPorts : Table → ℕ → List ℕ → List ℕ → List ℕ → Type 0
 OnPorts t p port row mail =
-    (i : ℕ) → i < getD row 14 0 → (let x = mailIn (getD mail i 0) in (portFor port x ≡ portOf t p (x .channel)) × (portOf t p (x .channel) < ports))
+    (i : ℕ) → i < unreadIn row → (let x = mailIn (getD mail i 0) in (portFor port x ≡ portOf t p (x .channel)) × (portOf t p (x .channel) < ports))
 
 -- the process with a record being made, as the rules' `rebacking` has it
 abbrev pub Rebacks : List ℕ → List ℕ → List ℕ → List ℕ → List ℕ → List ℕ → List ℕ → List ℕ → Type 0
 Rebacks row mail log head port row′ log′ head′ =
-    Kept row mail log head → (t : Table) (p : ℕ) → OnPorts t p port row mail → getD row 1 0 ≤ pcMost
+    Kept row mail log head → (t : Table) (p : ℕ) → OnPorts t p port row mail → pcIn row ≤ pcMost
     → Seated (placementAt t p .primary) (placementAt t p .standby) row → Became row mail log head row′ mail log′ head′ (rebacking t p)

@@ -5,8 +5,8 @@ ghost use mathlib.Core.Path.{_≡_};
 ghost use mathlib.Core.List.{List};
 ghost use Prim.Native.Nat.{ℕ};
 ghost use Rattle.backup.specs.Place.{checkpointOf};
-ghost use Rattle.rules.specs.Moves.{snapshot as snapshotOf, issued, keeps};
-ghost use Rattle.process.specs.Row.{processOf};
+ghost use Rattle.rules.specs.Moves.{issued, keeps};
+ghost use Rattle.process.specs.Row.{checkpointIn};
 ghost use Rattle.process.specs.Change.{RowBecame, BackupBecame, Drops};
 use crate::row::COMPLETE;
 use crate::row::EVENTS;
@@ -30,7 +30,7 @@ use backup::place::total_dropped;
 
 // The process as a checkpoint.
 pub fn snapshot(row: &[u32; ROW]) -> Checkpoint
-    ensures { λ r. ⌜ ((mail log head : List ℕ) → checkpointOf r ≡ snapshotOf (processOf (now (row .entry)) mail log head)) ⌝ }
+    ensures { λ r. ⌜ r ≡ checkpointIn (now (row .entry)) ⌝ }
 {
     Checkpoint {
         pc: row[PC],

@@ -12,11 +12,11 @@ use crate::row::COMPLETE;
 use crate::row::PROTECTED;
 use crate::row::ROW;
 use crate::row::UNREAD;
-use crate::row::wide;
 use backup::limits::LOG;
 use backup::place::HEAD;
 use backup::place::arrive_in;
 use backup::place::count_in;
+use words::wide;
 
 // A word arrives at its backup too, also at one that is being made: "then all that have arrived since issue" (W-210).
 fn save(row: &[u32; ROW], log: &mut [u64; LOG], head: &mut [u32; HEAD], port: u32, word: u32)

@@ -1,21 +1,17 @@
 // A word of a mailbox as one number: channel times 2^32, plus word.
 ghost use mathlib.Core.Path.{_≡_};
-ghost use Rattle.process.specs.Row.{packMail, mailIn};
-
-pub(crate) fn packed(channel: u32, word: u32) -> u64
-    ensures { λ r. ⌜ r ≡ packMail channel word ⌝ }
-{
-    (channel as u64) * 4294967296 + (word as u64)
-}
+ghost use Rattle.process.specs.Row.{mailIn};
+use words::high_of;
+use words::low_of;
 
 pub fn channel_of(x: u64) -> u32
     ensures { λ r. ⌜ r ≡ mailIn x .channel ⌝ }
 {
-    (x / 4294967296) as u32
+    high_of(x)
 }
 
 pub fn word_of(x: u64) -> u32
     ensures { λ r. ⌜ r ≡ mailIn x .word ⌝ }
 {
-    (x % 4294967296) as u32
+    low_of(x)
 }

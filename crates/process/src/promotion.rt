@@ -23,13 +23,14 @@ use crate::row::T1;
 use crate::row::T2;
 use crate::row::T3;
 use crate::row::UNREAD;
-use crate::row::wide;
+use crate::row::WAITS;
 use backup::limits::LOG;
 use backup::place::HEAD;
 use backup::place::Promotion;
 use backup::place::fail_over_in;
 use backup::place::port_in;
 use backup::place::word_in;
+use words::wide;
 
 // The first len messages of a log as a mailbox: each with its port's channel in the port's place.
 fn readdress(mail: &mut [u64; LOG], log: &[u64; LOG], len: usize, channels: [u32; 4])
@@ -46,7 +47,7 @@ fn readdress(mail: &mut [u64; LOG], log: &[u64; LOG], len: usize, channels: [u32
 }
 
 // The row of a promoted process: the backup's state and board, its count to suppress, and no backup. Its other board is the one that it
-// ran on.
+// ran on, whose queue is lost: nothing of the process waits.
 fn restore(row: &mut [u32; ROW], p: Promotion)
     ensures { λ _. ⌜ Restored (now (row .entry)) p (now (row .exit)) ⌝ }
 {
@@ -66,6 +67,7 @@ fn restore(row: &mut [u32; ROW], p: Promotion)
     row[T3] = 0;
     row[INSTRUCTIONS] = 0;
     row[PROTECTED] = 0;
+    row[WAITS] = 0;
     row[UNREAD] = p.len;
 }
 

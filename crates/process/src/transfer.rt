@@ -17,12 +17,12 @@ use crate::row::COMPLETE;
 use crate::row::PROTECTED;
 use crate::row::ROW;
 use crate::row::UNREAD;
-use crate::row::wide;
 use backup::limits::LOG;
 use backup::place::HEAD;
 use backup::place::arrive_in;
 use backup::place::new_in;
 use backup::place::sync_in;
+use words::wide;
 
 // Copies of the first len words of a mailbox join a log, each by its channel's port.
 fn copy(

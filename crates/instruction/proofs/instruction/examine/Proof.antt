@@ -8,7 +8,7 @@ use Rattle.instruction.proofs.instruction.examine.Reads as reads
 use Rattle.instruction.proofs.instruction.examine.Lts as lts
 use Rattle.instruction.proofs.instruction.register.Reads as register-reads
 use Rattle.instruction.proofs.instruction.seek.Reads as seek-reads
-use Rattle.process.proofs.row.wide.Reads as wide-reads
+use Rattle.words.proofs.wide.Reads as wide-reads
 
 element-copy-out-if1 : tie.Need-element-copy-out-if1
 element-copy-out-if1 c = search needs
@@ -35,7 +35,7 @@ returns-3 : tie.Need-returns-3
 returns-3 c =
     let g = c .before .before .before .before .if3 .left in
     let l = c .before .before .before .if4 .taken in
-    examined-sought _ _ _ _ _ _ (c .before .before .before .before .before .before .before .if1 .left) (three-or-four _ g l) (c .seek .result) (rw (c .before .wide .ensures) at (c .seek .ensures))
+    examined-sought _ _ _ _ _ _ (c .before .before .before .before .before .before .before .if1 .left) (three-or-four _ g l) (c .seek .result) (rw (c .before .wide .ensures .0) at (c .seek .ensures))
 
 returns-4 : tie.Need-returns-4
 returns-4 c =

@@ -9,7 +9,7 @@ use Rattle.instruction.proofs.instruction.tally.Reads as tally-reads
 use Rattle.instruction.proofs.instruction.event.Reads as event-reads
 use Rattle.instruction.proofs.instruction.load.Reads as load-reads
 use Rattle.instruction.proofs.mailbox.remove.Reads as remove-reads
-use Rattle.process.proofs.row.wide.Reads as wide-reads
+use Rattle.words.proofs.wide.Reads as wide-reads
 use Rattle.std.proofs.num.wrapping_sub_u32.Reads as wrapping-sub-u32-reads
 
 element-copy-out-wide : tie.Need-element-copy-out-wide
@@ -19,10 +19,10 @@ wide-requires : tie.Need-wide-requires
 wide-requires c κs = search needs
 
 returns : tie.Need-returns
-returns c = takes-none _ _ _ _ _ _ (λ h k. let w = c .before .wide .ensures in let z = c .if1 .taken in omega arith)
+returns c = takes-none _ _ _ _ _ _ (λ h k. let w = c .before .wide .ensures .0 in let z = c .if1 .taken in omega arith)
 
 returns-2 : tie.Need-returns-2
-returns-2 c = takes-none _ _ _ _ _ _ (λ h k. let w = c .before .before .wide .ensures in let z = c .if2 .taken in omega arith)
+returns-2 c = takes-none _ _ _ _ _ _ (λ h k. let w = c .before .before .wide .ensures .0 in let z = c .if2 .taken in omega arith)
 
 mul-load : tie.Need-mul-load
 mul-load c = search needs
@@ -61,8 +61,8 @@ returns-3 : tie.Need-returns-3
 returns-3 c =
     let s = c .before .before .before .before .before .wrapping-sub-u32 in
     let d = c .before .before .before .before .before .before .before .before .before .load in
-    let w = c .before .before .before .before .before .before .before .before .before .before .before .before .before .before .wide .ensures in
-    rw (c .event .ensures, c .before .before .tally .ensures, c .before .before .before .wide2 .ensures)
+    let w = c .before .before .before .before .before .before .before .before .before .before .before .before .before .before .wide .ensures .0 in
+    rw (c .event .ensures, c .before .before .tally .ensures, c .before .before .before .wide2 .ensures .0)
     (takes _ _ _ _ _ _ (rw w at (c .before .before .before .before .before .before .before .before .before .before .before .before .if2 .left)) (d .last .0) (d .ensures) (s .result) (s .ensures) (s .ok) _ (rw w at (c .before .before .before .before .before .before .before .remove .ensures)))
 
 pub take-word-spec : {M : Type 1} → statement M

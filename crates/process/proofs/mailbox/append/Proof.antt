@@ -5,7 +5,7 @@ use Rattle.process.proofs.mailbox.append.Statement.{statement}
 use Rattle.process.proofs.mailbox.append.Tie as tie
 use Rattle.process.proofs.mailbox.append.Reads as reads
 use Rattle.process.proofs.mailbox.append.Lts as lts
-use Rattle.process.proofs.mail.packed.Reads as packed-reads
+use Rattle.words.proofs.packed.Reads as packed-reads
 
 packed-requires : tie.Need-packed-requires
 packed-requires c κs = search needs

@@ -14,7 +14,7 @@ use Rattle.process.proofs.transfer.copy.Lts as lts
 use Rattle.backup.proofs.place.arrive_in.Reads as arrive-in-reads
 use Rattle.process.proofs.mail.channel_of.Reads as channel-of-reads
 use Rattle.process.proofs.mail.word_of.Reads as word-of-reads
-use Rattle.process.proofs.row.wide.Reads as wide-reads
+use Rattle.words.proofs.wide.Reads as wide-reads
 
 abbrev Inv-loop : tie.InvT-loop
 Inv-loop mail len port log₀ head₀ i₀ log head i = Copying mail len port log₀ head₀ log head i
@@ -60,7 +60,7 @@ loop-again c =
     let a = c .before .before .before .before .before .before .before .before .before .before .args in
     let l = c .before .before .before .before .before .before .before .before .before .loop in
     let k = c .arrive-in in
-    let port = ap (λ (n : ℕ). getD (a .port .now) (n % 32) 0) (c .before .before .before .before .before .wide .ensures ∙ c .before .before .before .before .before .before .channel-of .ensures) in
+    let port = ap (λ (n : ℕ). getD (a .port .now) (n % 32) 0) (c .before .before .before .before .before .wide .ensures .0 ∙ c .before .before .before .before .before .before .channel-of .ensures) in
     copying-on (a .mail .now) (a .len) (a .port .now) (a .log .now) (a .head .now) (l .log) (l .head) (l .i) (l .inv) (k .result) (k .last .0) (k .last .1 .0)
     (c .before .before .before .before .before .before .before .before .loop-test .taken)
     (subst (λ (q : ℕ). Called (l .log) (l .head) (k .last .0) (k .last .1 .0) (k .result) (λ v. arrive v q (mailIn (getD (a .mail .now) (l .i) 0) .word))) port

@@ -12,7 +12,7 @@ use Rattle.backup.proofs.place.new_in.Reads as new-in-reads
 use Rattle.backup.proofs.place.sync_in.Reads as sync-in-reads
 use Rattle.process.proofs.checkpoint.issue.Reads as issue-reads
 use Rattle.process.proofs.checkpoint.snapshot.Reads as snapshot-reads
-use Rattle.process.proofs.row.wide.Reads as wide-reads
+use Rattle.words.proofs.wide.Reads as wide-reads
 use Rattle.process.proofs.transfer.copy.Reads as copy-reads
 
 element-copy-out-wide : tie.Need-element-copy-out-wide
@@ -24,7 +24,7 @@ wide-requires c κs = search needs
 returns : tie.Need-returns
 returns c =
     let a = c .before .before .before .args in
-    rebacks-none (a .row .now) (a .mail .now) (a .log .now) (a .head .now) (a .port .now) (let w = c .before .wide .ensures in let t = c .if1 .taken in omega arith)
+    rebacks-none (a .row .now) (a .mail .now) (a .log .now) (a .head .now) (a .port .now) (let w = c .before .wide .ensures .0 in let t = c .if1 .taken in omega arith)
 
 issue-requires : tie.Need-issue-requires
 issue-requires c κs = search needs
@@ -54,7 +54,7 @@ returns-2 c =
     let q = c .copy in
     rebacks-so (a .row .now) (a .mail .now) (a .log .now) (a .head .now) (a .port .now) (i .last .0) (i .ensures) (n .last .0) (λ l h. n .ensures .1 (a .log .now) l h)
     (k .result) (k .ensures) (s .result .number) (s .last .0) (s .last .1 .0) (s .ensures .0) (q .last .1 .1 .1 .0) (q .last .1 .1 .1 .1 .0)
-    (subst (λ (len : ℕ). Copied (a .mail .now) len (a .port .now) (s .last .0) (s .last .1 .0) (q .last .1 .1 .1 .0) (q .last .1 .1 .1 .1 .0)) (c .before .before .before .before .before .before .before .before .before .before .before .before .before .wide .ensures) (q .ensures))
+    (subst (λ (len : ℕ). Copied (a .mail .now) len (a .port .now) (s .last .0) (s .last .1 .0) (q .last .1 .1 .1 .0) (q .last .1 .1 .1 .1 .0)) (c .before .before .before .before .before .before .before .before .before .before .before .before .before .wide .ensures .0) (q .ensures))
 
 pub reback-spec : {M : Type 1} → statement M
 reback-spec =
