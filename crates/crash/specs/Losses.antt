@@ -5,6 +5,7 @@ use Prim.Native.Nat.{ℕ}
 use lib.Dec.{eqb, ltb}
 use lib.ListN.{getD, set}
 use Rattle.plan.specs.Plan.{senderIn}
+use Rattle.process.specs.Row.{boardIn, flagIn}
 use Rattle.crash.specs.Each.{Each}
 
 -- p is a process that runs on board a

@@ -44,25 +44,25 @@ pub flagged-none : (t : Table) (rows : List (List ℕ)) → Flagged t rows rows
 flagged-none t rows = record { alike = λ p l. alike-self (getD rows p []); same-length = refl }
 
 -- process p's flag is v
-abbrev pub flagIn : List (List ℕ) → ℕ → ℕ → List (List ℕ)
-flagIn rows p v = set rows p (set (getD rows p []) 16 v)
+abbrev pub withFlag : List (List ℕ) → ℕ → ℕ → List (List ℕ)
+withFlag rows p v = set rows p (set (getD rows p []) 16 v)
 
-pub flag-here : (rows : List (List ℕ)) (p v : ℕ) → p < length rows → length (getD rows p []) ≡ rowLength → waitsIn (getD (flagIn rows p v) p []) ≡ v
+pub flag-here : (rows : List (List ℕ)) (p v : ℕ) → p < length rows → length (getD rows p []) ≡ rowLength → waitsIn (getD (withFlag rows p v) p []) ≡ v
 flag-here rows p v many l = ap waitsIn (getD-set-same rows p (set (getD rows p []) 16 v) [] many) ∙ getD-set-same (getD rows p []) 16 v 0 (omega arith)
 
-pub flag-there : (rows : List (List ℕ)) (p q v : ℕ) → q ≢ p → waitsIn (getD (flagIn rows p v) q []) ≡ waitsIn (getD rows q [])
+pub flag-there : (rows : List (List ℕ)) (p q v : ℕ) → q ≢ p → waitsIn (getD (withFlag rows p v) q []) ≡ waitsIn (getD rows q [])
 flag-there rows p q v n = ap waitsIn (getD-set-other rows p q (set (getD rows p []) 16 v) [] n)
 
-pub flagged-one : (t : Table) (rows : List (List ℕ)) (p v : ℕ) → length (getD rows p []) ≡ rowLength → v < 2 ^ 32 → Flagged t rows (flagIn rows p v)
+pub flagged-one : (t : Table) (rows : List (List ℕ)) (p v : ℕ) → length (getD rows p []) ≡ rowLength → v < 2 ^ 32 → Flagged t rows (withFlag rows p v)
 flagged-one t rows p v l small = record {
   alike = λ q h.
       by-eq q p
-      (λ e. subst (λ (i : ℕ). Alike (getD rows i []) (getD (flagIn rows p v) i [])) (sym e) here)
+      (λ e. subst (λ (i : ℕ). Alike (getD rows i []) (getD (withFlag rows p v) i [])) (sym e) here)
       (λ n. rw (getD-set-other rows p q (set (getD rows p []) 16 v) [] n) (alike-self (getD rows q [])));
   same-length = length-set rows p (set (getD rows p []) 16 v);
 }
   where
-    here : Alike (getD rows p []) (getD (flagIn rows p v) p [])
+    here : Alike (getD rows p []) (getD (withFlag rows p v) p [])
     here =
         by-lt p (length rows)
         (λ h. rw (getD-set-same rows p (set (getD rows p []) 16 v) [] h) (alike-flag (getD rows p []) v l small))

@@ -23,7 +23,7 @@ use Rattle.state.specs.Queue.{placeOf, pushedIn}
 use Rattle.state.specs.Queue.{firstIn, countIn}
 use Rattle.state.specs.Store.{itemOf, Store, storeOf, Holds, processIn, outboxIn, flag}
 use Rattle.state.specs.Moved.{Reachable}
-use Rattle.state.proofs.Flagging.{flagIn, flag-here, flag-there, flagged-one}
+use Rattle.state.proofs.Flagging.{withFlag, flag-here, flag-there, flagged-one}
 use Rattle.state.proofs.Reading.{at-process, at-outbox, how-many-boards}
 use Rattle.state.proofs.Queueing.{QueueThen, entry-joins}
 use Rattle.state.proofs.Totals.{occupancy-outbox, totalled-same}
@@ -89,7 +89,7 @@ module _ {t : Table} {s : Store} {entries : List Entry} {c : Cabinet} (reach : R
 
   -- the rows afterwards: p's flag is on
   abbrev rows : List (List ℕ)
-  rows = flagIn (s .rows) p 1
+  rows = withFlag (s .rows) p 1
 
   many : p < length (s .rows)
   many = let l = h .shape .rows-length in let z = reach .accepted .processes-high in omega arith
