@@ -22,24 +22,26 @@ use backup::place::HEAD;
 use backup::place::arrive_in;
 use backup::place::new_in;
 use backup::place::sync_in;
+use plan::WIRES;
+use plan::port;
 use words::wide;
 
 // Copies of the first len words of a mailbox join a log, each by its channel's port.
 fn copy(
     mail: &[u64; LOG],
     len: usize,
-    port: &[u32; 32],
+    wires: &[u32; WIRES],
     log: &mut [u64; LOG],
     head: &mut [u32; HEAD],
 )
     requires { ⌜ len ≤ logMost ⌝ }
-    ensures { λ _. ⌜ Copied (now (mail .entry)) len (now (port .entry)) (now (log .entry)) (now (head .entry)) (now (log .exit)) (now (head .exit)) ⌝ }
+    ensures { λ _. ⌜ Copied (now (mail .entry)) len (now (wires .entry)) (now (log .entry)) (now (head .entry)) (now (log .exit)) (now (head .exit)) ⌝ }
 {
     let mut i = 0;
     while i < len {
         let x = mail[i];
         let k = wide(channel_of(x)) % 32;
-        arrive_in(log, head, port[k], word_of(x));
+        arrive_in(log, head, port(wires, k), word_of(x));
         i += 1;
     }
 }
@@ -51,9 +53,9 @@ pub fn reback(
     mail: &[u64; LOG],
     log: &mut [u64; LOG],
     head: &mut [u32; HEAD],
-    port: &[u32; 32],
+    wires: &[u32; WIRES],
 )
-    ensures { λ _. ⌜ Rebacks (now (row .entry)) (now (mail .entry)) (now (log .entry)) (now (head .entry)) (now (port .entry)) (now (row .exit)) (now (log .exit)) (now (head .exit)) ⌝ }
+    ensures { λ _. ⌜ Rebacks (now (row .entry)) (now (mail .entry)) (now (log .entry)) (now (head .entry)) (now (wires .entry)) (now (row .exit)) (now (log .exit)) (now (head .exit)) ⌝ }
 {
     let len = wide(row[UNREAD]);
     if len > LOG {
@@ -62,7 +64,7 @@ pub fn reback(
     issue(row);
     new_in(head);
     sync_in(log, head, snapshot(row));
-    copy(mail, len, port, log, head);
+    copy(mail, len, wires, log, head);
     row[PROTECTED] = COMING;
 }
 

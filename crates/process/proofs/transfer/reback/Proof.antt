@@ -24,7 +24,7 @@ wide-requires c κs = search needs
 returns : tie.Need-returns
 returns c =
     let a = c .before .before .before .args in
-    rebacks-none (a .row .now) (a .mail .now) (a .log .now) (a .head .now) (a .port .now) (let w = c .before .wide .ensures .0 in let t = c .if1 .taken in omega arith)
+    rebacks-none (a .row .now) (a .mail .now) (a .log .now) (a .head .now) (a .wires .now) (let w = c .before .wide .ensures .0 in let t = c .if1 .taken in omega arith)
 
 issue-requires : tie.Need-issue-requires
 issue-requires c κs = search needs
@@ -52,9 +52,9 @@ returns-2 c =
     let k = c .before .before .before .before .snapshot in
     let s = c .before .before .before .sync-in in
     let q = c .copy in
-    rebacks-so (a .row .now) (a .mail .now) (a .log .now) (a .head .now) (a .port .now) (i .last .0) (i .ensures) (n .last .0) (λ l h. n .ensures .1 (a .log .now) l h)
+    rebacks-so (a .row .now) (a .mail .now) (a .log .now) (a .head .now) (a .wires .now) (i .last .0) (i .ensures) (n .last .0) (λ l h. n .ensures .1 (a .log .now) l h)
     (k .result) (k .ensures) (s .result .number) (s .last .0) (s .last .1 .0) (s .ensures .0) (q .last .1 .1 .1 .0) (q .last .1 .1 .1 .1 .0)
-    (subst (λ (len : ℕ). Copied (a .mail .now) len (a .port .now) (s .last .0) (s .last .1 .0) (q .last .1 .1 .1 .0) (q .last .1 .1 .1 .1 .0)) (c .before .before .before .before .before .before .before .before .before .before .before .before .before .wide .ensures .0) (q .ensures))
+    (subst (λ (len : ℕ). Copied (a .mail .now) len (a .wires .now) (s .last .0) (s .last .1 .0) (q .last .1 .1 .1 .0) (q .last .1 .1 .1 .1 .0)) (c .before .before .before .before .before .before .before .before .before .before .before .before .before .wide .ensures .0) (q .ensures))
 
 pub reback-spec : {M : Type 1} → statement M
 reback-spec =
