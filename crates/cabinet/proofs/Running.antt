@@ -14,7 +14,7 @@ use Rattle.records.specs.declared.schedule.Judged.{Judged}
 use Rattle.records.proofs.Judged.{run-is}
 use Rattle.table.specs.Plan.{Plans, Decodes}
 use Rattle.table.specs.declared.Decoded.{Decoded}
-use Rattle.table.specs.declared.plan.Plan.{Plan}
+use Rattle.table.specs.declared.Plan.{Plan}
 use Rattle.rules.specs.Table.{Table}
 use Rattle.rules.specs.Judge.{Accepted}
 use Rattle.rules.specs.Bytes.{allBytes, written}

@@ -16,7 +16,7 @@ use records::schedule::judge_run;
 use records::schedule::judge_schedule;
 use state::queue::QUEUE_ROW;
 use table::decode;
-use table::plan::Plan;
+use table::Plan;
 
 // "An accepted run returns 0, its number of records, and whether it ended quiet." A refused one its number, 0 and false.
 pub struct Verdict {
