@@ -28,7 +28,8 @@ use Rattle.bus.specs.Carries.{countedAt, Carries}
 use Rattle.bus.proofs.Delivering.{deliver-outside, deliver-more}
 
 -- the sender's backup counts: no mailbox changes
-mailbox-stays : (l : List Process) (p q : ℕ) → p < length l → getD (set l p (counts (getD l p nobody))) q nobody .machine .mailbox ≡ getD l q nobody .machine .mailbox
+mailbox-stays : (l : List Process) (p q : ℕ) → p < length l
+    → getD (set l p (counts (getD l p nobody))) q nobody .machine .mailbox ≡ getD l q nobody .machine .mailbox
 unfolding counts
 mailbox-stays l p q h =
     by-eq q p
@@ -39,10 +40,12 @@ mailbox-stays l p q h =
 
 module _ (wires : List ℕ) (rows mails logs heads : List (List ℕ)) (totals : List ℕ) (channel word k sender p : ℕ) (head′ : List ℕ) (r : Answer)
     (is-k : channel < 32 → k ≡ channel) (is-sender : sender ≡ senderIn wires k) (is-p : sender < 16 → p ≡ sender)
-    (counted : (log : List ℕ) → BackupBecame (getD rows p []) log (getD heads p []) log head′ counts) (is-answer : r ≡ transmittedOf channel word) where
-  module _ {t : Table} {table : List ℕ} {numbers : Counts} {programs : List ℕ} {queues : List (List ℕ)} {between : List ℕ} {entries : List Entry} {c : Cabinet}
-      (ok : Accepted t) (planned : Planned t (planOf table numbers programs wires)) (h : Holds t (storeOf rows mails logs heads queues between) entries c)
-      (l : channel < length (t .channels)) (inside : channelAt t channel .sender < length (t .processes)) where
+    (counted : (log : List ℕ) → BackupBecame (getD rows p []) log (getD heads p []) log head′ counts)
+    (is-answer : r ≡ transmittedOf channel word) where
+  module _ {t : Table} {table : List ℕ} {numbers : Counts} {programs : List ℕ} {queues : List (List ℕ)} {between : List ℕ}
+      {entries : List Entry} {c : Cabinet} (ok : Accepted t) (planned : Planned t (planOf table numbers programs wires))
+      (h : Holds t (storeOf rows mails logs heads queues between) entries c) (l : channel < length (t .channels))
+      (inside : channelAt t channel .sender < length (t .processes)) where
     its-channel : k ≡ channel
     its-channel = is-k (let z = ok .channels-high in omega arith)
 
@@ -56,9 +59,12 @@ module _ (wires : List ℕ) (rows mails logs heads : List (List ℕ)) (totals : 
         let its : sender ≡ channelAt t channel .sender = is-sender ∙ ap (senderIn wires) its-channel ∙ planned .sender-at channel l in
         let pr : p ≡ channelAt t channel .sender = is-p (let z = ok .processes-high in omega arith) ∙ its in
         let hp : p < length (t .processes) = rw pr inside in
-        let first = backup-changed h (ok .processes-high) p hp (getD logs p []) head′ counts (counted (getD logs p []) (getD mails p []) (h .kept p hp)) (λ x. refl) (λ x. refl) in
-        let there = subst (λ (z : List (List ℕ)). Holds t (storeOf rows mails z (set heads p head′) queues between) entries (withProcess p (counts (processAt c p)) c)) (set-getD logs p []) first in
-        subst (λ (q : ℕ). Holds t (storeOf rows mails logs (set heads p head′) queues between) entries (withProcess q (counts (processAt c q)) c)) pr there
+        let first = backup-changed h (ok .processes-high) p hp (getD logs p []) head′ counts
+        (counted (getD logs p []) (getD mails p []) (h .kept p hp)) (λ x. refl) (λ x. refl) in
+        let there = subst (λ (z : List (List ℕ)). Holds t (storeOf rows mails z (set heads p head′) queues between) entries
+        (withProcess p (counts (processAt c p)) c)) (set-getD logs p []) first in
+        subst (λ (q : ℕ). Holds t (storeOf rows mails logs (set heads p head′) queues between) entries
+        (withProcess q (counts (processAt c q)) c)) pr there
 
     -- it changes no mailbox, and so no count
     counted-same : (i : ℕ) → occupancy t (countedAt t channel c) i ≡ occupancy t c i
@@ -76,7 +82,8 @@ module _ (wires : List ℕ) (rows mails logs heads : List (List ℕ)) (totals : 
     answer-is = is-answer;
     holds = λ t table numbers programs queues between entries c ok planned h bus l inside room.
         let named = sender-counts ok planned h l inside in
-        let to : channelAt t channel .reader < length (t .processes) = reader-inside ok channel l (λ f. within (its-reader ok planned h l inside reader is-reader ∙ f)) in
+        let to : channelAt t channel .reader < length (t .processes) =
+        reader-inside ok channel l (λ f. within (its-reader ok planned h l inside reader is-reader ∙ f)) in
         let true-again : Totalled t totals (deliver t (mailOf channel word) (countedAt t channel c)) = record {
           total-is = λ i li.
               let a = bus .total-is i li in
@@ -104,7 +111,8 @@ module _ (wires : List ℕ) (rows mails logs heads : List (List ℕ)) (totals : 
   }
 
   -- to the outside: one less
-  pub carries-outside : (reader : ℕ) → reader ≡ readerIn wires k → reader ≡ environment → (less : ℕ) → (less + 1) % 2 ^ 32 ≡ getD totals k 0 → less < 2 ^ 32
+  pub carries-outside : (reader : ℕ) → reader ≡ readerIn wires k → reader ≡ environment → (less : ℕ)
+      → (less + 1) % 2 ^ 32 ≡ getD totals k 0 → less < 2 ^ 32
       → Carries wires rows mails logs heads totals channel word rows mails logs (set heads p head′) (set totals k less) r
   carries-outside reader is-reader out less wraps small = record {
     answer-is = is-answer;
@@ -116,7 +124,8 @@ module _ (wires : List ℕ) (rows mails logs heads : List (List ℕ)) (totals : 
         (sym (its-reader ok planned h l inside reader is-reader) ∙ out) in
         let true-again : Totalled t (set totals channel less) (countedAt t channel c) =
         totalled-less totals (ok .channels-high) channel l (bus .totals-length) less
-        (λ i li. let a = bus .total-is i li in let b = counted-same ok planned h l inside i in omega arith) (wraps ∙ ap (λ (i : ℕ). getD totals i 0) same-k) small in
+        (λ i li. let a = bus .total-is i li in let b = counted-same ok planned h l inside i in omega arith)
+        (wraps ∙ ap (λ (i : ℕ). getD totals i 0) same-k) small in
         subst (Holds t (storeOf rows mails logs (set heads p head′) queues (set totals k less)) entries) (sym nobody-gets)
         (retotalled named (set totals k less) (subst (λ (i : ℕ). Totalled t (set totals i less) (countedAt t channel c)) (sym same-k) true-again));
     same-lengths = λ queues. record {

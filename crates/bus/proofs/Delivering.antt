@@ -28,7 +28,8 @@ use Rattle.bus.specs.Delivers.{mailOf, Delivers}
 -- ---- what it makes of the cabinet
 
 -- a word that the outside reads goes to no process
-pub deliver-outside : (t : Table) (c : Cabinet) (k word : ℕ) → length (c .processes) ≤ environment → channelAt t k .reader ≡ environment → deliver t (mailOf k word) c ≡ c
+pub deliver-outside : (t : Table) (c : Cabinet) (k word : ℕ) → length (c .processes) ≤ environment → channelAt t k .reader ≡ environment
+    → deliver t (mailOf k word) c ≡ c
 unfolding deliver
 deliver-outside t c k word few out =
     let r : ℕ = channelAt t k .reader in
@@ -41,7 +42,8 @@ pub deliver-more : (t : Table) (c : Cabinet) (k word : ℕ) → channelAt t k .r
 unfolding deliver receive delivered
 deliver-more t c k word l =
     let r : ℕ = channelAt t k .reader in
-    occupancy-more t c r l (receive t r (mailOf k word) (processAt c r)) k refl (λ i. unread-append i (processAt c r .machine .mailbox) (mailOf k word))
+    occupancy-more t c r l (receive t r (mailOf k word) (processAt c r)) k refl
+    (λ i. unread-append i (processAt c r .machine .mailbox) (mailOf k word))
 
 -- ---- and of the lists
 
@@ -52,7 +54,8 @@ mailbox-length row mail log head = length-map (prefix (unreadIn row) mail) mailI
 
 module _ {t : Table} {s : Store} {entries : List Entry} {c : Cabinet} (ok : Accepted t) (h : Holds t s entries c) (k word p : ℕ)
     (reads : channelAt t k .reader ≡ p) (hp : p < length (t .processes)) (row′ mail′ log′ head′ : List ℕ)
-    (became : Became (getD (s .rows) p []) (getD (s .mails) p []) (getD (s .logs) p []) (getD (s .heads) p []) row′ mail′ log′ head′ (receive t p (mailOf k word))) where
+    (became : Became (getD (s .rows) p []) (getD (s .mails) p []) (getD (s .logs) p []) (getD (s .heads) p [])
+    row′ mail′ log′ head′ (receive t p (mailOf k word))) where
   abbrev x′ : Process
   x′ = processOf row′ mail′ log′ head′
 
@@ -71,7 +74,8 @@ module _ {t : Table} {s : Store} {entries : List Entry} {c : Cabinet} (ok : Acce
       → Holds t (storeOf (set (s .rows) p row′) (set (s .mails) p mail′) (set (s .logs) p log′) (set (s .heads) p head′) (s .queues) totals) entries
       (deliver t (mailOf k word) c)
   received totals u =
-      subst (Holds t (storeOf (set (s .rows) p row′) (set (s .mails) p mail′) (set (s .logs) p log′) (set (s .heads) p head′) (s .queues) totals) entries) then-is
+      subst (Holds t (storeOf (set (s .rows) p row′) (set (s .mails) p mail′) (set (s .logs) p log′) (set (s .heads) p head′) (s .queues) totals)
+      entries) then-is
       (changed h (ok .processes-high) p hp row′ mail′ log′ head′ totals (became .kept-again) (became .seated-again) (became .waits-again) board-same
       (subst (Totalled t totals) (sym then-is) u))
 

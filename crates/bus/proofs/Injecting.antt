@@ -17,7 +17,7 @@ use Rattle.state.specs.declared.moved.Answer.{Answer}
 use Rattle.state.specs.Store.{Store, storeOf, Totalled, Holds}
 use Rattle.rules.specs.Reasons.{refusalCause, causeOf}
 use Rattle.state.specs.Channel.{fullIn}
-use Rattle.state.specs.Moved.{Reachable, Answered, refusalOf, aloneOf}
+use Rattle.state.specs.Moved.{Answered, refusalOf, aloneOf}
 use Rattle.state.proofs.Refusing.{turned-away, makes-refused}
 use Rattle.state.proofs.Reading.{how-many}
 use Rattle.state.proofs.Totals.{totalled-more}
@@ -39,7 +39,8 @@ module _ {t : Table} {s : Store} {entries : List Entry} {c : Cabinet} {l : Plan}
   unfolding inject guard
   refused-43 n = rw (ne-eqb (channelAt t k .sender) environment (λ e. n (planned .sender-at k hk ∙ e)))
 
-  refused-39 : senderIn (l .wires) k ≡ environment → fullIn (readerIn (l .wires) k) (getD (s .totals) k 0) ≡ true → inject t c (mailOf k word) ≡ refuse injectHeld
+  refused-39 : senderIn (l .wires) k ≡ environment → fullIn (readerIn (l .wires) k) (getD (s .totals) k 0) ≡ true
+      → inject t c (mailOf k word) ≡ refuse injectHeld
   unfolding inject guard
   refused-39 e b = rw (eq-eqb (channelAt t k .sender) environment (sym (planned .sender-at k hk) ∙ e), its-full ∙ b)
 
@@ -69,17 +70,19 @@ module _ (wires : List ℕ) (rows mails logs heads : List (List ℕ)) (totals : 
     its-sender e = ap (senderIn wires) (sym e) ∙ sym is-sender ∙ fed
 
     its-test : (b : Bool) → fullIn reader (getD totals k 0) ≡ b → k ≡ a → fullIn (readerIn wires a) (getD totals a 0) ≡ b
-    its-test b n e = ap (λ (i : ℕ). fullIn (readerIn wires i) (getD totals i 0)) (sym e) ∙ ap (λ (i : ℕ). fullIn i (getD totals k 0)) (sym is-reader) ∙ n
+    its-test b n e =
+        ap (λ (i : ℕ). fullIn (readerIn wires i) (getD totals i 0)) (sym e) ∙ ap (λ (i : ℕ). fullIn i (getD totals k 0)) (sym is-reader) ∙ n
 
-    pub injects-39 : fullIn reader (getD totals k 0) ≡ true → r ≡ refusalOf 39 1 a → Injects wires rows mails logs heads totals a word rows mails logs heads totals r
+    pub injects-39 : fullIn reader (getD totals k 0) ≡ true → r ≡ refusalOf 39 1 a
+        → Injects wires rows mails logs heads totals a word rows mails logs heads totals r
     unfolding refusalNumber refusalCause
     injects-39 b e table counts programs queues =
         makes-refused 39 1 (ap aloneOf e) (λ t entries c command reach planned h f l.
         let same : k ≡ a = its-channel (reach .accepted) l in
         turned-away command a injectHeld h (refused-39 planned h a word l (its-sender same) (its-test true b same)) f refl)
 
-    pub injects-done : (rows′ mails′ logs′ heads′ : List (List ℕ)) (more : ℕ) → fullIn reader (getD totals k 0) ≡ false → more ≡ (getD totals k 0 + 1) % 2 ^ 32
-        → r ≡ injectedOf a word → Delivers wires rows mails logs heads a word rows′ mails′ logs′ heads′
+    pub injects-done : (rows′ mails′ logs′ heads′ : List (List ℕ)) (more : ℕ) → fullIn reader (getD totals k 0) ≡ false
+        → more ≡ (getD totals k 0 + 1) % 2 ^ 32 → r ≡ injectedOf a word → Delivers wires rows mails logs heads a word rows′ mails′ logs′ heads′
         → Injects wires rows mails logs heads totals a word rows′ mails′ logs′ heads′ (set totals k more) r
     unfolding numbers causeOf
     injects-done rows′ mails′ logs′ heads′ more b is-more e d table counts programs queues = record {
@@ -87,7 +90,8 @@ module _ (wires : List ℕ) (rows mails logs heads : List (List ℕ)) (totals : 
           let same-k : k ≡ a = its-channel (reach .accepted) l in
           let free = its-test false b same-k in
           let so = accepted-so planned h a word l (its-sender same-k) free in
-          let to : channelAt t a .reader < length (t .processes) = fed-inside (reach .accepted) a l (sym (planned .sender-at a l) ∙ its-sender same-k) in
+          let to : channelAt t a .reader < length (t .processes) =
+          fed-inside (reach .accepted) a l (sym (planned .sender-at a l) ∙ its-sender same-k) in
           let true-again : Totalled t (set totals a more) (deliver t (mailOf a word) c) =
           totalled-more totals (reach .accepted .channels-high) a l (h .totalled .totals-length) more
           (λ i li. let x = h .totalled .total-is i li in let y = deliver-more t c a word (rw (how-many h) to) i in omega arith)

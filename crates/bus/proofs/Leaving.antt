@@ -28,8 +28,9 @@ use Rattle.state.proofs.Waits.{one-waits}
 use Rattle.bus.specs.Syncs.{Popped}
 
 -- the oldest entry, if the rules' queue has one, is the one at the ring's first place
-oldest-is : {t : Table} {s : Store} {entries : List Entry} {c : Cabinet} (h : Holds t s entries c) (b : ℕ) → b < t .boards → (count : ℕ) (item : rules.Item) (rest : List rules.Item)
-    → countIn (s .queues) b ≡ suc count → outboxAt c b ≡ item ∷ rest → outboxAt c b ≡ itemOf (getD entries (32 * b + firstIn (s .queues) b % 32) blankEntry .item) ∷ rest
+oldest-is : {t : Table} {s : Store} {entries : List Entry} {c : Cabinet} (h : Holds t s entries c) (b : ℕ) → b < t .boards
+    → (count : ℕ) (item : rules.Item) (rest : List rules.Item) → countIn (s .queues) b ≡ suc count → outboxAt c b ≡ item ∷ rest
+    → outboxAt c b ≡ itemOf (getD entries (32 * b + firstIn (s .queues) b % 32) blankEntry .item) ∷ rest
 unfolding outboxIn
 oldest-is {s = s} {entries = entries} h b hb count item rest e o =
     let first : ℕ = firstIn (s .queues) b in
@@ -40,9 +41,10 @@ oldest-is {s = s} {entries = entries} h b hb count item rest e o =
     o ∙ ap (λ (i : rules.Item). i ∷ rest) same
 
 -- of a cabinet that was reached, process p is x by now
-module _ {t : Table} {s : Store} {entries : List Entry} {c : Cabinet} (reach : Reachable t c) (p : ℕ) (x : Process) (h : Holds t s entries (withProcess p x c))
-    (b : ℕ) (hb : b < t .boards) (item : rules.Item) (waiter : Waiter p item) (rest : List rules.Item) (oldest : outboxAt c b ≡ item ∷ rest)
-    (its-process : p < length (t .processes)) (runs : x .board ≡ b) (queue′ : List ℕ) (popped : Popped (getD (s .queues) b []) queue′) where
+module _ {t : Table} {s : Store} {entries : List Entry} {c : Cabinet} (reach : Reachable t c) (p : ℕ) (x : Process)
+    (h : Holds t s entries (withProcess p x c)) (b : ℕ) (hb : b < t .boards) (item : rules.Item) (waiter : Waiter p item) (rest : List rules.Item)
+    (oldest : outboxAt c b ≡ item ∷ rest) (its-process : p < length (t .processes)) (runs : x .board ≡ b)
+    (queue′ : List ℕ) (popped : Popped (getD (s .queues) b []) queue′) where
   abbrev now : Cabinet
   now = withProcess p x c
 
@@ -51,7 +53,8 @@ module _ {t : Table} {s : Store} {entries : List Entry} {c : Cabinet} (reach : R
 
   runs-there : processAt now p .board ≡ b
   runs-there =
-      ap (λ (y : Process). y .board) (getD-set-same (c .processes) p x nobody (let a = how-many h in let l = length-set (c .processes) p x in omega arith))
+      ap (λ (y : Process). y .board) (getD-set-same (c .processes) p x nobody
+      (let a = how-many h in let l = length-set (c .processes) p x in omega arith))
       ∙ runs
 
   -- the flags afterwards: p's is off
@@ -61,13 +64,16 @@ module _ {t : Table} {s : Store} {entries : List Entry} {c : Cabinet} (reach : R
       let old = h .waits-is q hq in
       by-eq q p
       (λ f. let same : getD (set (c .outboxes) b rest) (processAt now q .board) [] ≡ rest =
-      ap (λ (i : ℕ). getD (set (c .outboxes) b rest) i []) (ap (λ (j : ℕ). processAt now j .board) f ∙ runs-there) ∙ getD-set-same (c .outboxes) b rest [] there in
+      ap (λ (i : ℕ). getD (set (c .outboxes) b rest) i []) (ap (λ (j : ℕ). processAt now j .board) f ∙ runs-there)
+      ∙ getD-set-same (c .outboxes) b rest [] there in
       let none-left : waiting q rest ≡ false = rw f (one-waits reach b p item rest oldest (waiter .its p ∙ eq-eqb p p refl)) in
       rw (same, none-left)
-      (rw f (flag-here (s .rows) p 0 (let l = h .shape .rows-length in let z = reach .accepted .processes-high in omega arith) (h .kept p its-process .row-length))))
+      (rw f (flag-here (s .rows) p 0 (let l = h .shape .rows-length in let z = reach .accepted .processes-high in omega arith)
+      (h .kept p its-process .row-length))))
       (λ n. by-eq (processAt now q .board) b
       (λ e. let same : getD (set (c .outboxes) b rest) (processAt now q .board) [] ≡ rest = rw e (getD-set-same (c .outboxes) b rest [] there) in
-      let before : waiting q (outboxAt c b) ≡ waiting q rest = ap (waiting q) oldest ∙ ap (λ (y : Bool). y || waiting q rest) (waiter .its q ∙ ne-eqb q p n) in
+      let before : waiting q (outboxAt c b) ≡ waiting q rest =
+      ap (waiting q) oldest ∙ ap (λ (y : Bool). y || waiting q rest) (waiter .its q ∙ ne-eqb q p n) in
       rw same (flag-there (s .rows) p q 0 n ∙ old ∙ ap (λ (i : ℕ). flag (waiting q (outboxAt c i))) e ∙ ap flag before))
       (λ m. rw (getD-set-other (c .outboxes) b (processAt now q .board) rest [] m) (flag-there (s .rows) p q 0 n ∙ old)))
 
@@ -87,7 +93,8 @@ module _ {t : Table} {s : Store} {entries : List Entry} {c : Cabinet} (reach : R
   }
 
   -- the lists then hold that cabinet without the entry
-  pub waiter-leaves : Holds t (storeOf (withFlag (s .rows) p 0) (s .mails) (s .logs) (s .heads) (set (s .queues) b queue′) (s .totals)) entries (withOutbox b rest now)
+  pub waiter-leaves : Holds t (storeOf (withFlag (s .rows) p 0) (s .mails) (s .logs) (s .heads) (set (s .queues) b queue′) (s .totals)) entries
+      (withOutbox b rest now)
   waiter-leaves =
       let count-is : countIn (s .queues) b ≡ suc (getD queue′ 1 0) = sym (popped .count-is) in
       entry-leaves h (reach .accepted .boards-high) b hb (withFlag (s .rows) p 0) queue′ (s .totals) (getD queue′ 1 0) rest count-is

@@ -11,7 +11,8 @@ use Rattle.bus.specs.Oldest.{lessOne, poppedIn}
 is-less : (n less : ℕ) → (less + 1) % 2 ^ 32 ≡ n → less < 2 ^ 32 → less ≡ lessOne n
 is-less n less e l = omega arith
 
-pub popped : (queue : List ℕ) (more less : ℕ) → more ≡ (getD queue 0 0 + 1) % 2 ^ 32 → (less + 1) % 2 ^ 32 ≡ getD (set queue 0 (more % 32)) 1 0 → less < 2 ^ 32
+pub popped : (queue : List ℕ) (more less : ℕ) → more ≡ (getD queue 0 0 + 1) % 2 ^ 32
+    → (less + 1) % 2 ^ 32 ≡ getD (set queue 0 (more % 32)) 1 0 → less < 2 ^ 32
     → set (set queue 0 (more % 32)) 1 less ≡ poppedIn queue
 popped queue more less e f l =
     let a : more % 32 ≡ (getD queue 0 0 + 1) % 32 = omega arith in

@@ -42,20 +42,22 @@ module _ {t : Table} {s : Store} {entries : List Entry} {c : Cabinet} (reach : R
 
   -- the lists afterwards hold the rules' cabinet afterwards
   pub sync-holds : (log′ head′ : List ℕ) → BackupBecame (getD (s .rows) p []) (getD (s .logs) p []) (getD (s .heads) p []) log′ head′ (keeps k)
-      → Holds t (storeOf (withFlag (s .rows) p 0) (s .mails) (set (s .logs) p log′) (set (s .heads) p head′) (set (s .queues) b queue′) (s .totals)) entries
-      (withProcess p (keeps k (processAt c p)) (withOutbox b rest c))
+      → Holds t (storeOf (withFlag (s .rows) p 0) (s .mails) (set (s .logs) p log′) (set (s .heads) p head′) (set (s .queues) b queue′) (s .totals))
+      entries (withProcess p (keeps k (processAt c p)) (withOutbox b rest c))
   unfolding keeps
   sync-holds log′ head′ became =
-      let first = backup-changed h (reach .accepted .processes-high) p its-process log′ head′ (keeps k) (became _ (h .kept p its-process)) (λ y. refl) (λ y. refl) in
+      let first = backup-changed h (reach .accepted .processes-high) p its-process log′ head′ (keeps k)
+      (became _ (h .kept p its-process)) (λ y. refl) (λ y. refl) in
       waiter-leaves reach p (keeps k (processAt c p)) first b hb (rules.checkpoint p k) (sync-waits p k) rest oldest its-process
       (checkpoint-owner reach b p k rest oldest .1) queue′ popped
 
   -- and so the move: 5 with what was dropped where the process is protected, 6 where not
   pub sync-answered : (log′ head′ : List ℕ) → BackupBecame (getD (s .rows) p []) (getD (s .logs) p []) (getD (s .heads) p []) log′ head′ (keeps k)
       → (dropped : ℕ) → Drops (getD (s .rows) p []) (getD (s .logs) p []) (getD (s .heads) p []) k dropped
-      → (command : Command) (number word : ℕ) → cond (eqb (flagIn (getD (s .rows) p [])) 1) 5 6 ≡ number → cond (eqb (flagIn (getD (s .rows) p [])) 1) dropped 0 ≡ word
-      → Answered t (storeOf (withFlag (s .rows) p 0) (s .mails) (set (s .logs) p log′) (set (s .heads) p head′) (set (s .queues) b queue′) (s .totals)) entries c command
-      (transmitItem t (withOutbox b rest c) (rules.checkpoint p k)) (answerOf number 0 p word)
+      → (command : Command) (number word : ℕ) → cond (eqb (flagIn (getD (s .rows) p [])) 1) 5 6 ≡ number
+      → cond (eqb (flagIn (getD (s .rows) p [])) 1) dropped 0 ≡ word
+      → Answered t (storeOf (withFlag (s .rows) p 0) (s .mails) (set (s .logs) p log′) (set (s .heads) p head′) (set (s .queues) b queue′) (s .totals))
+      entries c command (transmitItem t (withOutbox b rest c) (rules.checkpoint p k)) (answerOf number 0 p word)
   unfolding transmitItem numbers causeOf
   sync-answered log′ head′ became dropped drops command number word e w = record {
     answer-is =
@@ -89,17 +91,20 @@ protected-still rows p =
 module _ (rows logs heads : List (List ℕ)) (process : ℕ) (checkpoint : code.Checkpoint) (p : ℕ) (is-p : process < 16 → p ≡ process)
     (log′ head′ : List ℕ) (became : BackupBecame (getD rows p []) (getD logs p []) (getD heads p []) log′ head′ (keeps (checkpointOf checkpoint)))
     (dropped : ℕ) (drops : Drops (getD rows p []) (getD logs p []) (getD heads p []) (checkpointOf checkpoint) dropped) where
-  syncs-so : (number word : ℕ) → cond (eqb (flagIn (getD rows p [])) 1) 5 6 ≡ number → cond (eqb (flagIn (getD rows p [])) 1) dropped 0 ≡ word → number < 32
+  syncs-so : (number word : ℕ) → cond (eqb (flagIn (getD rows p [])) 1) 5 6 ≡ number
+      → cond (eqb (flagIn (getD rows p [])) 1) dropped 0 ≡ word → number < 32
       → Syncs rows logs heads process checkpoint (withFlag rows p 0) (set logs p log′) (set heads p head′) (answerOf number 0 process word)
   syncs-so number word e w done = record {
     answered = λ t mails queues totals entries c command b queue′ rest reach h hb popped oldest.
         let hq : process < length (t .processes) = its-process reach h b hb process (checkpointOf checkpoint) rest oldest queue′ popped in
         let same : p ≡ process = is-p (let z = reach .accepted .processes-high in omega arith) in
-        subst (λ (i : ℕ). Answered t (storeOf (withFlag rows i 0) mails (set logs i log′) (set heads i head′) (set queues b queue′) totals) entries c command
-        (transmitItem t (withOutbox b rest c) (rules.checkpoint process (checkpointOf checkpoint))) (answerOf number 0 process word)) (sym same)
+        subst (λ (i : ℕ). Answered t (storeOf (withFlag rows i 0) mails (set logs i log′) (set heads i head′) (set queues b queue′) totals)
+        entries c command (transmitItem t (withOutbox b rest c) (rules.checkpoint process (checkpointOf checkpoint))) (answerOf number 0 process word)) (sym same)
         (sync-answered reach h b hb process (checkpointOf checkpoint) rest oldest queue′ popped log′ head′
-        (subst (λ (i : ℕ). BackupBecame (getD rows i []) (getD logs i []) (getD heads i []) log′ head′ (keeps (checkpointOf checkpoint))) same became) dropped
-        (subst (λ (i : ℕ). Drops (getD rows i []) (getD logs i []) (getD heads i []) (checkpointOf checkpoint) dropped) same drops) command number word
+        (subst (λ (i : ℕ). BackupBecame (getD rows i []) (getD logs i []) (getD heads i []) log′ head′ (keeps (checkpointOf checkpoint)))
+        same became) dropped
+        (subst (λ (i : ℕ). Drops (getD rows i []) (getD logs i []) (getD heads i []) (checkpointOf checkpoint) dropped) same drops)
+        command number word
         (subst (λ (i : ℕ). cond (eqb (flagIn (getD rows i [])) 1) 5 6 ≡ number) same e)
         (subst (λ (i : ℕ). cond (eqb (flagIn (getD rows i [])) 1) dropped 0 ≡ word) same w));
     done = done;

@@ -25,7 +25,8 @@ transfer-waits : (p : ℕ) → Waiter p (rules.transfer p)
 transfer-waits p = record { its = λ q. refl; no-word = λ i. refl }
 
 module _ {t : Table} {s : Store} {entries : List Entry} {c : Cabinet} (reach : Reachable t c) (h : Holds t s entries c) (b : ℕ) (hb : b < t .boards)
-    (p : ℕ) (rest : List rules.Item) (oldest : outboxAt c b ≡ rules.transfer p ∷ rest) (queue′ : List ℕ) (popped : Popped (getD (s .queues) b []) queue′) where
+    (p : ℕ) (rest : List rules.Item) (oldest : outboxAt c b ≡ rules.transfer p ∷ rest)
+    (queue′ : List ℕ) (popped : Popped (getD (s .queues) b []) queue′) where
   its-process : p < length (t .processes)
   its-process = transfer-owner reach b p rest oldest .0
 
@@ -50,7 +51,8 @@ transfers-so rows process p is-p row′ became = record {
       (record {
         answer-is = refl;
         cause-is = refl;
-        holds = transfer-holds reach h b hb process rest oldest queue′ popped row′ (subst (λ (i : ℕ). RowBecame (getD rows i []) row′ rebacked) same became);
+        holds = transfer-holds reach h b hb process rest oldest queue′ popped row′
+            (subst (λ (i : ℕ). RowBecame (getD rows i []) row′ rebacked) same became);
       });
   done = omega arith;
   same-length = length-set (set rows p row′) p _ ∙ length-set rows p row′;

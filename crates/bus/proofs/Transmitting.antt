@@ -92,7 +92,10 @@ module _ {t : Table} {s : Store} {entries : List Entry} {c : Cabinet} (h : Holds
 
   refused-42 : getD (getD (s .queues) b []) 2 0 ≡ 0 → countIn (s .queues) b ≡ 0 → transmit t c b ≡ refuse outboxEmpty
   unfolding transmitOldest outboxIn ring
-  refused-42 z e = live z ∙ ap (transmitOldest t c b) (at-outbox h b hb ∙ ap (λ (n : ℕ). map (λ (x : Entry). itemOf (x .item)) (ring blankEntry entries b (firstIn (s .queues) b) n)) e)
+  refused-42 z e =
+      live z
+      ∙ ap (transmitOldest t c b) (at-outbox h b hb
+      ∙ ap (λ (n : ℕ). map (λ (x : Entry). itemOf (x .item)) (ring blankEntry entries b (firstIn (s .queues) b) n)) e)
 
   begins : countIn (s .queues) b ≢ 0 → Begins c b (countIn (s .queues) b) (itemOf (getD entries (oldestPlace (s .queues) b) blankEntry .item))
   unfolding outboxIn
@@ -117,9 +120,13 @@ module _ {t : Table} {s : Store} {entries : List Entry} {c : Cabinet} (h : Holds
       let few = h .count-small b hb in
       let z : length first ≡ length queue = length-set queue 0 _ in
       record {
-        first-is = getD-set-other first 1 0 (lessOne (getD queue 1 0)) 0 (λ i. omega arith) ∙ getD-set-same queue 0 ((getD queue 0 0 + 1) % 32) 0 (omega arith);
+        first-is =
+            getD-set-other first 1 0 (lessOne (getD queue 1 0)) 0 (λ i. omega arith)
+            ∙ getD-set-same queue 0 ((getD queue 0 0 + 1) % 32) 0 (omega arith);
         count-is = let a = getD-set-same first 1 (lessOne (getD queue 1 0)) 0 (omega arith) in omega arith;
-        dead-is = getD-set-other first 1 2 (lessOne (getD queue 1 0)) 0 (λ i. omega arith) ∙ getD-set-other queue 0 2 ((getD queue 0 0 + 1) % 32) 0 (λ i. omega arith);
+        dead-is =
+            getD-set-other first 1 2 (lessOne (getD queue 1 0)) 0 (λ i. omega arith)
+            ∙ getD-set-other queue 0 2 ((getD queue 0 0 + 1) % 32) 0 (λ i. omega arith);
         three = length-set first 1 _ ∙ z ∙ l;
       }
 
@@ -146,19 +153,23 @@ module _ {t : Table} {s : Store} {entries : List Entry} {c : Cabinet} (reach : R
   }
 
   -- no checkpoint waits less
-  waits-still : (p : ℕ) → p < length (t .processes) → waitsIn (getD (s .rows) p []) ≡ flag (waiting p (getD (set (c .outboxes) b rest) (processAt c p .board) []))
+  waits-still : (p : ℕ) → p < length (t .processes)
+      → waitsIn (getD (s .rows) p []) ≡ flag (waiting p (getD (set (c .outboxes) b rest) (processAt c p .board) []))
   waits-still p l =
       by-eq (processAt c p .board) b
       (λ e. h .waits-is p l
       ∙ ap (λ (q : List rules.Item). flag (waiting p q)) (ap (outboxAt c) e ∙ is-queue)
-      ∙ ap (λ (q : List rules.Item). flag (waiting p q)) (sym (ap (λ (i : ℕ). getD (set (c .outboxes) b rest) i []) e ∙ getD-set-same (c .outboxes) b rest [] (rw (how-many-boards h) hb))))
-      (λ n. h .waits-is p l ∙ ap (λ (q : List rules.Item). flag (waiting p q)) (sym (getD-set-other (c .outboxes) b (processAt c p .board) rest [] n)))
+      ∙ ap (λ (q : List rules.Item). flag (waiting p q))
+      (sym (ap (λ (i : ℕ). getD (set (c .outboxes) b rest) i []) e ∙ getD-set-same (c .outboxes) b rest [] (rw (how-many-boards h) hb))))
+      (λ n. h .waits-is p l
+      ∙ ap (λ (q : List rules.Item). flag (waiting p q)) (sym (getD-set-other (c .outboxes) b (processAt c p .board) rest [] n)))
 
   -- what a count made afresh gives meanwhile
   abbrev between : List ℕ
   between = listed (occupancy t left-cabinet) 32
 
-  word-left : Holds t (storeOf (s .rows) (s .mails) (s .logs) (s .heads) (set (s .queues) b (poppedIn (getD (s .queues) b []))) between) entries left-cabinet
+  word-left : Holds t (storeOf (s .rows) (s .mails) (s .logs) (s .heads) (set (s .queues) b (poppedIn (getD (s .queues) b []))) between)
+      entries left-cabinet
   word-left =
       let row = row-then h b hb fewer is-count in
       entry-leaves h (reach .accepted .boards-high) b hb (s .rows) (poppedIn (getD (s .queues) b [])) between fewer rest is-count
@@ -174,8 +185,8 @@ module _ {t : Table} {s : Store} {entries : List Entry} {c : Cabinet} (reach : R
       })
 
   -- and what the rules make of it
-  word-answered : {table : List ℕ} {counts : Counts} {programs wires : List ℕ} (rows′ mails′ logs′ heads′ : List (List ℕ)) (totals′ : List ℕ) (r : Answer)
-      (command : Command) → Planned t (planOf table counts programs wires)
+  word-answered : {table : List ℕ} {counts : Counts} {programs wires : List ℕ} (rows′ mails′ logs′ heads′ : List (List ℕ)) (totals′ : List ℕ)
+      (r : Answer) (command : Command) → Planned t (planOf table counts programs wires)
       → Carries wires (s .rows) (s .mails) (s .logs) (s .heads) (s .totals) channel word rows′ mails′ logs′ heads′ totals′ r
       → Answered t (storeOf rows′ mails′ logs′ heads′ (set (s .queues) b (poppedIn (getD (s .queues) b []))) totals′) entries c command
       (transmitItem t left-cabinet (rules.message (mailOf channel word))) r
@@ -190,7 +201,8 @@ module _ {t : Table} {s : Store} {entries : List Entry} {c : Cabinet} (reach : R
 
 -- ---- what the move promises
 
-module _ (wires : List ℕ) (rows mails logs heads queues : List (List ℕ)) (totals : List ℕ) (a b : ℕ) (x : Entry) (r : Answer) (is-b : a < 16 → b ≡ a) where
+module _ (wires : List ℕ) (rows mails logs heads queues : List (List ℕ)) (totals : List ℕ) (a b : ℕ) (x : Entry) (r : Answer)
+    (is-b : a < 16 → b ≡ a) where
   -- of a board of the table the clamped number is the number
   its-board : {t : Table} → Accepted t → a < t .boards → b ≡ a
   its-board ok l = is-b (let z = ok .boards-high in omega arith)
@@ -218,7 +230,8 @@ module _ (wires : List ℕ) (rows mails logs heads queues : List (List ℕ)) (to
 
     module _ (i : Item) (some : frontOf (getD queues b []) x ≡ Oldest i) (queue′ : List ℕ) (leaves : queue′ ≡ poppedIn (getD queues b [])) where
       -- the entry in front is the queue's oldest
-      oldest-there : {t : Table} {entries : List Entry} → OldestAt queues a x t entries → itemOf (getD entries (oldestPlace queues a) blankEntry .item) ≡ itemOf i
+      oldest-there : {t : Table} {entries : List Entry} → OldestAt queues a x t entries
+          → itemOf (getD entries (oldestPlace queues a) blankEntry .item) ≡ itemOf i
       oldest-there o = ap (λ (y : Entry). itemOf (y .item)) (sym (o .oldest-is)) ∙ ap itemOf (front-some (getD queues b []) x i some .1)
 
       -- what was made of the lists where the oldest entry is this one
@@ -242,12 +255,13 @@ module _ (wires : List ℕ) (rows mails logs heads queues : List (List ℕ)) (to
             let first = oldest-there o ∙ m in
             let some-wait : countIn queues a ≢ 0 = λ e. front-some (getD queues b []) x i some .0 (ap (countIn queues) same ∙ e) in
             let q = subst (Begins c a (countIn queues a)) first (begins h a hb some-wait) in
-            let rule : transmit t c a ≡ transmitItem t (withOutbox a (q .rest) c) item = live h a hb (alive-there same) ∙ ap (transmitOldest t c a) (q .is-queue) in
+            let rule : transmit t c a ≡ transmitItem t (withOutbox a (q .rest) c) item =
+            live h a hb (alive-there same) ∙ ap (transmitOldest t c a) (q .is-queue) in
             let then-is : set queues a (poppedIn (getD queues a [])) ≡ set queues b queue′ =
             ap (λ (k : ℕ). set queues k (poppedIn (getD queues k []))) (sym same) ∙ ap (set queues b) (sym leaves) in
             subst (λ (l : List (List ℕ)). Answered t (storeOf rows′ mails′ logs′ heads′ l totals′) entries c command (transmit t c a) r) then-is
-            (subst (λ (y : Result). Answered t (storeOf rows′ mails′ logs′ heads′ (set queues a (poppedIn (getD queues a []))) totals′) entries c command y r) (sym rule)
-            (carried t table counts programs entries c command reach planned h hb first q));
+            (subst (λ (y : Result). Answered t (storeOf rows′ mails′ logs′ heads′ (set queues a (poppedIn (getD queues a []))) totals′) entries c command y r)
+            (sym rule) (carried t table counts programs entries c command reach planned h hb first q));
         untouched = λ l. absurd (omega arith);
         none-joins = λ _. omega arith;
         same-lengths = record {
@@ -267,7 +281,8 @@ module _ (wires : List ℕ) (rows mails logs heads queues : List (List ℕ)) (to
           transmits-so (rules.message (mailOf channel word)) (ap itemOf is-word) rows′ mails′ logs′ heads′ totals′
           (let z = ap (λ (y : Answer). y .code) (carried .answer-is) in omega arith) (carried .same-lengths queues)
           (λ t table counts programs entries c command reach planned h hb first q.
-          word-answered reach h a hb channel word (q .fewer) (q .rest) (q .is-count) first (q .is-queue) rows′ mails′ logs′ heads′ totals′ r command planned carried)
+          word-answered reach h a hb channel word (q .fewer) (q .rest) (q .is-count) first (q .is-queue)
+          rows′ mails′ logs′ heads′ totals′ r command planned carried)
 
       pub transmits-sync : (process : ℕ) (checkpoint : code.Checkpoint) → i ≡ Sync process checkpoint → (rows′ logs′ heads′ : List (List ℕ))
           → Syncs rows logs heads process checkpoint rows′ logs′ heads′ r
@@ -283,7 +298,14 @@ module _ (wires : List ℕ) (rows mails logs heads queues : List (List ℕ)) (to
           → Transmits wires rows mails logs heads queues totals a x rows′ mails logs heads (set queues b queue′) totals r
       transmits-transfer process is-transfer rows′ carried =
           transmits-so (rules.transfer process) (ap itemOf is-transfer) rows′ mails logs heads totals (carried .done)
-          (record { rows-same = carried .same-length; mails-same = refl; logs-same = refl; heads-same = refl; queues-same = refl; totals-same = refl })
+          (record {
+            rows-same = carried .same-length;
+            mails-same = refl;
+            logs-same = refl;
+            heads-same = refl;
+            queues-same = refl;
+            totals-same = refl;
+          })
           (λ t table counts programs entries c command reach planned h hb first q.
           carried .answered t mails logs heads queues totals entries c command a (poppedIn (getD queues a [])) (q .rest) reach h hb
           (row-then h a hb (q .fewer) (q .is-count)) (q .is-queue))

@@ -59,7 +59,8 @@ returns c =
     let port = c .before .port in
     let got = c .receive in
     delivers (s .wires .now) (s .rows .now) (s .mails .now) (s .logs .now) (s .heads .now) (s .channel) (s .word)
-    (k .result) (reader .result) (p .result) (port .result) (k .ensures .1) (reader .ensures (k .ensures .0)) (p .ensures .1) (port .ensures (k .ensures .0))
+    (k .result) (reader .result) (p .result) (port .result)
+    (k .ensures .1) (reader .ensures (k .ensures .0)) (p .ensures .1) (port .ensures (k .ensures .0))
     (got .last .0) (got .last .1 .0) (got .last .1 .1 .0) (got .last .1 .1 .1 .0) (got .ensures)
 
 pub deliver-spec : {M : Type 1} → statement M

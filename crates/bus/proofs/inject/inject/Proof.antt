@@ -25,11 +25,12 @@ refusal-requires c κs = search needs
 
 returns : tie.Need-returns
 returns c =
-    let s = c .before .before .before .before .args in
-    let k = c .before .before .before .index32 in
-    let sender = c .before .before .sender in
-    injects-43 (s .wires .now) (s .rows .now) (s .mails .now) (s .logs .now) (s .heads .now) (s .totals .now) (s .a) (s .word) (k .result) _ (k .ensures .1)
-    (sender .result) (sender .ensures (k .ensures .0)) (c .before .if1 .taken) (c .refusal .ensures)
+    let first = c .before in
+    let s = first .before .before .before .args in
+    let k = first .before .before .index32 in
+    let sender = first .before .sender in
+    injects-43 (s .wires .now) (s .rows .now) (s .mails .now) (s .logs .now) (s .heads .now) (s .totals .now) (s .a) (s .word)
+    (k .result) _ (k .ensures .1) (sender .result) (sender .ensures (k .ensures .0)) (first .if1 .taken) (c .refusal .ensures)
 
 reader-requires : tie.Need-reader-requires
 reader-requires c κs = search needs
@@ -48,13 +49,14 @@ refusal-requires-2 c κs = search needs
 
 returns-2 : tie.Need-returns-2
 returns-2 c =
-    let s = c .before .before .before .before .before .before .before .before .args in
-    let k = c .before .before .before .before .before .before .before .index32 in
-    let sender = c .before .before .before .before .before .before .sender in
+    let first = c .before .before .before .before .before in
+    let s = first .before .before .before .args in
+    let k = first .before .before .index32 in
+    let sender = first .before .sender in
     let reader = c .before .before .before .before .reader in
-    injects-39 (s .wires .now) (s .rows .now) (s .mails .now) (s .logs .now) (s .heads .now) (s .totals .now) (s .a) (s .word) (k .result) _ (k .ensures .1)
-    (sender .result) (sender .ensures (k .ensures .0)) (c .before .before .before .before .before .if1 .left) (reader .result) (reader .ensures (k .ensures .0))
-    (sym (c .before .before .full .ensures) ∙ c .before .if2 .taken) (c .refusal2 .ensures)
+    injects-39 (s .wires .now) (s .rows .now) (s .mails .now) (s .logs .now) (s .heads .now) (s .totals .now) (s .a) (s .word)
+    (k .result) _ (k .ensures .1) (sender .result) (sender .ensures (k .ensures .0)) (first .if1 .left)
+    (reader .result) (reader .ensures (k .ensures .0)) (sym (c .before .before .full .ensures) ∙ c .before .if2 .taken) (c .refusal2 .ensures)
 
 deliver-requires : tie.Need-deliver-requires
 deliver-requires c κs = search needs
@@ -76,17 +78,19 @@ element-write-totals c = search needs
 
 returns-3 : tie.Need-returns-3
 returns-3 c =
-    let s = c .before .before .before .before .before .before .before .before .before .before .before .before .before .before .args in
-    let k = c .before .before .before .before .before .before .before .before .before .before .before .before .before .index32 in
-    let sender = c .before .before .before .before .before .before .before .before .before .before .before .before .sender in
-    let reader = c .before .before .before .before .before .before .before .before .before .before .reader in
+    let first = c .before .before .before .before .before .before .before .before .before .before .before in
+    let s = first .before .before .before .args in
+    let k = first .before .before .index32 in
+    let sender = first .before .sender in
+    let second = c .before .before .before .before .before .before .before in
+    let reader = second .before .before .before .reader in
     let d = c .before .before .deliver in
     let more = c .wrapping-add-u32 in
-    injects-done (s .wires .now) (s .rows .now) (s .mails .now) (s .logs .now) (s .heads .now) (s .totals .now) (s .a) (s .word) (k .result) _ (k .ensures .1)
-    (sender .result) (sender .ensures (k .ensures .0)) (c .before .before .before .before .before .before .before .before .before .before .before .if1 .left)
+    injects-done (s .wires .now) (s .rows .now) (s .mails .now) (s .logs .now) (s .heads .now) (s .totals .now) (s .a) (s .word)
+    (k .result) _ (k .ensures .1) (sender .result) (sender .ensures (k .ensures .0)) (first .if1 .left)
     (reader .result) (reader .ensures (k .ensures .0))
     (d .last .1 .0) (d .last .1 .1 .0) (d .last .1 .1 .1 .0) (d .last .1 .1 .1 .1 .0) (more .result)
-    (sym (c .before .before .before .before .before .before .before .before .full .ensures) ∙ c .before .before .before .before .before .before .before .if2 .left) (more .ensures) refl (d .ensures)
+    (sym (second .before .full .ensures) ∙ second .if2 .left) (more .ensures) refl (d .ensures)
 
 pub inject-spec : {M : Type 1} → statement M
 inject-spec =

@@ -55,16 +55,16 @@ returns c =
     let s = c .before .before .before .before .before .before .before .args in
     let p = c .before .before .before .before .before .before .index16 in
     let k = c .before .before .keep in
-    syncs-lost (s .rows .now) (s .logs .now) (s .heads .now) (s .process) (s .checkpoint) (p .result) (p .ensures .1) (k .last .1 .0) (k .last .1 .1 .0)
-    (k .ensures .0) (k .result) (k .ensures .1) (c .if1 .taken)
+    syncs-lost (s .rows .now) (s .logs .now) (s .heads .now) (s .process) (s .checkpoint) (p .result) (p .ensures .1)
+    (k .last .1 .0) (k .last .1 .1 .0) (k .ensures .0) (k .result) (k .ensures .1) (c .if1 .taken)
 
 returns-2 : tie.Need-returns-2
 returns-2 c =
     let s = c .before .before .before .before .before .before .before .args in
     let p = c .before .before .before .before .before .before .index16 in
     let k = c .before .before .keep in
-    syncs-kept (s .rows .now) (s .logs .now) (s .heads .now) (s .process) (s .checkpoint) (p .result) (p .ensures .1) (k .last .1 .0) (k .last .1 .1 .0)
-    (k .ensures .0) (k .result) (k .ensures .1) (c .if1 .left)
+    syncs-kept (s .rows .now) (s .logs .now) (s .heads .now) (s .process) (s .checkpoint) (p .result) (p .ensures .1)
+    (k .last .1 .0) (k .last .1 .1 .0) (k .ensures .0) (k .result) (k .ensures .1) (c .if1 .left)
 
 pub transmit-sync-spec : {M : Type 1} → statement M
 transmit-sync-spec =

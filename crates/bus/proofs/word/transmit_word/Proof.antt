@@ -58,32 +58,34 @@ element-write-totals c = search needs
 
 returns : tie.Need-returns
 returns c =
-    let s = c .before .before .before .before .before .before .before .before .before .before .args in
-    let k = c .before .before .before .before .before .before .before .before .before .index32 in
-    let sender = c .before .before .before .before .before .before .before .before .sender in
-    let p = c .before .before .before .before .before .before .before .index16 in
-    let n = c .before .before .before .before .counts in
-    let reader = c .before .before .before .reader in
+    let test = c .before .before in
+    let s = test .before .before .before .before .before .before .before .before .args in
+    let k = test .before .before .before .before .before .before .before .index32 in
+    let sender = test .before .before .before .before .before .before .sender in
+    let p = test .before .before .before .before .before .index16 in
+    let n = test .before .before .counts in
+    let reader = test .before .reader in
     let less = c .wrapping-sub-u32 in
     carries-outside (s .wires .now) (s .rows .now) (s .mails .now) (s .logs .now) (s .heads .now) (s .totals .now) (s .channel) (s .word)
     (k .result) (sender .result) (p .result) (n .last .1 .0) _ (k .ensures .1) (sender .ensures (k .ensures .0)) (p .ensures .1) (n .ensures) refl
-    (reader .result) (reader .ensures (k .ensures .0)) (c .before .before .if1 .taken) (less .result) (less .ensures) (less .ok)
+    (reader .result) (reader .ensures (k .ensures .0)) (test .if1 .taken) (less .result) (less .ensures) (less .ok)
 
 deliver-requires : tie.Need-deliver-requires
 deliver-requires c κs = search needs
 
 returns-2 : tie.Need-returns-2
 returns-2 c =
-    let s = c .before .before .before .before .before .before .before .before .before .before .before .before .before .args in
-    let k = c .before .before .before .before .before .before .before .before .before .before .before .before .index32 in
-    let sender = c .before .before .before .before .before .before .before .before .before .before .before .sender in
-    let p = c .before .before .before .before .before .before .before .before .before .before .index16 in
-    let n = c .before .before .before .before .before .before .before .counts in
-    let reader = c .before .before .before .before .before .before .reader in
+    let test = c .before .before .before .before .before in
+    let s = test .before .before .before .before .before .before .before .before .args in
+    let k = test .before .before .before .before .before .before .before .index32 in
+    let sender = test .before .before .before .before .before .before .sender in
+    let p = test .before .before .before .before .before .index16 in
+    let n = test .before .before .counts in
+    let reader = test .before .reader in
     let d = c .deliver in
     carries-inside (s .wires .now) (s .rows .now) (s .mails .now) (s .logs .now) (s .heads .now) (s .totals .now) (s .channel) (s .word)
     (k .result) (sender .result) (p .result) (n .last .1 .0) _ (k .ensures .1) (sender .ensures (k .ensures .0)) (p .ensures .1) (n .ensures) refl
-    (reader .result) (reader .ensures (k .ensures .0)) (c .before .before .before .before .before .if1 .left)
+    (reader .result) (reader .ensures (k .ensures .0)) (test .if1 .left)
     (d .last .1 .0) (d .last .1 .1 .0) (d .last .1 .1 .1 .0) (d .last .1 .1 .1 .1 .0) (d .ensures)
 
 pub transmit-word-spec : {M : Type 1} → statement M
