@@ -30,8 +30,10 @@ pub record OnBus (t : Table) (totals : List ℕ) (channel : ℕ) (c : Cabinet) :
 pub record Carries (wires : List ℕ) (rows mails logs heads : List (List ℕ)) (totals : List ℕ) (channel word : ℕ)
     (rows′ mails′ logs′ heads′ : List (List ℕ)) (totals′ : List ℕ) (r : Answer) : Type 0 where
   pub answer-is : r ≡ transmittedOf channel word
-  pub holds : (t : Table) (table : List ℕ) (counts : Counts) (programs : List ℕ) (queues : List (List ℕ)) (between : List ℕ) (entries : List Entry) (c : Cabinet)
+  pub holds : (t : Table) (table : List ℕ) (counts : Counts) (programs : List ℕ) (queues : List (List ℕ)) (between : List ℕ)
+      (entries : List Entry) (c : Cabinet)
       → Accepted t → Planned t (planOf table counts programs wires) → Holds t (storeOf rows mails logs heads queues between) entries c
       → OnBus t totals channel c → channel < length (t .channels) → channelAt t channel .sender < length (t .processes) → Room t c channel
       → Holds t (storeOf rows′ mails′ logs′ heads′ queues totals′) entries (deliver t (mailOf channel word) (countedAt t channel c))
-  pub same-lengths : (queues : List (List ℕ)) → SameLengths (storeOf rows mails logs heads queues totals) (storeOf rows′ mails′ logs′ heads′ queues totals′)
+  pub same-lengths : (queues : List (List ℕ))
+      → SameLengths (storeOf rows mails logs heads queues totals) (storeOf rows′ mails′ logs′ heads′ queues totals′)

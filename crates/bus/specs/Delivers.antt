@@ -24,8 +24,10 @@ abbrev pub Room : Table → Cabinet → ℕ → Type 0
 Room t c k = channelAt t k .reader < length (t .processes) → length (processAt c (channelAt t k .reader) .machine .mailbox) < logMost
 
 -- whatever the plan and the lists are that it isn't lent; the totals are those that are true afterwards, and its caller's matter
-pub record Delivers (wires : List ℕ) (rows mails logs heads : List (List ℕ)) (channel word : ℕ) (rows′ mails′ logs′ heads′ : List (List ℕ)) : Type 0 where
-  pub holds : (t : Table) (table : List ℕ) (counts : Counts) (programs : List ℕ) (queues : List (List ℕ)) (totals totals′ : List ℕ) (entries : List Entry) (c : Cabinet)
+pub record Delivers (wires : List ℕ) (rows mails logs heads : List (List ℕ)) (channel word : ℕ)
+    (rows′ mails′ logs′ heads′ : List (List ℕ)) : Type 0 where
+  pub holds : (t : Table) (table : List ℕ) (counts : Counts) (programs : List ℕ) (queues : List (List ℕ)) (totals totals′ : List ℕ)
+      (entries : List Entry) (c : Cabinet)
       → Accepted t → Planned t (planOf table counts programs wires) → Holds t (storeOf rows mails logs heads queues totals) entries c
       → channelAt t channel .reader < length (t .processes) → Room t c channel → Totalled t totals′ (deliver t (mailOf channel word) c)
       → Holds t (storeOf rows′ mails′ logs′ heads′ queues totals′) entries (deliver t (mailOf channel word) c)

@@ -24,7 +24,8 @@ pub record Popped (queue queue′ : List ℕ) : Type 0 where
 
 -- Of the cabinet that the lists held before the checkpoint, board b's oldest entry, left that board's row: afterwards, with the row as the
 -- leaving made it, they hold the cabinet that the rules give. Whatever the lists are that it isn't lent.
-pub record Syncs (rows logs heads : List (List ℕ)) (process : ℕ) (checkpoint : code.Checkpoint) (rows′ logs′ heads′ : List (List ℕ)) (r : Answer) : Type 0 where
+pub record Syncs (rows logs heads : List (List ℕ)) (process : ℕ) (checkpoint : code.Checkpoint)
+    (rows′ logs′ heads′ : List (List ℕ)) (r : Answer) : Type 0 where
   pub answered : (t : Table) (mails queues : List (List ℕ)) (totals : List ℕ) (entries : List Entry) (c : Cabinet) (command : Command)
       (b : ℕ) (queue′ : List ℕ) (rest : List rules.Item)
       → Reachable t c → Holds t (storeOf rows mails logs heads queues totals) entries c → b < t .boards

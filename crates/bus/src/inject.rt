@@ -23,8 +23,8 @@ pub fn inject(
     a: u32,
     word: u32,
 ) -> Answer
-    ensures { λ r. ⌜ Injects (now (wires .entry)) (now (rows .entry)) (now (mails .entry)) (now (logs .entry)) (now (heads .entry)) (now (totals .entry)) a word
-        (now (rows .exit)) (now (mails .exit)) (now (logs .exit)) (now (heads .exit)) (now (totals .exit)) r ⌝ }
+    ensures { λ r. ⌜ Injects (now (wires .entry)) (now (rows .entry)) (now (mails .entry)) (now (logs .entry)) (now (heads .entry))
+        (now (totals .entry)) a word (now (rows .exit)) (now (mails .exit)) (now (logs .exit)) (now (heads .exit)) (now (totals .exit)) r ⌝ }
 {
     let k = index32(a);
     if sender(wires, k) != ENVIRONMENT {

@@ -19,7 +19,8 @@ pub fn transmit_sync(
     process: u32,
     checkpoint: Checkpoint,
 ) -> Answer
-    ensures { λ r. ⌜ Syncs (now (rows .entry)) (now (logs .entry)) (now (heads .entry)) process checkpoint (now (rows .exit)) (now (logs .exit)) (now (heads .exit)) r ⌝ }
+    ensures { λ r. ⌜ Syncs (now (rows .entry)) (now (logs .entry)) (now (heads .entry)) process checkpoint
+        (now (rows .exit)) (now (logs .exit)) (now (heads .exit)) r ⌝ }
 {
     let p = index16(process);
     let dropped = keep(&rows[p], &mut logs[p], &mut heads[p], checkpoint);

@@ -42,8 +42,9 @@ pub fn transmit(
     a: u32,
     oldest: Entry,
 ) -> Answer
-    ensures { λ r. ⌜ Transmits (now (wires .entry)) (now (rows .entry)) (now (mails .entry)) (now (logs .entry)) (now (heads .entry)) (now (queues .entry))
-        (now (totals .entry)) a oldest (now (rows .exit)) (now (mails .exit)) (now (logs .exit)) (now (heads .exit)) (now (queues .exit)) (now (totals .exit)) r ⌝ }
+    ensures { λ r. ⌜ Transmits (now (wires .entry)) (now (rows .entry)) (now (mails .entry)) (now (logs .entry)) (now (heads .entry))
+        (now (queues .entry)) (now (totals .entry)) a oldest (now (rows .exit)) (now (mails .exit)) (now (logs .exit)) (now (heads .exit))
+        (now (queues .exit)) (now (totals .exit)) r ⌝ }
 {
     let b = index16(a);
     if queues[b][DEAD] != 0 {
