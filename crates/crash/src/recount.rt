@@ -4,7 +4,7 @@ ghost use Prim.Native.Nat.{_≤_, _<_};
 ghost use Rattle.backup.specs.Limits.{logMost};
 ghost use Rattle.rules.specs.Cabinet.{unreadOn};
 ghost use Rattle.process.specs.Row.{mailIn, mailsIn};
-ghost use Rattle.crash.specs.Recount.{unreadHere, unreadIn, Dropped, Added};
+ghost use Rattle.crash.specs.Recount.{unreadHere, unreadAt, Dropped, Added};
 use backup::limits::LOG;
 use plan::WIRES;
 use plan::reader;
@@ -46,7 +46,7 @@ fn unread_of(row: &[u32; ROW], mail: &[u64; LOG], k: usize) -> u32
 
 // How many process p has; none where p is no process.
 fn unread_at(rows: &[[u32; ROW]; 16], mails: &[[u64; LOG]; 16], p: usize, k: usize) -> u32
-    ensures { λ r. ⌜ r ≡ unreadIn (now (rows .entry)) (now (mails .entry)) p k ⌝ }
+    ensures { λ r. ⌜ r ≡ unreadAt (now (rows .entry)) (now (mails .entry)) p k ⌝ }
 {
     if p < 16 {
         unread_of(&rows[p], &mails[p], k)

@@ -2,6 +2,7 @@
 pub mod Reading
 pub mod Totals
 pub mod Changing
+pub mod Boards
 pub mod Queueing
 pub mod Backing
 pub mod Reaching

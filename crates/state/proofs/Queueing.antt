@@ -7,13 +7,12 @@ use Prim.Native.Nat.{ℕ, suc, _+_, _*_, _%_, _≤_, _<_}
 use native.Mathlib.Omega.{arith}
 use lib.Dec.{eqb}
 use lib.ListN.{length, getD, set, length-set}
-use lib.Seq.{getD-set-same, getD-set-other}
-use Rattle.facts.specs.Tests.{by-eq}
-use Rattle.facts.specs.Lists.{listed, listed-same}
-use Rattle.facts.specs.Rings.{ring, ring-push, ring-apart, ring-pop, listed-set}
+use lib.Seq.{set-getD}
+use Rattle.facts.specs.Lists.{listed-same}
+use Rattle.facts.specs.Rings.{ring, ring-push, ring-apart, ring-pop}
 use Rattle.rules.specs.Table.{Table}
 use Rattle.rules.specs.Cabinet as rules
-use Rattle.rules.specs.Cabinet.{Cabinet, outboxMost, processAt, outboxAt, inFlight, isOn, waiting}
+use Rattle.rules.specs.Cabinet.{Cabinet, outboxMost, processAt, outboxAt, deadAt, inFlight, isOn, waiting}
 use Rattle.rules.specs.Moves.{withOutbox, enqueue}
 use Rattle.rules.proofs.Counting.{weight, flight-joined, flight-leave}
 use Rattle.state.specs.declared.entry.Entry.{Entry}
@@ -21,7 +20,8 @@ use Rattle.state.specs.Queue.{firstIn, countIn, deadIn}
 use Rattle.state.specs.Store.{Store, Totalled, Holds, processIn, itemOf, blankEntry, outboxIn, flag}
 use Rattle.process.specs.Row.{waitsIn}
 use Rattle.state.proofs.Flagging.{Flagged}
-use Rattle.state.proofs.Reading.{at-outbox, how-many-boards}
+use Rattle.state.proofs.Reading.{at-outbox, at-dead}
+use Rattle.state.proofs.Boards.{Boarded, RowThen, boards-then}
 
 -- the lists with the processes' rows, board b's row and the totals replaced
 abbrev pub putQueue : Store → ℕ → List (List ℕ) → List ℕ → List ℕ → Store
@@ -55,44 +55,31 @@ module _ {t : Table} {s : Store} {entries : List Entry} {c : Cabinet} (h : Holds
     (first-fits : first < outboxMost) (count-fits : count ≤ outboxMost) (long : length entries′ ≡ 512)
     (is-queue : items (ring blankEntry entries′ b first count) ≡ q)
     (others : (i : ℕ) → i ≢ b → ring blankEntry entries′ i (firstIn (s .queues) i) (countIn (s .queues) i) ≡ ring blankEntry entries i (firstIn (s .queues) i) (countIn (s .queues) i)) where
-  here : getD (set (s .queues) b queue) b [] ≡ queue
-  here = getD-set-same (s .queues) b queue [] (let l = h .shape .queues-length in omega arith)
+  -- the board is as dead or live as it was
+  row-then : RowThen s entries entries′ b queue (deadAt c b) q
+  row-then = record {
+    first-fits = rw (u .is-first) first-fits;
+    count-fits = rw (u .is-count) count-fits;
+    is-dead = ap (λ (n : ℕ). not (eqb n 0)) (u .is-dead) ∙ sym (at-dead h b hb);
+    three = u .three;
+    is-queue = rw (u .is-first, u .is-count) is-queue;
+    others = others;
+  }
 
-  there : (i : ℕ) → i ≢ b → getD (set (s .queues) b queue) i [] ≡ getD (s .queues) i []
-  there i n = getD-set-other (s .queues) b i queue [] n
-
-  outbox-here : outboxIn (set (s .queues) b queue) entries′ b ≡ q
-  unfolding outboxIn
-  outbox-here = rw (here, u .is-first, u .is-count) is-queue
-
-  outbox-there : (i : ℕ) → i ≢ b → outboxIn (set (s .queues) b queue) entries′ i ≡ outboxIn (s .queues) entries i
-  unfolding outboxIn
-  outbox-there i n = rw (there i n) (ap items (others i n))
-
-  outboxes-then : set (c .outboxes) b q ≡ listed (outboxIn (set (s .queues) b queue) entries′) (t .boards)
-  outboxes-then =
-      ap (λ (l : List (List rules.Item)). set l b q) (h .outboxes)
-      ∙ ap (λ (x : List rules.Item). set (listed (outboxIn (s .queues) entries) (t .boards)) b x) (sym outbox-here)
-      ∙ sym (listed-set (outboxIn (s .queues) entries) (outboxIn (set (s .queues) b queue) entries′) (t .boards) b (λ i l n. outbox-there i n))
-
-  dead-same : (i : ℕ) → deadIn (s .queues) i ≡ deadIn (set (s .queues) b queue) i
-  dead-same i =
-      by-eq i b
-      (λ e. ap (λ (k : ℕ). deadIn (s .queues) k) e ∙ ap (λ (n : ℕ). not (eqb n 0)) (sym (u .is-dead)) ∙ ap (λ (r : List ℕ). not (eqb (getD r 2 0) 0)) (sym here)
-      ∙ ap (λ (k : ℕ). deadIn (set (s .queues) b queue) k) (sym e))
-      (λ n. ap (λ (r : List ℕ). not (eqb (getD r 2 0) 0)) (sym (there i n)))
+  boards : Boarded t (set (s .queues) b queue) entries′ (set (c .outboxes) b q) (c .dead)
+  boards = rw (set-getD (c .dead) b false) at (boards-then h small b hb row-then)
 
   pub requeued : Holds t (putQueue s b rows queue totals) entries′ (withOutbox b q c)
   requeued = record {
     processes = h .processes ∙ listed-same (processIn s) (processIn (putQueue s b rows queue totals)) (length (t .processes))
         (λ p l. sym (u .flagged .alike p l .process-is _ _ _));
-    outboxes = outboxes-then;
-    dead = h .dead ∙ listed-same (deadIn (s .queues)) (deadIn (set (s .queues) b queue)) (t .boards) (λ i l. dead-same i);
+    outboxes = boards .outboxes-are;
+    dead = boards .dead-are;
     kept = λ p l. u .flagged .alike p l .kept-again _ _ _ (h .kept p l);
     seated = λ p l. u .flagged .alike p l .seated-again _ _ (h .seated p l);
-    first-small = λ i l. by-eq i b (λ e. rw (e, here, u .is-first) first-fits) (λ n. rw (there i n) (h .first-small i l));
-    count-small = λ i l. by-eq i b (λ e. rw (e, here, u .is-count) count-fits) (λ n. rw (there i n) (h .count-small i l));
-    queue-three = λ i l. by-eq i b (λ e. rw (e, here) (u .three)) (λ n. rw (there i n) (h .queue-three i l));
+    first-small = boards .first-small;
+    count-small = boards .count-small;
+    queue-three = boards .queue-three;
     totalled = u .totalled-then;
     waits-is = u .waiting-there;
     shape = record {
@@ -100,7 +87,7 @@ module _ {t : Table} {s : Store} {entries : List Entry} {c : Cabinet} (h : Holds
       mails-length = h .shape .mails-length;
       logs-length = h .shape .logs-length;
       heads-length = h .shape .heads-length;
-      queues-length = length-set (s .queues) b queue ∙ h .shape .queues-length;
+      queues-length = boards .queues-length;
       entries-length = long;
     };
   }
