@@ -23,7 +23,7 @@ use Rattle.rules.specs.Format.{versionIn, recordHead, limitSaid, boardsIn, proc
 use Rattle.rules.proofs.Valid.{length-rests, length-sixes, processes-counted}
 use Rattle.plan.specs.Plan.{startIn, lengthIn, limitIn}
 use Rattle.table.specs.Records.{recordStart, programStart}
-use Rattle.table.specs.Parts.{Framed, twoBoards, PlacedIn, PlacementsRead, limitsPass}
+use Rattle.table.specs.Parts.{withProgram, Framed, twoBoards, PlacedIn, PlacementsRead, limitsPass}
 use Rattle.table.specs.declared.boards.Placed.{Placed}
 use Rattle.table.specs.declared.boards.Placements.{Placements}
 use Rattle.table.proofs.Programs.{rest-is, starts-within, record-within}
@@ -60,10 +60,7 @@ boards-are bytes =
 
 -- ---- the pass
 
--- a process's row with its first three cells written
-abbrev pub withProgram : List ℕ → ℕ → ℕ → ℕ → ℕ → List ℕ
-withProgram programs p start size limit = set (set (set programs (8 * p + 0) start) (8 * p + 1) size) (8 * p + 2) limit
-
+-- the first three cells of a process's row are written
 module _ (programs : List ℕ) (p start size limit : ℕ) where
   row-long : length (withProgram programs p start size limit) ≡ length programs
   row-long = simp length-set

@@ -21,7 +21,7 @@ use Rattle.rules.specs.Format.{processesIn, channelsIn, pairs, decodeTable}
 use Rattle.rules.proofs.Valid.{length-pairs, processes-counted}
 use Rattle.rules.proofs.Tables.{port-of-channel}
 use Rattle.plan.specs.Plan.{arityIn, inputIn, senderIn, readerIn, portIn}
-use Rattle.table.specs.Parts.{PortsRead}
+use Rattle.table.specs.Parts.{withEnds, withPort, withInput, PortsRead}
 use Rattle.table.specs.declared.ends.Ports.{Ports}
 use Rattle.table.proofs.OneChannel.{pairAt, pair-drop}
 use Rattle.table.proofs.EndsPass.{senderByte, readerByte, sender-in, reader-in}
@@ -100,11 +100,7 @@ pub record Ended (bytes wires : List ℕ) (k : ℕ) : Type 0 where
 pub ended-start : (bytes wires : List ℕ) → Ended bytes wires 0
 ended-start bytes wires = record { senders = λ j l. absurd (not-suc-le-zero l); readers = λ j l. absurd (not-suc-le-zero l) }
 
--- both ends of channel k
-abbrev pub withEnds : List ℕ → ℕ → ℕ → ℕ → List ℕ
-withEnds wires k sender reader = set (set wires (3 * k + 0) sender) (3 * k + 1) reader
-
--- any other cell
+-- any other cell than a channel's ends
 ends-other : (wires : List ℕ) (k sender reader i : ℕ) → i ≢ 3 * k + 0 → i ≢ 3 * k + 1 → getD (withEnds wires k sender reader) i 0 ≡ getD wires i 0
 ends-other wires k sender reader i a b =
     getD-set-other (set wires (3 * k + 0) sender) (3 * k + 1) i reader 0 b ∙ getD-set-other wires (3 * k + 0) i sender 0 a
@@ -126,7 +122,7 @@ module _ {bytes wires : List ℕ} {k : ℕ} (x : Ended bytes wires k) where
   }
 
   -- a port is written
-  pub ended-port : (j n : ℕ) → Ended bytes (set wires (3 * j + 2) n) k
+  pub ended-port : (j n : ℕ) → Ended bytes (withPort wires j n) k
   ended-port j n = record {
     senders = λ i l. getD-set-other wires (3 * j + 2) (3 * i + 0) n 0 (λ f. omega arith) ∙ x .senders i l;
     readers = λ i l. getD-set-other wires (3 * j + 2) (3 * i + 1) n 0 (λ f. omega arith) ∙ x .readers i l;
@@ -175,10 +171,7 @@ porting-ends {bytes} {wires} {programs} {k} x i sender reader = record {
     kept : (j : ℕ) → portIn (withEnds wires i sender reader) j ≡ portIn wires j
     kept j = ends-other wires i sender reader (3 * j + 2) (λ f. omega arith) (λ f. omega arith)
 
--- an input of process b and its arity are written
-abbrev pub withInput : List ℕ → ℕ → ℕ → ℕ → List ℕ
-withInput programs b n k = set (set programs (8 * b + (4 + n)) k) (8 * b + 3) (n + 1)
-
+-- an input of process b is written
 module _ (programs : List ℕ) (b n k : ℕ) (low : n < 4) where
   input-other : (p s : ℕ) → s < 4 → (p ≡ b → s ≢ n) → inputIn (withInput programs b n k) p s ≡ inputIn programs p s
   input-other p s l e =
@@ -253,7 +246,7 @@ module _ (bytes wires programs : List ℕ) (k : ℕ) (x : Porting bytes wires pr
             (let z = processes-counted bytes in omega arith) (lt-leb (length (inputs (decodeTable bytes) b)) ports many)
 
     -- it is one of four
-    pub porting-on : n < 4 → processesIn bytes ≤ 16 → channelsIn bytes ≤ 32 → Porting bytes (set wires (3 * k + 2) n) (withInput programs b n k) (k + 1)
+    pub porting-on : n < 4 → processesIn bytes ≤ 16 → channelsIn bytes ≤ 32 → Porting bytes (withPort wires k n) (withInput programs b n k) (k + 1)
     porting-on h most wide = record {
       passed = omega arith;
       wires-long = length-set wires (3 * k + 2) n ∙ x .wires-long;
@@ -284,10 +277,10 @@ module _ (bytes wires programs : List ℕ) (k : ℕ) (x : Porting bytes wires pr
         room : 8 * b + 8 ≤ length programs
         room = let z = x .programs-long in omega arith
 
-        port-same : portIn (set wires (3 * k + 2) n) k ≡ n
+        port-same : portIn (withPort wires k n) k ≡ n
         port-same = getD-set-same wires (3 * k + 2) n 0 (let z = x .wires-long in omega arith)
 
-        port-other : (j : ℕ) → j ≢ k → portIn (set wires (3 * k + 2) n) j ≡ portIn wires j
+        port-other : (j : ℕ) → j ≢ k → portIn (withPort wires k n) j ≡ portIn wires j
         port-other j e = getD-set-other wires (3 * k + 2) (3 * j + 2) n 0 (λ f. e (omega arith))
 
         same : (p : ℕ) → p ≢ b → readIn bytes (k + 1) p ≡ readIn bytes k p

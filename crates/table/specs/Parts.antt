@@ -4,7 +4,7 @@ use mathlib.Core.Bool.{Bool, true, not, cond, _&&_}
 use mathlib.Core.List.{List}
 use Prim.Native.Nat.{ℕ, _+_, _*_, _≤_, _<_}
 use lib.Dec.{eqb, ltb, leb}
-use lib.ListN.{length, getD}
+use lib.ListN.{length, getD, set}
 use Rattle.backup.specs.Limits.{pcMost, ports}
 use Rattle.rules.specs.Table.{environment, channelAt, placementAt, codeOf, limitOf, inputs, portOf, channelOn}
 use Rattle.facts.specs.Tests.{allBelow}
@@ -18,6 +18,24 @@ use Rattle.table.specs.declared.ends.Ports.{Ports}
 use Rattle.table.specs.declared.boards.Placed.{Placed}
 use Rattle.table.specs.declared.boards.Placements.{Placements}
 use Rattle.table.specs.declared.Decoded.{Decoded}
+
+-- ---- rows of the plan with cells written
+
+-- both ends of channel k
+abbrev pub withEnds : List ℕ → ℕ → ℕ → ℕ → List ℕ
+withEnds wires k sender reader = set (set wires (3 * k + 0) sender) (3 * k + 1) reader
+
+-- its port
+abbrev pub withPort : List ℕ → ℕ → ℕ → List ℕ
+withPort wires k n = set wires (3 * k + 2) n
+
+-- port n of process p, its last
+abbrev pub withInput : List ℕ → ℕ → ℕ → ℕ → List ℕ
+withInput programs p n k = set (set programs (8 * p + (4 + n)) k) (8 * p + 3) (n + 1)
+
+-- the program of process p, and its limit
+abbrev pub withProgram : List ℕ → ℕ → ℕ → ℕ → ℕ → List ℕ
+withProgram programs p start size limit = set (set (set programs (8 * p + 0) start) (8 * p + 1) size) (8 * p + 2) limit
 
 -- ---- numbers 1 to 4
 

@@ -17,12 +17,9 @@ use crate::record::program_length;
 use crate::record::record_head;
 use crate::record::record_length;
 use crate::record::version_of;
-use plan::LENGTH;
-use plan::LIMIT;
+use crate::rows::put_program;
 use plan::PROCESSES as PROCESSES_MOST;
-use plan::PROGRAM_ROW;
 use plan::PROGRAMS;
-use plan::START;
 use plan::limit;
 use records::bytes::byte;
 use words::byte_wide;
@@ -96,9 +93,7 @@ pub fn judge_boards(table: &[u8], rows: [u32; PROGRAMS]) -> Placements
                 standby: standby,
             };
         }
-        programs[PROGRAM_ROW * p + START] = (at + r.program) as u32;
-        programs[PROGRAM_ROW * p + LENGTH] = r.n;
-        programs[PROGRAM_ROW * p + LIMIT] = r.limit;
+        put_program(&mut programs, p, at + r.program, r.n, r.limit);
         primary[p] = r.primary;
         standby[p] = r.standby;
         at += r.size;

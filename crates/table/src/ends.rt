@@ -10,18 +10,14 @@ use crate::format::PAIR_READER;
 use crate::format::PAIR_SENDER;
 use crate::format::PORTS;
 use crate::format::PROCESSES;
-use plan::ARITY;
-use plan::INPUT;
-use plan::PORT;
-use plan::PROGRAM_ROW;
+use crate::rows::put_ends;
+use crate::rows::put_input;
+use crate::rows::put_port;
 use plan::PROGRAMS;
-use plan::READER;
-use plan::SENDER;
-use plan::WIRE_ROW;
 use plan::WIRES;
+use plan::arity;
 use records::bytes::byte;
 use words::byte_wide;
-use words::byte_word;
 
 // What number 6 finds: whether no process reads too many channels, and then both ends of each channel and its port within its reader, and for
 // each process how many channels it reads and which.
@@ -76,11 +72,10 @@ pub fn judge_ports(table: &[u8]) -> Ports
     let mut k = 0;
     while k < channels {
         let reader = byte(table, 2 * k + PAIR_READER);
-        wires[WIRE_ROW * k + SENDER] = byte_word(byte(table, 2 * k + PAIR_SENDER));
-        wires[WIRE_ROW * k + READER] = byte_word(reader);
+        put_ends(&mut wires, k, byte(table, 2 * k + PAIR_SENDER), reader);
         if reader < processes {
             let p = byte_wide(reader);
-            let n = programs[PROGRAM_ROW * p + ARITY];
+            let n = arity(&programs, p);
             if n >= PORTS {
                 return Ports {
                     ok: false,
@@ -88,9 +83,8 @@ pub fn judge_ports(table: &[u8]) -> Ports
                     programs: programs,
                 };
             }
-            wires[WIRE_ROW * k + PORT] = n;
-            programs[PROGRAM_ROW * p + (INPUT + n as usize)] = k as u32;
-            programs[PROGRAM_ROW * p + ARITY] = n + 1;
+            put_port(&mut wires, k, n);
+            put_input(&mut programs, p, n, k);
         }
         k += 1;
     }

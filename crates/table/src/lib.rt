@@ -10,6 +10,7 @@ mod extent;
 pub mod format;
 mod instructions;
 pub mod record;
+mod rows;
 
 use crate::boards::Placements;
 use crate::boards::judge_boards;

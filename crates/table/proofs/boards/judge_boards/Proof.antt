@@ -57,59 +57,24 @@ returns c =
     let few : l .p < processesIn t = let a = c .before .before .before .before .loop-test .taken in let b = c .before .before .before .before .before .before .before .byte-wide .ensures .0 in let d = c .before .before .before .before .before .before .before .before .byte2 .ensures in omega arith in
     placing-refused t _ (c .before .before .before .before .before .before .before .before .before .before .before .before .pre) (l .at) (l .p) (c .before .before .before .before .before .before .before .before .before .before .version-of .result) (c .before .before .before .before .before .before .before .before .before .byte .result) (l .inv .1) few (c .before .before .before .before .before .before .before .before .before .before .version-of .ensures) (c .before .before .before .before .before .before .before .before .before .byte .ensures) (r .result) (r .ensures) (c .if1 .taken) _ refl
 
-add-programs : tie.Need-add-programs Inv-loop μ-loop
-add-programs c =
-    let t = c .before .before .before .before .before .before .before .before .before .before .before .before .before .args .table .now in
-    let l = c .before .before .before .before .before .before .loop in
-    let r = c .before .before .before .placement-of in
-    let few : l .p < processesIn t = let a = c .before .before .before .before .before .loop-test .taken in let b = c .before .before .before .before .before .before .before .before .byte-wide .ensures .0 in let d = c .before .before .before .before .before .before .before .before .before .byte2 .ensures in omega arith in
-    let a = placing-fits t _ (c .before .before .before .before .before .before .before .before .before .before .before .before .before .pre) (l .at) (l .p) (c .before .before .before .before .before .before .before .before .before .before .before .version-of .result) (c .before .before .before .before .before .before .before .before .before .before .byte .result) (l .inv .1) few (c .before .before .before .before .before .before .before .before .before .before .before .version-of .ensures) (c .before .before .before .before .before .before .before .before .before .before .byte .ensures) (r .result) (r .ensures) in
+add-put-program : tie.Need-add-put-program Inv-loop μ-loop
+add-put-program c =
+    let t = c .before .before .before .before .before .before .before .before .before .before .before .before .before .before .args .table .now in
+    let l = c .before .before .before .before .before .before .before .loop in
+    let r = c .before .before .before .before .placement-of in
+    let few : l .p < processesIn t = let a = c .before .before .before .before .before .before .loop-test .taken in let b = c .before .before .before .before .before .before .before .before .before .byte-wide .ensures .0 in let d = c .before .before .before .before .before .before .before .before .before .before .byte2 .ensures in omega arith in
+    let a = placing-fits t _ (c .before .before .before .before .before .before .before .before .before .before .before .before .before .before .pre) (l .at) (l .p) (c .before .before .before .before .before .before .before .before .before .before .before .before .version-of .result) (c .before .before .before .before .before .before .before .before .before .before .before .byte .result) (l .inv .1) few (c .before .before .before .before .before .before .before .before .before .before .before .before .version-of .ensures) (c .before .before .before .before .before .before .before .before .before .before .before .byte .ensures) (r .result) (r .ensures) in
     omega (arith, a)
 
-cast-programs : tie.Need-cast-programs Inv-loop μ-loop
-cast-programs c =
-    let t = c .before .before .before .before .before .before .before .before .before .before .before .before .before .args .table .now in
-    let l = c .before .before .before .before .before .before .loop in
-    let r = c .before .before .before .placement-of in
-    let few : l .p < processesIn t = let a = c .before .before .before .before .before .loop-test .taken in let b = c .before .before .before .before .before .before .before .before .byte-wide .ensures .0 in let d = c .before .before .before .before .before .before .before .before .before .byte2 .ensures in omega arith in
-    let a = placing-fits t _ (c .before .before .before .before .before .before .before .before .before .before .before .before .before .pre) (l .at) (l .p) (c .before .before .before .before .before .before .before .before .before .before .before .version-of .result) (c .before .before .before .before .before .before .before .before .before .before .byte .result) (l .inv .1) few (c .before .before .before .before .before .before .before .before .before .before .before .version-of .ensures) (c .before .before .before .before .before .before .before .before .before .before .byte .ensures) (r .result) (r .ensures) in
-    omega (arith, a)
-
-mul-programs : tie.Need-mul-programs Inv-loop μ-loop
-mul-programs c = search needs
-
-add-programs-2 : tie.Need-add-programs-2 Inv-loop μ-loop
-add-programs-2 c = search needs
-
-mul-programs-2 : tie.Need-mul-programs-2 Inv-loop μ-loop
-mul-programs-2 c = search needs
-
-array-write-programs : tie.Need-array-write-programs Inv-loop μ-loop
-array-write-programs c = search needs
-
-mul-programs-3 : tie.Need-mul-programs-3 Inv-loop μ-loop
-mul-programs-3 c = search needs
-
-add-programs-3 : tie.Need-add-programs-3 Inv-loop μ-loop
-add-programs-3 c = search needs
-
-mul-programs-4 : tie.Need-mul-programs-4 Inv-loop μ-loop
-mul-programs-4 c = search needs
-
-array-write-programs-2 : tie.Need-array-write-programs-2 Inv-loop μ-loop
-array-write-programs-2 c = search needs
-
-mul-programs-5 : tie.Need-mul-programs-5 Inv-loop μ-loop
-mul-programs-5 c = search needs
-
-add-programs-4 : tie.Need-add-programs-4 Inv-loop μ-loop
-add-programs-4 c = search needs
-
-mul-programs-6 : tie.Need-mul-programs-6 Inv-loop μ-loop
-mul-programs-6 c = search needs
-
-array-write-programs-3 : tie.Need-array-write-programs-3 Inv-loop μ-loop
-array-write-programs-3 c = search needs
+put-program-requires : tie.Need-put-program-requires Inv-loop μ-loop
+put-program-requires c κs =
+    let t = c .before .before .before .before .before .before .before .before .before .before .before .before .before .before .args .table .now in
+    let l = c .before .before .before .before .before .before .before .loop in
+    let r = c .before .before .before .before .placement-of in
+    let k = c .before .before .before .before .before .before .loop-test .taken in
+    let few : l .p < processesIn t = let b = c .before .before .before .before .before .before .before .before .before .byte-wide .ensures .0 in let d = c .before .before .before .before .before .before .before .before .before .before .byte2 .ensures in omega arith in
+    let a = placing-fits t _ (c .before .before .before .before .before .before .before .before .before .before .before .before .before .before .pre) (l .at) (l .p) (c .before .before .before .before .before .before .before .before .before .before .before .before .version-of .result) (c .before .before .before .before .before .before .before .before .before .before .before .byte .result) (l .inv .1) few (c .before .before .before .before .before .before .before .before .before .before .before .before .version-of .ensures) (c .before .before .before .before .before .before .before .before .before .before .before .byte .ensures) (r .result) (r .ensures) in
+    (let m = l .inv .0 in omega arith, omega (arith, a))
 
 mul-primary : tie.Need-mul-primary Inv-loop μ-loop
 mul-primary c = search needs
@@ -125,11 +90,11 @@ array-write-standby c = search needs
 
 add-at : tie.Need-add-at Inv-loop μ-loop
 add-at c =
-    let t = c .before .before .before .before .before .before .before .before .before .before .before .before .before .before .args .table .now in
-    let l = c .before .before .before .before .before .before .before .loop in
-    let r = c .before .before .before .before .placement-of in
-    let few : l .p < processesIn t = let a = c .before .before .before .before .before .before .loop-test .taken in let b = c .before .before .before .before .before .before .before .before .before .byte-wide .ensures .0 in let d = c .before .before .before .before .before .before .before .before .before .before .byte2 .ensures in omega arith in
-    let a = placing-fits t _ (c .before .before .before .before .before .before .before .before .before .before .before .before .before .before .pre) (l .at) (l .p) (c .before .before .before .before .before .before .before .before .before .before .before .before .version-of .result) (c .before .before .before .before .before .before .before .before .before .before .before .byte .result) (l .inv .1) few (c .before .before .before .before .before .before .before .before .before .before .before .before .version-of .ensures) (c .before .before .before .before .before .before .before .before .before .before .before .byte .ensures) (r .result) (r .ensures) in
+    let t = c .before .before .before .before .before .before .before .before .before .before .before .before .before .before .before .before .args .table .now in
+    let l = c .before .before .before .before .before .before .before .before .before .loop in
+    let r = c .before .before .before .before .before .before .placement-of in
+    let few : l .p < processesIn t = let a = c .before .before .before .before .before .before .before .before .loop-test .taken in let b = c .before .before .before .before .before .before .before .before .before .before .before .byte-wide .ensures .0 in let d = c .before .before .before .before .before .before .before .before .before .before .before .before .byte2 .ensures in omega arith in
+    let a = placing-fits t _ (c .before .before .before .before .before .before .before .before .before .before .before .before .before .before .before .before .pre) (l .at) (l .p) (c .before .before .before .before .before .before .before .before .before .before .before .before .before .before .version-of .result) (c .before .before .before .before .before .before .before .before .before .before .before .before .before .byte .result) (l .inv .1) few (c .before .before .before .before .before .before .before .before .before .before .before .before .before .before .version-of .ensures) (c .before .before .before .before .before .before .before .before .before .before .before .before .before .byte .ensures) (r .result) (r .ensures) in
     omega (arith, a)
 
 add-p : tie.Need-add-p Inv-loop μ-loop
@@ -140,12 +105,13 @@ loop-less c = search needs
 
 loop-again : tie.Need-loop-again Inv-loop μ-loop
 loop-again c =
-    let t = c .before .before .before .before .before .before .before .before .before .before .before .before .before .before .args .table .now in
-    let l = c .before .before .before .before .before .before .before .loop in
-    let r = c .before .before .before .before .placement-of in
-    let few : l .p < processesIn t = let a = c .before .before .before .before .before .before .loop-test .taken in let b = c .before .before .before .before .before .before .before .before .before .byte-wide .ensures .0 in let d = c .before .before .before .before .before .before .before .before .before .before .byte2 .ensures in omega arith in
-    let n = c .before .before .before .before .before .before .before .before .before .byte-wide .ensures .0 ∙ c .before .before .before .before .before .before .before .before .before .before .byte2 .ensures in
-    (l .inv .0, placing-on t _ (c .before .before .before .before .before .before .before .before .before .before .before .before .before .before .pre) (l .at) (l .p) (c .before .before .before .before .before .before .before .before .before .before .before .before .version-of .result) (c .before .before .before .before .before .before .before .before .before .before .before .byte .result) (l .inv .1) few (c .before .before .before .before .before .before .before .before .before .before .before .before .version-of .ensures) (c .before .before .before .before .before .before .before .before .before .before .before .byte .ensures) (r .result) (r .ensures) (let a = l .inv .0 in omega arith) (c .before .before .if1 .left))
+    let t = c .before .before .before .before .before .before .before .before .before .before .before .before .before .before .before .before .args .table .now in
+    let l = c .before .before .before .before .before .before .before .before .before .loop in
+    let r = c .before .before .before .before .before .before .placement-of in
+    let few : l .p < processesIn t = let a = c .before .before .before .before .before .before .before .before .loop-test .taken in let b = c .before .before .before .before .before .before .before .before .before .before .before .byte-wide .ensures .0 in let d = c .before .before .before .before .before .before .before .before .before .before .before .before .byte2 .ensures in omega arith in
+    let n = c .before .before .before .before .before .before .before .before .before .before .before .byte-wide .ensures .0 ∙ c .before .before .before .before .before .before .before .before .before .before .before .before .byte2 .ensures in
+    rw (c .before .put-program .ensures)
+    (l .inv .0, placing-on t _ (c .before .before .before .before .before .before .before .before .before .before .before .before .before .before .before .before .pre) (l .at) (l .p) (c .before .before .before .before .before .before .before .before .before .before .before .before .before .before .version-of .result) (c .before .before .before .before .before .before .before .before .before .before .before .before .before .byte .result) (l .inv .1) few (c .before .before .before .before .before .before .before .before .before .before .before .before .before .before .version-of .ensures) (c .before .before .before .before .before .before .before .before .before .before .before .before .before .byte .ensures) (r .result) (r .ensures) (let a = l .inv .0 in omega arith) (c .before .before .before .before .if1 .left))
 
 returns-2 : tie.Need-returns-2 Inv-loop μ-loop
 returns-2 c =
@@ -169,20 +135,8 @@ judge-boards-spec =
     part-placement-of-end
     placement-of-requires
     returns
-    add-programs
-    cast-programs
-    mul-programs
-    add-programs-2
-    mul-programs-2
-    array-write-programs
-    mul-programs-3
-    add-programs-3
-    mul-programs-4
-    array-write-programs-2
-    mul-programs-5
-    add-programs-4
-    mul-programs-6
-    array-write-programs-3
+    add-put-program
+    put-program-requires
     mul-primary
     array-write-primary
     mul-standby

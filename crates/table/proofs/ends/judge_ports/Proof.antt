@@ -1,6 +1,6 @@
 use mathlib.Core.Logic.{⊎-elim}
 use mathlib.Core.Path.{_∙_, ap, refl}
-use Prim.Native.Nat.{_-_, _≤_}
+use Prim.Native.Nat.{_<_, _-_, _≤_}
 use native.Mathlib.Omega.{arith}
 use borrow.Author.Needs.{needs}
 use Rattle.facts.specs.Indexing.{getD-replicate-any}
@@ -9,6 +9,7 @@ use Rattle.plan.specs.Plan.{arityIn}
 use Rattle.table.proofs.PortsPass.{Ended, ended-start, ended-on, ended-port, Porting, porting-start, porting-ends, porting-past, porting-on, porting-refused, porting-end}
 use Rattle.table.proofs.ends.judge_ports.Statement.{statement}
 use Rattle.table.proofs.ends.judge_ports.Tie as tie
+use Rattle.table.proofs.ends.judge_ports.Reads as reads
 
 abbrev Inv-loop : tie.InvT-loop
 Inv-loop table processes channels wires₀ programs₀ k₀ wires programs k = (channels ≤ 32) × (processes ≤ 16) × Ended table wires k × Porting table wires programs k
@@ -53,106 +54,30 @@ add-byte-2 c = search needs
 byte-requires-4 : tie.Need-byte-requires-4 Inv-loop μ-loop
 byte-requires-4 c κs = search needs
 
-byte-word-requires : tie.Need-byte-word-requires Inv-loop μ-loop
-byte-word-requires c κs = search needs
-
-mul-wires : tie.Need-mul-wires Inv-loop μ-loop
-mul-wires c = search needs
-
-add-wires : tie.Need-add-wires Inv-loop μ-loop
-add-wires c = search needs
-
-mul-wires-2 : tie.Need-mul-wires-2 Inv-loop μ-loop
-mul-wires-2 c = search needs
-
-array-write-wires : tie.Need-array-write-wires Inv-loop μ-loop
-array-write-wires c = search needs
-
-byte-word-requires-2 : tie.Need-byte-word-requires-2 Inv-loop μ-loop
-byte-word-requires-2 c κs = search needs
-
-mul-wires-3 : tie.Need-mul-wires-3 Inv-loop μ-loop
-mul-wires-3 c = search needs
-
-add-wires-2 : tie.Need-add-wires-2 Inv-loop μ-loop
-add-wires-2 c = search needs
-
-mul-wires-4 : tie.Need-mul-wires-4 Inv-loop μ-loop
-mul-wires-4 c = search needs
-
-array-write-wires-2 : tie.Need-array-write-wires-2 Inv-loop μ-loop
-array-write-wires-2 c = search needs
+put-ends-requires : tie.Need-put-ends-requires Inv-loop μ-loop
+put-ends-requires c κs = search needs
 
 byte-wide-requires-2 : tie.Need-byte-wide-requires-2 Inv-loop μ-loop
 byte-wide-requires-2 c κs = search needs
 
-mul-n : tie.Need-mul-n Inv-loop μ-loop
-mul-n c = search needs
-
-add-n : tie.Need-add-n Inv-loop μ-loop
-add-n c = search needs
-
-mul-n-2 : tie.Need-mul-n-2 Inv-loop μ-loop
-mul-n-2 c = search needs
-
-array-read-n : tie.Need-array-read-n Inv-loop μ-loop
-array-read-n c = search needs
+arity-requires : tie.Need-arity-requires Inv-loop μ-loop
+arity-requires c κs = search needs
 
 returns : tie.Need-returns Inv-loop μ-loop
 returns c =
-    let t = c .before .before .before .before .before .before .before .before .before .before .before .before .before .args .table .now in
-    let l = c .before .before .before .before .before .before .before .before .loop in
-    let b = c .before .before .before .before .before .before .byte3 in
-    porting-refused t _ _ (l .k) (porting-ends (l .inv .3) (l .k) (c .before .before .before .before .byte-word .result) (c .before .before .before .byte-word2 .result)) (let a = c .before .before .before .before .before .before .before .loop-test .taken in let e = c .before .before .before .before .before .before .before .before .before .byte-wide .ensures .0 in let d = c .before .before .before .before .before .before .before .before .before .before .byte2 .ensures in omega arith) (b .result) _ (b .ensures)
-    (let a = c .before .before .if1 .taken in let d = c .before .before .before .before .before .before .before .before .before .before .before .byte .ensures in omega arith) (ap (arityIn (l .programs)) (c .before .byte-wide2 .ensures .0)) (c .if2 .taken) _ refl
+    let t = c .before .before .before .before .before .before .before .before .before .before .before .before .before .before .before .args .table .now in
+    let l = c .before .before .before .before .before .before .before .before .before .before .loop in
+    let b = c .before .before .before .before .before .before .before .before .byte3 in
+    let p = c .before .before .before .byte-wide2 .ensures .0 in
+    let few : b .result < 16 = let a = c .before .before .before .before .if1 .taken in omega arith in
+    porting-refused t _ _ (l .k) (porting-ends (l .inv .3) (l .k) (c .before .before .before .before .before .before .byte4 .result) (b .result)) (let a = c .before .before .before .before .before .before .before .before .before .loop-test .taken in let e = c .before .before .before .before .before .before .before .before .before .before .before .byte-wide .ensures .0 in let d = c .before .before .before .before .before .before .before .before .before .before .before .before .byte2 .ensures in omega arith) (b .result) _ (b .ensures)
+    (let a = c .before .before .before .before .if1 .taken in let d = c .before .before .before .before .before .before .before .before .before .before .before .before .before .byte .ensures in omega arith) (c .before .arity .ensures (omega arith) ∙ ap (arityIn (l .programs)) p) (c .if2 .taken) _ refl
 
-mul-wires-5 : tie.Need-mul-wires-5 Inv-loop μ-loop
-mul-wires-5 c = search needs
+put-port-requires : tie.Need-put-port-requires Inv-loop μ-loop
+put-port-requires c κs = search needs
 
-add-wires-3 : tie.Need-add-wires-3 Inv-loop μ-loop
-add-wires-3 c = search needs
-
-mul-wires-6 : tie.Need-mul-wires-6 Inv-loop μ-loop
-mul-wires-6 c = search needs
-
-array-write-wires-3 : tie.Need-array-write-wires-3 Inv-loop μ-loop
-array-write-wires-3 c = search needs
-
-cast-programs : tie.Need-cast-programs Inv-loop μ-loop
-cast-programs c = search needs
-
-mul-programs : tie.Need-mul-programs Inv-loop μ-loop
-mul-programs c = search needs
-
-cast-programs-2 : tie.Need-cast-programs-2 Inv-loop μ-loop
-cast-programs-2 c = search needs
-
-add-programs : tie.Need-add-programs Inv-loop μ-loop
-add-programs c = search needs
-
-add-programs-2 : tie.Need-add-programs-2 Inv-loop μ-loop
-add-programs-2 c = search needs
-
-mul-programs-2 : tie.Need-mul-programs-2 Inv-loop μ-loop
-mul-programs-2 c = search needs
-
-array-write-programs : tie.Need-array-write-programs Inv-loop μ-loop
-array-write-programs c = search needs
-
-add-programs-3 : tie.Need-add-programs-3 Inv-loop μ-loop
-add-programs-3 c = search needs
-
-mul-programs-3 : tie.Need-mul-programs-3 Inv-loop μ-loop
-mul-programs-3 c = search needs
-
-add-programs-4 : tie.Need-add-programs-4 Inv-loop μ-loop
-add-programs-4 c = search needs
-
-mul-programs-4 : tie.Need-mul-programs-4 Inv-loop μ-loop
-mul-programs-4 c = search needs
-
-array-write-programs-2 : tie.Need-array-write-programs-2 Inv-loop μ-loop
-array-write-programs-2 c = search needs
+put-input-requires : tie.Need-put-input-requires Inv-loop μ-loop
+put-input-requires c κs = search needs
 
 add-k : tie.Need-add-k Inv-loop μ-loop
 add-k c = search needs
@@ -170,12 +95,13 @@ loop-again c =
     let k = c .before .before .before .before .before .loop-test .taken in
     let x = l .inv in
     let long = x .3 .wires-long in
-    let ended = ended-on (x .2) _ _ (omega arith) (c .before .before .byte-word .ensures .0 ∙ c .before .before .before .byte4 .ensures) (c .before .byte-word2 .ensures .0 ∙ b .ensures) in
-    let porting = porting-ends (x .3) (l .k) (c .before .before .byte-word .result) (c .before .byte-word2 .result) in
+    let ended = ended-on (x .2) (c .before .before .byte4 .result) (b .result) (omega arith) (c .before .before .byte4 .ensures) (b .ensures) in
+    let porting = porting-ends (x .3) (l .k) (c .before .before .byte4 .result) (b .result) in
     ⊎-elim
-    (λ w. rw (w .3, w .4)
-    (x .0, x .1, ended-port ended (l .k) _, porting-on t _ (l .programs) (l .k) porting (omega arith) (w .1 .result) _ (w .1 .ensures .0 ∙ b .ensures) (let h = w .0 .taken in let e = w .1 .ensures .0 in omega arith) refl (w .2 .left) (omega arith) (omega arith)))
-    (λ w. rw (w .1, w .2) (x .0, x .1, ended, porting-past t _ (l .programs) (l .k) porting (omega arith) (let h = w .0 .left in let e = b .ensures in omega arith)))
+    (λ w. rw (w .9, w .10, w .6 .ensures, w .8 .ensures, c .before .put-ends .ensures)
+    (let reads : w .1 .result < 16 = let h = w .0 .taken in let e = w .1 .ensures .0 in omega arith in
+    (x .0, x .1, ended-port ended (l .k) _, porting-on t _ (l .programs) (l .k) porting (omega arith) (w .1 .result) _ (w .1 .ensures .0 ∙ b .ensures) (let h = w .0 .taken in let e = w .1 .ensures .0 in omega arith) (w .3 .ensures reads) (w .4 .left) (omega arith) (omega arith))))
+    (λ w. rw (w .1, w .2, c .before .put-ends .ensures) (x .0, x .1, ended, porting-past t _ (l .programs) (l .k) porting (omega arith) (let h = w .0 .left in let e = b .ensures in omega arith)))
     (c .if1 .came)
 
 returns-2 : tie.Need-returns-2 Inv-loop μ-loop
@@ -199,38 +125,12 @@ judge-ports-spec =
     mul-byte-2
     add-byte-2
     byte-requires-4
-    byte-word-requires
-    mul-wires
-    add-wires
-    mul-wires-2
-    array-write-wires
-    byte-word-requires-2
-    mul-wires-3
-    add-wires-2
-    mul-wires-4
-    array-write-wires-2
+    put-ends-requires
     byte-wide-requires-2
-    mul-n
-    add-n
-    mul-n-2
-    array-read-n
+    arity-requires
     returns
-    mul-wires-5
-    add-wires-3
-    mul-wires-6
-    array-write-wires-3
-    cast-programs
-    mul-programs
-    cast-programs-2
-    add-programs
-    add-programs-2
-    mul-programs-2
-    array-write-programs
-    add-programs-3
-    mul-programs-3
-    add-programs-4
-    mul-programs-4
-    array-write-programs-2
+    put-port-requires
+    put-input-requires
     add-k
     loop-less
     loop-again
