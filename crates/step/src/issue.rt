@@ -35,8 +35,8 @@ pub fn issue(
         return refused(38, 1, a);
     }
     let at = place(&queues[b], b);
-    checkpoint::issue(&mut rows[p]);
     rows[p][WAITS] = 1;
+    checkpoint::issue(&mut rows[p]);
     push(&mut queues[b]);
     Moved {
         answer: Answer {
