@@ -9,6 +9,7 @@ ghost use Rattle.rules.specs.Moves.{onReplica, counts as countsOf};
 ghost use Rattle.process.specs.Change.{Backed, BackupBecame, Received};
 use crate::mailbox::append;
 use crate::row::COMPLETE;
+use crate::row::OLDEST;
 use crate::row::PROTECTED;
 use crate::row::ROW;
 use crate::row::UNREAD;
@@ -45,7 +46,7 @@ pub fn receive(
         return;
     }
     save(row, log, head, port, word);
-    append(mail, end, channel, word);
+    append(mail, wide(row[OLDEST]), end, channel, word);
     row[UNREAD] = unread + 1;
 }
 

@@ -9,6 +9,7 @@ use crate::mailbox::append;
 use crate::row::BOARD;
 use crate::row::EVENTS;
 use crate::row::INSTRUCTIONS;
+use crate::row::OLDEST;
 use crate::row::PC;
 use crate::row::PROTECTED;
 use crate::row::R0;
@@ -32,7 +33,7 @@ use backup::place::port_in;
 use backup::place::word_in;
 use words::wide;
 
-// The first len messages of a log as a mailbox: each with its port's channel in the port's place.
+// The first len messages of a log as a mailbox, from place 0 on: each with its port's channel in the port's place.
 fn readdress(mail: &mut [u64; LOG], log: &[u64; LOG], len: usize, channels: [u32; 4])
     requires { ⌜ len ≤ logMost ⌝ }
     ensures { λ _. ⌜ Readdressed (now (mail .entry)) (now (log .entry)) len channels (now (mail .exit)) ⌝ }
@@ -41,7 +42,7 @@ fn readdress(mail: &mut [u64; LOG], log: &[u64; LOG], len: usize, channels: [u32
     while i < len {
         let port = wide(port_in(log, i) % 4);
         let word = word_in(log, i);
-        append(mail, i, channels[port], word);
+        append(mail, 0, i, channels[port], word);
         i += 1;
     }
 }
@@ -68,6 +69,7 @@ fn restore(row: &mut [u32; ROW], p: Promotion)
     row[INSTRUCTIONS] = 0;
     row[PROTECTED] = 0;
     row[WAITS] = 0;
+    row[OLDEST] = 0;
     row[UNREAD] = p.len;
 }
 

@@ -11,9 +11,11 @@ ghost use Rattle.process.specs.Transfer.{Copied, Rebacks};
 use crate::checkpoint::issue;
 use crate::checkpoint::snapshot;
 use crate::mail::channel_of;
+use crate::mail::place;
 use crate::mail::word_of;
 use crate::row::COMING;
 use crate::row::COMPLETE;
+use crate::row::OLDEST;
 use crate::row::PROTECTED;
 use crate::row::ROW;
 use crate::row::UNREAD;
@@ -24,20 +26,21 @@ use backup::place::new_in;
 use backup::place::sync_in;
 use words::wide;
 
-// Copies of the first len words of a mailbox join a log, each by its channel's port.
+// Copies of the len words of a mailbox from place `first` on join a log, each by its channel's port.
 fn copy(
     mail: &[u64; LOG],
+    first: usize,
     len: usize,
     port: &[u32; 32],
     log: &mut [u64; LOG],
     head: &mut [u32; HEAD],
 )
     requires { ⌜ len ≤ logMost ⌝ }
-    ensures { λ _. ⌜ Copied (now (mail .entry)) len (now (port .entry)) (now (log .entry)) (now (head .entry)) (now (log .exit)) (now (head .exit)) ⌝ }
+    ensures { λ _. ⌜ Copied (now (mail .entry)) first len (now (port .entry)) (now (log .entry)) (now (head .entry)) (now (log .exit)) (now (head .exit)) ⌝ }
 {
     let mut i = 0;
     while i < len {
-        let x = mail[i];
+        let x = mail[place(first, i)];
         let k = wide(channel_of(x)) % 32;
         arrive_in(log, head, port[k], word_of(x));
         i += 1;
@@ -55,6 +58,7 @@ pub fn reback(
 )
     ensures { λ _. ⌜ Rebacks (now (row .entry)) (now (mail .entry)) (now (log .entry)) (now (head .entry)) (now (port .entry)) (now (row .exit)) (now (log .exit)) (now (head .exit)) ⌝ }
 {
+    let first = wide(row[OLDEST]);
     let len = wide(row[UNREAD]);
     if len > LOG {
         return;
@@ -62,7 +66,7 @@ pub fn reback(
     issue(row);
     new_in(head);
     sync_in(log, head, snapshot(row));
-    copy(mail, len, port, log, head);
+    copy(mail, first, len, port, log, head);
     row[PROTECTED] = COMING;
 }
 
