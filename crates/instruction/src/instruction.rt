@@ -9,9 +9,11 @@ use crate::mailbox::look;
 use crate::mailbox::remove;
 use backup::limits::LOG;
 use process::mail::channel_of;
+use process::mail::place;
 use process::mail::word_of;
 use process::row::EVENTS;
 use process::row::INSTRUCTIONS;
+use process::row::OLDEST;
 use process::row::PC;
 use process::row::PROTECTED;
 use process::row::R0;
@@ -30,7 +32,7 @@ pub enum Intent {
     NoMail,
     // a SET, an ADD or a JUMP
     Internal,
-    // a TAKE or a FIRST of the word at this index of the mailbox
+    // a TAKE or a FIRST of the word at this position of the mailbox
     Take { at: usize },
     // a SEND of this word to this channel
     Send { channel: u32, word: u32 },
@@ -80,10 +82,10 @@ fn tally(row: &mut [u32; ROW], i: usize)
 }
 
 // A TAKE or a FIRST would take the oldest word that it names.
-fn seek(mail: &[u64; LOG], unread: usize, code: u8, operand: u32) -> Intent
-    ensures { λ r. ⌜ Sought (now (mail .entry)) unread code operand r ⌝ }
+fn seek(mail: &[u64; LOG], first: usize, unread: usize, code: u8, operand: u32) -> Intent
+    ensures { λ r. ⌜ Sought (now (mail .entry)) first unread code operand r ⌝ }
 {
-    let at = look(mail, unread, code, operand);
+    let at = look(mail, first, unread, code, operand);
     if at < unread {
         Intent::Take { at: at }
     } else {
@@ -107,7 +109,7 @@ pub fn examine(
     }
     match code {
         1 | 2 | 6 => Intent::Internal,
-        3 | 4 => seek(mail, wide(row[UNREAD]), code, operand),
+        3 | 4 => seek(mail, wide(row[OLDEST]), wide(row[UNREAD]), code, operand),
         5 => Intent::Send {
             channel: operand,
             word: register(row, a),
@@ -174,7 +176,7 @@ fn load(row: &mut [u32; ROW], code: u8, a: u32, x: u64)
     }
 }
 
-// A TAKE or a FIRST is done: the word at an index of the mailbox leaves it, and counts as an event and a receive on its port. Where no
+// A TAKE or a FIRST is done: the word at a position of the mailbox leaves it, and counts as an event and a receive on its port. Where no
 // unread word stands there nothing changes.
 pub fn take_word(
     row: &mut [u32; ROW],
@@ -193,9 +195,11 @@ pub fn take_word(
     if at >= unread {
         return;
     }
-    load(row, code, a, mail[at]);
-    remove(mail, unread, at);
+    let first = wide(row[OLDEST]);
+    load(row, code, a, mail[place(first, at)]);
+    remove(mail, first, at);
     row[UNREAD] = std::num::wrapping_sub_u32(row[UNREAD], 1);
+    row[OLDEST] = std::num::wrapping_add_u32(row[OLDEST], 1) % 64;
     tally(row, T0 + wide(port % 4));
     event(row);
 }
