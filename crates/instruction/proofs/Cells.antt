@@ -1,9 +1,9 @@
 -- Stores at the cells of a row: what is kept, a counter that goes up by one, and the counters of a SEND.
-use mathlib.Core.Path.{_≡_, refl, ap, sym, _∙_}
+use mathlib.Core.Path.{_≡_, refl, ap, _∙_}
 use mathlib.Core.Logic.{_≢_}
 use mathlib.Core.Bool.{Bool, true, false, not, cond}
-use mathlib.Core.List.{List, [], _∷_}
-use Prim.Native.Nat.{ℕ, zero, suc, _+_, _%_, _^_, _≤_, _<_}
+use mathlib.Core.List.{List}
+use Prim.Native.Nat.{ℕ, suc, _+_, _%_, _^_, _≤_, _<_}
 use native.Mathlib.Omega.{arith}
 use lib.Dec.{eqb}
 use lib.ListN.{length, getD, set, length-set}
@@ -12,15 +12,14 @@ use borrow.Author.Tests.{eq-eqb, ne-eqb}
 use Rattle.facts.specs.Tests.{by-eq, by-lt, no-way}
 use Rattle.backup.specs.Limits.{logMost}
 use Rattle.rules.specs.Table.{Instruction}
-use Rattle.rules.specs.Machine.{Machine, Outcome, moved, Act}
+use Rattle.rules.specs.Machine.{Machine, moved, Act}
 use Rattle.rules.specs.Cabinet.{Since, Process, limited}
 use Rattle.rules.specs.Moves.{advanced, counting}
-use Rattle.process.specs.Row.{rowLength, pcIn, suppressIn, eventsIn, flagIn, unreadIn, oldestIn, machineOf, standbyOf, processOf, Kept, Seated}
+use Rattle.process.specs.Row.{pcIn, suppressIn, eventsIn, flagIn, unreadIn, oldestIn, machineOf, standbyOf, processOf, Kept, Seated}
 use Rattle.process.specs.Change.{Became}
-use Rattle.instruction.specs.Instruction.{Fetched, outcomeOf, Intends, afterSend, bumped, oneIn, tallied, Room, TallyRoom, Suppresses}
+use Rattle.instruction.specs.Instruction.{outcomeOf, Intends, afterSend, bumped, oneIn, tallied, Room, TallyRoom, Suppresses}
 use Rattle.instruction.specs.declared.instruction.Intent.{Intent}
-use Rattle.instruction.specs.declared.instruction.Intent.the-variants.{Send}
-use Rattle.process.proofs.Rows.{Words, stored, spelled, limited-is, seated-cell, waits-cell}
+use Rattle.process.proofs.Rows.{stored, spelled, limited-is, seated-cell, waits-cell}
 use Rattle.instruction.proofs.Examining.{step-halted}
 
 -- a word stored at a cell other than the flag, the number of unread words and the oldest's place

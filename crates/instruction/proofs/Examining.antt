@@ -1,20 +1,18 @@
 -- What an instruction would do: each intent against the rules' local step.
 use mathlib.Core.Path.{_≡_, refl, ap, sym, subst, _∙_}
 use mathlib.Core.Logic.{_≢_, _⊎_, inl, inr, ⊎-elim}
-use mathlib.Core.Bool.{Bool, true, false, cond}
 use mathlib.Core.List.{List, [], _∷_}
 use Prim.Native.Nat.{ℕ, zero, suc, _+_, _%_, _≤_, _<_}
 use native.Mathlib.Omega.{arith}
-use lib.Dec.{eqb, ltb}
-use lib.ListN.{length, getD, set}
+use lib.ListN.{getD}
 use borrow.Author.Tests.{lt-ltb, le-ltb}
-use Rattle.facts.specs.Tests.{no-way, by-eq, by-lt}
-use Rattle.rules.specs.Table.{Instruction, SET}
-use Rattle.rules.specs.Machine.{Mail, Machine, Outcome, halted, noMail, moved, Act, internal, took, sent, Pull, nothing, found, pull, bit, take1, first1, execute, localStep}
+use Rattle.facts.specs.Tests.{no-way, by-eq}
+use Rattle.rules.specs.Table.{Instruction}
+use Rattle.rules.specs.Machine.{Machine, halted, moved, internal, take1, first1, execute, localStep}
 use Rattle.rules.specs.Format.{instruction}
 use Rattle.rules.proofs.Decoded.{instruction-none}
 use Rattle.process.specs.Row.{pcIn, unreadIn, oldestIn, machineOf}
-use Rattle.instruction.specs.Instruction.{InRange, Fetched, afterInternal, afterTake, afterSend, outcomeOf, Intends, Examined, Sought}
+use Rattle.instruction.specs.Instruction.{InRange, Fetched, afterInternal, outcomeOf, Examined, Sought}
 use Rattle.instruction.specs.declared.instruction.Intent.{Intent}
 use Rattle.instruction.specs.declared.instruction.Intent.the-variants.{Halted, NoMail, Internal, Take, Send}
 

@@ -2,7 +2,7 @@
 use mathlib.Core.Path.{_≡_, refl, ap, sym, _∙_}
 use mathlib.Core.Logic.{_≢_}
 use mathlib.Core.Bool.{Bool, true, false, cond}
-use mathlib.Core.List.{List, [], _∷_}
+use mathlib.Core.List.{List}
 use Prim.Native.Nat.{ℕ, zero, suc, _+_, _-_, _%_, _^_, _≤_, _<_}
 use native.Mathlib.Omega.{arith}
 use lib.Dec.{eqb}
@@ -13,7 +13,7 @@ use Rattle.facts.specs.Tests.{by-eq}
 use Rattle.facts.specs.Lists.{removeAt}
 use Rattle.backup.specs.Limits.{logMost, ports}
 use Rattle.rules.specs.Table.{Instruction}
-use Rattle.rules.specs.Machine.{Mail, Machine}
+use Rattle.rules.specs.Machine.{Mail}
 use Rattle.rules.specs.Cabinet.{Since, Process}
 use Rattle.rules.specs.Moves.{advanced, counting, oneTaken}
 use Rattle.process.specs.Row.{rowLength, pcIn, eventsIn, flagIn, unreadIn, oldestIn, placeIn, mailIn, packedAt, mailsIn, mailAt, machineOf, standbyOf, processOf, Kept}
@@ -22,7 +22,7 @@ use Rattle.instruction.specs.Mailbox.{Removed}
 use Rattle.instruction.specs.Instruction.{loaded, loadedIn, Loads, afterTake, bumped, oneIn, tallied, Room, TallyRoom, Intends, Takes}
 use Rattle.instruction.specs.declared.instruction.Intent.the-variants.{Take}
 use Rattle.process.proofs.Rows.{seated-same, spelled, limited-is, waits-cell}
-use Rattle.instruction.proofs.Cells.{seated-on, kept-cell, kept-mail, bumped-is, tally-fits, tallied-is, anotherTake, counting-taken, one-less, going}
+use Rattle.instruction.proofs.Cells.{seated-on, kept-cell, kept-mail, bumped-is, tally-fits, tallied-is, anotherTake, counting-taken, going}
 use Rattle.instruction.proofs.Done.{and-done, act-and-done, act-same}
 
 -- ---- the registers

@@ -1,17 +1,16 @@
 -- What the calls on one instruction promise: what it would do is what the rules' `localStep` says, and what it does makes the process
 -- that the rules' `advanced` gives. Document 01: "Instructions, each moving the place on by one unless said".
 use mathlib.Core.Path.{_≡_}
-use mathlib.Core.Bool.{Bool, cond}
-use mathlib.Core.List.{List, [], _∷_}
+use mathlib.Core.Bool.{cond}
+use mathlib.Core.List.{List}
 use Prim.Native.Nat.{ℕ, suc, _+_, _%_, _^_, _≤_, _<_}
 use lib.Dec.{eqb}
 use lib.ListN.{length, getD, set}
 use Rattle.facts.specs.Lists.{removeAt}
-use Rattle.backup.specs.Limits.{logMost, pcMost, ports}
+use Rattle.backup.specs.Limits.{pcMost, ports}
 use Rattle.rules.specs.Table.{Instruction, SET}
 use Rattle.rules.specs.Machine.{Mail, Machine, Outcome, halted, noMail, moved, internal, took, sent, booted, next, pull, nothing, found, execute, localStep}
 use Rattle.rules.specs.Format.{instruction}
-use Rattle.rules.specs.Cabinet.{Process}
 use Rattle.rules.specs.Moves.{advanced, counting, oneDone, oneSent, oneTaken}
 use Rattle.process.specs.Row.{pcIn, suppressIn, flagIn, unreadIn, mailIn, packedAt, mailsIn, mailAt, machineOf, Kept}
 use Rattle.process.specs.Change.{Became}
@@ -127,7 +126,8 @@ abbrev pub Computes : List ℕ → ℕ → ℕ → ℕ → List ℕ → Type 0
 Computes row code a operand row′ =
     (program : List Instruction) (n : ℕ) (mail log head : List ℕ) → Kept row mail log head → Intends program row mail n code a operand Internal
     → TallyRoom row 15
-    → Became row mail log head row′ mail log head (λ x. advanced (afterInternal code a operand (machineOf row mail)) (counting oneDone x) (x .suppress) x)
+    → Became row mail log head row′ mail log head
+    (λ x. advanced (afterInternal code a operand (machineOf row mail)) (counting oneDone x) (x .suppress) x)
 
 -- A word was taken that had come in on a port: machine, and what is counted. Nothing changes where no unread word stands there.
 pub record Takes (row mail : List ℕ) (code a at port : ℕ) (row′ mail′ : List ℕ) : Type 0 where

@@ -22,4 +22,5 @@ pub record Looks (passes : ℕ → Bool) (mail : List ℕ) (first n r : ℕ) : T
 -- Of words from place `first` on, the one at a position is taken out: the others stand from the next place on.
 pub record Removed (mail : List ℕ) (first at : ℕ) (mail′ : List ℕ) : Type 0 where
   pub same-length : length mail′ ≡ length mail
-  pub rest : length mail ≡ logMost → (n : ℕ) → n ≤ logMost → at < n → mailsIn (placeIn first 1) (n - 1) mail′ ≡ removeAt at (mailsIn first n mail)
+  pub rest : length mail ≡ logMost → (n : ℕ) → n ≤ logMost → at < n
+      → mailsIn (placeIn first 1) (n - 1) mail′ ≡ removeAt at (mailsIn first n mail)

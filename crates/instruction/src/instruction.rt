@@ -4,7 +4,9 @@
 ghost use mathlib.Core.Path.{_≡_};
 ghost use Prim.Native.Nat.{_+_, _%_, _^_, _<_};
 ghost use lib.ListN.{getD};
-ghost use Rattle.instruction.specs.Instruction.{bumped, oneIn, tallied, Loads, Examined, Sought, Evaluates, Computes, Takes, Suppresses, Queues};
+ghost use Rattle.process.specs.Row.{rowLength};
+ghost use Rattle.instruction.specs.Instruction.{bumped, oneIn, tallied, Loads, Examined, Sought, Evaluates};
+ghost use Rattle.instruction.specs.Instruction.{Computes, Takes, Suppresses, Queues};
 use crate::mailbox::look;
 use crate::mailbox::remove;
 use backup::limits::LOG;
@@ -60,7 +62,7 @@ fn register(row: &[u32; ROW], a: u32) -> u32
 
 // One more in a cell of the row.
 fn bump(row: &mut [u32; ROW], i: usize)
-    requires { ⌜ i < 16 ⌝ }
+    requires { ⌜ i < rowLength ⌝ }
     ensures { λ _. ⌜ now (row .exit) ≡ bumped (now (row .entry)) i ⌝ }
 {
     row[i] = std::num::wrapping_add_u32(row[i], 1);
@@ -75,7 +77,7 @@ fn one(row: &[u32; ROW]) -> u32
 
 // One more in a counter, if the process's acts and instructions are counted.
 fn tally(row: &mut [u32; ROW], i: usize)
-    requires { ⌜ i < 16 ⌝ }
+    requires { ⌜ i < rowLength ⌝ }
     ensures { λ _. ⌜ now (row .exit) ≡ tallied (now (row .entry)) i ⌝ }
 {
     row[i] = std::num::wrapping_add_u32(row[i], one(row));

@@ -3,11 +3,11 @@ use mathlib.Core.Path.{_≡_, refl, ap, sym, _∙_}
 use mathlib.Core.Bool.{Bool, true, false, cond}
 use mathlib.Core.Option.{Option, none, some}
 use mathlib.Core.List.{List, [], _∷_, _++_}
-use Prim.Native.Nat.{ℕ, zero, suc, _+_, _%_, _≤_, _<_, _^_}
+use Prim.Native.Nat.{ℕ, _+_, _%_, _≤_, _<_, _^_}
 use native.Mathlib.Omega.{arith}
 use native.Mathlib.Numerals.{add-one}
 use lib.Dec.{eqb}
-use lib.ListN.{length, set, length-set}
+use lib.ListN.{set, length-set}
 use borrow.Author.Tests.{eq-eqb, ne-eqb}
 use Rattle.backup.specs.Limits.{logMost}
 use Rattle.backup.specs.Replica.{Replica, Reply, Checkpoint, arrive, count, sync}
@@ -15,16 +15,16 @@ use Rattle.backup.specs.declared.place.Checkpoint as code
 use Rattle.backup.specs.declared.place.Landed.{Landed}
 use Rattle.backup.specs.Report.{totalDropped, syncReport}
 use Rattle.backup.specs.ReportLaws.{totalDropped-small}
-use Rattle.backup.specs.Place.{viewIn, Sound, Called, checkpointOf, reportOf, Reports}
-use Rattle.rules.specs.Table.{Table, portOf}
-use Rattle.rules.specs.Machine.{Mail, delivered}
+use Rattle.backup.specs.Place.{viewIn, Called, checkpointOf, reportOf, Reports}
+use Rattle.rules.specs.Table.{portOf}
+use Rattle.rules.specs.Machine.{delivered}
 use Rattle.rules.specs.Cabinet.{Process, Standby}
 use Rattle.rules.specs.Moves.{withStandby, onReplica, onBackup, receive, counts, keeps}
-use Rattle.process.specs.Row.{flagIn, unreadIn, oldestIn, machineOf, standbyOf, processOf, mailsIn, Kept}
+use Rattle.process.specs.Row.{flagIn, unreadIn, oldestIn, machineOf, standbyOf, processOf, mailsIn}
 use Rattle.process.specs.Mailbox.{Appended}
-use Rattle.process.specs.Change.{Became, BackupBecame, Backed, Drops, Received}
+use Rattle.process.specs.Change.{BackupBecame, Backed, Drops, Received}
 use Rattle.facts.specs.Tests.{no-way}
-use Rattle.process.proofs.Rows.{Words, stored, spelled, seated-cell, waits-cell, protected-is}
+use Rattle.process.proofs.Rows.{stored, spelled, seated-cell, waits-cell, protected-is}
 
 module _ (row log head : List ℕ) (call : Replica → Reply) where
   -- no record: nothing is called

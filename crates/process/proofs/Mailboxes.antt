@@ -6,7 +6,6 @@ use native.Mathlib.Omega.{arith}
 use lib.ListN.{set, length-set}
 use lib.Seq.{getD-set-same, getD-set-other}
 use Rattle.facts.specs.Rings.{listed-push}
-use Rattle.rules.specs.Machine.{Mail}
 use Rattle.process.specs.Row.{placeIn, packMail, mailIn, packedAt}
 use Rattle.process.specs.Mailbox.{Appended}
 

@@ -1,24 +1,24 @@
 -- A promotion, and a crash, as changes of one process.
 use mathlib.Core.Path.{_≡_, refl, ap, sym, _∙_}
-use mathlib.Core.Bool.{Bool, true, false, cond, _&&_}
-use mathlib.Core.Option.{Option, none, some}
-use mathlib.Core.List.{List, [], _∷_, map}
-use Prim.Native.Nat.{ℕ, zero, suc, _%_, _≤_, _<_, _^_}
+use mathlib.Core.Bool.{true, cond}
+use mathlib.Core.Option.{none}
+use mathlib.Core.List.{List, map}
+use Prim.Native.Nat.{ℕ, _%_, _<_, _^_}
 use native.Mathlib.Omega.{arith}
-use lib.Dec.{eqb, ltb}
-use lib.ListN.{length, getD, set, length-set}
+use lib.Dec.{ltb}
+use lib.ListN.{length, getD, length-set}
 use borrow.Author.Tests.{eq-eqb, ne-eqb, ltb-true}
 use Rattle.facts.specs.Indexing.{map-agree}
 use Rattle.backup.specs.Limits.{logMost, ports}
-use Rattle.backup.specs.Replica.{Message, FailOver, onPorts, failOver}
-use Rattle.backup.specs.Place.{messages, viewIn, Sound, promotionIn, handedOver}
+use Rattle.backup.specs.Replica.{Message, FailOver, onPorts}
+use Rattle.backup.specs.Place.{promotionIn, handedOver}
 use Rattle.backup.specs.PlaceLaws.{fail-over-in, promotion-few, promotion-ports}
 use Rattle.backup.specs.declared.place.Promotion.{Promotion}
 use Rattle.rules.specs.Table.{Table, channelOn}
 use Rattle.rules.specs.Machine.{Mail}
-use Rattle.rules.specs.Cabinet.{Process, Standby, noneSince}
+use Rattle.rules.specs.Cabinet.{Process, noneSince}
 use Rattle.rules.specs.Moves.{recovered, promoted, unprotected, afterCrash}
-use Rattle.process.specs.Row.{boardIn, flagIn, standbyBoardIn, unreadIn, waitsIn, oldestIn, machineOf, standbyOf, processOf, mailsIn, Kept}
+use Rattle.process.specs.Row.{boardIn, flagIn, standbyBoardIn, unreadIn, waitsIn, oldestIn, machineOf, standbyOf, processOf, Kept}
 use Rattle.process.specs.Change.{RowBecame}
 use Rattle.process.specs.Promotion.{readdressed, Readdressed, restoredIn, Restored, standbyIn, Routes, promotedBy, BecameAtCrash, Promoted, Crashed}
 use Rattle.process.proofs.Rows.{Words, stored, cleared, spelled}

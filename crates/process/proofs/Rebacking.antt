@@ -1,30 +1,29 @@
 -- A resync as a change of one process: what is true between two copies, and that the record's own calls make the record that the rules name.
 use mathlib.Core.Path.{_≡_, refl, ap, sym, _∙_}
-use mathlib.Core.Bool.{Bool, true, false, cond}
-use mathlib.Core.Option.{Option, none, some}
+use mathlib.Core.Bool.{false}
+use mathlib.Core.Option.{some}
 use mathlib.Core.List.{List, [], _∷_, _++_, map, map-append, append-assoc, append-nil}
-use Prim.Native.Nat.{ℕ, suc, _+_, _%_, _≤_, _<_, _^_}
+use Prim.Native.Nat.{ℕ, suc, _+_, _≤_, _<_}
 use native.Mathlib.Omega.{arith}
 use native.Mathlib.Numerals.{add-one}
-use lib.Dec.{eqb}
 use lib.ListN.{length, getD, set, length-set, length-map, length-append}
 use borrow.Author.Tests.{eq-eqb, ne-eqb}
 use Rattle.facts.specs.Indexing.{getD-replicate-any}
 use Rattle.facts.specs.Lists.{listed, listed-same, map-listed}
 use Rattle.facts.specs.Rings.{listed-length, listed-more}
 use Rattle.backup.specs.Limits.{logMost, ports, pcMost}
-use Rattle.backup.specs.Replica.{Message, Replica, Reply, Checkpoint, initial, arrive, arrived, sync, synced, fit}
+use Rattle.backup.specs.Replica.{Message, Replica, Reply, Checkpoint, initial, arrive, arrived, sync, fit}
 use Rattle.backup.specs.Accepts.{arrive-accepted, sync-accepted}
 use Rattle.backup.specs.Place.{viewIn, Sound, Called, Fresh, checkpointOf}
 use Rattle.backup.specs.declared.place.Checkpoint as code
 use Rattle.rules.specs.Table.{Table, placementAt, portOf}
-use Rattle.rules.specs.Machine.{Mail, Machine}
-use Rattle.rules.specs.Cabinet.{Process, Standby, Since, noTakes, noneSince, otherBoard}
-use Rattle.rules.specs.Moves.{withStandby, completed, issued, snapshot, copied, rebacking, rebacked}
+use Rattle.rules.specs.Machine.{Mail}
+use Rattle.rules.specs.Cabinet.{Process, noTakes, noneSince, otherBoard}
+use Rattle.rules.specs.Moves.{withStandby, issued, snapshot, copied, rebacking, rebacked}
 use Rattle.process.specs.Row.{pcIn, flagIn, standbyBoardIn, unreadIn, oldestIn, checkpointIn, mailIn, packedAt, mailsIn, mailAt, machineOf, standbyOf, processOf, Kept, Seated}
-use Rattle.process.specs.Change.{Became, RowBecame}
+use Rattle.process.specs.Change.{RowBecame}
 use Rattle.process.specs.Transfer.{portFor, copyOf, withMore, Copied, OnPorts, Rebacks}
-use Rattle.process.proofs.Rows.{Words, stored, spelled, seated-cell, waits-cell, checkpoint-is}
+use Rattle.process.proofs.Rows.{stored, spelled, seated-cell, waits-cell, checkpoint-is}
 
 -- ---- the copies
 

@@ -1,9 +1,9 @@
 -- Rows: a row of known length written out, after which stores at its cells compute; and what a store keeps.
-use mathlib.Core.Path.{_≡_, refl, ap, sym, _∙_}
+use mathlib.Core.Path.{_≡_, refl, ap, _∙_}
 use mathlib.Core.Bool.{Bool, true, false, not, cond}
 use mathlib.Core.Option.{none, some}
 use mathlib.Core.List.{List, [], _∷_}
-use Prim.Native.Nat.{ℕ, zero, suc, _≤_, _<_, _^_}
+use Prim.Native.Nat.{ℕ, zero, suc, _<_, _^_}
 use native.Mathlib.Omega.{arith}
 use lib.Dec.{eqb}
 use lib.ListN.{length, getD, set, length-set}
@@ -13,8 +13,8 @@ use borrow.Author.Tests.{eqb-true}
 use Rattle.backup.specs.Place.{checkpointOf}
 use Rattle.rules.specs.Cabinet.{Standby, isSome, isComplete, limited, protected}
 use Rattle.rules.specs.Moves.{snapshot, issued, unprotected}
-use Rattle.process.specs.Row.{rowLength, boardIn, flagIn, standbyBoardIn, unreadIn, waitsIn, oldestIn, checkpointIn, machineOf, standbyOf, processOf, Kept, Seated}
-use Rattle.process.specs.Change.{Became, RowBecame}
+use Rattle.process.specs.Row.{rowLength, boardIn, flagIn, standbyBoardIn, unreadIn, waitsIn, oldestIn, checkpointIn, machineOf, standbyOf, processOf, Seated}
+use Rattle.process.specs.Change.{RowBecame}
 
 -- every number of a list is a word
 pub record Words (l : List ℕ) : Type 0 where

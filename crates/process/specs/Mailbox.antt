@@ -4,7 +4,6 @@ use mathlib.Core.List.{List, [], _∷_, _++_}
 use Prim.Native.Nat.{ℕ, suc, _<_}
 use lib.ListN.{length}
 use Rattle.backup.specs.Limits.{logMost}
-use Rattle.rules.specs.Machine.{Mail}
 use Rattle.process.specs.Row.{mailsIn}
 
 -- behind n words from place `first` on, one more, where there is room

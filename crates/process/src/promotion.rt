@@ -1,8 +1,6 @@
 // A promotion: a process goes on as its backup.
 // Document 01: it "goes on at its backup board with the record's state, the saved words as inbox and the count as hold-back".
-ghost use mathlib.Core.Path.{_≡_};
-ghost use mathlib.Core.List.{List};
-ghost use Prim.Native.Nat.{ℕ, _≤_};
+ghost use Prim.Native.Nat.{_≤_};
 ghost use Rattle.backup.specs.Limits.{logMost};
 ghost use Rattle.process.specs.Promotion.{Readdressed, Restored, Promoted};
 use crate::mailbox::append;
@@ -82,7 +80,8 @@ pub fn promote(
     head: &[u32; HEAD],
     channels: [u32; 4],
 )
-    ensures { λ _. ⌜ Promoted (now (row .entry)) (now (mail .entry)) (now (log .entry)) (now (head .entry)) (now (row .exit)) (now (mail .exit)) channels ⌝ }
+    ensures { λ _. ⌜ Promoted (now (row .entry)) (now (mail .entry)) (now (log .entry)) (now (head .entry)) (now (row .exit))
+        (now (mail .exit)) channels ⌝ }
 {
     let p = fail_over_in(head);
     let len = wide(p.len);

@@ -2,8 +2,7 @@
 // Document 02, W-210: "its snapshot and copies of all its unread words join the queue as one entry." "When that entry is carried, its other
 // table board holds a new record with those words, then all that have arrived since issue, and count 0." While a process has no backup its
 // log and its head are free: the new record is made there at issue, and from then on what arrives is saved in it.
-ghost use mathlib.Core.List.{List};
-ghost use Prim.Native.Nat.{ℕ, _≤_};
+ghost use Prim.Native.Nat.{_≤_};
 ghost use Rattle.backup.specs.Limits.{logMost};
 ghost use Rattle.rules.specs.Moves.{rebacked};
 ghost use Rattle.process.specs.Change.{RowBecame};
@@ -36,7 +35,8 @@ fn copy(
     head: &mut [u32; HEAD],
 )
     requires { ⌜ len ≤ logMost ⌝ }
-    ensures { λ _. ⌜ Copied (now (mail .entry)) first len (now (port .entry)) (now (log .entry)) (now (head .entry)) (now (log .exit)) (now (head .exit)) ⌝ }
+    ensures { λ _. ⌜ Copied (now (mail .entry)) first len (now (port .entry)) (now (log .entry)) (now (head .entry)) (now (log .exit))
+        (now (head .exit)) ⌝ }
 {
     let mut i = 0;
     while i < len {
@@ -56,7 +56,8 @@ pub fn reback(
     head: &mut [u32; HEAD],
     port: &[u32; 32],
 )
-    ensures { λ _. ⌜ Rebacks (now (row .entry)) (now (mail .entry)) (now (log .entry)) (now (head .entry)) (now (port .entry)) (now (row .exit)) (now (log .exit)) (now (head .exit)) ⌝ }
+    ensures { λ _. ⌜ Rebacks (now (row .entry)) (now (mail .entry)) (now (log .entry)) (now (head .entry)) (now (port .entry))
+        (now (row .exit)) (now (log .exit)) (now (head .exit)) ⌝ }
 {
     let first = wide(row[OLDEST]);
     let len = wide(row[UNREAD]);
