@@ -6,8 +6,8 @@ use mathlib.Core.List.{List, [], _∷_, _++_, map, map-append, append-nil}
 use Prim.Native.Nat.{ℕ, zero, suc, _+_, _*_, _%_, _≤_, _<_}
 use native.Mathlib.Omega.{arith}
 use lib.Dec.{ltb}
-use lib.ListN.{length, getD, set, take, length-append, length-map, replicate}
-use lib.Seq.{take-suc, take-all, length-take-le, sets}
+use lib.ListN.{length, getD, set, take, length-append, length-map, length-set, replicate}
+use lib.Seq.{take-suc, take-all, length-take-le, sets, length-sets}
 use borrow.Author.Tests.{lt-ltb, le-ltb}
 use Rattle.records.specs.Commands.{commandOf}
 use Rattle.records.specs.declared.schedule.Command as code
@@ -16,7 +16,7 @@ use Rattle.rules.specs.Judge.{Accepted}
 use Rattle.rules.specs.Bytes.{wordBytes, allBytes, written}
 use Rattle.rules.specs.Cabinet.{Cabinet, started}
 use Rattle.rules.specs.Moves as rules
-use Rattle.rules.specs.Moves.{Command, Numbers, numbered, numbers, settle, judged, turn, runFrom}
+use Rattle.rules.specs.Moves.{Command, Numbers, Result, numbered, numbers, settle, judged, turn, runFrom}
 use Rattle.rules.specs.Reasons.{causeOf, reasonOf}
 use Rattle.rules.specs.Schedule.{command, decodeSchedule}
 use Rattle.rules.specs.Run.{answerBytes}
@@ -26,12 +26,10 @@ use Rattle.state.specs.declared.entry.Entry.{Entry}
 use Rattle.state.specs.declared.moved.Answer.{Answer}
 use Rattle.state.specs.declared.moved.Moved.{Moved}
 use Rattle.state.specs.Store.{Store, Holds, blankEntry}
-use Rattle.state.specs.Moved.{Reachable, Answered, Turned, storedBy}
-use Rattle.bus.specs.Transmits.{oldestPlace}
-use Rattle.command.specs.Plan.{Lent, Suits}
-use Rattle.outcome.specs.Written.{sixBytes, reasonByte, Puts, PutsReason}
-use Rattle.command.specs.Turns.{Turns, Carries}
-use Rattle.cabinet.specs.Plays.{Sheets, Played, Suited, Playing, Plays}
+use Rattle.state.specs.Moved.{Reachable, Answered, Makes, joined}
+use Rattle.plan.specs.Plan.{Plan, Planned}
+use Rattle.cabinet.specs.Written.{sixBytes, reasonByte}
+use Rattle.cabinet.specs.Plays.{Sheets, Roomy, Writes, Played, Suited, Playing, Plays}
 use Rattle.outcome.proofs.Writing.{written-length, written-more}
 use Rattle.outcome.proofs.Answers.{answer-fits}
 
@@ -107,26 +105,22 @@ module _ (t : Table) (ok : Accepted t) (done : List Command) (x : Command) (smal
       ∙ map-append reasonOf (runFrom t (started t) done .answers) (turn t now x .answer ∷ [])
 
   -- the cabinet, the answer and the reason of one command more
-  pub one-more : (entries′ : List Entry) (s′ : Store) (sheets′ : Sheets) (r : Answer) → Played t done s entries before sheets → Answered t s′ entries′ now x (judged t now x) r
-      → Puts (sheets .answers) (length done) r (sheets′ .answers) → PutsReason (sheets .reasons) (length done) (r .code) (r .cause) (sheets′ .reasons)
-      → Played t (done ++ (x ∷ [])) s′ entries′ before sheets′
+  pub one-more : (entries′ : List Entry) (s′ : Store) (sheets′ : Sheets) (r : Answer) → Played t done s entries before sheets
+      → Answered t s′ entries′ now x (judged t now x) r → Writes sheets (length done) r sheets′ → Played t (done ++ (x ∷ [])) s′ entries′ before sheets′
   unfolding turn
-  one-more entries′ s′ sheets′ r p h w v =
+  one-more entries′ s′ sheets′ r p h w =
       let size = answer-fits reach x small in
-      let long : length (sheets .answers) ≡ length (before .answers) =
-      ap length (p .answers-are) ∙ written-length bytes (before .answers) (let a = so-long in omega arith) in
-      let long-too : length (sheets .reasons) ≡ length (before .reasons) =
-      ap length (p .reasons-are) ∙ written-length reasons (before .reasons) (let a = so-many in omega arith) in
       record {
         holds = subst (Holds t s′ entries′) (sym (cabinet-more t (started t) done x)) (h .holds);
         answers-are =
-            w .fits (omega arith)
+            w .answers-are
             ∙ ap (λ (l : List ℕ). sets l (6 * length done) (sixBytes r)) (p .answers-are)
-            ∙ ap (sets (written bytes (before .answers)) (6 * length done)) (same-bytes r (numbers (turn t now x .answer)) (h .answer-is) (size .code-small) (size .a-small))
+            ∙ ap (sets (written bytes (before .answers)) (6 * length done))
+            (same-bytes r (numbers (turn t now x .answer)) (h .answer-is) (size .code-small) (size .a-small))
             ∙ written-more bytes (answerBytes (numbers (turn t now x .answer))) (before .answers) (6 * length done) (sym so-long) room
             ∙ ap (λ (l : List ℕ). written l (before .answers)) (sym then-bytes);
         reasons-are =
-            v .fits (omega arith)
+            w .reasons-are
             ∙ ap (λ (l : List ℕ). set l (length done) (reasonByte (r .code) (r .cause))) (p .reasons-are)
             ∙ ap (set (written reasons (before .reasons)) (length done))
             (same-reason (turn t now x .answer) (r .code) (r .cause) (ap (λ (m : Numbers). m .code) (h .answer-is)) (h .cause-is))
@@ -137,70 +131,76 @@ module _ (t : Table) (ok : Accepted t) (done : List Command) (x : Command) (smal
 -- ---- the rounds
 
 -- an element inside a list, whatever stands for one outside
-default-free : {A : Type 0} (l : List A) (i : ℕ) (d e : A) → i < length l → getD l i d ≡ getD l i e
+pub default-free : {A : Type 0} (l : List A) (i : ℕ) (d e : A) → i < length l → getD l i d ≡ getD l i e
 default-free [] i d e h = absurd (omega arith)
 default-free (x ∷ l) zero d e h = refl
 default-free (x ∷ l) (suc i) d e h = default-free l i d e (omega arith)
 
-module _ (l : Lent) (schedule : List ℕ) (records : ℕ) (s₀ : Store) (entries₀ : List Entry) (sheets₀ : Sheets) where
+-- the entries that a move leaves
+pub none-joined : (entries : List Entry) (at : ℕ) (x : Entry) → 512 ≤ at → entries ≡ joined entries at x
+none-joined entries at x h = rw (le-ltb at 512 h)
+
+pub one-joined : (entries : List Entry) (at : ℕ) (x : Entry) → at < 512 → set entries at x ≡ joined entries at x
+one-joined entries at x h = rw (lt-ltb at 512 h)
+
+module _ (l : Plan) (schedule : List ℕ) (records : ℕ) (s₀ : Store) (entries₀ : List Entry) (sheets₀ : Sheets) where
   abbrev At : ℕ → Store → List Entry → Sheets → Type 0
   At i s entries sheets = Playing l schedule records s₀ entries₀ sheets₀ i s entries sheets
 
   -- nothing is done at first
   pub at-first : At 0 s₀ entries₀ sheets₀
   unfolding runFrom
-  at-first = record { no-more = omega arith; played = λ t u. record { holds = u .starts; answers-are = refl; reasons-are = refl } }
+  at-first = record {
+    no-more = omega arith;
+    answers-long = refl;
+    reasons-long = refl;
+    played = λ t u. record { holds = u .starts; answers-are = refl; reasons-are = refl };
+  }
 
-  module _ (i : ℕ) (s s′ : Store) (entries entries′ : List Entry) (sheets sheets′ : Sheets) (p : At i s entries sheets) (below : i < records) (c : code.Command)
-      (is-c : commandOf c ≡ getD (decodeSchedule schedule) i (command 0 0 0)) (a : ℕ) (is-a : a ≡ c .a) (small : a < 256) (r : Answer)
-      (w : Puts (sheets .answers) i r (sheets′ .answers)) (v : PutsReason (sheets .reasons) i (r .code) (r .cause) (sheets′ .reasons)) where
+  module _ (roomy : Roomy records sheets₀) (i : ℕ) (s : Store) (entries : List Entry) (sheets : Sheets) (p : At i s entries sheets) (below : i < records)
+      (c : code.Command) (is-c : commandOf c ≡ getD (decodeSchedule schedule) i (command 0 0 0)) (a : ℕ) (is-a : a ≡ c .a) (small : a < 256) where
     abbrev x : Command
     x = command (c .mv) a (c .word)
 
+    -- the cabinet before the record
+    abbrev before : Table → Cabinet
+    before t = runFrom t (started t) (take i (decodeSchedule schedule)) .cabinet
+
     -- what the rules make of the record, with that of the i before it
-    on : ((t : Table) → Suited t l schedule records s₀ entries₀ sheets₀ → Reachable t (runFrom t (started t) (take i (decodeSchedule schedule)) .cabinet)
-        → Holds t s entries (runFrom t (started t) (take i (decodeSchedule schedule)) .cabinet)
-        → Answered t s′ entries′ (runFrom t (started t) (take i (decodeSchedule schedule)) .cabinet) x (judged t (runFrom t (started t) (take i (decodeSchedule schedule)) .cabinet) x) r)
+    pub on : (s′ : Store) (entries′ : List Entry) (sheets′ : Sheets) (r : Answer) → Writes sheets i r sheets′
+        → ((t : Table) → Suited t l schedule records s₀ entries₀ → Reachable t (before t) → Holds t s entries (before t)
+        → Answered t s′ entries′ (before t) x (judged t (before t) x) r)
         → At (i + 1) s′ entries′ sheets′
-    on made = record {
+    on s′ entries′ sheets′ r w made = record {
       no-more = omega arith;
+      answers-long = ap length (w .answers-are) ∙ length-sets (sheets .answers) (6 * i) (sixBytes r) ∙ p .answers-long;
+      reasons-long = ap length (w .reasons-are) ∙ length-set (sheets .reasons) i _ ∙ p .reasons-long;
       played = λ t u.
           let all : List Command = decodeSchedule schedule in
           let many : i < length all = rw (← u .records-is) below in
           let so-many : length (take i all) ≡ i = length-take-le i all (omega arith) in
-          let room : 6 * length (take i all) + 6 ≤ length (sheets₀ .answers) = (let z = u .room in omega arith) in
-          let reasons-room : length (take i all) < length (sheets₀ .reasons) = (let z = u .reasons-room in omega arith) in
+          let room : 6 * length (take i all) + 6 ≤ length (sheets₀ .answers) = (let z = roomy .answers-room in omega arith) in
+          let reasons-room : length (take i all) < length (sheets₀ .reasons) = (let z = roomy .reasons-room in omega arith) in
           let is-x : x ≡ getD all i (command 0 0 0) = ap (λ (n : ℕ). command (c .mv) n (c .word)) is-a ∙ is-c in
           let sucs : i + 1 ≡ suc i = omega arith in
           let more : take (i + 1) all ≡ take i all ++ (x ∷ []) = ap (λ (n : ℕ). take n all) sucs ∙ take-suc all i (command 0 0 0) many ∙ ap (λ (y : Command). take i all ++ (y ∷ [])) (sym is-x) in
-          let before = p .played t u in
-          subst (λ (done : List Command). Played t done s′ entries′ sheets₀ sheets′) (sym more)
-          (one-more t (u .accepted) (take i all) x small s entries sheets₀ sheets room reasons-room entries′ s′ sheets′ r before
-          (made t u (reach t (u .accepted) (take i all) x small s entries sheets₀ sheets room reasons-room) (before .holds))
-          (subst (λ (n : ℕ). Puts (sheets .answers) n r (sheets′ .answers)) (sym so-many) w)
-          (subst (λ (n : ℕ). PutsReason (sheets .reasons) n (r .code) (r .cause) (sheets′ .reasons)) (sym so-many) v));
+          let done = p .played t u in
+          subst (λ (l : List Command). Played t l s′ entries′ sheets₀ sheets′) (sym more)
+          (one-more t (u .accepted) (take i all) x small s entries sheets₀ sheets room reasons-room entries′ s′ sheets′ r done
+          (made t u (reach t (u .accepted) (take i all) x small s entries sheets₀ sheets room reasons-room) (done .holds))
+          (subst (λ (n : ℕ). Writes sheets n r sheets′) (sym so-many) w));
     }
 
-    -- a carry, of the entry at a place that is the oldest's if there is such a board
-    pub on-by-carry : (boards processes channels : ℕ) (sender reader port : List ℕ) (oldest other : Entry) (at : ℕ) → boards ≡ l .boards → sender ≡ l .sender → reader ≡ l .reader → port ≡ l .port
-        → c .mv ≡ 3 → entries′ ≡ entries → at < 512 → (a < 16 → at ≡ oldestPlace (s .boards) a) → oldest ≡ getD entries at other
-        → Carries boards processes channels sender reader port s a (c .word) oldest s′ r → At (i + 1) s′ entries′ sheets′
-    on-by-carry boards processes channels sender reader port oldest other at eb es er ep three same inside is-at o h =
-        on (λ t u reach holds.
-        let is-oldest : a < t .boards → oldest ≡ getD entries (oldestPlace (s .boards) a) blankEntry = λ below.
-        o ∙ default-free entries at other blankEntry (let z = holds .entries-length in omega arith)
-        ∙ ap (λ (k : ℕ). getD entries k blankEntry) (is-at (let z = u .accepted .boards-high in omega arith)) in
-        subst (λ (k : ℕ). Answered t s′ entries′ (runFrom t (started t) (take i (decodeSchedule schedule)) .cabinet) (command k a (c .word)) (judged t (runFrom t (started t) (take i (decodeSchedule schedule)) .cabinet) (command k a (c .word))) r) (sym three)
-        (subst (λ (k : List Entry). Answered t s′ k (runFrom t (started t) (take i (decodeSchedule schedule)) .cabinet) (command 3 a (c .word)) (judged t (runFrom t (started t) (take i (decodeSchedule schedule)) .cabinet) (command 3 a (c .word))) r) (sym same)
-        (h .carried t entries _ reach (rw (es, er, ep) (u .suits .wired)) (eb ∙ u .suits .boards-is) holds is-oldest)))
-
-    -- any other move
-    pub on-by-turn : (m : Moved) → (c .mv ≡ 3 → ⊥) → r ≡ m .answer → entries′ ≡ storedBy entries m → Turns l s (c .mv) a (c .word) s′ m → At (i + 1) s′ entries′ sheets′
-    on-by-turn m other er ee h =
-        on (λ t u reach holds.
-        subst (λ (y : Answer). Answered t s′ entries′ (runFrom t (started t) (take i (decodeSchedule schedule)) .cabinet) x (judged t (runFrom t (started t) (take i (decodeSchedule schedule)) .cabinet) x) y) (sym er)
-        (subst (λ (k : List Entry). Answered t s′ k (runFrom t (started t) (take i (decodeSchedule schedule)) .cabinet) x (judged t (runFrom t (started t) (take i (decodeSchedule schedule)) .cabinet) x) (m .answer)) (sym ee)
-        (h .turned t entries _ reach (u .suits) holds other)))
+    -- a move that the record is judged to be
+    pub on-by : (rule : Table → Cabinet → ℕ → Result) (asks : Table → List Entry → Type 0) (joins : ℕ) (entry : Entry) (s′ : Store) (entries′ : List Entry)
+        (sheets′ : Sheets) (m : Moved) → Writes sheets i (m .answer) sheets′ → entries′ ≡ joined entries (m .at) entry
+        → Makes rule asks joins l s a entry s′ m
+        → ((t : Table) → Suited t l schedule records s₀ entries₀ → Holds t s entries (before t) → (judged t (before t) x ≡ rule t (before t) a) × asks t entries)
+        → At (i + 1) s′ entries′ sheets′
+    on-by rule asks joins entry s′ entries′ sheets′ m w e h is =
+        on s′ entries′ sheets′ (m .answer) w (λ t u reach holds.
+        let j = is t u holds in
+        rw (e, j .0) (h .made t entries (before t) x reach (u .planned) holds refl (j .1)))
 
   -- all are done
   pub at-last : (i : ℕ) (s : Store) (entries : List Entry) (sheets : Sheets) → entries₀ ≡ replicate 512 blankEntry → At i s entries sheets → records ≤ i
@@ -209,12 +209,5 @@ module _ (l : Lent) (schedule : List ℕ) (records : ℕ) (s₀ : Store) (entrie
     entries = entries;
     played = λ t u.
         subst (λ (done : List Command). Played t done s entries sheets₀ sheets) (take-all i (decodeSchedule schedule) (let z = u .records-is in omega arith))
-        (p .played t (subst (λ (k : List Entry). Suited t l schedule records s₀ k sheets₀) (sym e) u));
+        (p .played t (subst (λ (k : List Entry). Suited t l schedule records s₀ k) (sym e) u));
   }
-
--- the entries that a move leaves
-pub stored-none : (entries : List Entry) (m : Moved) → 512 ≤ m .at → entries ≡ storedBy entries m
-stored-none entries m h = rw (le-ltb (m .at) 512 h)
-
-pub stored-one : (entries : List Entry) (m : Moved) → m .at < 512 → set entries (m .at) (m .entry) ≡ storedBy entries m
-stored-one entries m h = rw (lt-ltb (m .at) 512 h)

@@ -1,57 +1,73 @@
-// The loop over a schedule's records. It alone holds the entries of all queues, one flat array: it hands a carry the oldest entry of a
-// board, and stores the entry by which a step or an issue ends.
+// The loop over a schedule's records: each is judged, its move made, and its answer written. The loop alone holds the entries of all queues, one
+// flat array: it hands a carry the oldest entry of a board, and makes the entry by which a step, a sync or a resync ends.
 ghost use mathlib.Core.Path.{_≡_};
-ghost use Prim.Native.Nat.{_<_};
+ghost use Prim.Native.Nat.{_*_, _+_, _≤_, _<_};
+ghost use lib.ListN.{length};
+ghost use Rattle.plan.specs.Plan.{planOf};
 ghost use Rattle.state.specs.Store.{storeOf};
-ghost use Rattle.command.specs.Plan.{lentOf};
-ghost use Rattle.cabinet.specs.Plays.{sheetsOf, Plays};
+ghost use Rattle.cabinet.specs.Plays.{sheetsOf, Writes, Roomy, Plays};
+use crate::answer::put;
+use crate::answer::put_reason;
 use backup::limits::LOG;
 use backup::place::HEAD;
+use bus::inject::inject;
 use bus::transmit::oldest;
-use command::turn::carry;
-use command::turn::turn;
-use outcome::answer::put;
-use outcome::answer::put_reason;
+use bus::transmit::transmit;
+use command::judge::cause;
+use command::judge::judge;
+use crash::crash::crash;
+use plan::Counts;
+use plan::PROGRAMS;
+use plan::WIRES;
+use process::checkpoint::snapshot;
 use process::row::ROW;
 use records::schedule::command_at;
-use state::board::BOARD_ROW;
-use state::board::ENTRIES;
-use state::board::index16;
-use state::moved::blank;
+use rejoin::rebackup::rebackup;
+use rejoin::rejoin::rejoin;
+use state::entry::Entry;
+use state::entry::Item;
+use state::entry::blank;
+use state::moved::Answer;
+use state::moved::refusal;
+use state::queue::ENTRIES;
+use state::queue::QUEUE_ROW;
+use step::issue::issue;
+use step::step::step;
+use words::byte_word;
+use words::index16;
 
-// A byte as a number of 32 bits.
-fn grown(x: u8) -> u32
-    ensures { λ r. ⌜ (r ≡ x) × (r < 256) ⌝ }
+// The i-th answer, and why.
+fn write(answers: &mut [u8], reasons: &mut [u8], i: usize, r: Answer)
+    requires { ⌜ (6 * i + 6 ≤ length (now answers)) × (i < length (now reasons)) ⌝ }
+    ensures { λ _. ⌜ Writes (sheetsOf (now (answers .entry)) (now (reasons .entry))) i r (sheetsOf (now (answers .exit)) (now (reasons .exit))) ⌝ }
 {
-    x as u32
+    put_reason(reasons, i, r.code, r.cause);
+    put(answers, i, r);
 }
 
+// So many records of a schedule, on lists that hold the cabinet as it starts. The buffers have room for them.
 pub fn play(
     table: &[u8],
     schedule: &[u8],
     records: usize,
-    boards_many: usize,
-    processes: usize,
-    channels: usize,
-    start: &[u32; 16],
-    lengths: &[u32; 16],
-    limits: &[u32; 16],
-    sender: &[u32; 32],
-    reader: &[u32; 32],
-    port: &[u32; 32],
-    ins: &[u32; 64],
-    arity: &[u32; 16],
+    counts: Counts,
+    programs: &[u32; PROGRAMS],
+    wires: &[u32; WIRES],
     rows: &mut [[u32; ROW]; 16],
     mails: &mut [[u64; LOG]; 16],
     logs: &mut [[u64; LOG]; 16],
     heads: &mut [[u32; HEAD]; 16],
-    boards: &mut [[u32; BOARD_ROW]; 16],
+    queues: &mut [[u32; QUEUE_ROW]; 16],
     totals: &mut [u32; 32],
-    waits: &mut [u32; 16],
     answers: &mut [u8],
     reasons: &mut [u8],
 )
-    ensures { λ _. ⌜ Plays (lentOf (now (table .entry)) «boards_many» processes channels (now (start .entry)) (now (lengths .entry)) (now (limits .entry)) (now (sender .entry)) (now (reader .entry)) (now (port .entry)) (now (ins .entry)) (now (arity .entry))) (now (schedule .entry)) records (storeOf (now (rows .entry)) (now (mails .entry)) (now (logs .entry)) (now (heads .entry)) (now (boards .entry)) (now (totals .entry)) (now (waits .entry))) (sheetsOf (now (answers .entry)) (now (reasons .entry))) (storeOf (now (rows .exit)) (now (mails .exit)) (now (logs .exit)) (now (heads .exit)) (now (boards .exit)) (now (totals .exit)) (now (waits .exit))) (sheetsOf (now (answers .exit)) (now (reasons .exit))) ⌝ }
+    requires { ⌜ Roomy records (sheetsOf (now answers) (now reasons)) ⌝ }
+    ensures { λ _. ⌜ Plays (planOf (now (table .entry)) counts (now (programs .entry)) (now (wires .entry))) (now (schedule .entry)) records
+        (storeOf (now (rows .entry)) (now (mails .entry)) (now (logs .entry)) (now (heads .entry)) (now (queues .entry)) (now (totals .entry)))
+        (sheetsOf (now (answers .entry)) (now (reasons .entry)))
+        (storeOf (now (rows .exit)) (now (mails .exit)) (now (logs .exit)) (now (heads .exit)) (now (queues .exit)) (now (totals .exit)))
+        (sheetsOf (now (answers .exit)) (now (reasons .exit))) ⌝ }
 {
     let none = blank();
     let mut entries = [none; ENTRIES];
@@ -62,64 +78,84 @@ pub fn play(
         let c = command_at(schedule, k);
         let mv = c.mv;
         let word = c.word;
-        let a = grown(c.a);
-        if mv == 3 {
-            let b = index16(a);
-            let e = entries[oldest(&boards[b], b)];
-            let r = carry(
-                boards_many,
-                processes,
-                channels,
-                sender,
-                reader,
-                port,
-                rows,
-                mails,
-                logs,
-                heads,
-                boards,
-                totals,
-                waits,
-                a,
-                word,
-                e,
-            );
-            put_reason(reasons, k, r.code, r.cause);
-            put(answers, k, r);
+        let a = byte_word(c.a);
+        let number = judge(counts, c);
+        if number != 0 {
+            write(answers, reasons, k, refusal(number, cause(number, mv), a));
             continue;
         }
-        let m = turn(
-            table,
-            boards_many,
-            processes,
-            channels,
-            start,
-            lengths,
-            limits,
-            sender,
-            reader,
-            port,
-            ins,
-            arity,
-            rows,
-            mails,
-            logs,
-            heads,
-            boards,
-            totals,
-            waits,
-            mv,
-            a,
-            word,
-        );
-        let at = m.at;
-        let e = m.entry;
-        let r = m.answer;
-        put_reason(reasons, k, r.code, r.cause);
-        put(answers, k, r);
-        if at >= ENTRIES {
-            continue;
+        match mv {
+            1 => {
+                let m = step(table, programs, wires, rows, mails, queues, totals, a);
+                let at = m.at;
+                let r = m.answer;
+                write(answers, reasons, k, r);
+                if at < ENTRIES {
+                    entries[at] = Entry {
+                        item: Item::Word {
+                            channel: r.a,
+                            word: r.word,
+                        },
+                    };
+                }
+            }
+            2 => {
+                let p = index16(a);
+                let checkpoint = snapshot(&rows[p]);
+                let m = issue(rows, queues, a);
+                let at = m.at;
+                let r = m.answer;
+                write(answers, reasons, k, r);
+                if at < ENTRIES {
+                    entries[at] = Entry {
+                        item: Item::Sync {
+                            process: a,
+                            checkpoint: checkpoint,
+                        },
+                    };
+                }
+            }
+            3 => {
+                let b = index16(a);
+                let e = entries[oldest(&queues[b], b)];
+                let r = transmit(wires, rows, mails, logs, heads, queues, totals, a, e);
+                write(answers, reasons, k, r);
+            }
+            4 => {
+                let r = inject(wires, rows, mails, logs, heads, totals, a, word);
+                write(answers, reasons, k, r);
+            }
+            5 => {
+                let r = crash(
+                    counts,
+                    programs,
+                    wires,
+                    rows,
+                    mails,
+                    logs,
+                    heads,
+                    queues,
+                    totals,
+                    a,
+                );
+                write(answers, reasons, k, r);
+            }
+            6 => {
+                let r = rejoin(queues, a);
+                write(answers, reasons, k, r);
+            }
+            7 => {
+                let m = rebackup(programs, wires, rows, mails, logs, heads, queues, totals, a);
+                let at = m.at;
+                let r = m.answer;
+                write(answers, reasons, k, r);
+                if at < ENTRIES {
+                    entries[at] = Entry {
+                        item: Item::Transfer { process: a },
+                    };
+                }
+            }
+            _ => write(answers, reasons, k, refusal(32, 0, a)),
         }
-        entries[at] = e;
     }
 }

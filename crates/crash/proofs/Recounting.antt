@@ -12,7 +12,7 @@ use Rattle.backup.specs.Limits.{logMost}
 use Rattle.rules.specs.Cabinet.{unreadOn}
 use Rattle.rules.proofs.Counting.{unread-append}
 use Rattle.process.specs.Row.{mailIn, mailsIn}
-use Rattle.crash.specs.Recount.{unreadHere, unreadIn, lessBy}
+use Rattle.crash.specs.Recount.{unreadHere, unreadAt, lessBy}
 
 -- ---- one channel in one mailbox
 
@@ -60,8 +60,8 @@ module _ (mail : List ℕ) (n k count i : ℕ) (c : Counting mail n k count i) (
 pub less-by : (x y less : ℕ) → (less + y) % 2 ^ 32 ≡ x → less < 2 ^ 32 → y < 2 ^ 32 → less ≡ lessBy x y
 less-by x y less e l h = omega arith
 
-pub unread-inside : (rows mails : List (List ℕ)) (p k : ℕ) → p < 16 → unreadHere (getD rows p []) (getD mails p []) k ≡ unreadIn rows mails p k
+pub unread-inside : (rows mails : List (List ℕ)) (p k : ℕ) → p < 16 → unreadHere (getD rows p []) (getD mails p []) k ≡ unreadAt rows mails p k
 unread-inside rows mails p k l = rw (lt-ltb p 16 l)
 
-pub unread-outside : (rows mails : List (List ℕ)) (p k : ℕ) → 16 ≤ p → 0 ≡ unreadIn rows mails p k
+pub unread-outside : (rows mails : List (List ℕ)) (p k : ℕ) → 16 ≤ p → 0 ≡ unreadAt rows mails p k
 unread-outside rows mails p k l = rw (le-ltb p 16 l)

@@ -4,13 +4,15 @@ ghost use Prim.Native.Nat.{_≤_, _<_};
 ghost use Rattle.backup.specs.Limits.{logMost};
 ghost use Rattle.rules.specs.Cabinet.{unreadOn};
 ghost use Rattle.process.specs.Row.{mailIn, mailsIn};
-ghost use Rattle.crash.specs.Recount.{unreadHere, unreadIn, Dropped, Added};
-use crate::bounds::most_words;
+ghost use Rattle.crash.specs.Recount.{unreadHere, unreadAt, Dropped, Added};
 use backup::limits::LOG;
+use plan::WIRES;
+use plan::reader;
 use process::mail::channel_of;
 use process::row::ROW;
 use process::row::UNREAD;
-use state::board::wide;
+use words::least;
+use words::wide;
 
 // The channel of a word of a mailbox.
 fn channel_at(x: u64) -> usize
@@ -39,12 +41,12 @@ fn count_on(mail: &[u64; LOG], n: usize, k: usize) -> u32
 fn unread_of(row: &[u32; ROW], mail: &[u64; LOG], k: usize) -> u32
     ensures { λ r. ⌜ r ≡ unreadHere (now (row .entry)) (now (mail .entry)) k ⌝ }
 {
-    count_on(mail, most_words(wide(row[UNREAD])), k)
+    count_on(mail, least(wide(row[UNREAD]), LOG), k)
 }
 
 // How many process p has; none where p is no process.
 fn unread_at(rows: &[[u32; ROW]; 16], mails: &[[u64; LOG]; 16], p: usize, k: usize) -> u32
-    ensures { λ r. ⌜ r ≡ unreadIn (now (rows .entry)) (now (mails .entry)) p k ⌝ }
+    ensures { λ r. ⌜ r ≡ unreadAt (now (rows .entry)) (now (mails .entry)) p k ⌝ }
 {
     if p < 16 {
         unread_of(&rows[p], &mails[p], k)
@@ -56,17 +58,17 @@ fn unread_at(rows: &[[u32; ROW]; 16], mails: &[[u64; LOG]; 16], p: usize, k: usi
 // Each of n totals less its channel's unread words: the words in queues are left.
 pub fn drop_unread(
     n: usize,
-    reader: &[u32; 32],
+    wires: &[u32; WIRES],
     rows: &[[u32; ROW]; 16],
     mails: &[[u64; LOG]; 16],
     totals: &mut [u32; 32],
 )
     requires { ⌜ n ≤ 32 ⌝ }
-    ensures { λ _. ⌜ Dropped n (now (reader .entry)) (now (rows .entry)) (now (mails .entry)) (now (totals .entry)) (now (totals .exit)) ⌝ }
+    ensures { λ _. ⌜ Dropped n (now (wires .entry)) (now (rows .entry)) (now (mails .entry)) (now (totals .entry)) (now (totals .exit)) ⌝ }
 {
     let mut k = 0;
     while k < n {
-        let unread = unread_at(rows, mails, wide(reader[k]), k);
+        let unread = unread_at(rows, mails, wide(reader(wires, k)), k);
         totals[k] = std::num::wrapping_sub_u32(totals[k], unread);
         k += 1;
     }
@@ -75,17 +77,17 @@ pub fn drop_unread(
 // Each of n totals and its channel's unread words.
 pub fn add_unread(
     n: usize,
-    reader: &[u32; 32],
+    wires: &[u32; WIRES],
     rows: &[[u32; ROW]; 16],
     mails: &[[u64; LOG]; 16],
     totals: &mut [u32; 32],
 )
     requires { ⌜ n ≤ 32 ⌝ }
-    ensures { λ _. ⌜ Added n (now (reader .entry)) (now (rows .entry)) (now (mails .entry)) (now (totals .entry)) (now (totals .exit)) ⌝ }
+    ensures { λ _. ⌜ Added n (now (wires .entry)) (now (rows .entry)) (now (mails .entry)) (now (totals .entry)) (now (totals .exit)) ⌝ }
 {
     let mut k = 0;
     while k < n {
-        let unread = unread_at(rows, mails, wide(reader[k]), k);
+        let unread = unread_at(rows, mails, wide(reader(wires, k)), k);
         totals[k] = std::num::wrapping_add_u32(totals[k], unread);
         k += 1;
     }

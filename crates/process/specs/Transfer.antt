@@ -10,12 +10,13 @@ use Rattle.backup.specs.Place.{viewIn, Sound}
 use Rattle.rules.specs.Table.{Table, placementAt, portOf}
 use Rattle.rules.specs.Machine.{Mail}
 use Rattle.rules.specs.Moves.{rebacking}
+use Rattle.plan.specs.Plan.{portIn}
 use Rattle.process.specs.Row.{pcIn, unreadIn, mailIn, packedAt, mailsIn, mailAt, Kept, Seated}
 use Rattle.process.specs.Change.{Became}
 
--- the port of a word by the plan's list, in which each channel has its own, and the word as a message
+-- the port of a word by the plan's row of its channel, and the word as a message
 abbrev pub portFor : List ℕ → Mail → ℕ
-portFor port x = getD port (x .channel % 32) 0
+portFor wires x = portIn wires (x .channel % 32)
 
 abbrev pub copyOf : List ℕ → Mail → Message
 copyOf port x = record { port = portFor port x; word = x .word }

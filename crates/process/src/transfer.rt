@@ -23,6 +23,8 @@ use backup::place::HEAD;
 use backup::place::arrive_in;
 use backup::place::new_in;
 use backup::place::sync_in;
+use plan::WIRES;
+use plan::port;
 use words::wide;
 
 // Copies of the len words of a mailbox from place `first` on join a log, each by its channel's port.
@@ -30,19 +32,19 @@ fn copy(
     mail: &[u64; LOG],
     first: usize,
     len: usize,
-    port: &[u32; 32],
+    wires: &[u32; WIRES],
     log: &mut [u64; LOG],
     head: &mut [u32; HEAD],
 )
     requires { ⌜ len ≤ logMost ⌝ }
-    ensures { λ _. ⌜ Copied (now (mail .entry)) first len (now (port .entry)) (now (log .entry)) (now (head .entry)) (now (log .exit))
+    ensures { λ _. ⌜ Copied (now (mail .entry)) first len (now (wires .entry)) (now (log .entry)) (now (head .entry)) (now (log .exit))
         (now (head .exit)) ⌝ }
 {
     let mut i = 0;
     while i < len {
         let x = mail[place(first, i)];
         let k = wide(channel_of(x)) % 32;
-        arrive_in(log, head, port[k], word_of(x));
+        arrive_in(log, head, port(wires, k), word_of(x));
         i += 1;
     }
 }
@@ -54,9 +56,9 @@ pub fn reback(
     mail: &[u64; LOG],
     log: &mut [u64; LOG],
     head: &mut [u32; HEAD],
-    port: &[u32; 32],
+    wires: &[u32; WIRES],
 )
-    ensures { λ _. ⌜ Rebacks (now (row .entry)) (now (mail .entry)) (now (log .entry)) (now (head .entry)) (now (port .entry))
+    ensures { λ _. ⌜ Rebacks (now (row .entry)) (now (mail .entry)) (now (log .entry)) (now (head .entry)) (now (wires .entry))
         (now (row .exit)) (now (log .exit)) (now (head .exit)) ⌝ }
 {
     let first = wide(row[OLDEST]);
@@ -67,7 +69,7 @@ pub fn reback(
     issue(row);
     new_in(head);
     sync_in(log, head, snapshot(row));
-    copy(mail, first, len, port, log, head);
+    copy(mail, first, len, wires, log, head);
     row[PROTECTED] = COMING;
 }
 

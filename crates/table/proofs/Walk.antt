@@ -10,7 +10,7 @@ use Rattle.facts.specs.Tests.{allOf, allBelow}
 use Rattle.facts.specs.Lists.{part-rest}
 use Rattle.facts.specs.Walks.{Walked, walk-start, walk-on, walk-fails, walk-end}
 use Rattle.facts.specs.Ranges.{all-same, all-listed}
-use Rattle.rules.specs.Table.{Table, Instruction, SET, codeOf}
+use Rattle.rules.specs.Table.{Table, SET, codeOf}
 use Rattle.rules.specs.Bytes.{sixes}
 use Rattle.rules.specs.Format.{versionIn, recordHead, processesIn, channelsIn, programLength, recordLength, instruction, decodeTable, extentOk}
 use Rattle.rules.specs.Judge.{instructionOk, instructionsOk}

@@ -3,8 +3,8 @@ ghost use mathlib.Core.Path.{_≡_};
 ghost use Rattle.rules.specs.Format.{recordsStart, lengthOk, countsOk, extentOk};
 ghost use Rattle.table.specs.Parts.{recordIn, framing};
 use crate::counts::counts_fit;
+use crate::counts::counts_of;
 use crate::counts::version_ok;
-use crate::format::BOARDS;
 use crate::format::CHANNELS;
 use crate::format::HEAD;
 use crate::format::PROCESSES;
@@ -35,11 +35,8 @@ fn length_ok(table: &[u8]) -> bool
 fn counts_ok(table: &[u8]) -> bool
     ensures { λ r. ⌜ r ≡ countsOk (now (table .entry)) ⌝ }
 {
-    counts_fit(
-        wide(byte(table, BOARDS)),
-        wide(byte(table, PROCESSES)),
-        wide(byte(table, CHANNELS)),
-    )
+    let n = counts_of(table);
+    counts_fit(n.boards, n.processes, n.channels)
 }
 
 // Where the first record begins, behind the pairs.

@@ -7,9 +7,10 @@ ghost use Rattle.rules.specs.Judge.{instructionsOk};
 ghost use Rattle.rules.specs.Format.{recordsStart, recordLength, decodeTable, extentOk};
 ghost use Rattle.table.specs.Judging.{endIs, channelsPass, maskOk, passes, programOk, recordOk};
 use crate::format::CHANNELS;
+use crate::format::HEAD;
+use crate::format::PAIR_READER;
+use crate::format::PAIR_SENDER;
 use crate::format::PROCESSES;
-use crate::format::READER;
-use crate::format::SENDER;
 use crate::record::program_length;
 use crate::record::record_head;
 use crate::record::record_length;
@@ -44,7 +45,7 @@ fn channels_pass(table: &[u8], p: u8, mask: u32) -> bool
     let mut left = mask;
     while left != 0 {
         let k = u32::trailing_zeros(left);
-        if !end_is(table, READER, k, p) {
+        if !end_is(table, PAIR_READER, k, p) {
             return false;
         }
         left -= 1 << k;
@@ -76,9 +77,9 @@ fn instruction_ok(table: &[u8], p: u8, n: usize, i: Instruction) -> bool
     match code {
         1 => i.a < 4,
         2 => i.a < 4 && i.operand < 4,
-        3 => i.a < 4 && end_is(table, READER, i.operand, p),
+        3 => i.a < 4 && end_is(table, PAIR_READER, i.operand, p),
         4 => i.a < 3 && mask_ok(table, p, i.operand),
-        5 => i.a < 4 && end_is(table, SENDER, i.operand, p),
+        5 => i.a < 4 && end_is(table, PAIR_SENDER, i.operand, p),
         6 => i.a < 4 && wider(i.operand) <= n,
         _ => false,
     }
@@ -116,7 +117,7 @@ pub fn instructions_ok(table: &[u8]) -> bool
 {
     let version = version_of(table);
     let processes = table[PROCESSES];
-    let mut at = SENDER + 2 * wide(table[CHANNELS]);
+    let mut at = HEAD + 2 * wide(table[CHANNELS]);
     let mut p = 0;
     while p < processes {
         let rest = &table[at..];

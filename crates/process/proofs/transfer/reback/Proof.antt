@@ -27,7 +27,7 @@ wide-requires-2 c κs = search needs
 returns : tie.Need-returns
 returns c =
     let a = c .before .before .before .before .before .args in
-    rebacks-none (a .row .now) (a .mail .now) (a .log .now) (a .head .now) (a .port .now) (let w = c .before .wide2 .ensures .0 in let t = c .if1 .taken in omega arith)
+    rebacks-none (a .row .now) (a .mail .now) (a .log .now) (a .head .now) (a .wires .now) (let w = c .before .wide2 .ensures .0 in let t = c .if1 .taken in omega arith)
 
 issue-requires : tie.Need-issue-requires
 issue-requires c κs = search needs
@@ -57,7 +57,7 @@ returns-2 c =
     let k = c .before .before .before .before .snapshot in
     let s = c .before .before .before .sync-in in
     let q = c .copy in
-    rebacks-so (a .row .now) (a .mail .now) (a .log .now) (a .head .now) (a .port .now) (i .last .0) (i .ensures) (n .last .0) (λ l h. n .ensures .1 (a .log .now) l h)
+    rebacks-so (a .row .now) (a .mail .now) (a .log .now) (a .head .now) (a .wires .now) (i .last .0) (i .ensures) (n .last .0) (λ l h. n .ensures .1 (a .log .now) l h)
     (k .result) (k .ensures) (s .result .number) (s .last .0) (s .last .1 .0) (s .ensures .0) (q .last .1 .1 .1 .1 .0) (q .last .1 .1 .1 .1 .1 .0)
     (rw (← y .wide2 .ensures .0, ← y .before .before .wide .ensures .0) (q .ensures))
 

@@ -1,7 +1,6 @@
-use mathlib.Core.Path.{_∙_}
-use Rattle.table.proofs.Extents.{record-big, record-cut, record-whole}
 use native.Mathlib.Omega.{arith}
 use borrow.Author.Needs.{needs}
+use Rattle.table.proofs.Extents.{record-big, record-cut, record-whole}
 use Rattle.table.proofs.extent.record_in.Statement.{statement}
 use Rattle.table.proofs.extent.record_in.Tie as tie
 

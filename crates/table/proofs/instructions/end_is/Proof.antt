@@ -1,12 +1,7 @@
-use Rattle.table.proofs.OneChannel.{end-past, end-at}
-use native.Mathlib.Omega.{arith}
 use borrow.Author.Needs.{needs}
+use Rattle.table.proofs.OneChannel.{end-past, end-at}
 use Rattle.table.proofs.instructions.end_is.Statement.{statement}
 use Rattle.table.proofs.instructions.end_is.Tie as tie
-use Rattle.table.proofs.instructions.end_is.Reads as reads
-use Rattle.table.proofs.instructions.end_is.Lts as lts
-use Rattle.records.proofs.bytes.wide.Reads as wide-reads
-use Rattle.table.proofs.instructions.wider.Reads as wider-reads
 
 wider-requires : tie.Need-wider-requires
 wider-requires c κs = search needs

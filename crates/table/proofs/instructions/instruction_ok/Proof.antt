@@ -1,16 +1,10 @@
 use mathlib.Core.Path.{refl, ap, _∙_}
 use Prim.Native.Nat.{ℕ}
 use lib.Dec.{leb}
-use Rattle.table.proofs.OneInstruction.{second, failed, set-is, add-is, take-is, first-is, send-is, jump-is, none-is}
-use native.Mathlib.Omega.{arith}
 use borrow.Author.Needs.{needs}
+use Rattle.table.proofs.OneInstruction.{second, failed, set-is, add-is, take-is, first-is, send-is, jump-is, none-is}
 use Rattle.table.proofs.instructions.instruction_ok.Statement.{statement}
 use Rattle.table.proofs.instructions.instruction_ok.Tie as tie
-use Rattle.table.proofs.instructions.instruction_ok.Reads as reads
-use Rattle.table.proofs.instructions.instruction_ok.Lts as lts
-use Rattle.table.proofs.instructions.end_is.Reads as end-is-reads
-use Rattle.table.proofs.instructions.mask_ok.Reads as mask-ok-reads
-use Rattle.table.proofs.instructions.wider.Reads as wider-reads
 
 end-is-requires : tie.Need-end-is-requires
 end-is-requires c κs = search needs

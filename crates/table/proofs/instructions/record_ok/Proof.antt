@@ -1,8 +1,7 @@
 use mathlib.Core.Path.{_∙_}
-use Rattle.facts.specs.Lists.{part-rest}
-use Rattle.table.proofs.Walk.{lent-program}
 use native.Mathlib.Omega.{arith}
 use borrow.Author.Needs.{needs}
+use Rattle.table.proofs.Walk.{lent-program}
 use Rattle.table.proofs.instructions.record_ok.Statement.{statement}
 use Rattle.table.proofs.instructions.record_ok.Tie as tie
 

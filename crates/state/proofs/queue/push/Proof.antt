@@ -1,9 +1,9 @@
 use native.Mathlib.Omega.{arith}
 use borrow.Author.Needs.{needs}
-use Rattle.state.proofs.board.push.Statement.{statement}
-use Rattle.state.proofs.board.push.Tie as tie
-use Rattle.state.proofs.board.push.Reads as reads
-use Rattle.state.proofs.board.push.Lts as lts
+use Rattle.state.proofs.queue.push.Statement.{statement}
+use Rattle.state.proofs.queue.push.Tie as tie
+use Rattle.state.proofs.queue.push.Reads as reads
+use Rattle.state.proofs.queue.push.Lts as lts
 use Rattle.std.proofs.num.wrapping_add_u32.Reads as wrapping-add-u32-reads
 
 element-copy-out-wrapping-add-u32 : tie.Need-element-copy-out-wrapping-add-u32
@@ -12,8 +12,8 @@ element-copy-out-wrapping-add-u32 c = search needs
 wrapping-add-u32-requires : tie.Need-wrapping-add-u32-requires
 wrapping-add-u32-requires c κs = search needs
 
-element-write-board : tie.Need-element-write-board
-element-write-board c = search needs
+element-write-queue : tie.Need-element-write-queue
+element-write-queue c = search needs
 
 returns : tie.Need-returns
 returns c = rw (c .wrapping-add-u32 .ensures)
@@ -24,5 +24,5 @@ push-spec =
     (tie.spec
     element-copy-out-wrapping-add-u32
     wrapping-add-u32-requires
-    element-write-board
+    element-write-queue
     returns)
