@@ -91,7 +91,12 @@ pub fn play(
                 let r = m.answer;
                 write(answers, reasons, k, r);
                 if at < ENTRIES {
-                    entries[at] = Entry { item: Item::Word { channel: r.a, word: r.word } };
+                    entries[at] = Entry {
+                        item: Item::Word {
+                            channel: r.a,
+                            word: r.word,
+                        },
+                    };
                 }
             }
             2 => {
@@ -102,7 +107,12 @@ pub fn play(
                 let r = m.answer;
                 write(answers, reasons, k, r);
                 if at < ENTRIES {
-                    entries[at] = Entry { item: Item::Sync { process: a, checkpoint: checkpoint } };
+                    entries[at] = Entry {
+                        item: Item::Sync {
+                            process: a,
+                            checkpoint: checkpoint,
+                        },
+                    };
                 }
             }
             3 => {
@@ -116,7 +126,18 @@ pub fn play(
                 write(answers, reasons, k, r);
             }
             5 => {
-                let r = crash(counts, programs, wires, rows, mails, logs, heads, queues, totals, a);
+                let r = crash(
+                    counts,
+                    programs,
+                    wires,
+                    rows,
+                    mails,
+                    logs,
+                    heads,
+                    queues,
+                    totals,
+                    a,
+                );
                 write(answers, reasons, k, r);
             }
             6 => {
@@ -129,7 +150,9 @@ pub fn play(
                 let r = m.answer;
                 write(answers, reasons, k, r);
                 if at < ENTRIES {
-                    entries[at] = Entry { item: Item::Transfer { process: a } };
+                    entries[at] = Entry {
+                        item: Item::Transfer { process: a },
+                    };
                 }
             }
             _ => write(answers, reasons, k, refusal(32, 0, a)),

@@ -15,8 +15,8 @@ use records::schedule::Lengths;
 use records::schedule::judge_run;
 use records::schedule::judge_schedule;
 use state::queue::QUEUE_ROW;
-use table::decode;
 use table::Plan;
+use table::decode;
 
 // "An accepted run returns 0, its number of records, and whether it ended quiet." A refused one its number, 0 and false.
 pub struct Verdict {

@@ -1,9 +1,9 @@
 -- Stores at the cells of a row: what is kept, a counter that goes up by one, and the counters of a SEND.
-use mathlib.Core.Path.{_≡_, refl, ap, sym, _∙_}
+use mathlib.Core.Path.{_≡_, refl, ap, _∙_}
 use mathlib.Core.Logic.{_≢_}
 use mathlib.Core.Bool.{Bool, true, false, not, cond}
-use mathlib.Core.List.{List, [], _∷_}
-use Prim.Native.Nat.{ℕ, zero, suc, _+_, _%_, _^_, _≤_, _<_}
+use mathlib.Core.List.{List}
+use Prim.Native.Nat.{ℕ, suc, _+_, _%_, _^_, _≤_, _<_}
 use native.Mathlib.Omega.{arith}
 use lib.Dec.{eqb}
 use lib.ListN.{length, getD, set, length-set}
@@ -12,46 +12,49 @@ use borrow.Author.Tests.{eq-eqb, ne-eqb}
 use Rattle.facts.specs.Tests.{by-eq, by-lt, no-way}
 use Rattle.backup.specs.Limits.{logMost}
 use Rattle.rules.specs.Table.{Instruction}
-use Rattle.rules.specs.Machine.{Machine, Outcome, moved, Act}
+use Rattle.rules.specs.Machine.{Machine, moved, Act}
 use Rattle.rules.specs.Cabinet.{Since, Process, limited}
 use Rattle.rules.specs.Moves.{advanced, counting}
-use Rattle.process.specs.Row.{rowLength, pcIn, suppressIn, eventsIn, flagIn, unreadIn, machineOf, standbyOf, processOf, Kept, Seated}
+use Rattle.process.specs.Row.{pcIn, suppressIn, eventsIn, flagIn, unreadIn, oldestIn, machineOf, standbyOf, processOf, Kept, Seated}
 use Rattle.process.specs.Change.{Became}
-use Rattle.instruction.specs.Instruction.{Fetched, outcomeOf, Intends, afterSend, bumped, oneIn, tallied, Room, TallyRoom, Suppresses}
+use Rattle.instruction.specs.Instruction.{outcomeOf, Intends, afterSend, bumped, oneIn, tallied, Room, TallyRoom, Suppresses}
 use Rattle.instruction.specs.declared.instruction.Intent.{Intent}
-use Rattle.instruction.specs.declared.instruction.Intent.the-variants.{Send}
-use Rattle.process.proofs.Rows.{Words, stored, spelled, limited-is, seated-cell, waits-cell}
+use Rattle.process.proofs.Rows.{stored, spelled, limited-is, seated-cell, waits-cell}
 use Rattle.instruction.proofs.Examining.{step-halted}
 
--- a word stored at a cell other than the flag and the number of unread words
-pub kept-other : {row mail log head : List ℕ} (i v : ℕ) → 12 ≢ i → 14 ≢ i → v < 2 ^ 32 → Kept row mail log head → Kept (set row i v) mail log head
-kept-other {row} i v f u w k = record {
+-- a word stored at a cell other than the flag, the number of unread words and the oldest's place
+pub kept-other : {row mail log head : List ℕ} (i v : ℕ) → 12 ≢ i → 14 ≢ i → 17 ≢ i → v < 2 ^ 32 → Kept row mail log head → Kept (set row i v) mail log head
+kept-other {row} i v f u o w k = record {
   row-length = length-set row i v ∙ k .row-length;
   mail-length = k .mail-length;
   unread = rw (getD-set-other row i 14 v 0 u) (k .unread);
+  oldest = rw (getD-set-other row i 17 v 0 o) (k .oldest);
   words = stored {l = row} i v w (record { word = k .words }) .word;
   flag = rw (getD-set-other row i 12 v 0 f) (k .flag);
   sound = k .sound;
 }
 
 pub kept-cell : {row mail log head : List ℕ} (i v : ℕ) → i < 12 → v < 2 ^ 32 → Kept row mail log head → Kept (set row i v) mail log head
-kept-cell i v h w k = kept-other i v (λ e. omega arith) (λ e. omega arith) w k
+kept-cell i v h w k = kept-other i v (λ e. omega arith) (λ e. omega arith) (λ e. omega arith) w k
 
 -- and so its boards stay, by a store at no cell of theirs
 pub seated-on : {row : List ℕ} (i v : ℕ) → 0 < i → 13 ≢ i → (x y : ℕ) → Seated x y row → Seated x y (set row i v)
 seated-on i v l n = seated-cell i v (λ e. omega arith) n
 
--- another mailbox, with its number of unread words
-pub kept-mail : {row mail log head : List ℕ} (mail′ : List ℕ) (u : ℕ) → length mail′ ≡ length mail → u ≤ logMost → Kept row mail log head
-    → Kept (set row 14 u) mail′ log head
-kept-mail {row} mail′ u e h k = record {
-  row-length = length-set row 14 u ∙ k .row-length;
-  mail-length = e ∙ k .mail-length;
-  unread = let l = k .row-length in rw (spelled row (λ (r : List ℕ). unreadIn (set r 14 u)) l) h;
-  words = stored {l = row} 14 u (omega arith) (record { word = k .words }) .word;
-  flag = rw (getD-set-other row 14 12 u 0 (λ e. omega arith)) (k .flag);
-  sound = k .sound;
-}
+-- another mailbox, with its number of unread words and its oldest's place
+pub kept-mail : {row mail log head : List ℕ} (mail′ : List ℕ) (u o : ℕ) → length mail′ ≡ length mail → u ≤ logMost → o < logMost → Kept row mail log head
+    → Kept (set (set row 14 u) 17 o) mail′ log head
+kept-mail {row} mail′ u o e h g k =
+    let l = k .row-length in
+    record {
+      row-length = length-set (set row 14 u) 17 o ∙ length-set row 14 u ∙ l;
+      mail-length = e ∙ k .mail-length;
+      unread = rw (spelled row (λ (r : List ℕ). unreadIn (set (set r 14 u) 17 o)) l) h;
+      oldest = rw (spelled row (λ (r : List ℕ). oldestIn (set (set r 14 u) 17 o)) l) g;
+      words = stored 17 o (omega arith) (stored {l = row} 14 u (omega arith) (record { word = k .words })) .word;
+      flag = rw (spelled row (λ (r : List ℕ). flagIn (set (set r 14 u) 17 o)) l) (k .flag);
+      sound = k .sound;
+    }
 
 -- a counter with room for one more
 pub bumped-is : (row : List ℕ) (i : ℕ) → Room row i → bumped row i ≡ set row i (suc (getD row i 0))

@@ -1,23 +1,23 @@
 -- A SET, an ADD or a JUMP: what its stores make of the process.
-use mathlib.Core.Path.{_≡_, refl, ap, sym, _∙_}
+use mathlib.Core.Path.{_≡_, refl, sym, _∙_}
 use mathlib.Core.Logic.{_≢_}
-use mathlib.Core.Bool.{Bool, true, false, cond}
-use mathlib.Core.List.{List, [], _∷_}
-use Prim.Native.Nat.{ℕ, zero, suc, _+_, _%_, _^_, _≤_, _<_}
+use mathlib.Core.Bool.{true, false}
+use mathlib.Core.List.{List}
+use Prim.Native.Nat.{ℕ, zero, suc, _+_, _%_, _^_, _<_}
 use native.Mathlib.Omega.{arith}
 use lib.Dec.{eqb}
-use lib.ListN.{length, getD, set}
+use lib.ListN.{getD, set}
 use lib.Seq.{getD-set-other}
 use borrow.Author.Tests.{eq-eqb, ne-eqb}
 use Rattle.facts.specs.Tests.{no-way}
 use Rattle.rules.specs.Table.{Instruction}
-use Rattle.rules.specs.Machine.{Mail, Machine, Outcome, noMail, moved, internal, took, next, Pull, nothing, found, take1, first1, pull, bit, execute}
+use Rattle.rules.specs.Machine.{Machine, moved, internal, next, Pull, nothing, found, take1, first1, pull, bit, execute}
 use Rattle.rules.specs.Format.{instruction}
 use Rattle.rules.specs.Cabinet.{Process}
 use Rattle.rules.specs.Moves.{advanced}
-use Rattle.process.specs.Row.{rowLength, pcIn, machineOf, standbyOf, processOf, Kept}
+use Rattle.process.specs.Row.{pcIn, machineOf, standbyOf, processOf, Kept}
 use Rattle.process.specs.Change.{Became}
-use Rattle.instruction.specs.Instruction.{InRange, afterInternal, Intends, bumped, Room, Evaluates}
+use Rattle.instruction.specs.Instruction.{afterInternal, Intends, bumped, Room, Evaluates}
 use Rattle.instruction.specs.declared.instruction.Intent.the-variants.{Internal}
 use Rattle.process.proofs.Rows.{spelled, waits-cell}
 use Rattle.instruction.proofs.Examining.{register-is, step-executes}

@@ -1,8 +1,8 @@
 -- An instruction more, behind whatever else was done: what its counter makes of the process.
-use mathlib.Core.Path.{_≡_, refl, ap, sym, _∙_}
+use mathlib.Core.Path.{_≡_, refl, ap, _∙_}
 use mathlib.Core.Bool.{Bool, true, false, not, cond}
-use mathlib.Core.List.{List, [], _∷_}
-use Prim.Native.Nat.{ℕ, suc, _+_, _<_, _^_}
+use mathlib.Core.List.{List}
+use Prim.Native.Nat.{ℕ, suc, _+_}
 use native.Mathlib.Omega.{arith}
 use lib.Dec.{eqb}
 use lib.ListN.{set}
@@ -37,7 +37,7 @@ done-became row mail log head k room =
     (record {
       process-is = spelled row (λ (r : List ℕ). processOf (set r 15 n) mail log head) (k .row-length)
           ∙ ap (λ (s : Since). advanced (x .machine) s (x .suppress) x) (counting-done x (eqb (flagIn row) 0) (limited-is row mail log head) n refl);
-      kept-again = kept-other 15 n (λ e. omega arith) (λ e. omega arith) fits k;
+      kept-again = kept-other 15 n (λ e. omega arith) (λ e. omega arith) (λ e. omega arith) fits k;
       seated-again = seated-on 15 n (omega arith) (λ e. omega arith);
       waits-again = waits-cell row 15 n (λ e. omega arith);
     })

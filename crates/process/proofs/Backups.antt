@@ -3,11 +3,11 @@ use mathlib.Core.Path.{_≡_, refl, ap, sym, _∙_}
 use mathlib.Core.Bool.{Bool, true, false, cond}
 use mathlib.Core.Option.{Option, none, some}
 use mathlib.Core.List.{List, [], _∷_, _++_}
-use Prim.Native.Nat.{ℕ, zero, suc, _+_, _%_, _≤_, _<_, _^_}
+use Prim.Native.Nat.{ℕ, _+_, _%_, _≤_, _<_, _^_}
 use native.Mathlib.Omega.{arith}
 use native.Mathlib.Numerals.{add-one}
 use lib.Dec.{eqb}
-use lib.ListN.{length, set, length-set}
+use lib.ListN.{set, length-set}
 use borrow.Author.Tests.{eq-eqb, ne-eqb}
 use Rattle.backup.specs.Limits.{logMost}
 use Rattle.backup.specs.Replica.{Replica, Reply, Checkpoint, arrive, count, sync}
@@ -15,16 +15,16 @@ use Rattle.backup.specs.declared.place.Checkpoint as code
 use Rattle.backup.specs.declared.place.Landed.{Landed}
 use Rattle.backup.specs.Report.{totalDropped, syncReport}
 use Rattle.backup.specs.ReportLaws.{totalDropped-small}
-use Rattle.backup.specs.Place.{viewIn, Sound, Called, checkpointOf, reportOf, Reports}
-use Rattle.rules.specs.Table.{Table, portOf}
-use Rattle.rules.specs.Machine.{Mail, delivered}
+use Rattle.backup.specs.Place.{viewIn, Called, checkpointOf, reportOf, Reports}
+use Rattle.rules.specs.Table.{portOf}
+use Rattle.rules.specs.Machine.{delivered}
 use Rattle.rules.specs.Cabinet.{Process, Standby}
 use Rattle.rules.specs.Moves.{withStandby, onReplica, onBackup, receive, counts, keeps}
-use Rattle.process.specs.Row.{flagIn, unreadIn, machineOf, standbyOf, processOf, mailsIn, Kept}
+use Rattle.process.specs.Row.{flagIn, unreadIn, oldestIn, machineOf, standbyOf, processOf, mailsIn}
 use Rattle.process.specs.Mailbox.{Appended}
-use Rattle.process.specs.Change.{Became, BackupBecame, Backed, Drops, Received}
+use Rattle.process.specs.Change.{BackupBecame, Backed, Drops, Received}
 use Rattle.facts.specs.Tests.{no-way}
-use Rattle.process.proofs.Rows.{Words, stored, spelled, seated-cell, waits-cell, protected-is}
+use Rattle.process.proofs.Rows.{stored, spelled, seated-cell, waits-cell, protected-is}
 
 module _ (row log head : List ℕ) (call : Replica → Reply) where
   -- no record: nothing is called
@@ -69,6 +69,7 @@ backed-became row log head log′ head′ call b mail k = record {
     row-length = k .row-length;
     mail-length = k .mail-length;
     unread = k .unread;
+    oldest = k .oldest;
     words = k .words;
     flag = k .flag;
     sound = b .sound-again (k .sound);
@@ -108,7 +109,7 @@ module _ (row mail log head : List ℕ) (port channel word : ℕ) where
   received-none h = record { untouched = λ _. ((refl, refl), (refl, refl)); became = λ k l. absurd (omega arith) }
 
   pub received-so : (mail′ log′ head′ : List ℕ) → unreadIn row < logMost → Backed row log head log′ head′ onReplica (λ v. arrive v port word)
-      → Appended mail (unreadIn row) channel word mail′ → Received row mail log head (set row 14 (unreadIn row + 1)) mail′ log′ head′ port channel word
+      → Appended mail (oldestIn row) (unreadIn row) channel word mail′ → Received row mail log head (set row 14 (unreadIn row + 1)) mail′ log′ head′ port channel word
   unfolding processOf machineOf standbyOf receive delivered
   received-so mail′ log′ head′ h b a =
       let n : ℕ = unreadIn row in
@@ -116,7 +117,7 @@ module _ (row mail log head : List ℕ) (port channel word : ℕ) where
         untouched = λ g. absurd (omega arith);
         became = λ k l t p e.
             let z = k .row-length in
-            let m : mailsIn (n + 1) mail′ ≡ mailsIn n mail ++ (record { channel = channel; word = word } ∷ []) =
+            let m : mailsIn (oldestIn row) (n + 1) mail′ ≡ mailsIn (oldestIn row) n mail ++ (record { channel = channel; word = word } ∷ []) =
             rw add-one (a .more (k .mail-length) h) in
             let s : standbyOf row log′ head′ ≡ onReplica (λ r. arrive r (portOf t p channel) word) (standbyOf row log head) =
             b .standby-is (k .sound) ∙ ap (λ (q : ℕ). onReplica (λ r. arrive r q word) (standbyOf row log head)) (sym e) in
@@ -134,6 +135,7 @@ module _ (row mail log head : List ℕ) (port channel word : ℕ) where
                 row-length = length-set row 14 (n + 1) ∙ z;
                 mail-length = a .same-length ∙ k .mail-length;
                 unread = rw (spelled row (λ (r : List ℕ). unreadIn (set r 14 (n + 1))) z) (omega arith);
+                oldest = rw (spelled row (λ (r : List ℕ). oldestIn (set r 14 (n + 1))) z) (k .oldest);
                 words = stored {l = row} 14 (n + 1) (omega arith) (record { word = k .words }) .word;
                 flag = rw (spelled row (λ (r : List ℕ). flagIn (set r 14 (n + 1))) z) (k .flag);
                 sound = b .sound-again (k .sound);

@@ -1,24 +1,24 @@
 -- A promotion, and a crash, as changes of one process.
 use mathlib.Core.Path.{_≡_, refl, ap, sym, _∙_}
-use mathlib.Core.Bool.{Bool, true, false, cond, _&&_}
-use mathlib.Core.Option.{Option, none, some}
-use mathlib.Core.List.{List, [], _∷_, map}
-use Prim.Native.Nat.{ℕ, zero, suc, _%_, _≤_, _<_, _^_}
+use mathlib.Core.Bool.{true, cond}
+use mathlib.Core.Option.{none}
+use mathlib.Core.List.{List, map}
+use Prim.Native.Nat.{ℕ, _%_, _<_, _^_}
 use native.Mathlib.Omega.{arith}
-use lib.Dec.{eqb, ltb}
-use lib.ListN.{length, getD, set, length-set}
+use lib.Dec.{ltb}
+use lib.ListN.{length, getD, length-set}
 use borrow.Author.Tests.{eq-eqb, ne-eqb, ltb-true}
 use Rattle.facts.specs.Indexing.{map-agree}
 use Rattle.backup.specs.Limits.{logMost, ports}
-use Rattle.backup.specs.Replica.{Message, FailOver, onPorts, failOver}
-use Rattle.backup.specs.Place.{messages, viewIn, Sound, promotionIn, handedOver}
+use Rattle.backup.specs.Replica.{Message, FailOver, onPorts}
+use Rattle.backup.specs.Place.{promotionIn, handedOver}
 use Rattle.backup.specs.PlaceLaws.{fail-over-in, promotion-few, promotion-ports}
 use Rattle.backup.specs.declared.place.Promotion.{Promotion}
 use Rattle.rules.specs.Table.{Table, channelOn}
 use Rattle.rules.specs.Machine.{Mail}
-use Rattle.rules.specs.Cabinet.{Process, Standby, noneSince}
+use Rattle.rules.specs.Cabinet.{Process, noneSince}
 use Rattle.rules.specs.Moves.{recovered, promoted, unprotected, afterCrash}
-use Rattle.process.specs.Row.{boardIn, flagIn, standbyBoardIn, unreadIn, waitsIn, machineOf, standbyOf, processOf, mailsIn, Kept}
+use Rattle.process.specs.Row.{boardIn, flagIn, standbyBoardIn, unreadIn, waitsIn, oldestIn, machineOf, standbyOf, processOf, Kept}
 use Rattle.process.specs.Change.{RowBecame}
 use Rattle.process.specs.Promotion.{readdressed, Readdressed, restoredIn, Restored, standbyIn, Routes, promotedBy, BecameAtCrash, Promoted, Crashed}
 use Rattle.process.proofs.Rows.{Words, stored, cleared, spelled}
@@ -29,9 +29,9 @@ pub restored-words : (row : List ℕ) (p : Promotion) → p .pc < 2 ^ 32 → p .
     → p .sent < 2 ^ 32 → p .len < 2 ^ 32 → Words row → Words (restoredIn row p)
 unfolding restoredIn
 restored-words row p a b c d e f g h =
-    stored 14 (p .len) g (cleared 16 (cleared 12 (cleared 15 (cleared 11 (cleared 10 (cleared 9 (cleared 8 (cleared 7 (stored 6 (p .sent) f (stored 5 (p .r3) e
+    stored 14 (p .len) g (cleared 17 (cleared 16 (cleared 12 (cleared 15 (cleared 11 (cleared 10 (cleared 9 (cleared 8 (cleared 7 (stored 6 (p .sent) f (stored 5 (p .r3) e
     (stored 4 (p .r2) d (stored 3 (p .r1) c (stored 2 (p .r0) b (stored 1 (p .pc) a (stored 13 (boardIn row) (h .word 0)
-    (stored 0 (standbyBoardIn row) (h .word 13) h))))))))))))))))
+    (stored 0 (standbyBoardIn row) (h .word 13) h)))))))))))))))))
 
 -- ---- the mailbox
 
@@ -74,6 +74,7 @@ module _ (row mail log head channels : List ℕ) where
           row-length = ap length (e .row-is) ∙ simp length-set z;
           mail-length = m .same-length ∙ k .mail-length;
           unread = rw (e .row-is, spelled row (λ (r : List ℕ). unreadIn (restoredIn r (promotionIn head))) z) (promotion-few log head (k .sound));
+          oldest = rw (e .row-is, spelled row (λ (r : List ℕ). oldestIn (restoredIn r (promotionIn head))) z) (omega arith);
           words = e .words (k .words);
           flag = rw (e .row-is, spelled row (λ (r : List ℕ). flagIn (restoredIn r (promotionIn head))) z) (omega arith);
           sound = k .sound;

@@ -1,9 +1,9 @@
 -- Rows: a row of known length written out, after which stores at its cells compute; and what a store keeps.
-use mathlib.Core.Path.{_≡_, refl, ap, sym, _∙_}
+use mathlib.Core.Path.{_≡_, refl, ap, _∙_}
 use mathlib.Core.Bool.{Bool, true, false, not, cond}
 use mathlib.Core.Option.{none, some}
 use mathlib.Core.List.{List, [], _∷_}
-use Prim.Native.Nat.{ℕ, zero, suc, _≤_, _<_, _^_}
+use Prim.Native.Nat.{ℕ, zero, suc, _<_, _^_}
 use native.Mathlib.Omega.{arith}
 use lib.Dec.{eqb}
 use lib.ListN.{length, getD, set, length-set}
@@ -13,8 +13,8 @@ use borrow.Author.Tests.{eqb-true}
 use Rattle.backup.specs.Place.{checkpointOf}
 use Rattle.rules.specs.Cabinet.{Standby, isSome, isComplete, limited, protected}
 use Rattle.rules.specs.Moves.{snapshot, issued, unprotected}
-use Rattle.process.specs.Row.{rowLength, boardIn, flagIn, standbyBoardIn, unreadIn, waitsIn, checkpointIn, machineOf, standbyOf, processOf, Kept, Seated}
-use Rattle.process.specs.Change.{Became, RowBecame}
+use Rattle.process.specs.Row.{rowLength, boardIn, flagIn, standbyBoardIn, unreadIn, waitsIn, oldestIn, checkpointIn, machineOf, standbyOf, processOf, Seated}
+use Rattle.process.specs.Change.{RowBecame}
 
 -- every number of a list is a word
 pub record Words (l : List ℕ) : Type 0 where
@@ -89,6 +89,7 @@ issued-became row mail log head k =
         row-length = simp length-set l;
         mail-length = k .mail-length;
         unread = rw (spelled row (λ (r : List ℕ). unreadIn (issuedIn r)) l) (k .unread);
+        oldest = rw (spelled row (λ (r : List ℕ). oldestIn (issuedIn r)) l) (k .oldest);
         words = cleared 15 (cleared 11 (cleared 10 (cleared 9 (cleared 8 (cleared {l = row} 7 (record { word = k .words })))))) .word;
         flag = rw (spelled row (λ (r : List ℕ). flagIn (issuedIn r)) l) (k .flag);
         sound = k .sound;
@@ -109,6 +110,7 @@ unprotected-became row mail log head k =
         row-length = length-set row 12 0 ∙ l;
         mail-length = k .mail-length;
         unread = rw (spelled row (λ (r : List ℕ). unreadIn (set r 12 0)) l) (k .unread);
+        oldest = rw (spelled row (λ (r : List ℕ). oldestIn (set r 12 0)) l) (k .oldest);
         words = cleared {l = row} 12 (record { word = k .words }) .word;
         flag = rw (spelled row (λ (r : List ℕ). flagIn (set r 12 0)) l) (omega arith);
         sound = k .sound;

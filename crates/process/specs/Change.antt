@@ -29,7 +29,8 @@ abbrev pub BackupBecame : List ℕ → List ℕ → List ℕ → List ℕ → Li
 BackupBecame row log head log′ head′ change = (mail : List ℕ) → Kept row mail log head → Became row mail log head row mail log′ head′ change
 
 -- A call of the backup, on the record of a process that has one, or on a backup that is complete: the rules' `onReplica` or `onBackup`.
-pub record Backed (row log head log′ head′ : List ℕ) (on : (Replica → Reply) → Option Standby → Option Standby) (call : Replica → Reply) : Type 0 where
+pub record Backed (row log head log′ head′ : List ℕ) (on : (Replica → Reply) → Option Standby → Option Standby) (call : Replica → Reply)
+    : Type 0 where
   pub standby-is : Sound log head → standbyOf row log′ head′ ≡ on call (standbyOf row log head)
   pub sound-again : Sound log head → Sound log′ head′
 

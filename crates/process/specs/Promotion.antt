@@ -19,10 +19,10 @@ use Rattle.process.specs.Row.{boardIn, flagIn, standbyBoardIn, waitsIn, 
 abbrev pub readdressed : List ℕ → Message → Mail
 readdressed channels m = record { channel = getD channels (m .port % 4) 0; word = m .word }
 
--- a mailbox made of the first len messages of a log
+-- a mailbox made of the first len messages of a log, from place 0 on
 pub record Readdressed (mail log : List ℕ) (len : ℕ) (channels mail′ : List ℕ) : Type 0 where
   pub same-length : length mail′ ≡ length mail
-  pub mails : length mail ≡ logMost → mailsIn len mail′ ≡ map (readdressed channels) (messages len log)
+  pub mails : length mail ≡ logMost → mailsIn 0 len mail′ ≡ map (readdressed channels) (messages len log)
 
 -- the row of a process that goes on from a promotion
 unfoldable pub restoredIn : List ℕ → Promotion → List ℕ
@@ -30,7 +30,7 @@ restoredIn row p =
     let s = set (set row 0 (standbyBoardIn row)) 13 (boardIn row) in
     let a = set (set (set (set (set s 1 (p .pc)) 2 (p .r0)) 3 (p .r1)) 4 (p .r2)) 5 (p .r3) in
     let b = set (set (set (set (set (set a 6 (p .sent)) 7 0) 8 0) 9 0) 10 0) 11 0 in
-    set (set (set (set b 15 0) 12 0) 16 0) 14 (p .len)
+    set (set (set (set (set b 15 0) 12 0) 16 0) 17 0) 14 (p .len)
 
 -- .. and words stay words
 pub record Restored (row : List ℕ) (p : Promotion) (row′ : List ℕ) : Type 0 where

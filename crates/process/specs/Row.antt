@@ -2,11 +2,11 @@
 use mathlib.Core.Path.{_≡_}
 use mathlib.Core.Bool.{cond}
 use mathlib.Core.Option.{Option, none, some}
-use mathlib.Core.List.{List, [], _∷_, map}
-use Prim.Native.Nat.{ℕ, _≤_, _<_, _^_}
+use mathlib.Core.List.{List, [], _∷_}
+use Prim.Native.Nat.{ℕ, _+_, _%_, _≤_, _<_, _^_}
 use lib.Dec.{eqb}
 use lib.ListN.{length, getD}
-use Rattle.facts.specs.Lists.{prefix}
+use Rattle.facts.specs.Lists.{listed}
 use Rattle.words.specs.Words.{pack, highIn, lowIn}
 use Rattle.backup.specs.Limits.{logMost}
 use Rattle.backup.specs.Place.{viewIn, Sound}
@@ -18,7 +18,7 @@ use Rattle.rules.specs.Cabinet.{Process, Standby}
 
 -- how many numbers a row has
 abbrev pub rowLength : ℕ
-rowLength = 17
+rowLength = 18
 
 abbrev pub boardIn : List ℕ → ℕ
 boardIn row = getD row 0 0
@@ -57,7 +57,15 @@ instructionsIn row = getD row 15 0
 abbrev pub waitsIn : List ℕ → ℕ
 waitsIn row = getD row 16 0
 
+-- where in the mailbox its oldest word stands
+abbrev pub oldestIn : List ℕ → ℕ
+oldestIn row = getD row 17 0
+
 -- ---- a mailbox
+
+-- A mailbox is a ring: where in it the word at a position stands, whose oldest word, at position 0, stands at place `first`.
+abbrev pub placeIn : ℕ → ℕ → ℕ
+placeIn first i = (first + i) % logMost
 
 -- a word on a channel as one number
 abbrev pub packMail : ℕ → ℕ → ℕ
@@ -66,14 +74,22 @@ packMail channel word = pack channel word
 abbrev pub mailIn : ℕ → Mail
 mailIn x = record { channel = highIn x; word = lowIn x }
 
--- the first n words of a mailbox
-abbrev pub mailsIn : ℕ → List ℕ → List Mail
-mailsIn n mail = map mailIn (prefix n mail)
+-- the number at a position of a mailbox
+abbrev pub packedAt : ℕ → List ℕ → ℕ → ℕ
+packedAt first mail i = getD mail (placeIn first i) 0
+
+-- the n words of a mailbox from place `first` on
+abbrev pub mailsIn : ℕ → ℕ → List ℕ → List Mail
+mailsIn first n mail = listed (λ i. mailIn (packedAt first mail i)) n
+
+-- the word at a position of a process's mailbox
+abbrev pub mailAt : List ℕ → List ℕ → ℕ → Mail
+mailAt row mail i = mailIn (packedAt (oldestIn row) mail i)
 
 -- ---- the process
 
 unfoldable pub machineOf : List ℕ → List ℕ → Machine
-machineOf row mail = record { registers = registersIn row; pc = pcIn row; mailbox = mailsIn (unreadIn row) mail }
+machineOf row mail = record { registers = registersIn row; pc = pcIn row; mailbox = mailsIn (oldestIn row) (unreadIn row) mail }
 
 -- its backup, by the row's flag
 unfoldable pub standbyOf : List ℕ → List ℕ → List ℕ → Option Standby
@@ -113,6 +129,7 @@ pub record Kept (row mail log head : List ℕ) : Type 0 where
   pub row-length : length row ≡ rowLength
   pub mail-length : length mail ≡ logMost
   pub unread : unreadIn row ≤ logMost
+  pub oldest : oldestIn row < logMost
   pub words : (i : ℕ) → getD row i 0 < 2 ^ 32
   pub flag : flagIn row ≤ 2
   pub sound : Sound log head

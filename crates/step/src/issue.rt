@@ -16,11 +16,7 @@ use state::queue::place;
 use state::queue::push;
 use words::index16;
 
-pub fn issue(
-    rows: &mut [[u32; ROW]; 16],
-    queues: &mut [[u32; QUEUE_ROW]; 16],
-    a: u32,
-) -> Moved
+pub fn issue(rows: &mut [[u32; ROW]; 16], queues: &mut [[u32; QUEUE_ROW]; 16], a: u32) -> Moved
     ensures { λ r. ⌜ Issues (now (rows .entry)) (now (queues .entry)) a (now (rows .exit)) (now (queues .exit)) r ⌝ }
 {
     let p = index16(a);

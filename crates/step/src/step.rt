@@ -45,11 +45,27 @@ pub fn step(
     let p = index16(a);
     let limit = limit(programs, p);
     let i = fetch(table, wide(start(programs, p)), wide(rows[p][PC]));
-    match examine(&rows[p], &mails[p], length(programs, p), i.code, i.a, i.operand) {
+    match examine(
+        &rows[p],
+        &mails[p],
+        length(programs, p),
+        i.code,
+        i.a,
+        i.operand,
+    ) {
         Intent::Halted => refused(35, 0, a),
         Intent::NoMail => refused(36, missing(i.code), a),
         Intent::Internal => calculate(rows, a, i.code, i.a, i.operand),
         Intent::Take { at } => take(wires, rows, mails, totals, limit, a, i.code, i.a, at),
-        Intent::Send { channel, word } => send(wires, rows, queues, totals, limit, a, channel, word),
+        Intent::Send { channel, word } => send(
+            wires,
+            rows,
+            queues,
+            totals,
+            limit,
+            a,
+            channel,
+            word,
+        ),
     }
 }

@@ -42,7 +42,14 @@ pub fn take(
     let x = mails[p][at];
     let channel = channel_of(x);
     let k = index32(channel);
-    take_word(&mut rows[p], &mut mails[p], code, register, at, port(wires, k));
+    take_word(
+        &mut rows[p],
+        &mut mails[p],
+        code,
+        register,
+        at,
+        port(wires, k),
+    );
     totals[k] = std::num::wrapping_sub_u32(totals[k], 1);
     alone(Answer {
         code: 1,

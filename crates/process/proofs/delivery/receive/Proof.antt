@@ -23,6 +23,12 @@ returns c =
 save-requires : tie.Need-save-requires
 save-requires c κs = search needs
 
+element-copy-out-wide : tie.Need-element-copy-out-wide
+element-copy-out-wide c = search needs
+
+wide-requires-2 : tie.Need-wide-requires-2
+wide-requires-2 c κs = search needs
+
 append-requires : tie.Need-append-requires
 append-requires c κs = search needs
 
@@ -34,10 +40,11 @@ element-write-row c = search needs
 
 returns-2 : tie.Need-returns-2
 returns-2 c =
-    let a = c .before .before .before .before .before .before .before .before .before .args in
-    let w = c .before .before .before .before .before .before .before .wide .ensures .0 in
-    let k = c .before .before .save in
-    received-so (a .row .now) (a .mail .now) (a .log .now) (a .head .now) (a .port) (a .channel) (a .word) (c .append .last .0) (k .last .1 .0) (k .last .1 .1 .0) (let t = c .before .before .before .before .before .before .if1 .left in omega arith) (k .ensures) (rw (← w) (c .append .ensures))
+    let a = c .before .before .before .before .before .before .before .before .before .before .before .args in
+    let w = c .before .before .before .before .before .before .before .before .before .wide .ensures .0 in
+    let v = c .before .wide2 .ensures .0 in
+    let k = c .before .before .before .before .save in
+    received-so (a .row .now) (a .mail .now) (a .log .now) (a .head .now) (a .port) (a .channel) (a .word) (c .append .last .0) (k .last .1 .0) (k .last .1 .1 .0) (let t = c .before .before .before .before .before .before .before .before .if1 .left in omega arith) (k .ensures) (rw (← w, ← v) (c .append .ensures))
 
 pub receive-spec : {M : Type 1} → statement M
 receive-spec =
@@ -47,6 +54,8 @@ receive-spec =
     wide-requires
     returns
     save-requires
+    element-copy-out-wide
+    wide-requires-2
     append-requires
     add-row
     element-write-row

@@ -1,6 +1,5 @@
-use mathlib.Core.Path.{_≡_, ap, subst, _∙_}
+use mathlib.Core.Path.{ap, subst, _∙_}
 use Prim.Native.Nat.{ℕ}
-use lib.ListN.{getD}
 use Rattle.backup.specs.declared.place.Promotion.{Promotion}
 use Rattle.process.specs.Promotion.{Readdressed, Restored}
 use Rattle.process.proofs.Promoting.{promoted-none, promoted-so}
