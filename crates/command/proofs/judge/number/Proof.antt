@@ -1,13 +1,13 @@
-use Rattle.command.specs.Turns.{numberOf}
+use Rattle.command.specs.Judges.{numberOf}
 use mathlib.Core.Path.{sym}
 use Rattle.command.proofs.Judging.{unknown-number}
 use native.Mathlib.Omega.{arith}
 use borrow.Author.Needs.{needs}
-use Rattle.command.proofs.turn.number.Statement.{statement}
-use Rattle.command.proofs.turn.number.Tie as tie
-use Rattle.command.proofs.turn.number.Reads as reads
-use Rattle.command.proofs.turn.number.Lts as lts
-use Rattle.command.proofs.turn.beyond.Reads as beyond-reads
+use Rattle.command.proofs.judge.number.Statement.{statement}
+use Rattle.command.proofs.judge.number.Tie as tie
+use Rattle.command.proofs.judge.number.Reads as reads
+use Rattle.command.proofs.judge.number.Lts as lts
+use Rattle.command.proofs.judge.beyond.Reads as beyond-reads
 
 beyond-requires : tie.Need-beyond-requires
 beyond-requires c κs = search needs
@@ -62,7 +62,7 @@ returns-8 : tie.Need-returns-8
 unfolding numberOf
 returns-8 c =
     let n = c .match .rest in
-    sym (unknown-number _ _ _ _ _ (n .0 .0 .0 .0 .0 .0 .1) (n .0 .0 .0 .0 .0 .1) (n .0 .0 .0 .0 .1) (n .0 .0 .0 .1) (n .0 .0 .1) (n .0 .1) (n .1))
+    sym (unknown-number _ (n .0 .0 .0 .0 .0 .0 .1) (n .0 .0 .0 .0 .0 .1) (n .0 .0 .0 .0 .1) (n .0 .0 .0 .1) (n .0 .0 .1) (n .0 .1) (n .1) _ _)
 
 pub number-spec : {M : Type 1} → statement M
 number-spec =

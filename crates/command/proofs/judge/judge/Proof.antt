@@ -1,12 +1,12 @@
-use Rattle.command.specs.Turns.{judgeOf}
+use Rattle.command.specs.Judges.{judgeOf}
 use native.Mathlib.Omega.{arith}
 use borrow.Author.Needs.{needs}
-use Rattle.command.proofs.turn.judge.Statement.{statement}
-use Rattle.command.proofs.turn.judge.Tie as tie
-use Rattle.command.proofs.turn.judge.Reads as reads
-use Rattle.command.proofs.turn.judge.Lts as lts
-use Rattle.command.proofs.turn.number.Reads as number-reads
-use Rattle.command.proofs.turn.worded.Reads as worded-reads
+use Rattle.command.proofs.judge.judge.Statement.{statement}
+use Rattle.command.proofs.judge.judge.Tie as tie
+use Rattle.command.proofs.judge.judge.Reads as reads
+use Rattle.command.proofs.judge.judge.Lts as lts
+use Rattle.command.proofs.judge.number.Reads as number-reads
+use Rattle.command.proofs.judge.worded.Reads as worded-reads
 
 worded-requires : tie.Need-worded-requires
 worded-requires c κs = search needs

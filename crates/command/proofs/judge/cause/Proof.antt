@@ -1,13 +1,13 @@
-use Rattle.command.specs.Turns.{causeBy}
+use Rattle.command.specs.Judges.{causeBy}
 use mathlib.Core.Path.{sym}
 use Rattle.command.proofs.Judging.{unknown-cause}
 use native.Mathlib.Omega.{arith}
 use borrow.Author.Needs.{needs}
-use Rattle.command.proofs.turn.cause.Statement.{statement}
-use Rattle.command.proofs.turn.cause.Tie as tie
-use Rattle.command.proofs.turn.cause.Reads as reads
-use Rattle.command.proofs.turn.cause.Lts as lts
-use Rattle.command.proofs.turn.fault.Reads as fault-reads
+use Rattle.command.proofs.judge.cause.Statement.{statement}
+use Rattle.command.proofs.judge.cause.Tie as tie
+use Rattle.command.proofs.judge.cause.Reads as reads
+use Rattle.command.proofs.judge.cause.Lts as lts
+use Rattle.command.proofs.judge.fault.Reads as fault-reads
 
 fault-requires : tie.Need-fault-requires
 fault-requires c κs = search needs
@@ -62,7 +62,7 @@ returns-8 : tie.Need-returns-8
 unfolding causeBy
 returns-8 c =
     let n = c .match .rest in
-    sym (unknown-cause _ _ (n .0 .0 .0 .0 .0 .0 .1) (n .0 .0 .0 .0 .0 .1) (n .0 .0 .0 .0 .1) (n .0 .0 .0 .1) (n .0 .0 .1) (n .0 .1) (n .1))
+    sym (unknown-cause _ (n .0 .0 .0 .0 .0 .0 .1) (n .0 .0 .0 .0 .0 .1) (n .0 .0 .0 .0 .1) (n .0 .0 .0 .1) (n .0 .0 .1) (n .0 .1) (n .1) _)
 
 pub cause-spec : {M : Type 1} → statement M
 cause-spec =

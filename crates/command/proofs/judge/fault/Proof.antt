@@ -1,9 +1,9 @@
 use borrow.Author.Tests.{eq-eqb, ne-eqb}
 use native.Mathlib.Omega.{arith}
-use Rattle.command.proofs.turn.fault.Statement.{statement}
-use Rattle.command.proofs.turn.fault.Tie as tie
-use Rattle.command.proofs.turn.fault.Reads as reads
-use Rattle.command.proofs.turn.fault.Lts as lts
+use Rattle.command.proofs.judge.fault.Statement.{statement}
+use Rattle.command.proofs.judge.fault.Tie as tie
+use Rattle.command.proofs.judge.fault.Reads as reads
+use Rattle.command.proofs.judge.fault.Lts as lts
 
 returns : tie.Need-returns
 returns c = rw (eq-eqb _ 32 (c .if1 .taken))

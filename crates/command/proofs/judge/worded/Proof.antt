@@ -1,10 +1,10 @@
 use borrow.Author.Tests.{eq-eqb, ne-eqb}
 use borrow.Author.Needs.{needs}
 use native.Mathlib.Omega.{arith}
-use Rattle.command.proofs.turn.worded.Statement.{statement}
-use Rattle.command.proofs.turn.worded.Tie as tie
-use Rattle.command.proofs.turn.worded.Reads as reads
-use Rattle.command.proofs.turn.worded.Lts as lts
+use Rattle.command.proofs.judge.worded.Statement.{statement}
+use Rattle.command.proofs.judge.worded.Tie as tie
+use Rattle.command.proofs.judge.worded.Reads as reads
+use Rattle.command.proofs.judge.worded.Lts as lts
 
 returns : tie.Need-returns
 returns c = rw (ne-eqb _ 4 (c .if1 .taken))
