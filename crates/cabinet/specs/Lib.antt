@@ -1,4 +1,5 @@
--- What the records one after the other promise, and the run.
+-- What an answer is in bytes, what the records one after the other promise, and the run.
+pub mod Written
 pub mod Plays
 pub mod Conducts
 pub mod Runs
