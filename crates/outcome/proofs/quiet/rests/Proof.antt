@@ -9,7 +9,7 @@ use Rattle.outcome.proofs.quiet.rests.Reads as reads
 use Rattle.outcome.proofs.quiet.rests.Lts as lts
 use Rattle.outcome.proofs.quiet.idle.Reads as idle-reads
 use Rattle.instruction.proofs.instruction.examine.Reads as examine-reads
-use Rattle.state.proofs.board.wide.Reads as wide-reads
+use Rattle.words.proofs.wide.Reads as wide-reads
 use Rattle.records.proofs.fetch.fetch.Reads as fetch-reads
 
 wide-requires : tie.Need-wide-requires
