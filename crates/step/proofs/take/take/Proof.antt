@@ -1,5 +1,4 @@
-use mathlib.Core.Path.{sym, _∙_}
-use Rattle.step.proofs.Taking.{take-37, take-none, take-done}
+use native.Mathlib.Omega.{arith}
 use borrow.Author.Needs.{needs}
 use Rattle.step.proofs.take.take.Statement.{statement}
 use Rattle.step.proofs.take.take.Tie as tie
@@ -8,6 +7,7 @@ use Rattle.step.proofs.take.take.Lts as lts
 use Rattle.instruction.proofs.instruction.take_word.Reads as take-word-reads
 use Rattle.plan.proofs.port.Reads as port-reads
 use Rattle.process.proofs.mail.channel_of.Reads as channel-of-reads
+use Rattle.process.proofs.mail.word_at.Reads as word-at-reads
 use Rattle.process.proofs.mail.word_of.Reads as word-of-reads
 use Rattle.state.proofs.moved.alone.Reads as alone-reads
 use Rattle.state.proofs.moved.refused.Reads as refused-reads
@@ -17,116 +17,125 @@ use Rattle.step.proofs.guards.owing.Reads as owing-reads
 use Rattle.words.proofs.index16.Reads as index16-reads
 use Rattle.words.proofs.index32.Reads as index32-reads
 
+-- src/take.rt:36:9
 index16-requires : tie.Need-index16-requires
 index16-requires c κs = search needs
 
+-- src/take.rt:37:14
 mul-owing : tie.Need-mul-owing
 mul-owing c = search needs
 
+-- src/take.rt:37:14
 index-1-owing : tie.Need-index-1-owing
 index-1-owing c = search needs
 
+-- src/take.rt:37:8
 owing-requires : tie.Need-owing-requires
 owing-requires c κs = search needs
 
+-- src/take.rt:38:34
 mul-blame : tie.Need-mul-blame
 mul-blame c = search needs
 
+-- src/take.rt:38:34
 index-1-blame : tie.Need-index-1-blame
 index-1-blame c = search needs
 
+-- src/take.rt:38:28
 blame-requires : tie.Need-blame-requires
 blame-requires c κs = search needs
 
+-- src/take.rt:38:9
 refused-requires : tie.Need-refused-requires
 refused-requires c κs = search needs
 
+-- src/take.rt:38:9
 returns : tie.Need-returns
-returns c =
-    let s = c .before .before .before .before .before .before .before .args in
-    let p = c .before .before .before .before .before .before .index16 in
-    take-37 (s .wires .now) (s .rows .now) (s .mails .now) (s .totals .now) (s .limit) (p .result) (s .a) (p .ensures .1) (s .code) (s .register) (s .at) _
-    (sym (c .before .before .before .before .owing .ensures) ∙ c .before .before .before .if1 .taken) _ (c .before .blame .ensures) (c .refused .ensures)
+returns c = search needs
 
-refused-requires-2 : tie.Need-refused-requires-2
-refused-requires-2 c κs = search needs
+-- src/take.rt:40:21
+mul-word-at : tie.Need-mul-word-at
+mul-word-at c = search needs
 
-returns-2 : tie.Need-returns-2
-returns-2 c =
-    let s = c .before .before .before .before .before .before .args in
-    let p = c .before .before .before .before .before .index16 in
-    take-none (s .wires .now) (s .rows .now) (s .mails .now) (s .totals .now) (s .limit) (p .result) (s .a) (p .ensures .1) (s .code) (s .register) (s .at) _
-    (c .before .if2 .taken) (c .refused2 .ensures)
+-- src/take.rt:40:21
+index-1-word-at : tie.Need-index-1-word-at
+index-1-word-at c = search needs
 
-mul-x : tie.Need-mul-x
-mul-x c = search needs
+-- src/take.rt:40:31
+mul-word-at-2 : tie.Need-mul-word-at-2
+mul-word-at-2 c = search needs
 
-mul-x-2 : tie.Need-mul-x-2
-mul-x-2 c = search needs
+-- src/take.rt:40:31
+index-1-word-at-2 : tie.Need-index-1-word-at-2
+index-1-word-at-2 c = search needs
 
-index-1-x : tie.Need-index-1-x
-index-1-x c = search needs
+-- src/take.rt:40:9
+word-at-requires : tie.Need-word-at-requires
+word-at-requires c κs = search needs
 
-index-2-x : tie.Need-index-2-x
-index-2-x c = search needs
-
+-- src/take.rt:41:9
 channel-of-requires : tie.Need-channel-of-requires
 channel-of-requires c κs = search needs
 
+-- src/take.rt:42:9
 index32-requires : tie.Need-index32-requires
 index32-requires c κs = search needs
 
+-- src/take.rt:44:9
 mul-take-word : tie.Need-mul-take-word
 mul-take-word c = search needs
 
+-- src/take.rt:44:9
 index-1-take-word : tie.Need-index-1-take-word
 index-1-take-word c = search needs
 
+-- src/take.rt:45:9
 mul-take-word-2 : tie.Need-mul-take-word-2
 mul-take-word-2 c = search needs
 
+-- src/take.rt:45:9
 index-1-take-word-2 : tie.Need-index-1-take-word-2
 index-1-take-word-2 c = search needs
 
+-- src/take.rt:49:9
 port-requires : tie.Need-port-requires
 port-requires c κs = search needs
 
+-- src/take.rt:43:5
 take-word-requires : tie.Need-take-word-requires
 take-word-requires c κs = search needs
 
+-- src/take.rt:51:44
 mul-wrapping-sub-u32 : tie.Need-mul-wrapping-sub-u32
 mul-wrapping-sub-u32 c = search needs
 
+-- src/take.rt:51:44
 element-copy-out-wrapping-sub-u32 : tie.Need-element-copy-out-wrapping-sub-u32
 element-copy-out-wrapping-sub-u32 c = search needs
 
+-- src/take.rt:51:17
 wrapping-sub-u32-requires : tie.Need-wrapping-sub-u32-requires
 wrapping-sub-u32-requires c κs = search needs
 
+-- src/take.rt:51:5
 mul-totals : tie.Need-mul-totals
 mul-totals c = search needs
 
+-- src/take.rt:51:5
 element-write-totals : tie.Need-element-write-totals
 element-write-totals c = search needs
 
+-- src/take.rt:56:15
 word-of-requires : tie.Need-word-of-requires
 word-of-requires c κs = search needs
 
+-- src/take.rt:52:5
 alone-requires : tie.Need-alone-requires
 alone-requires c κs = search needs
 
-returns-3 : tie.Need-returns-3
-returns-3 c =
-    let s = c .before .before .before .before .before .before .before .before .before .before .before .before .before .before .before .before .args in
-    let p = c .before .before .before .before .before .before .before .before .before .before .before .before .before .before .before .index16 in
-    let w = c .before .before .before .before .before .before .before .before .before .channel-of in
-    let k = c .before .before .before .before .before .before .before .before .index32 in
-    let port = c .before .before .before .before .before .port in
-    let t = c .before .before .before .before .take-word in
-    let u = c .before .before .wrapping-sub-u32 in
-    take-done (s .wires .now) (s .rows .now) (s .mails .now) (s .totals .now) (s .limit) (p .result) (s .a) (p .ensures .1) (s .code) (s .register) (s .at) _
-    (k .result) (port .result) (u .result) (t .last .0) (t .last .1 .0) (sym (c .before .before .before .before .before .before .before .before .before .before .before .before .before .owing .ensures) ∙ c .before .before .before .before .before .before .before .before .before .before .before .before .if1 .left) (rw (w .ensures) at (k .ensures .1))
-    (port .ensures (k .ensures .0)) (t .ensures) (u .ensures) (u .ok) (rw (← w .ensures, ← c .before .word-of .ensures) (c .alone .ensures))
+-- src/take.rt:22:1
+returns-2 : tie.Need-returns-2
+returns-2 c = search needs
 
 pub take-spec : {M : Type 1} → statement M
 take-spec =
@@ -141,12 +150,11 @@ take-spec =
     blame-requires
     refused-requires
     returns
-    refused-requires-2
-    returns-2
-    mul-x
-    mul-x-2
-    index-1-x
-    index-2-x
+    mul-word-at
+    index-1-word-at
+    mul-word-at-2
+    index-1-word-at-2
+    word-at-requires
     channel-of-requires
     index32-requires
     mul-take-word
@@ -162,4 +170,4 @@ take-spec =
     element-write-totals
     word-of-requires
     alone-requires
-    returns-3)
+    returns-2)
