@@ -1,5 +1,5 @@
 -- The lists after a crash hold the rules' cabinet after it.
-use mathlib.Core.Path.{_≡_, refl, ap, sym, _∙_, subst}
+use mathlib.Core.Path.{_≡_, refl, ap, sym, _∙_}
 use mathlib.Core.Logic.{_≢_}
 use mathlib.Core.Bool.{Bool, true, false, not, cond, Bool·not-not}
 use mathlib.Core.Option.{Option, none, some}
@@ -151,7 +151,8 @@ module _ {t : Table} {l : Plan} {s : Store} {entries : List Entry} {c : Cabinet}
   processes-then : allAfterCrash t b 0 (c .processes) ≡ listed (processIn after) (length (t .processes))
   processes-then =
       ap (allAfterCrash t b 0) (h .processes)
-      ∙ all-listed t b 0 (length (t .processes)) (processIn s) (processIn after) (λ p hp. let z : p ≡ 0 + p = omega arith in became p hp .process-is ∙ ap (λ (i : ℕ). afterCrash t b i (processIn s p) (processIn s p .standby)) z)
+      ∙ all-listed t b 0 (length (t .processes)) (processIn s) (processIn after)
+      (λ p hp. became p hp .process-is ∙ ap (λ (i : ℕ). afterCrash t b i (processIn s p) (processIn s p .standby)) (omega arith))
 
   process-then : (p : ℕ) → p < length (t .processes) → processAt (crashedCabinet t c b) p ≡ processIn after p
   process-then p hp = ap (λ (x : List Process). getD x p nobody) processes-then ∙ getD-listed (processIn after) (length (t .processes)) p nobody hp
@@ -203,7 +204,8 @@ module _ {t : Table} {l : Plan} {s : Store} {entries : List Entry} {c : Cabinet}
       at ∙ rw off (omega arith))
       (λ n.
       let inside = sender-inside (reach .accepted) k hk n in
-      let test : lostWords (l .wires) (s .rows) b k ≡ eqb (processAt c (channelAt t k .sender) .board) b = ap (runsOn (s .rows) b) from ∙ runs-is (channelAt t k .sender) inside in
+      let test : lostWords (l .wires) (s .rows) b k ≡ eqb (processAt c (channelAt t k .sender) .board) b =
+      ap (runsOn (s .rows) b) from ∙ runs-is (channelAt t k .sender) inside in
       by-eq (processAt c (channelAt t k .sender) .board) b
       (λ e.
       let its = channel-bounds reach k .queued ∙ ap (λ (i : ℕ). queuedOn k (outboxAt c i)) e in
