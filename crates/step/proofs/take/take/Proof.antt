@@ -1,4 +1,5 @@
-use native.Mathlib.Omega.{arith}
+use mathlib.Core.Path.{sym, _∙_}
+use Rattle.step.proofs.Taking.{take-37, take-done}
 use borrow.Author.Needs.{needs}
 use Rattle.step.proofs.take.take.Statement.{statement}
 use Rattle.step.proofs.take.take.Tie as tie
@@ -17,125 +18,111 @@ use Rattle.step.proofs.guards.owing.Reads as owing-reads
 use Rattle.words.proofs.index16.Reads as index16-reads
 use Rattle.words.proofs.index32.Reads as index32-reads
 
--- src/take.rt:36:9
 index16-requires : tie.Need-index16-requires
 index16-requires c κs = search needs
 
--- src/take.rt:37:14
 mul-owing : tie.Need-mul-owing
 mul-owing c = search needs
 
--- src/take.rt:37:14
 index-1-owing : tie.Need-index-1-owing
 index-1-owing c = search needs
 
--- src/take.rt:37:8
 owing-requires : tie.Need-owing-requires
 owing-requires c κs = search needs
 
--- src/take.rt:38:34
 mul-blame : tie.Need-mul-blame
 mul-blame c = search needs
 
--- src/take.rt:38:34
 index-1-blame : tie.Need-index-1-blame
 index-1-blame c = search needs
 
--- src/take.rt:38:28
 blame-requires : tie.Need-blame-requires
 blame-requires c κs = search needs
 
--- src/take.rt:38:9
 refused-requires : tie.Need-refused-requires
 refused-requires c κs = search needs
 
--- src/take.rt:38:9
 returns : tie.Need-returns
-returns c = search needs
+returns c =
+    let s = c .before .before .before .before .before .before .before .args in
+    let p = c .before .before .before .before .before .before .index16 in
+    take-37 (s .wires .now) (s .rows .now) (s .mails .now) (s .totals .now) (s .limit) (p .result) (s .a) (p .ensures .1) (s .code) (s .register) (s .at) _
+    (sym (c .before .before .before .before .owing .ensures) ∙ c .before .before .before .if1 .taken) _ (c .before .blame .ensures) (c .refused .ensures)
 
--- src/take.rt:40:21
 mul-word-at : tie.Need-mul-word-at
 mul-word-at c = search needs
 
--- src/take.rt:40:21
 index-1-word-at : tie.Need-index-1-word-at
 index-1-word-at c = search needs
 
--- src/take.rt:40:31
 mul-word-at-2 : tie.Need-mul-word-at-2
 mul-word-at-2 c = search needs
 
--- src/take.rt:40:31
 index-1-word-at-2 : tie.Need-index-1-word-at-2
 index-1-word-at-2 c = search needs
 
--- src/take.rt:40:9
 word-at-requires : tie.Need-word-at-requires
 word-at-requires c κs = search needs
 
--- src/take.rt:41:9
 channel-of-requires : tie.Need-channel-of-requires
 channel-of-requires c κs = search needs
 
--- src/take.rt:42:9
 index32-requires : tie.Need-index32-requires
 index32-requires c κs = search needs
 
--- src/take.rt:44:9
 mul-take-word : tie.Need-mul-take-word
 mul-take-word c = search needs
 
--- src/take.rt:44:9
 index-1-take-word : tie.Need-index-1-take-word
 index-1-take-word c = search needs
 
--- src/take.rt:45:9
 mul-take-word-2 : tie.Need-mul-take-word-2
 mul-take-word-2 c = search needs
 
--- src/take.rt:45:9
 index-1-take-word-2 : tie.Need-index-1-take-word-2
 index-1-take-word-2 c = search needs
 
--- src/take.rt:49:9
 port-requires : tie.Need-port-requires
 port-requires c κs = search needs
 
--- src/take.rt:43:5
 take-word-requires : tie.Need-take-word-requires
 take-word-requires c κs = search needs
 
--- src/take.rt:51:44
 mul-wrapping-sub-u32 : tie.Need-mul-wrapping-sub-u32
 mul-wrapping-sub-u32 c = search needs
 
--- src/take.rt:51:44
 element-copy-out-wrapping-sub-u32 : tie.Need-element-copy-out-wrapping-sub-u32
 element-copy-out-wrapping-sub-u32 c = search needs
 
--- src/take.rt:51:17
 wrapping-sub-u32-requires : tie.Need-wrapping-sub-u32-requires
 wrapping-sub-u32-requires c κs = search needs
 
--- src/take.rt:51:5
 mul-totals : tie.Need-mul-totals
 mul-totals c = search needs
 
--- src/take.rt:51:5
 element-write-totals : tie.Need-element-write-totals
 element-write-totals c = search needs
 
--- src/take.rt:56:15
 word-of-requires : tie.Need-word-of-requires
 word-of-requires c κs = search needs
 
--- src/take.rt:52:5
 alone-requires : tie.Need-alone-requires
 alone-requires c κs = search needs
 
--- src/take.rt:22:1
 returns-2 : tie.Need-returns-2
-returns-2 c = search needs
+returns-2 c =
+    let s = c .before .before .before .before .before .before .before .before .before .before .before .before .before .before .before .before .before .args in
+    let p = c .before .before .before .before .before .before .before .before .before .before .before .before .before .before .before .before .index16 in
+    let x = c .before .before .before .before .before .before .before .before .before .before .word-at in
+    let w = c .before .before .before .before .before .before .before .before .before .channel-of in
+    let k = c .before .before .before .before .before .before .before .before .index32 in
+    let port = c .before .before .before .before .before .port in
+    let t = c .before .before .before .before .take-word in
+    let u = c .before .before .wrapping-sub-u32 in
+    take-done (s .wires .now) (s .rows .now) (s .mails .now) (s .totals .now) (s .limit) (p .result) (s .a) (p .ensures .1) (s .code) (s .register) (s .at) _
+    (k .result) (port .result) (u .result) (t .last .0) (t .last .1 .0) (sym (c .before .before .before .before .before .before .before .before .before .before .before .before .before .before .owing .ensures) ∙ c .before .before .before .before .before .before .before .before .before .before .before .before .before .if1 .left)
+    (rw (w .ensures, x .ensures) at (k .ensures .1)) (port .ensures (k .ensures .0)) (t .ensures) (u .ensures) (u .ok)
+    (rw (← x .ensures, ← w .ensures, ← c .before .word-of .ensures) (c .alone .ensures))
 
 pub take-spec : {M : Type 1} → statement M
 take-spec =
