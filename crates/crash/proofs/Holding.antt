@@ -7,16 +7,16 @@ use mathlib.Core.List.{List, [], _∷_}
 use Prim.Native.Nat.{ℕ, zero, suc, _+_, _≤_, _<_, min}
 use native.Mathlib.Omega.{arith}
 use lib.Dec.{eqb, ltb}
-use lib.ListN.{length, getD, set, length-map, List·getD-eq-default}
+use lib.ListN.{length, getD, set, List·getD-eq-default}
 use lib.Seq.{getD-set-same, getD-set-other}
 use borrow.Author.Tests.{lt-ltb, le-ltb, eqb-true, eq-eqb, ne-eqb}
 use Rattle.facts.specs.Tests.{anyBelow, none-below, by-eq, by-lt}
 use Rattle.facts.specs.Counts.{total-set}
-use Rattle.facts.specs.Lists.{prefix, length-prefix, listed}
+use Rattle.facts.specs.Lists.{listed}
 use Rattle.facts.specs.Rings.{getD-listed, listed-length}
 use Rattle.backup.specs.Limits.{logMost}
 use Rattle.plan.specs.Plan.{Plan, Planned, arityIn, senderIn, readerIn}
-use Rattle.process.specs.Row.{boardIn, flagIn, unreadIn, waitsIn, mailIn, mailsIn, processOf, machineOf}
+use Rattle.process.specs.Row.{boardIn, flagIn, unreadIn, oldestIn, waitsIn, mailIn, packedAt, mailsIn, processOf, machineOf}
 use Rattle.process.specs.Promotion.{Routes, promotedBy, BecameAtCrash}
 use Rattle.rules.specs.Table.{Table, environment, inputs, channelAt}
 use Rattle.rules.specs.Machine.{booted}
@@ -99,8 +99,9 @@ unread-below rows mails p k = go (ltb p 16)
     go : (a : Bool) → cond a (unreadHere (getD rows p []) (getD mails p []) k) 0 ≤ logMost
     go true =
         let n : ℕ = min (unreadIn (getD rows p [])) logMost in
-        let few = unread-few k (mailsIn n (getD mails p [])) in
-        let long = length-map (prefix n (getD mails p [])) mailIn ∙ length-prefix n (getD mails p []) in
+        let first : ℕ = oldestIn (getD rows p []) in
+        let few = unread-few k (mailsIn first n (getD mails p [])) in
+        let long = listed-length (λ i. mailIn (packedAt first (getD mails p []) i)) n in
         omega arith
     go false = omega arith
 

@@ -11,12 +11,14 @@ use lib.Seq.{set-getD}
 use borrow.Author.Tests.{lt-ltb, eq-eqb, ne-eqb, le-leb, lt-leb}
 use Rattle.facts.specs.Tests.{by-eq, anyBelow, any-same}
 use Rattle.facts.specs.Counts.{cond-more}
+use Rattle.facts.specs.Lists.{listed}
 use Rattle.backup.specs.Limits.{ports, pcMost}
 use Rattle.plan.specs.declared.Counts.{Counts}
 use Rattle.plan.specs.Plan.{Plan, Planned, planOf, arityIn, portIn}
-use Rattle.process.specs.Row.{boardIn, pcIn, suppressIn, flagIn, standbyBoardIn, unreadIn, waitsIn, mailIn, mailsIn, machineOf, processOf}
+use Rattle.process.specs.Row.{boardIn, pcIn, suppressIn, flagIn, standbyBoardIn, unreadIn, waitsIn, mailAt, machineOf, processOf}
 use Rattle.process.specs.Transfer.{OnPorts, Rebacks}
 use Rattle.rules.specs.Table.{Table, channelAt, placementAt, inputs, portOf, channelOn}
+use Rattle.rules.specs.Machine.{Mail}
 use Rattle.rules.specs.Cabinet as rules
 use Rattle.rules.specs.Cabinet.{Cabinet, Process, outboxMost, occupancyMost, processAt, outboxAt, deadAt, protected, otherBoard, unreadOn, occupancy, crowded}
 use Rattle.rules.specs.Moves.{Refusal, refuse, accept, guard, hasBackup, unready, rebackupWaits, rebackupBlocked, rebackupDone, refusalNumber, withProcess, enqueue, rebacking, rebackup, numbers}
@@ -42,14 +44,13 @@ use Rattle.rejoin.specs.Rebackups.{channelIn, crowdedOn, transferEntry, 
 -- ---- what the lists of a process say
 
 -- a word of a mailbox is one of its channel's unread words
-unread-there : (n : ℕ) (mail : List ℕ) (i : ℕ) → i < n → 1 ≤ unreadOn (mailIn (getD mail i 0) .channel) (mailsIn n mail)
-unread-there zero mail i l = absurd (omega arith)
-unread-there (suc n) [] i l = omega arith
-unread-there (suc n) (x ∷ mail) zero l = rw (eq-eqb (mailIn x .channel) (mailIn x .channel) refl) (omega arith)
-unread-there (suc n) (x ∷ mail) (suc i) l =
-    let k : ℕ = mailIn (getD mail i 0) .channel in
-    let a = unread-there n mail i (omega arith) in
-    let b = cond-more (eqb k (mailIn x .channel)) (unreadOn k (mailsIn n mail)) in
+unread-there : (f : ℕ → Mail) (n i : ℕ) → i < n → 1 ≤ unreadOn (f i .channel) (listed f n)
+unread-there f zero i l = absurd (omega arith)
+unread-there f (suc n) zero l = rw (eq-eqb (f zero .channel) (f zero .channel) refl) (omega arith)
+unread-there f (suc n) (suc i) l =
+    let k : ℕ = f (suc i) .channel in
+    let a = unread-there (λ j. f (suc j)) n i (omega arith) in
+    let b = cond-more (eqb k (f zero .channel)) (unreadOn k (listed (λ j. f (suc j)) n)) in
     omega arith
 
 module _ {t : Table} {c : Cabinet} (reach : Reachable t c) (s : Store) (p : ℕ) (hp : p < length (t .processes)) (is : processAt c p ≡ processIn s p) where
@@ -57,18 +58,18 @@ module _ {t : Table} {c : Cabinet} (reach : Reachable t c) (s : Store) (p : ℕ)
   its-mail = getD (s .mails) p []
 
   -- each unread word is on a port of the process
-  reads-it : (i : ℕ) → i < unreadIn (getD (s .rows) p []) → channelAt t (mailIn (getD its-mail i 0) .channel) .reader ≡ p
+  reads-it : (i : ℕ) → i < unreadIn (getD (s .rows) p []) → channelAt t (mailAt (getD (s .rows) p []) its-mail i .channel) .reader ≡ p
   unfolding processOf machineOf
   reads-it i few =
-      let k : ℕ = mailIn (getD its-mail i 0) .channel in
+      let k : ℕ = mailAt (getD (s .rows) p []) its-mail i .channel in
       by-eq (channelAt t k .reader) p (λ e. e) (λ n.
       absurd (let z = sym (ap (λ (x : Process). unreadOn k (x .machine .mailbox)) is) ∙ unread-own reach p hp k n in
-      let a = unread-there (unreadIn (getD (s .rows) p [])) its-mail i few in
+      let a = unread-there (mailAt (getD (s .rows) p []) its-mail) (unreadIn (getD (s .rows) p [])) i few in
       omega arith))
 
   on-ports : {l : Plan} → Planned t l → OnPorts t p (l .wires) (getD (s .rows) p []) its-mail
   on-ports {l} plan i few =
-      let k : ℕ = mailIn (getD its-mail i 0) .channel in
+      let k : ℕ = mailAt (getD (s .rows) p []) its-mail i .channel in
       let its = reads-it i few in
       let inside : k < length (t .channels) = read-inside (reach .accepted) k (rw its hp) in
       let small : k % 32 ≡ k = (let z = reach .accepted .channels-high in omega arith) in (
