@@ -42,9 +42,9 @@ rests-outcome row mail code a operand (Send channel word) = refl
 
 pub rests-so : (table : List ℕ) (at n : ℕ) (row mail : List ℕ) (i : Instruction) (intent : Intent) (r : Bool) → i ≡ fetched table at (pcIn row)
     → Examined row mail n (i .code) (i .a) (i .operand) intent → r ≡ restsOf intent → Rests table at n row mail r
-rests-so table at n row mail i intent r e examined is program f s =
+rests-so table at n row mail i intent r e examined is program f =
     let g = subst (λ (x : Instruction). Fetched program row n (x .code) (x .a) (x .operand)) (sym e) f in
-    is ∙ rests-outcome row mail (i .code) (i .a) (i .operand) intent ∙ ap idle (sym (examined program g s .outcome))
+    is ∙ rests-outcome row mail (i .code) (i .a) (i .operand) intent ∙ ap idle (sym (examined program g .outcome))
 
 module _ (table : List ℕ) (processes : ℕ) (programs : List ℕ) (rows mails : List (List ℕ)) where
   -- the answer for process p, by its numbers in the plan
@@ -66,7 +66,7 @@ module _ (table : List ℕ) (processes : ℕ) (programs : List ℕ) (rows mails 
       let i : Instruction = fetched table (startIn programs p) (pcIn row) in
       let f = laws.fetched t p (x .reach .accepted) l row (i .code) (i .a) (i .operand) (λ k. sym (x .planned .code-at p l (pcIn row) k)) in
       let g = subst (λ (n : ℕ). Fetched (codeOf t p) row n (i .code) (i .a) (i .operand)) (sym (x .planned .length-at p l)) f in
-      rests (codeOf t p) g (x .holds .kept p l .unread)
+      rests (codeOf t p) g
       ∙ ap (λ (y : Process). idle (localStep (codeOf t p) (y .machine))) (sym (at-process (x .holds) p l))
 
   -- ---- all of them: the first p of n rest

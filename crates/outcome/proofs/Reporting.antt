@@ -5,15 +5,15 @@ use mathlib.Core.List.{List, [], _∷_, _++_, append-assoc, append-nil}
 use Prim.Native.Nat.{ℕ, zero, suc, _+_, _*_, _/_, _%_, _^_, _≤_, _<_}
 use native.Mathlib.Omega.{arith}
 use native.Mathlib.Numerals.{add-one}
-use lib.ListN.{length, getD, set, length-map, length-append}
+use lib.ListN.{length, getD, set, length-append}
 use lib.Seq.{sets, length-sets}
-use Rattle.facts.specs.Lists.{listed, prefix, length-prefix}
-use Rattle.facts.specs.Rings.{listed-more}
+use Rattle.facts.specs.Lists.{listed}
+use Rattle.facts.specs.Rings.{listed-more, listed-length}
 use Rattle.rules.specs.Table.{Table}
 use Rattle.rules.specs.Cabinet.{limitMost, Cabinet, Process}
 use Rattle.rules.specs.Bytes.{wordBytes, allBytes, written}
 use Rattle.rules.specs.Run.{reportBytes}
-use Rattle.process.specs.Row.{boardIn, pcIn, suppressIn, unreadIn, mailIn, machineOf, processOf}
+use Rattle.process.specs.Row.{boardIn, pcIn, suppressIn, unreadIn, mailAt, machineOf, processOf}
 use Rattle.state.specs.declared.entry.Entry.{Entry}
 use Rattle.state.specs.Store.{Store, Holds, processIn}
 use Rattle.state.specs.Moved.{Reachable}
@@ -123,7 +123,7 @@ line-is : (row mail log head : List ℕ) → boardIn row < 256 → pcIn row < 25
     → reportBytes (processOf row mail log head) ≡ twentyBytes row
 unfolding processOf machineOf
 line-is row mail log head h0 h1 h2 h3 =
-    let e2 = length-map (prefix (unreadIn row) mail) mailIn ∙ length-prefix (unreadIn row) mail ∙ small (unreadIn row) h2 in
+    let e2 = listed-length (mailAt row mail) (unreadIn row) ∙ small (unreadIn row) h2 in
     λ j. small (boardIn row) h0 j
     ∷ small (pcIn row) h1 j
     ∷ e2 j

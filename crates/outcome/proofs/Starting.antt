@@ -59,6 +59,7 @@ seated-kept primary standby a b = record {
   row-length = refl;
   mail-length = refl;
   unread = omega arith;
+  oldest = omega arith;
   words = seated-words primary standby a b .word;
   flag = omega arith;
   sound = fresh .is-sound;

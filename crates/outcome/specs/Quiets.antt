@@ -6,13 +6,12 @@ use Prim.Native.Nat.{ℕ, _≤_}
 use lib.Dec.{eqb}
 use lib.ListN.{length}
 use Rattle.facts.specs.Tests.{allBelow}
-use Rattle.backup.specs.Limits.{logMost}
 use Rattle.records.specs.Fetch.{fetched}
 use Rattle.plan.specs.declared.Counts.{Counts}
 use Rattle.plan.specs.Plan.{planOf, Planned}
 use Rattle.instruction.specs.declared.instruction.Intent.{Intent}
 use Rattle.instruction.specs.declared.instruction.Intent.the-variants.{Halted, NoMail, Internal, Take, Send}
-use Rattle.process.specs.Row.{pcIn, unreadIn, machineOf}
+use Rattle.process.specs.Row.{pcIn, machineOf}
 use Rattle.instruction.specs.Instruction.{Fetched}
 use Rattle.rules.specs.Table.{Table, Instruction, codeOf}
 use Rattle.rules.specs.Machine.{localStep}
@@ -36,7 +35,7 @@ restsOf (Send channel word) = false
 abbrev pub Rests : List ℕ → ℕ → ℕ → List ℕ → List ℕ → Bool → Type 0
 Rests table at n row mail r =
     let i = fetched table at (pcIn row) in
-    (program : List Instruction) → Fetched program row n (i .code) (i .a) (i .operand) → unreadIn row ≤ logMost
+    (program : List Instruction) → Fetched program row n (i .code) (i .a) (i .operand)
     → r ≡ idle (localStep program (machineOf row mail))
 
 -- process p of the rules' cabinet
