@@ -16,7 +16,7 @@ use Rattle.rules.specs.Judge.{Accepted}
 use Rattle.rules.specs.Bytes.{wordBytes, allBytes, written}
 use Rattle.rules.specs.Cabinet.{Cabinet, started}
 use Rattle.rules.specs.Moves as rules
-use Rattle.rules.specs.Moves.{Command, Numbers, Result, numbered, numbers, settle, judged, turn, runFrom}
+use Rattle.rules.specs.Moves.{Command, Numbers, Result, numbered, numbers, settle, judged, turn, runFrom, moveOf}
 use Rattle.rules.specs.Reasons.{causeOf, reasonOf}
 use Rattle.rules.specs.Schedule.{command, decodeSchedule}
 use Rattle.rules.specs.Run.{answerBytes}
@@ -26,12 +26,14 @@ use Rattle.state.specs.declared.entry.Entry.{Entry}
 use Rattle.state.specs.declared.moved.Answer.{Answer}
 use Rattle.state.specs.declared.moved.Moved.{Moved}
 use Rattle.state.specs.Store.{Store, Holds, blankEntry}
-use Rattle.state.specs.Moved.{Reachable, Answered, Makes, joined}
+use Rattle.state.specs.Moved.{Reachable, Answered, Makes, joined, refusalOf}
+use Rattle.command.specs.Judges.{judgeOf, causeBy}
+use Rattle.command.proofs.Judging.{ruleOf, mostOf, Passes, passes, made, refused, known}
 use Rattle.plan.specs.Plan.{Plan, Planned}
 use Rattle.cabinet.specs.Written.{sixBytes, reasonByte}
 use Rattle.cabinet.specs.Plays.{Sheets, Roomy, Writes, Played, Suited, Playing, Plays}
-use Rattle.outcome.proofs.Writing.{written-length, written-more}
-use Rattle.outcome.proofs.Answers.{answer-fits}
+use Rattle.outcome.proofs.Writing.{written-more}
+use Rattle.cabinet.proofs.Answers.{answer-fits}
 
 -- ---- one command more
 
@@ -158,18 +160,16 @@ module _ (l : Plan) (schedule : List ℕ) (records : ℕ) (s₀ : Store) (entrie
   }
 
   module _ (roomy : Roomy records sheets₀) (i : ℕ) (s : Store) (entries : List Entry) (sheets : Sheets) (p : At i s entries sheets) (below : i < records)
-      (c : code.Command) (is-c : commandOf c ≡ getD (decodeSchedule schedule) i (command 0 0 0)) (a : ℕ) (is-a : a ≡ c .a) (small : a < 256) where
-    abbrev x : Command
-    x = command (c .mv) a (c .word)
-
+      (c : code.Command) (is-c : commandOf c ≡ getD (decodeSchedule schedule) i (command 0 0 0)) (a : ℕ) (is-a : a ≡ c .a) (small : a < 256)
+      (n : ℕ) (is-n : n ≡ judgeOf (l .counts) c) where
     -- the cabinet before the record
     abbrev before : Table → Cabinet
     before t = runFrom t (started t) (take i (decodeSchedule schedule)) .cabinet
 
     -- what the rules make of the record, with that of the i before it
-    pub on : (s′ : Store) (entries′ : List Entry) (sheets′ : Sheets) (r : Answer) → Writes sheets i r sheets′
+    on : (s′ : Store) (entries′ : List Entry) (sheets′ : Sheets) (r : Answer) → Writes sheets i r sheets′
         → ((t : Table) → Suited t l schedule records s₀ entries₀ → Reachable t (before t) → Holds t s entries (before t)
-        → Answered t s′ entries′ (before t) x (judged t (before t) x) r)
+        → Answered t s′ entries′ (before t) (commandOf c) (judged t (before t) (commandOf c)) r)
         → At (i + 1) s′ entries′ sheets′
     on s′ entries′ sheets′ r w made = record {
       no-more = omega arith;
@@ -177,30 +177,44 @@ module _ (l : Plan) (schedule : List ℕ) (records : ℕ) (s₀ : Store) (entrie
       reasons-long = ap length (w .reasons-are) ∙ length-set (sheets .reasons) i _ ∙ p .reasons-long;
       played = λ t u.
           let all : List Command = decodeSchedule schedule in
+          let x : Command = commandOf c in
+          let low : x .a < 256 = omega arith in
           let many : i < length all = rw (← u .records-is) below in
           let so-many : length (take i all) ≡ i = length-take-le i all (omega arith) in
           let room : 6 * length (take i all) + 6 ≤ length (sheets₀ .answers) = (let z = roomy .answers-room in omega arith) in
           let reasons-room : length (take i all) < length (sheets₀ .reasons) = (let z = roomy .reasons-room in omega arith) in
-          let is-x : x ≡ getD all i (command 0 0 0) = ap (λ (n : ℕ). command (c .mv) n (c .word)) is-a ∙ is-c in
           let sucs : i + 1 ≡ suc i = omega arith in
-          let more : take (i + 1) all ≡ take i all ++ (x ∷ []) = ap (λ (n : ℕ). take n all) sucs ∙ take-suc all i (command 0 0 0) many ∙ ap (λ (y : Command). take i all ++ (y ∷ [])) (sym is-x) in
+          let more : take (i + 1) all ≡ take i all ++ (x ∷ []) =
+          ap (λ (k : ℕ). take k all) sucs ∙ take-suc all i (command 0 0 0) many ∙ ap (λ (y : Command). take i all ++ (y ∷ [])) (sym is-c) in
           let done = p .played t u in
           subst (λ (l : List Command). Played t l s′ entries′ sheets₀ sheets′) (sym more)
-          (one-more t (u .accepted) (take i all) x small s entries sheets₀ sheets room reasons-room entries′ s′ sheets′ r done
-          (made t u (reach t (u .accepted) (take i all) x small s entries sheets₀ sheets room reasons-room) (done .holds))
-          (subst (λ (n : ℕ). Writes sheets n r sheets′) (sym so-many) w));
+          (one-more t (u .accepted) (take i all) x low s entries sheets₀ sheets room reasons-room entries′ s′ sheets′ r done
+          (made t u (reach t (u .accepted) (take i all) x low s entries sheets₀ sheets room reasons-room) (done .holds))
+          (subst (λ (k : ℕ). Writes sheets k r sheets′) (sym so-many) w));
     }
 
-    -- a move that the record is judged to be
-    pub on-by : (rule : Table → Cabinet → ℕ → Result) (asks : Table → List Entry → Type 0) (joins : ℕ) (entry : Entry) (s′ : Store) (entries′ : List Entry)
-        (sheets′ : Sheets) (m : Moved) → Writes sheets i (m .answer) sheets′ → entries′ ≡ joined entries (m .at) entry
-        → Makes rule asks joins l s a entry s′ m
-        → ((t : Table) → Suited t l schedule records s₀ entries₀ → Holds t s entries (before t) → (judged t (before t) x ≡ rule t (before t) a) × asks t entries)
+    -- a record that is refused before its move is looked at
+    pub on-refused : (n ≡ 0 → ⊥) → (cause : ℕ) → cause ≡ causeBy n (moveOf (c .mv)) → (r : Answer) → r ≡ refusalOf n cause a → (sheets′ : Sheets)
+        → Writes sheets i r sheets′ → At (i + 1) s entries sheets′
+    on-refused z cause e r f sheets′ w = on s entries sheets′ r w (λ t u reach holds. refused (u .planned) c n is-n (before t) a is-a cause holds z e f)
+
+    -- one that is its move: what the rules call the move of number k
+    pub on-made : n ≡ 0 → (k : ℕ) → c .mv ≡ k → (asks : Table → List Entry → Type 0) (joins : ℕ) (entry : Entry) (s′ : Store) (entries′ : List Entry)
+        (sheets′ : Sheets) (m : Moved) → Writes sheets i (m .answer) sheets′ → Makes (ruleOf (moveOf k) (c .word)) asks joins l s a entry s′ m
+        → ((t : Table) → Accepted t → Holds t s entries (before t) → a < mostOf (moveOf k) t → asks t entries × (entries′ ≡ joined entries (m .at) entry))
         → At (i + 1) s′ entries′ sheets′
-    on-by rule asks joins entry s′ entries′ sheets′ m w e h is =
+    on-made z k is-k asks joins entry s′ entries′ sheets′ m w h given =
         on s′ entries′ sheets′ (m .answer) w (λ t u reach holds.
-        let j = is t u holds in
-        rw (e, j .0) (h .made t entries (before t) x reach (u .planned) holds refl (j .1)))
+        let there = given t (u .accepted) holds (passes (u .planned) c n is-n (before t) a is-a k is-k z .a-inside) in
+        subst (λ (l : List Entry). Answered t s′ l (before t) (commandOf c) (judged t (before t) (commandOf c)) (m .answer)) (sym (there .1))
+        (made (u .planned) c n is-n (before t) a is-a k is-k z
+        (h .made t entries (before t) (commandOf c) reach (u .planned) holds (sym is-a) (there .0))))
+
+    -- and no other passes
+    pub on-unknown : n ≡ 0 → (c .mv ≡ 1 → ⊥) → (c .mv ≡ 2 → ⊥) → (c .mv ≡ 3 → ⊥) → (c .mv ≡ 4 → ⊥) → (c .mv ≡ 5 → ⊥) → (c .mv ≡ 6 → ⊥) → (c .mv ≡ 7 → ⊥)
+        → (r : Answer) (sheets′ : Sheets) → Writes sheets i r sheets′ → At (i + 1) s entries sheets′
+    on-unknown z h1 h2 h3 h4 h5 h6 h7 r sheets′ w =
+        on s entries sheets′ r w (λ t u reach holds. absurd (known (u .planned) c n is-n (before t) a is-a z h1 h2 h3 h4 h5 h6 h7))
 
   -- all are done
   pub at-last : (i : ℕ) (s : Store) (entries : List Entry) (sheets : Sheets) → entries₀ ≡ replicate 512 blankEntry → At i s entries sheets → records ≤ i
