@@ -1,6 +1,6 @@
 -- The numbers of an answer fit their bytes: "One six-byte answer a record: code, a, word". A channel is one of at most 32, a process one of
 -- at most 16, and a refusal repeats a.
-use mathlib.Core.Path.{_≡_, refl}
+use mathlib.Core.Path.{refl}
 use mathlib.Core.Bool.{Bool, true, false, cond}
 use Prim.Native.Nat.{ℕ, _<_}
 use native.Mathlib.Omega.{arith}
@@ -10,7 +10,7 @@ use Rattle.facts.specs.Counts.{same-yes}
 use Rattle.rules.specs.Table.{Table, codeOf, channelAt}
 use Rattle.rules.specs.Machine.{Mail, Machine, took, sent}
 use Rattle.rules.specs.Cabinet.{Cabinet, processAt, protected}
-use Rattle.rules.specs.Moves.{Command, Move, Refusal, refusalNumber, Answer, stepDone, issueDone, crashDone, rejoinDone, rebackupDone, transferKept, received, queued, suppressed, transmitted, injected, syncKept, syncLost, droppedFrom, refused, numbers, turn}
+use Rattle.rules.specs.Moves.{Command, Move, Refusal, Answer, stepDone, issueDone, crashDone, rejoinDone, rebackupDone, transferKept, received, queued, suppressed, transmitted, injected, syncKept, syncLost, droppedFrom, refused, numbers, turn}
 use Rattle.rules.proofs.Decoded.{refusalNumber-listed}
 use Rattle.rules.proofs.Steps.{Steps}
 use Rattle.rules.proofs.Tables.{step-own}

@@ -97,22 +97,30 @@ module _ (t : Table) (counts : Counts) (is-boards : counts .boards ≡ t .boards
   abbrev a : ℕ
   a = x .a
 
+  abbrev stray : Bool
+  stray = not (eqb (x .word) 0)
+
+  -- of a known move, by what it says of a 33
+  abbrev blame : Refusal → ℕ → ℕ
+  blame why k = faultOf k (refusalCause why)
+
   -- 33, and before it 32 for a word
   beyond : (why : Refusal) (n most : ℕ) (rule : Result) → n ≡ most → 33 ≡ refusalNumber why
-      → Tested (guard (leb most a) why rule) rule a most (beyondOf a n) (λ k. faultOf k (refusalCause why))
+      → Tested (guard (leb most a) why rule) rule a most (beyondOf a n) (blame why)
   beyond why n most rule e f =
-      subst (λ (k : ℕ). Tested (guard (leb most a) why rule) rule a most (beyondOf a k) (λ k. faultOf k (refusalCause why))) (sym e)
-      (tested-guard rule a most (λ k. faultOf k (refusalCause why)) (leb most a) why rule 33 0 (λ z. omega arith) f refl
+      subst (λ (k : ℕ). Tested (guard (leb most a) why rule) rule a most (beyondOf a k) (blame why)) (sym e)
+      (tested-guard rule a most (blame why) (leb most a) why rule 33 0 (λ z. omega arith) f refl
       (λ h. goes refl (record { result-is = refl; a-inside = leb-false most a h })))
 
   worded : (why : Refusal) (n most : ℕ) (rule : Result) → n ≡ most → 33 ≡ refusalNumber why
-      → Tested (guard (not (eqb (x .word) 0)) strayWord (guard (leb most a) why rule)) rule a most (cond (not (eqb (x .word) 0)) 32 (beyondOf a n)) (λ k. faultOf k (refusalCause why))
+      → Tested (guard stray strayWord (guard (leb most a) why rule)) rule a most (cond stray 32 (beyondOf a n)) (blame why)
   unfolding refusalNumber refusalCause
   worded why n most rule e f =
-      tested-guard rule a most (λ k. faultOf k (refusalCause why)) (not (eqb (x .word) 0)) strayWord (guard (leb most a) why rule) 32 (beyondOf a n) (λ z. omega arith) refl refl
+      tested-guard rule a most (blame why) stray strayWord (guard (leb most a) why rule) 32 (beyondOf a n) (λ z. omega arith) refl refl
       (λ _. beyond why n most rule e f)
 
-  performed : (m : Move) → Tested (perform t c x m) (ruleOf m (x .word) t c a) a (mostOf m t) (cond (not (isFeed m) && not (eqb (x .word) 0)) 32 (numberOf counts a m)) (λ k. causeBy k m)
+  performed : (m : Move)
+      → Tested (perform t c x m) (ruleOf m (x .word) t c a) a (mostOf m t) (cond (not (isFeed m) && stray) 32 (numberOf counts a m)) (λ k. causeBy k m)
   unfolding perform numberOf causeBy refusalNumber refusalCause
   performed stepMove = worded noProcess (counts .processes) _ (step t c a) is-processes refl
   performed issueMove = worded noProcess (counts .processes) _ (issue t c a) is-processes refl
@@ -121,12 +129,25 @@ module _ (t : Table) (counts : Counts) (is-boards : counts .boards ≡ t .boards
   performed crashMove = worded noBoard (counts .boards) _ (crash t c a) is-boards refl
   performed rejoinMove = worded noBoard (counts .boards) _ (rejoin t c a) is-boards refl
   performed rebackupMove = worded noProcess (counts .processes) _ (rebackup t c a) is-processes refl
-  performed unknown = tested-unknown (refuse unknownMove) a 0 (λ _. 0) (not (eqb (x .word) 0)) refl
+  performed unknown = tested-unknown (refuse unknownMove) a 0 (λ _. 0) stray refl
 
--- ---- what the loop over a schedule needs
+module _ {result rule : Result} {a most n : ℕ} {cause : ℕ → ℕ} where
+  must-stop : Tested result rule a most n cause → (n ≡ 0 → ⊥) → Refuses result n cause
+  must-stop (stops z r) h = r
+  must-stop (goes e p) h = absurd (h e)
 
-module _ {t : Table} {l : Plan} (u : Planned t l) (x : code.Command) (n : ℕ) (is-n : n ≡ judgeOf (l .counts) x) (c : Cabinet) (a : ℕ) (is-a : a ≡ x .a) where
-  tested : Tested (judged t c (commandOf x)) (ruleOf (moveOf (x .mv)) (x .word) t c (x .a)) (x .a) (mostOf (moveOf (x .mv)) t) n (λ k. causeBy k (moveOf (x .mv)))
+  must-go : Tested result rule a most n cause → n ≡ 0 → Passes result rule a most
+  must-go (stops z r) h = absurd (z h)
+  must-go (goes e p) h = p
+
+-- ---- what the loop over a schedule needs: n is what `judge` answers of the record x, and a the process, board or channel that x names
+
+module _ {t : Table} {l : Plan} (u : Planned t l) (x : code.Command) (n : ℕ) (is-n : n ≡ judgeOf (l .counts) x) (c : Cabinet)
+    (a : ℕ) (is-a : a ≡ x .a) where
+  abbrev result : Result
+  result = judged t c (commandOf x)
+
+  tested : Tested result (ruleOf (moveOf (x .mv)) (x .word) t c (x .a)) (x .a) (mostOf (moveOf (x .mv)) t) n (λ k. causeBy k (moveOf (x .mv)))
   unfolding judged judgeOf
   tested =
       let m : Move = moveOf (x .mv) in
@@ -134,14 +155,6 @@ module _ {t : Table} {l : Plan} (u : Planned t l) (x : code.Command) (n : ℕ) (
       subst of (sym is-n)
       (subst (λ (b : Bool). of (cond (not b && not (eqb (x .word) 0)) 32 (numberOf (l .counts) (x .a) m))) (moveOf-feed (x .mv))
       (performed t (l .counts) (u .boards-is) (u .processes-is) (u .channels-is) c (commandOf x) m))
-
-  must-stop : {result rule : Result} {k most : ℕ} {cause : ℕ → ℕ} → Tested result rule k most n cause → (n ≡ 0 → ⊥) → Refuses result n cause
-  must-stop (stops z r) h = r
-  must-stop (goes e p) h = absurd (h e)
-
-  must-go : {result rule : Result} {k most : ℕ} {cause : ℕ → ℕ} → Tested result rule k most n cause → n ≡ 0 → Passes result rule k most
-  must-go (stops z r) h = absurd (z h)
-  must-go (goes e p) h = p
 
   -- A number other than 0 is the rules' refusal, with its cause.
   pub refused : {s : Store} {entries : List Entry} {r : Answer} (cause : ℕ) → Holds t s entries c → (n ≡ 0 → ⊥) → cause ≡ causeBy n (moveOf (x .mv))
@@ -151,12 +164,13 @@ module _ {t : Table} {l : Plan} (u : Planned t l) (x : code.Command) (n : ℕ) (
       turned-away (commandOf x) a (y .why) h (y .result-is) (sym is-a) (f ∙ (λ i. refusalOf (y .number-is i) ((e ∙ y .cause-is) i) a))
 
   -- Where it is 0 the move is made, of a process, board or channel of the table.
-  pub passes : (k : ℕ) → x .mv ≡ k → n ≡ 0 → Passes (judged t c (commandOf x)) (ruleOf (moveOf k) (x .word) t c a) a (mostOf (moveOf k) t)
+  pub passes : (k : ℕ) → x .mv ≡ k → n ≡ 0
+      → Passes (judged t c (commandOf x)) (ruleOf (moveOf k) (x .word) t c a) a (mostOf (moveOf k) t)
   passes k e z =
-      subst (λ (j : ℕ). Passes (judged t c (commandOf x)) (ruleOf (moveOf j) (x .word) t c a) a (mostOf (moveOf j) t)) e
-      (subst (λ (j : ℕ). Passes (judged t c (commandOf x)) (ruleOf (moveOf (x .mv)) (x .word) t c j) j (mostOf (moveOf (x .mv)) t)) (sym is-a) (must-go tested z))
+      subst (λ (j : ℕ). Passes result (ruleOf (moveOf j) (x .word) t c a) a (mostOf (moveOf j) t)) e
+      (subst (λ (j : ℕ). Passes result (ruleOf (moveOf (x .mv)) (x .word) t c j) j (mostOf (moveOf (x .mv)) t)) (sym is-a) (must-go tested z))
 
-  -- so what the rule's answer is, is the record's
+  -- So what the move's own rule answers, the record is answered.
   pub made : {s : Store} {entries : List Entry} {r : Answer} (k : ℕ) → x .mv ≡ k → n ≡ 0
       → Answered t s entries c (commandOf x) (ruleOf (moveOf k) (x .word) t c a) r → Answered t s entries c (commandOf x) (judged t c (commandOf x)) r
   made {s} {entries} {r} k e z = subst (λ (y : Result). Answered t s entries c (commandOf x) y r) (sym (passes k e z .result-is))
@@ -164,5 +178,5 @@ module _ {t : Table} {l : Plan} (u : Planned t l) (x : code.Command) (n : ℕ) (
   -- And no unknown move passes.
   pub known : n ≡ 0 → (x .mv ≡ 1 → ⊥) → (x .mv ≡ 2 → ⊥) → (x .mv ≡ 3 → ⊥) → (x .mv ≡ 4 → ⊥) → (x .mv ≡ 5 → ⊥) → (x .mv ≡ 6 → ⊥) → (x .mv ≡ 7 → ⊥) → ⊥
   known z h1 h2 h3 h4 h5 h6 h7 =
-      let y : x .a < mostOf unknown t = subst (λ (m : Move). x .a < mostOf m t) (is-unknown (x .mv) h1 h2 h3 h4 h5 h6 h7) (must-go tested z .a-inside) in
+      let y = subst (λ (m : Move). x .a < mostOf m t) (is-unknown (x .mv) h1 h2 h3 h4 h5 h6 h7) (must-go tested z .a-inside) in
       omega arith

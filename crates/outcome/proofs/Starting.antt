@@ -14,7 +14,7 @@ use Rattle.facts.specs.Tests.{by-eq, by-lt}
 use Rattle.facts.specs.Lists.{listed, listed-same, map-listed, written-out}
 use Rattle.facts.specs.Indexing.{getD-map, getD-replicate-any}
 use Rattle.facts.specs.Rings.{ring}
-use Rattle.backup.specs.Limits.{logMost, ports}
+use Rattle.backup.specs.Limits.{logMost}
 use Rattle.backup.specs.Replica.{Replica}
 use Rattle.backup.specs.Place as place
 use Rattle.backup.specs.PlaceLaws.{fresh-in}

@@ -49,7 +49,13 @@ fn all_rest(
     let n = most16(processes);
     let mut p = 0;
     while p < n {
-        if !rests(table, start(programs, p), length(programs, p), &rows[p], &mails[p]) {
+        if !rests(
+            table,
+            start(programs, p),
+            length(programs, p),
+            &rows[p],
+            &mails[p],
+        ) {
             return false;
         }
         p += 1;

@@ -68,8 +68,13 @@ same-length c = search needs
 returns : tie.Need-returns
 returns c =
     let s = c .before .before .before .before .before .before .before .before .before .before .args in
-    six-put (s .answers .now) _ (s .r) _ _ _ _ _ _ (c .before .before .before .before .before .before .struct-known .given .1 .1 .1 .0 .fits) (c .before .before .before .before .before .before .before .before .low-byte .ensures)
-    (c .before .before .before .before .before .before .before .low-byte2 .ensures) (c .before .before .before .before .before .low-byte3 .ensures) (c .before .before .before .low-byte4 .ensures) (c .before .low-byte5 .ensures) (c .low-byte6 .ensures)
+    let word-fits = c .before .before .before .before .before .before .struct-known .given .1 .1 .1 .0 .fits in
+    let b0 = c .before .before .before .before .before .before .before .before .low-byte in
+    let b1 = c .before .before .before .before .before .before .before .low-byte2 in
+    let b2 = c .before .before .before .before .before .low-byte3 in
+    let b3 = c .before .before .before .low-byte4 in
+    let b4 = c .before .low-byte5 in
+    six-put (s .answers .now) _ (s .r) _ _ _ _ _ _ word-fits (b0 .ensures) (b1 .ensures) (b2 .ensures) (b3 .ensures) (b4 .ensures) (c .low-byte6 .ensures)
 
 pub put-spec : {M : Type 1} → statement M
 put-spec =

@@ -32,7 +32,10 @@ index-2-if1 : tie.Need-index-2-if1 Inv-loop μ-loop
 index-2-if1 c = search needs
 
 returns : tie.Need-returns Inv-loop μ-loop
-returns c = let l = c .before .before .before .loop in empty-fails (c .before .before .before .before .before .args .queues .now) _ _ (l .b) (c .before .before .before .before .most16 .ensures .1) (c .before .before .loop-test .taken) (c .if1 .taken)
+returns c =
+    let queues = c .before .before .before .before .before .args .queues .now in
+    let l = c .before .before .before .loop in
+    empty-fails queues _ _ (l .b) (c .before .before .before .before .most16 .ensures .1) (c .before .before .loop-test .taken) (c .if1 .taken)
 
 add-b : tie.Need-add-b Inv-loop μ-loop
 add-b c = search needs
@@ -41,10 +44,16 @@ loop-less : tie.Need-loop-less Inv-loop μ-loop
 loop-less c = search needs
 
 loop-again : tie.Need-loop-again Inv-loop μ-loop
-loop-again c = let l = c .before .before .before .loop in (l .inv .0, empty-on (c .before .before .before .before .before .args .queues .now) _ (l .b) (l .inv .1) (c .before .before .loop-test .taken) (c .if1 .left))
+loop-again c =
+    let queues = c .before .before .before .before .before .args .queues .now in
+    let l = c .before .before .before .loop in
+    (l .inv .0, empty-on queues _ (l .b) (l .inv .1) (c .before .before .loop-test .taken) (c .if1 .left))
 
 returns-2 : tie.Need-returns-2 Inv-loop μ-loop
-returns-2 c = let l = c .before .loop in empty-end (c .before .before .before .args .queues .now) _ _ (l .b) (c .before .before .most16 .ensures .1) (l .inv .1) (c .loop-test .left)
+returns-2 c =
+    let queues = c .before .before .before .args .queues .now in
+    let l = c .before .loop in
+    empty-end queues _ _ (l .b) (c .before .before .most16 .ensures .1) (l .inv .1) (c .loop-test .left)
 
 pub all-empty-spec : {M : Type 1} → statement M
 all-empty-spec =

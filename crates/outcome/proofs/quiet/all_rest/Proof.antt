@@ -1,5 +1,5 @@
 use Prim.Native.Nat.{_-_, _≤_}
-use Rattle.outcome.proofs.Quieting.{at-plan, Resting, resting-start, resting-on, resting-fails, resting-end}
+use Rattle.outcome.proofs.Quieting.{RestsAt, at-plan, Resting, resting-start, resting-on, resting-fails, resting-end}
 use borrow.Author.Needs.{needs}
 use native.Mathlib.Omega.{arith}
 use Rattle.outcome.proofs.quiet.all_rest.Statement.{statement}
@@ -44,15 +44,21 @@ index-1-rests-2 c = search needs
 rests-requires : tie.Need-rests-requires Inv-loop μ-loop
 rests-requires c κs = search needs
 
+-- what the call of `rests` says, by the plan
+its-answer : (c : tie.After-rests Inv-loop μ-loop)
+    → let s = c .before .before .before .before .before .before .before .before .before .args in
+    RestsAt (s .table .now) (s .processes) (s .programs .now) (s .rows .now) (s .mails .now) (c .before .before .before .before .before .before .loop .p) (c .rests .result)
+its-answer c =
+    let s = c .before .before .before .before .before .before .before .before .before .args in
+    let l = c .before .before .before .before .before .before .loop in
+    at-plan (s .table .now) (s .processes) (s .programs .now) (s .rows .now) (s .mails .now) (l .p) _ _ (c .rests .result) (omega arith)
+    (c .before .before .before .before .start .ensures) (c .before .before .before .length .ensures) (c .rests .ensures)
+
 returns : tie.Need-returns Inv-loop μ-loop
 returns c =
-    let s = c .before .before .before .before .before .before .before .before .before .before .args in
+    let clamp = c .before .before .before .before .before .before .before .before .most16 .ensures .1 in
     let l = c .before .before .before .before .before .before .before .loop in
-    let r = c .before .rests in
-    let at =
-    at-plan (s .table .now) (s .processes) (s .programs .now) (s .rows .now) (s .mails .now) (l .p) _ _ (r .result) (omega arith) (c .before .before .before .before .before .start .ensures)
-    (c .before .before .before .before .length .ensures) (r .ensures) in
-    resting-fails _ _ _ _ _ _ (c .before .before .before .before .before .before .before .before .most16 .ensures .1) (l .p) (r .result) (c .before .before .before .before .before .before .loop-test .taken) at (c .if1 .taken)
+    resting-fails _ _ _ _ _ _ clamp (l .p) _ (c .before .before .before .before .before .before .loop-test .taken) (its-answer (c .before)) (c .if1 .taken)
 
 add-p : tie.Need-add-p Inv-loop μ-loop
 add-p c = search needs
@@ -62,13 +68,9 @@ loop-less c = search needs
 
 loop-again : tie.Need-loop-again Inv-loop μ-loop
 loop-again c =
-    let s = c .before .before .before .before .before .before .before .before .before .before .args in
+    let clamp = c .before .before .before .before .before .before .before .before .most16 .ensures .1 in
     let l = c .before .before .before .before .before .before .before .loop in
-    let r = c .before .rests in
-    let at =
-    at-plan (s .table .now) (s .processes) (s .programs .now) (s .rows .now) (s .mails .now) (l .p) _ _ (r .result) (omega arith) (c .before .before .before .before .before .start .ensures)
-    (c .before .before .before .before .length .ensures) (r .ensures) in
-    (l .inv .0, resting-on _ _ _ _ _ _ (c .before .before .before .before .before .before .before .before .most16 .ensures .1) (l .p) (r .result) (l .inv .1) (c .before .before .before .before .before .before .loop-test .taken) at (c .if1 .left))
+    (l .inv .0, resting-on _ _ _ _ _ _ clamp (l .p) _ (l .inv .1) (c .before .before .before .before .before .before .loop-test .taken) (its-answer (c .before)) (c .if1 .left))
 
 returns-2 : tie.Need-returns-2 Inv-loop μ-loop
 returns-2 c = let l = c .before .loop in resting-end _ _ _ _ _ _ (c .before .before .most16 .ensures .1) (l .p) (l .inv .1) (c .loop-test .left)

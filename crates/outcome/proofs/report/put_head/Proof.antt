@@ -57,7 +57,12 @@ same-length : tie.Need-same-length
 same-length c = search needs
 
 returns : tie.Need-returns
-returns c = let s = c .before .before .before .before .before .before .before .before .before .args in head-put (s .row .now) (s .report .now) (s .at) _ _ _ _ (c .before .before .before .before .before .before .low-byte .ensures) (c .before .before .before .before .low-byte2 .ensures) (c .before .before .low-byte3 .ensures) (c .low-byte4 .ensures)
+returns c =
+    let s = c .before .before .before .before .before .before .before .before .before .args in
+    let b0 = c .before .before .before .before .before .before .low-byte in
+    let b1 = c .before .before .before .before .low-byte2 in
+    let b2 = c .before .before .low-byte3 in
+    head-put (s .row .now) (s .report .now) (s .at) _ _ _ _ (b0 .ensures) (b1 .ensures) (b2 .ensures) (c .low-byte4 .ensures)
 
 pub put-head-spec : {M : Type 1} → statement M
 put-head-spec =

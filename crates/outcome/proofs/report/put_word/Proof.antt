@@ -45,7 +45,12 @@ same-length : tie.Need-same-length
 same-length c = search needs
 
 returns : tie.Need-returns
-returns c = let s = c .before .before .before .before .before in word-put (s .args .report .now) (s .args .at) (s .args .word) _ _ _ _ (s .fits .word .fits) (c .before .before .before .low-byte .ensures) (c .before .before .low-byte2 .ensures) (c .before .low-byte3 .ensures) (c .low-byte4 .ensures)
+returns c =
+    let s = c .before .before .before .before .before in
+    let b0 = c .before .before .before .low-byte in
+    let b1 = c .before .before .low-byte2 in
+    let b2 = c .before .low-byte3 in
+    word-put (s .args .report .now) (s .args .at) (s .args .word) _ _ _ _ (s .fits .word .fits) (b0 .ensures) (b1 .ensures) (b2 .ensures) (c .low-byte4 .ensures)
 
 pub put-word-spec : {M : Type 1} → statement M
 put-word-spec =

@@ -37,7 +37,10 @@ loop-less : tie.Need-loop-less Inv-loop μ-loop
 loop-less c = search needs
 
 loop-again : tie.Need-loop-again Inv-loop μ-loop
-loop-again c = let l = c .before .before .before .before .before .before .loop in (l .inv .0, reporting-on _ _ _ (l .report) _ (l .p) (l .inv .1) (c .before .before .before .before .before .loop-test .taken) (c .before .before .put-line .ensures))
+loop-again c =
+    let l = c .before .before .before .before .before .before .loop in
+    let put = c .before .before .put-line in
+    (l .inv .0, reporting-on _ _ _ (l .report) _ (l .p) (l .inv .1) (c .before .before .before .before .before .loop-test .taken) (put .ensures))
 
 same-length : tie.Need-same-length Inv-loop μ-loop
 same-length c = c .before .loop .inv .1 .same-length
