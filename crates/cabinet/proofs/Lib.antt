@@ -1,6 +1,2 @@
--- An answer's bytes:
-pub mod Putting
-pub mod Answers
--- why the run is the rules':
-pub mod Playing
+-- Why the run is the rules'.
 pub mod Running

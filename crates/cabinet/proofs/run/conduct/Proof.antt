@@ -7,7 +7,7 @@ use Rattle.cabinet.proofs.run.conduct.Statement.{statement}
 use Rattle.cabinet.proofs.run.conduct.Tie as tie
 use Rattle.cabinet.proofs.run.conduct.Reads as reads
 use Rattle.cabinet.proofs.run.conduct.Lts as lts
-use Rattle.cabinet.proofs.play.play.Reads as play-reads
+use Rattle.play.proofs.play.play.Reads as play-reads
 use Rattle.outcome.proofs.quiet.quiescent.Reads as quiescent-reads
 use Rattle.outcome.proofs.report.write_report.Reads as write-report-reads
 use Rattle.outcome.proofs.start.seat.Reads as seat-reads

@@ -16,7 +16,7 @@ use Rattle.plan.specs.Plan.{Plan, Planned}
 use Rattle.state.specs.declared.entry.Entry.{Entry}
 use Rattle.state.specs.declared.moved.Answer.{Answer}
 use Rattle.state.specs.Store.{Store, Holds, blankEntry}
-use Rattle.cabinet.specs.Written.{sixBytes, reasonByte}
+use Rattle.play.specs.Written.{sixBytes, reasonByte}
 
 -- ---- the buffers
 

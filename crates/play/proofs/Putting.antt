@@ -6,7 +6,7 @@ use native.Mathlib.Omega.{arith}
 use lib.ListN.{set}
 use lib.Seq.{sets}
 use Rattle.state.specs.declared.moved.Answer.{Answer}
-use Rattle.cabinet.specs.Written.{sixBytes}
+use Rattle.play.specs.Written.{sixBytes}
 
 pub six-put : (buffer : List ℕ) (n : ℕ) (r : Answer) (x0 x1 x2 x3 x4 x5 : ℕ) → r .word < 2 ^ 32 → x0 ≡ r .code % 256 → x1 ≡ r .a % 256
     → x2 ≡ r .word / 16777216 % 256 → x3 ≡ r .word / 65536 % 256 → x4 ≡ r .word / 256 % 256 → x5 ≡ r .word % 256

@@ -1,10 +1,10 @@
 use native.Mathlib.Omega.{arith}
 use borrow.Author.Needs.{needs}
-use Rattle.cabinet.proofs.answer.put_reason.Statement.{statement}
-use Rattle.cabinet.proofs.answer.put_reason.Tie as tie
-use Rattle.cabinet.proofs.answer.put_reason.Reads as reads
-use Rattle.cabinet.proofs.answer.put_reason.Lts as lts
-use Rattle.cabinet.proofs.answer.reason.Reads as reason-reads
+use Rattle.play.proofs.answer.put_reason.Statement.{statement}
+use Rattle.play.proofs.answer.put_reason.Tie as tie
+use Rattle.play.proofs.answer.put_reason.Reads as reads
+use Rattle.play.proofs.answer.put_reason.Lts as lts
+use Rattle.play.proofs.answer.reason.Reads as reason-reads
 
 reason-requires : tie.Need-reason-requires
 reason-requires c κs = search needs

@@ -1,11 +1,11 @@
 use lib.ListN.{length-set}
-use Rattle.cabinet.proofs.Putting.{six-put}
+use Rattle.play.proofs.Putting.{six-put}
 use native.Mathlib.Omega.{arith}
 use borrow.Author.Needs.{needs}
-use Rattle.cabinet.proofs.answer.put.Statement.{statement}
-use Rattle.cabinet.proofs.answer.put.Tie as tie
-use Rattle.cabinet.proofs.answer.put.Reads as reads
-use Rattle.cabinet.proofs.answer.put.Lts as lts
+use Rattle.play.proofs.answer.put.Statement.{statement}
+use Rattle.play.proofs.answer.put.Tie as tie
+use Rattle.play.proofs.answer.put.Reads as reads
+use Rattle.play.proofs.answer.put.Lts as lts
 use Rattle.words.proofs.low_byte.Reads as low-byte-reads
 
 mul-at : tie.Need-mul-at

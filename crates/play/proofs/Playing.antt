@@ -30,10 +30,10 @@ use Rattle.state.specs.Moved.{Reachable, Answered, Makes, joined, refusalOf}
 use Rattle.command.specs.Judges.{judgeOf, causeBy}
 use Rattle.command.proofs.Judging.{ruleOf, mostOf, Passes, passes, made, refused, known}
 use Rattle.plan.specs.Plan.{Plan, Planned}
-use Rattle.cabinet.specs.Written.{sixBytes, reasonByte}
-use Rattle.cabinet.specs.Plays.{Sheets, Roomy, Writes, Played, Suited, Playing, Plays}
+use Rattle.play.specs.Written.{sixBytes, reasonByte}
+use Rattle.play.specs.Plays.{Sheets, Roomy, Writes, Played, Suited, Playing, Plays}
 use Rattle.outcome.proofs.Writing.{written-more}
-use Rattle.cabinet.proofs.Answers.{answer-fits}
+use Rattle.play.proofs.Answers.{answer-fits}
 
 -- ---- one command more
 

@@ -12,18 +12,18 @@ use Rattle.bus.specs.Transmits.{Oldest}
 use Rattle.rejoin.specs.Rebackups.{transferEntry}
 use Rattle.process.specs.Row.{checkpointIn}
 use Rattle.backup.specs.declared.place.Checkpoint.{Checkpoint}
-use Rattle.cabinet.specs.Plays.{sheetsOf, Playing}
-use Rattle.cabinet.proofs.Playing.{at-first, on-refused, on-made, on-unknown, at-last, none-joined, one-joined, default-free}
+use Rattle.play.specs.Plays.{sheetsOf, Playing}
+use Rattle.play.proofs.Playing.{at-first, on-refused, on-made, on-unknown, at-last, none-joined, one-joined, default-free}
 use borrow.Author.Needs.{needs}
 use native.Mathlib.Omega.{arith}
-use Rattle.cabinet.proofs.play.play.Statement.{statement}
-use Rattle.cabinet.proofs.play.play.Tie as tie
-use Rattle.cabinet.proofs.play.play.Reads as reads
-use Rattle.cabinet.proofs.play.play.Lts as lts
+use Rattle.play.proofs.play.play.Statement.{statement}
+use Rattle.play.proofs.play.play.Tie as tie
+use Rattle.play.proofs.play.play.Reads as reads
+use Rattle.play.proofs.play.play.Lts as lts
 use Rattle.bus.proofs.inject.inject.Reads as inject-reads
 use Rattle.bus.proofs.transmit.oldest.Reads as oldest-reads
 use Rattle.bus.proofs.transmit.transmit.Reads as transmit-reads
-use Rattle.cabinet.proofs.play.write.Reads as write-reads
+use Rattle.play.proofs.play.write.Reads as write-reads
 use Rattle.command.proofs.judge.cause.Reads as cause-reads
 use Rattle.command.proofs.judge.judge.Reads as judge-reads
 use Rattle.crash.proofs.crash.crash.Reads as crash-reads
@@ -212,8 +212,11 @@ loop-again-4 c =
     (c .before .before .before .before .before .before .before .before .before .before .before .before .before .before .before .before .before .before .before .before .loop-test .taken) (x .result) (x .ensures) (g .result) (g .ensures .0) (g .ensures .1) (j .result) (j .ensures)
     (c .before .before .before .before .before .before .before .before .before .before .before .before .before .before .before .before .if1 .left) 2 (c .before .before .before .before .before .before .before .before .before .before .before .before .before .before .before .match .keys2) (aProcess (g .result)) 0 (syncEntry (q .rows) (g .result)) _ _ (sheetsOf _ _) (c .before .before .before .before .before .before .before .before .before .issue .result) (c .before .before .before .before .before .write3 .ensures)
     (c .before .before .before .before .before .before .before .before .before .issue .ensures _ (q .mails) (q .logs) (q .heads) (q .totals))
-    (λ t ok holds b. (b, ap (λ (k : Checkpoint). set (q .entries) (c .before .before .before .before .before .before .before .before .before .issue .result .at) (record { item = Sync (g .result) k })) (c .before .before .before .before .before .before .before .before .before .before .before .before .snapshot .ensures ∙ ap (λ (p : ℕ). checkpointIn (getD (q .rows) p [])) (c .before .before .before .before .before .before .before .before .before .before .before .before .before .before .index16 .ensures .1 (let y = ok .processes-high in omega arith)))
-    ∙ one-joined (q .entries) (c .before .before .before .before .before .before .before .before .before .issue .result .at) _ (c .if3 .taken)))
+    (λ t ok holds b. (
+      b,
+      ap (λ (k : Checkpoint). set (q .entries) (c .before .before .before .before .before .before .before .before .before .issue .result .at) (record { item = Sync (g .result) k })) (c .before .before .before .before .before .before .before .before .before .before .before .before .snapshot .ensures ∙ ap (λ (p : ℕ). checkpointIn (getD (q .rows) p [])) (c .before .before .before .before .before .before .before .before .before .before .before .before .before .before .index16 .ensures .1 (let y = ok .processes-high in omega arith)))
+          ∙ one-joined (q .entries) (c .before .before .before .before .before .before .before .before .before .issue .result .at) _ (c .if3 .taken),
+    ))
 
 loop-less-5 : tie.Need-loop-less-5 Inv-loop μ-loop
 loop-less-5 c =
@@ -285,8 +288,14 @@ loop-again-6 c =
     (c .before .before .before .before .before .before .before .before .before .before .before .before .before .before .before .before .before .before .before .before .before .before .before .loop-test .taken) (x .result) (x .ensures) (g .result) (g .ensures .0) (g .ensures .1) (j .result) (j .ensures)
     (c .before .before .before .before .before .before .before .before .before .before .before .before .before .before .before .before .before .before .before .if1 .left) 3 (c .before .before .before .before .before .before .before .before .before .before .before .before .before .before .before .before .before .before .match .keys3) (Oldest (q .queues) (g .result) _) 0 blankEntry _ _ (sheetsOf _ _) (aloneOf (c .before .before .before .before .before .before .before .transmit .result)) (c .before .before .before .before .write4 .ensures)
     (c .before .before .before .before .before .before .before .transmit .ensures (s .table .now) (s .counts) (s .programs .now))
-    (λ t ok holds b. (record { board-there = b; oldest-is = default-free (q .entries) (c .before .before .before .before .before .before .before .before .before .before .before .before .before .before .before .oldest .result) _ _ (let y = holds .shape .entries-length in let v = c .before .before .before .before .before .before .before .before .before .before .before .before .before .before .before .oldest .ensures .0 in omega arith)
-    ∙ ap (λ (k : ℕ). getD (q .entries) k blankEntry) (c .before .before .before .before .before .before .before .before .before .before .before .before .before .before .before .oldest .ensures .1 (c .before .before .before .before .before .before .before .before .before .before .before .before .before .before .before .before .before .index162 .ensures .0) ∙ ap (λ (k : ℕ). 32 * k + getD (getD (q .queues) k []) 0 0 % 32) (c .before .before .before .before .before .before .before .before .before .before .before .before .before .before .before .before .before .index162 .ensures .1 (let y = ok .boards-high in omega arith))) }, refl))
+    (λ t ok holds b. (
+      record {
+        board-there = b;
+        oldest-is = default-free (q .entries) (c .before .before .before .before .before .before .before .before .before .before .before .before .before .before .before .oldest .result) _ _ (let y = holds .shape .entries-length in let v = c .before .before .before .before .before .before .before .before .before .before .before .before .before .before .before .oldest .ensures .0 in omega arith)
+            ∙ ap (λ (k : ℕ). getD (q .entries) k blankEntry) (c .before .before .before .before .before .before .before .before .before .before .before .before .before .before .before .oldest .ensures .1 (c .before .before .before .before .before .before .before .before .before .before .before .before .before .before .before .before .before .index162 .ensures .0) ∙ ap (λ (k : ℕ). 32 * k + getD (getD (q .queues) k []) 0 0 % 32) (c .before .before .before .before .before .before .before .before .before .before .before .before .before .before .before .before .before .index162 .ensures .1 (let y = ok .boards-high in omega arith)));
+      },
+      refl,
+    ))
 
 inject-requires : tie.Need-inject-requires Inv-loop μ-loop
 inject-requires c κs = search needs

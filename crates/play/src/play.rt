@@ -5,7 +5,7 @@ ghost use Prim.Native.Nat.{_*_, _+_, _≤_, _<_};
 ghost use lib.ListN.{length};
 ghost use Rattle.plan.specs.Plan.{planOf};
 ghost use Rattle.state.specs.Store.{storeOf};
-ghost use Rattle.cabinet.specs.Plays.{sheetsOf, Writes, Roomy, Plays};
+ghost use Rattle.play.specs.Plays.{sheetsOf, Writes, Roomy, Plays};
 use crate::answer::put;
 use crate::answer::put_reason;
 use backup::limits::LOG;

@@ -4,7 +4,7 @@ ghost use mathlib.Core.Path.{_≡_};
 ghost use Prim.Native.Nat.{_+_, _*_, _≤_, _<_};
 ghost use lib.ListN.{length, set};
 ghost use lib.Seq.{sets};
-ghost use Rattle.cabinet.specs.Written.{sixBytes, reasonByte};
+ghost use Rattle.play.specs.Written.{sixBytes, reasonByte};
 use state::moved::Answer;
 use words::low_byte;
 
