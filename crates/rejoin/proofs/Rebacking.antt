@@ -167,12 +167,14 @@ module _ {t : Table} {l : Plan} {s : Store} {entries : List Entry} {c : Cabinet}
 
             refused-38 : outboxMost ≤ countIn (s .queues) (boardIn row) → rebackup t c p ≡ refuse rebackupBlocked
             unfolding rebackup guard
-            refused-38 many = rw (unbacked, alive, released, crowded-is ∙ few, waits-off reach h p hp none, le-leb outboxMost (length queue) (rw (queue-has reach h p hp) many))
+            refused-38 many =
+                rw (unbacked, alive, released, crowded-is ∙ few, waits-off reach h p hp none, le-leb outboxMost (length queue) (rw (queue-has reach h p hp) many))
 
             accepted-so : countIn (s .queues) (boardIn row) < outboxMost
                 → rebackup t c p ≡ accept (withProcess p (rebacking t p (processAt c p)) (enqueue (processAt c p .board) (rules.transfer p) c)) rebackupDone
             unfolding rebackup guard
-            accepted-so room = rw (unbacked, alive, released, crowded-is ∙ few, waits-off reach h p hp none, lt-leb outboxMost (length queue) (rw (queue-has reach h p hp) room))
+            accepted-so room =
+                rw (unbacked, alive, released, crowded-is ∙ few, waits-off reach h p hp none, lt-leb outboxMost (length queue) (rw (queue-has reach h p hp) room))
 
   -- ---- the transfer joins
 

@@ -90,7 +90,8 @@ module _ (queues : List (List ℕ)) (a b : ℕ) (is-b : a < 16 → b ≡ a) wher
   rejoins-48 r z e l rows mails logs heads totals = makes-refused 48 0 (ap aloneOf e) (λ t entries c command reach plan h f ha.
       turned-away command a boardLive h (refused-48 reach h a ha (subst (λ (i : ℕ). getD (getD queues i []) 2 0 ≡ 0) (its-board reach ha) z)) f refl)
 
-  pub rejoins-done : (queue : List ℕ) → getD (getD queues b []) 2 0 ≢ 0 → queue ≡ liveRow (getD queues b []) → Rejoins queues a (set queues b queue) (answerOf 0 3 0 0)
+  pub rejoins-done : (queue : List ℕ) → getD (getD queues b []) 2 0 ≢ 0 → queue ≡ liveRow (getD queues b [])
+      → Rejoins queues a (set queues b queue) (answerOf 0 3 0 0)
   unfolding numbers causeOf
   rejoins-done queue n is-queue l rows mails logs heads totals = record {
     made = λ t entries c command reach plan h f ha.

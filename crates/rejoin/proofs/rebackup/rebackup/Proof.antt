@@ -32,7 +32,8 @@ returns : tie.Need-returns
 returns c =
     let p = c .before .before .before in
     let a = p .before .args in
-    rebackups-50 (a .programs .now) (a .wires .now) (a .rows .now) (a .mails .now) (a .logs .now) (a .heads .now) (a .queues .now) (a .totals .now) (p .index16 .result) (a .a) (p .index16 .ensures .1) _
+    rebackups-50 (a .programs .now) (a .wires .now) (a .rows .now) (a .mails .now) (a .logs .now) (a .heads .now) (a .queues .now) (a .totals .now)
+    (p .index16 .result) (a .a) (p .index16 .ensures .1) _
     (c .before .if1 .taken) (c .refused .ensures)
 
 mul-index16 : tie.Need-mul-index16
@@ -65,7 +66,8 @@ returns-2 c =
     let bare = o .before .before in
     let p = bare .before .before in
     let a = p .before .args in
-    rebackups-50-dead (a .programs .now) (a .wires .now) (a .rows .now) (a .mails .now) (a .logs .now) (a .heads .now) (a .queues .now) (a .totals .now) (p .index16 .result) (a .a) (p .index16 .ensures .1) _
+    rebackups-50-dead (a .programs .now) (a .wires .now) (a .rows .now) (a .mails .now) (a .logs .now) (a .heads .now) (a .queues .now) (a .totals .now)
+    (p .index16 .result) (a .a) (p .index16 .ensures .1) _
     (bare .if1 .left) (o .index162 .result) (o .index162 .ensures .1)
     (c .before .if2 .taken) (c .refused2 .ensures)
 
@@ -88,7 +90,8 @@ returns-3 c =
     let bare = o .before .before in
     let p = bare .before .before in
     let a = p .before .args in
-    rebackups-49-held (a .programs .now) (a .wires .now) (a .rows .now) (a .mails .now) (a .logs .now) (a .heads .now) (a .queues .now) (a .totals .now) (p .index16 .result) (a .a) (p .index16 .ensures .1) _
+    rebackups-49-held (a .programs .now) (a .wires .now) (a .rows .now) (a .mails .now) (a .logs .now) (a .heads .now) (a .queues .now) (a .totals .now)
+    (p .index16 .result) (a .a) (p .index16 .ensures .1) _
     (bare .if1 .left) (o .index162 .result) (o .index162 .ensures .1) (live .if2 .left)
     (c .before .if3 .taken) (c .refused3 .ensures)
 
@@ -107,7 +110,8 @@ returns-4 c =
     let bare = o .before .before in
     let p = bare .before .before in
     let a = p .before .args in
-    rebackups-49-full (a .programs .now) (a .wires .now) (a .rows .now) (a .mails .now) (a .logs .now) (a .heads .now) (a .queues .now) (a .totals .now) (p .index16 .result) (a .a) (p .index16 .ensures .1) _
+    rebackups-49-full (a .programs .now) (a .wires .now) (a .rows .now) (a .mails .now) (a .logs .now) (a .heads .now) (a .queues .now) (a .totals .now)
+    (p .index16 .result) (a .a) (p .index16 .ensures .1) _
     (bare .if1 .left) (o .index162 .result) (o .index162 .ensures .1) (live .if2 .left) (free .if3 .left) (u .crowded .result) (u .crowded .ensures)
     (c .before .if4 .taken) (c .refused4 .ensures)
 
@@ -133,7 +137,8 @@ returns-5 c =
     let bare = o .before .before in
     let p = bare .before .before in
     let a = p .before .args in
-    rebackups-41 (a .programs .now) (a .wires .now) (a .rows .now) (a .mails .now) (a .logs .now) (a .heads .now) (a .queues .now) (a .totals .now) (p .index16 .result) (a .a) (p .index16 .ensures .1) _
+    rebackups-41 (a .programs .now) (a .wires .now) (a .rows .now) (a .mails .now) (a .logs .now) (a .heads .now) (a .queues .now) (a .totals .now)
+    (p .index16 .result) (a .a) (p .index16 .ensures .1) _
     (bare .if1 .left) (o .index162 .result) (o .index162 .ensures .1) (live .if2 .left) (free .if3 .left) (u .crowded .result) (u .crowded .ensures) (few .if4 .left)
     (c .before .if5 .taken) (c .refused5 .ensures)
 
@@ -173,7 +178,8 @@ returns-6 c =
     let bare = o .before .before in
     let p = bare .before .before in
     let a = p .before .args in
-    rebackups-38 (a .programs .now) (a .wires .now) (a .rows .now) (a .mails .now) (a .logs .now) (a .heads .now) (a .queues .now) (a .totals .now) (p .index16 .result) (a .a) (p .index16 .ensures .1) _
+    rebackups-38 (a .programs .now) (a .wires .now) (a .rows .now) (a .mails .now) (a .logs .now) (a .heads .now) (a .queues .now) (a .totals .now)
+    (p .index16 .result) (a .a) (p .index16 .ensures .1) _
     (bare .if1 .left) (o .index162 .result) (o .index162 .ensures .1) (live .if2 .left) (free .if3 .left) (u .crowded .result) (u .crowded .ensures) (few .if4 .left)
     (waits .if5 .left) (b .index163 .result) (b .index163 .ensures .1) (c .before .if6 .taken) (c .refused6 .ensures)
 
@@ -247,7 +253,8 @@ returns-7 c =
     let p = bare .before .before in
     let a = p .before .args in
     let k = made .reback in
-    rebackups-done (a .programs .now) (a .wires .now) (a .rows .now) (a .mails .now) (a .logs .now) (a .heads .now) (a .queues .now) (a .totals .now) (p .index16 .result) (a .a) (p .index16 .ensures .1) _
+    rebackups-done (a .programs .now) (a .wires .now) (a .rows .now) (a .mails .now) (a .logs .now) (a .heads .now) (a .queues .now) (a .totals .now)
+    (p .index16 .result) (a .a) (p .index16 .ensures .1) _
     (bare .if1 .left) (o .index162 .result) (o .index162 .ensures .1) (live .if2 .left) (free .if3 .left) (u .crowded .result) (u .crowded .ensures) (few .if4 .left)
     (waits .if5 .left) (b .index163 .result) (b .index163 .ensures .1)
     (k .last .0) (k .last .1 .1 .0) (k .last .1 .1 .1 .0) _ (at .place .result) (room .if6 .left) (k .ensures) (c .push .ensures)
