@@ -12,9 +12,10 @@ use borrow.Author.Tests.{ltb-true}
 use Rattle.facts.specs.Tests.{all-at, by-lt}
 use Rattle.facts.specs.Lists.{prefix, length-prefix, prefix-push, getD-prefix, listed-same, prefix-listed}
 use Rattle.backup.specs.Limits.{logMost, ports}
-use Rattle.backup.specs.Replica.{Message, onPorts, takenOn, oneLess, remaining}
-use Rattle.backup.specs.Laws.{stays, goes, by-taken, none-taken}
-use Rattle.backup.specs.Place.{portIn, unpack, messages, Compacted}
+use Rattle.backup.specs.Replica.{Message, onPorts, takenOn, oneLess, remaining, lacking}
+use Rattle.backup.specs.Laws.{stays, goes, by-taken, none-taken, length-remaining}
+use Rattle.backup.specs.Accepts.{enough}
+use Rattle.backup.specs.Place.{portIn, unpack, messages, Dropped}
 use Rattle.backup.specs.Rounds.{allTaken, allTaken-less, allTaken-none}
 
 pub messages-length : (n : ℕ) (log : List ℕ) → length (messages n log) ≡ n
@@ -218,6 +219,11 @@ left-over {log₀ = log₀} {len = len} {log = log} {left = left} {i = i} {kept 
 none-due : (left : List ℕ) (l : List Message) → length left ≡ ports → allTaken left ≡ 0 → remaining left l ≡ l
 none-due left l f z = none-taken left l (λ p. by-lt p ports (allTaken-none left z p) (λ q. List·getD-eq-default left 0 {n = p} (omega arith)))
 
+-- what stays and what was taken make the log
+stay-count : (taken : List ℕ) (len : ℕ) (log : List ℕ) → onPorts (messages len log) ≡ true → lacking taken (messages len log) ≡ false
+    → length (remaining taken (messages len log)) + allTaken taken ≡ len
+stay-count taken len log k h = length-remaining taken (messages len log) k (enough taken (messages len log) h) ∙ messages-length len log
+
 -- the messages of a log are on their ports
 placed-whole : (log : List ℕ) (len : ℕ) → length log ≡ logMost → onPorts (messages len log) ≡ true → Placed log len 0
 placed-whole log len h k = (
@@ -234,22 +240,10 @@ pub passed : {log₀ : List ℕ} {len : ℕ} {taken log₁ left₁ : List ℕ} {
     {log₃ : List ℕ} {kept rounds : ℕ}
     → Sifting log₀ len 0 0 0 taken log₁ left₁ due₁ i₁ kept₁ rounds₁ → Sifting log₁ len i₁ kept₁ rounds₁ left₁ log₂ left₂ due₂ i₂ kept₂ rounds₂
     → (i₂ < len → due₂ ≡ 0) → Moving log₂ len i₂ kept₂ rounds₂ log₃ len kept rounds
-    → Compacted log₀ len taken kept log₃
+    → Dropped log₀ len taken log₃
 passed {log₀} {len} {taken} {log₁} {left₁} {i₁ = i₁} {log₂ = log₂} {left₂ = left₂} {due₂ = due₂} {i₂ = i₂} {kept₂ = kept₂} {log₃ = log₃} {kept = kept} f g z m = record {
-  no-more = m .passing .few;
   same-length = m .passing .same-length ∙ g .passing .same-length ∙ f .passing .same-length;
-  rest = λ h k.
-      let p : Placed log₀ len 0 = placed-whole log₀ len h k in
-      let q : Placed log₁ len i₁ = (
-        f .passing .same-length ∙ h,
-        λ j a b. (let c = p .1 j (omega arith) b in let d = ap portIn (f .passing .ahead j a) in omega arith),
-      ) in
-      let a : messages kept log₃ ++ remaining [] (drop len (messages len log₂)) ≡ messages kept log₃ =
-      ap (λ (r : List Message). messages kept log₃ ++ remaining [] r) (drop-all len log₂) ∙ append-nil (messages kept log₃) in
-      sym a ∙ m .passing .whole (g .passing .same-length ∙ q .0)
-      ∙ ap (λ (r : List Message). messages kept₂ log₂ ++ r) (none-taken [] (drop i₂ (messages len log₂)) (λ p. refl) ∙ sym behind)
-      ∙ left-over (g .passing) q
-      ∙ left-over (f .passing) p;
+  rest = λ h k w. ap (λ (n : ℕ). messages n log₃) (stay-of (kept-are h k) k w) ∙ kept-are h k;
 }
   where
     behind : remaining left₂ (drop i₂ (messages len log₂)) ≡ drop i₂ (messages len log₂)
@@ -261,6 +255,46 @@ passed {log₀} {len} {taken} {log₁} {left₁} {i₁ = i₁} {log₂ = log₂}
         let d : drop i₂ (messages len log₂) ≡ [] = ap (λ (n : ℕ). drop n (messages len log₂)) e ∙ drop-all len log₂ in
         ap (remaining left₂) d ∙ sym d)
 
+    -- those that the loops kept
+    kept-are : length log₀ ≡ logMost → onPorts (messages len log₀) ≡ true → messages kept log₃ ≡ remaining taken (messages len log₀)
+    kept-are h k =
+        let p : Placed log₀ len 0 = placed-whole log₀ len h k in
+        let q : Placed log₁ len i₁ = (
+          f .passing .same-length ∙ h,
+          λ j a b. (let c = p .1 j (omega arith) b in let d = ap portIn (f .passing .ahead j a) in omega arith),
+        ) in
+        let a : messages kept log₃ ++ remaining [] (drop len (messages len log₂)) ≡ messages kept log₃ =
+        ap (λ (r : List Message). messages kept log₃ ++ remaining [] r) (drop-all len log₂) ∙ append-nil (messages kept log₃) in
+        sym a ∙ m .passing .whole (g .passing .same-length ∙ q .0)
+        ∙ ap (λ (r : List Message). messages kept₂ log₂ ++ r) (none-taken [] (drop i₂ (messages len log₂)) (λ p. refl) ∙ sym behind)
+        ∙ left-over (g .passing) q
+        ∙ left-over (f .passing) p
+
+    -- are as many as the numbers say
+    stay-of : messages kept log₃ ≡ remaining taken (messages len log₀) → onPorts (messages len log₀) ≡ true → lacking taken (messages len log₀) ≡ false → len - allTaken taken ≡ kept
+    stay-of r k w =
+        let a = stay-count taken len log₀ k w in
+        let b : kept ≡ length (remaining taken (messages len log₀)) = sym (messages-length kept log₃) ∙ ap length r in
+        omega arith
+
 -- nothing was taken: the log as it is
-pub compacted-none : (log : List ℕ) (len : ℕ) (taken : List ℕ) → length taken ≡ ports → allTaken taken ≡ 0 → Compacted log len taken len log
-compacted-none log len taken f z = record { no-more = omega arith; same-length = refl; rest = λ h k. sym (none-due taken (messages len log) f z) }
+pub dropped-none : (log : List ℕ) (len : ℕ) (taken : List ℕ) → length taken ≡ ports → allTaken taken ≡ 0 → Dropped log len taken log
+dropped-none log len taken f z = record {
+  same-length = refl;
+  rest = λ h k w.
+      let e : len - allTaken taken ≡ len = omega arith in
+      ap (λ (n : ℕ). messages n log) e ∙ sym (none-due taken (messages len log) f z);
+}
+
+-- no less was taken than is saved: nothing stays
+pub dropped-all : (log : List ℕ) (len : ℕ) (taken : List ℕ) → len ≤ allTaken taken → Dropped log len taken log
+dropped-all log len taken l = record {
+  same-length = refl;
+  rest = λ h k w.
+      let e : len - allTaken taken ≡ 0 = omega arith in
+      ap (λ (n : ℕ). messages n log) e ∙ sym (none-left (remaining taken (messages len log)) (let a = stay-count taken len log k w in omega arith));
+}
+  where
+    none-left : (l : List Message) → length l ≡ 0 → l ≡ []
+    none-left [] z = refl
+    none-left (m ∷ l) z = absurd (omega arith)

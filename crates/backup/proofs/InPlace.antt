@@ -5,16 +5,16 @@ use mathlib.Core.List.{List, [], _∷_}
 use Prim.Native.Nat.{ℕ, zero, suc, _+_, _%_, _^_, _≤_, _<_}
 use native.Mathlib.Omega.{arith}
 use lib.Dec.{eqb}
-use lib.ListN.{length, getD, set, replicate, length-map, length-set}
+use lib.ListN.{length, getD, set, length-map, length-set}
 use lib.Seq.{getD-set-same, getD-set-other}
 use borrow.Author.Tests.{le-leb, lt-leb}
-use Rattle.facts.specs.Lists.{prefix, length-prefix, written-out}
+use Rattle.facts.specs.Lists.{prefix, length-prefix}
 use Rattle.facts.specs.Counts.{same}
 use Rattle.backup.specs.Limits.{logMost, ports, sentMost}
 use Rattle.backup.specs.Replica.{Message, Replica, Reply, fit, savedOn, initial, count, countNumber, counted}
 use Rattle.backup.specs.Laws.{saved-cons}
 use Rattle.backup.specs.Accepts.{count-accepted, counted-fit}
-use Rattle.backup.specs.Place.{unpack, messages, viewIn, tallyIn, headLength, Sound, Called, freshHead, countNumberIn}
+use Rattle.backup.specs.Place.{unpack, messages, viewIn, tallyIn, headLength, Sound, Called, countNumberIn}
 
 -- a refused call: the arrays stay, and the definition gives this number
 pub refused-so : (log head : List ℕ) (number : ℕ) (call : Replica → Reply)
@@ -84,17 +84,6 @@ bumped-other head i k n = getD-set-other head i k ((getD head i 0 + 1) % 2 ^ 32)
 
 pub bumped-same : (head : List ℕ) (i : ℕ) → i < length head → getD head i 0 < 1000 → getD (bumped head i) i 0 ≡ suc (getD head i 0)
 bumped-same head i h l = getD-set-same head i ((getD head i 0 + 1) % 2 ^ 32) 0 h ∙ omega arith
-
--- ---- new
-
-abbrev pub zeroedIn : List ℕ → List ℕ
-zeroedIn head =
-    let a = set (set (set (set (set (set head 0 0) 1 0) 2 0) 3 0) 4 0) 5 0 in
-    set (set (set (set (set a 6 0) 7 0) 8 0) 9 0) 10 0
-
--- zeros, whatever the head was
-pub zeroed-fresh : (head : List ℕ) → length head ≡ headLength → zeroedIn head ≡ freshHead
-zeroed-fresh head h = ap zeroedIn (written-out head headLength 0 h)
 
 -- ---- count
 

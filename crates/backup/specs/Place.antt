@@ -9,8 +9,9 @@ use lib.ListN.{length, getD, set, replicate}
 use Rattle.facts.specs.Tests.{anyBelow}
 use Rattle.facts.specs.Lists.{prefix}
 use Rattle.backup.specs.Limits.{logMost, ports, sentMost, pcMost}
-use Rattle.backup.specs.Replica.{Message, Replica, Reply, FailOver, initial, fit, onPorts, savedOn, takenOn, remaining}
+use Rattle.backup.specs.Replica.{Message, Replica, Reply, FailOver, initial, fit, onPorts, savedOn, takenOn, remaining, lacking}
 use Rattle.backup.specs.Replica as value
+use Rattle.backup.specs.Rounds.{allTaken}
 use Rattle.backup.specs.Report.{Report, noneByPort, noReport, syncReport}
 use Rattle.backup.specs.declared.place.Checkpoint.{Checkpoint}
 use Rattle.backup.specs.declared.place.Promotion.{Promotion}
@@ -109,20 +110,18 @@ syncNumberIn head c = cond (ltb logMost (getD head 0 0)) 20 (cond (ltb pcMost (c
 
 -- ---- what the steps of a checkpoint in place do
 
--- one pass over a log leaves, in its first numbers, what a drop as taken leaves
-pub record Compacted (log : List ℕ) (len : ℕ) (taken : List ℕ) (kept : ℕ) (log′ : List ℕ) : Type 0 where
-  pub no-more : kept ≤ len
+-- What was taken is dropped: of len messages on their ports, with no more taken on one than it has, the log's first numbers are what a drop
+-- leaves.
+pub record Dropped (log : List ℕ) (len : ℕ) (taken : List ℕ) (log′ : List ℕ) : Type 0 where
   pub same-length : length log′ ≡ length log
-  pub rest : length log ≡ logMost → onPorts (messages len log) ≡ true → messages kept log′ ≡ remaining taken (messages len log)
+  pub rest : length log ≡ logMost → onPorts (messages len log) ≡ true → lacking taken (messages len log) ≡ false
+      → messages (len - allTaken taken) log′ ≡ remaining taken (messages len log)
 
--- the head after a checkpoint, where len messages stay
-unfoldable pub restatedIn : List ℕ → ℕ → Checkpoint → List ℕ
-restatedIn head len c =
-    let h = set (set (set (set (set (set (set head 0 len) 1 0) 2 (c .pc)) 3 (c .r0)) 4 (c .r1)) 5 (c .r2)) 6 (c .r3) in
-    let a = set h 7 (getD h 7 0 - c .t0) in
-    let b = set a 8 (getD a 8 0 - c .t1) in
-    let d = set b 9 (getD b 9 0 - c .t2) in
-    set d 10 (getD d 10 0 - c .t3)
+-- the head after a checkpoint, but for how many messages stay: its state, no count, and the tallies less what was taken
+unfoldable pub restatedIn : List ℕ → Checkpoint → List ℕ
+restatedIn head c =
+    getD head 0 0 ∷ 0 ∷ c .pc ∷ c .r0 ∷ c .r1 ∷ c .r2 ∷ c .r3
+    ∷ (tallyIn head 0 - c .t0) ∷ (tallyIn head 1 - c .t1) ∷ (tallyIn head 2 - c .t2) ∷ (tallyIn head 3 - c .t3) ∷ []
 
 -- what a sync's reply reports
 abbrev pub reportOf : Landed → Report

@@ -8,10 +8,10 @@ ghost use Prim.Native.Nat.{ℕ, _+_, _-_, _%_, _^_, _≤_, _<_};
 ghost use lib.ListN.{length, getD, set};
 ghost use Rattle.backup.specs.Limits.{logMost};
 ghost use Rattle.backup.specs.Replica.{arrive, count, sync, failOver};
-ghost use Rattle.backup.specs.Place.{Called, Sound, headLength, portIn, wordIn, checkpointOf, takenOf, lacksIn, restatedIn, Compacted, promotionIn, viewIn, Reports, reportOf, refusedOf, landedIn};
+ghost use Rattle.backup.specs.Place.{Called, Sound, headLength, portIn, wordIn, checkpointOf, takenOf, lacksIn, restatedIn, Dropped, promotionIn, viewIn, Reports, reportOf, refusedOf, landedIn};
 ghost use Rattle.backup.specs.Place.{Fresh, freshHead, arriveNumberIn, countNumberIn, syncNumberIn, handedOver, messageAt};
 ghost use Rattle.backup.specs.Report.{totalDropped};
-ghost use Rattle.backup.specs.Rounds.{allTaken, OnePass};
+ghost use Rattle.backup.specs.Rounds.{allTaken, syncRounds, OnePass};
 use crate::limits::LOG;
 use crate::limits::PC_MOST;
 use crate::limits::PORTS;
@@ -87,12 +87,6 @@ pub struct Metered {
     pub rounds: usize,
 }
 
-// What a pass over a log did: how many messages stay, and in how many rounds.
-struct Pass {
-    kept: usize,
-    rounds: usize,
-}
-
 fn wide(x: u32) -> usize
     ensures { λ r. ⌜ r ≡ x ⌝ }
 {
@@ -125,17 +119,7 @@ pub fn new_in(head: &mut [u32; HEAD])
     ensures { λ _. ⌜ (length (now (head .entry)) ≡ headLength → now (head .exit) ≡ freshHead) ⌝ }
     ensures { λ _. ⌜ ((log : List ℕ) → length log ≡ logMost → length (now (head .entry)) ≡ headLength → Fresh log (now (head .exit))) ⌝ }
 {
-    head[LEN] = FRESH;
-    head[SENT] = FRESH;
-    head[PC] = FRESH;
-    head[R0] = FRESH;
-    head[R1] = FRESH;
-    head[R2] = FRESH;
-    head[R3] = FRESH;
-    head[SAVED0] = FRESH;
-    head[SAVED1] = FRESH;
-    head[SAVED2] = FRESH;
-    head[SAVED3] = FRESH;
+    *head = [FRESH; HEAD];
 }
 
 // A message arrived: 0, or 21 or 22.
@@ -184,6 +168,22 @@ fn lacks(head: &[u32; HEAD], c: Checkpoint) -> bool
     head[SAVED0] < c.t0
 }
 
+// What a sync answers: 20 where the log is said to be longer than its array, 21, 23, or 0.
+fn sync_number(head: &[u32; HEAD], c: Checkpoint) -> u8
+    ensures { λ r. ⌜ r ≡ syncNumberIn (now (head .entry)) c ⌝ }
+{
+    if wide(head[LEN]) > LOG {
+        return 20;
+    }
+    if c.pc > PC_MOST {
+        return 21;
+    }
+    if lacks(head, c) {
+        return 23;
+    }
+    0
+}
+
 // The port of a message, below 4 whatever the number is.
 fn lane(x: u64) -> usize
     ensures { λ r. ⌜ r ≡ portIn x % 4 ⌝ }
@@ -198,28 +198,22 @@ fn together(n0: u32, n1: u32, n2: u32, n3: u32) -> usize
     wide(n0) + wide(n1) + wide(n2) + wide(n3)
 }
 
-// How many messages were taken, on all ports together.
-fn all_taken(c: Checkpoint) -> usize
-    ensures { λ r. ⌜ r ≡ allTaken (takenOf c) ⌝ }
-{
-    together(c.t0, c.t1, c.t2, c.t3)
-}
-
-// Drops the oldest messages of each port, as many as were taken on it, in one pass over the first len, and counts its rounds. The first loop
-// goes as far as the first message that stays; the second to the last that goes, and takes no branch by what a message does; the third moves
-// up what stands behind.
-fn compact(log: &mut [u64; LOG], len: usize, taken: [u32; 4], all: usize) -> Pass
+// Drops the oldest messages of each port, as many as were taken on it, in one pass over the first len, and says its rounds. The first loop
+// goes as far as the first message that stays, over no more than were taken; the second to the last that goes, and takes no branch by what a
+// message does; the third moves up what stands behind.
+fn compact(log: &mut [u64; LOG], len: usize, taken: [u32; 4], all: usize) -> usize
     requires { ⌜ len ≤ logMost ⌝ }
+    requires { ⌜ all ≤ len ⌝ }
     requires { ⌜ all ≡ allTaken taken ⌝ }
-    ensures { λ r. ⌜ Compacted (now (log .entry)) len taken (r .kept) (now (log .exit)) ⌝ }
-    ensures { λ r. ⌜ r .rounds ≡ len ⌝ }
+    ensures { λ _. ⌜ Dropped (now (log .entry)) len taken (now (log .exit)) ⌝ }
+    ensures { λ r. ⌜ r ≡ len ⌝ }
 {
     let mut left = taken;
     let mut due = all;
     let mut i = 0;
     let mut kept = 0;
     let mut rounds = 0;
-    while i < len && kept == 0 {
+    while i < all && kept == 0 {
         let x = log[i];
         let s = lane(x);
         let n = left[s];
@@ -252,27 +246,46 @@ fn compact(log: &mut [u64; LOG], len: usize, taken: [u32; 4], all: usize) -> Pas
         i += 1;
         rounds += 1;
     }
-    Pass {
-        kept: kept,
-        rounds: rounds,
-    }
+    rounds
 }
 
-// The head of a log of len messages after a checkpoint: its state, no count, and the tallies less what was taken.
-fn restate(head: &mut [u32; HEAD], len: u32, c: Checkpoint)
-    ensures { λ _. ⌜ now (head .exit) ≡ restatedIn (now (head .entry)) len c ⌝ }
+// Drops what was taken, writes how many messages stay, and says in how many rounds. Where nothing was taken, or all that was saved, nothing
+// moves, and there is none.
+fn drop_taken(log: &mut [u64; LOG], head: &mut [u32; HEAD], c: Checkpoint) -> usize
+    requires { ⌜ getD (now head) 0 0 ≤ logMost ⌝ }
+    ensures { λ _. ⌜ Dropped (now (log .entry)) (getD (now (head .entry)) 0 0) (takenOf c) (now (log .exit)) ⌝ }
+    ensures { λ _. ⌜ now (head .exit) ≡ set (now (head .entry)) 0 (getD (now (head .entry)) 0 0 - allTaken (takenOf c)) ⌝ }
+    ensures { λ r. ⌜ r ≡ syncRounds 0 (viewIn (now (log .entry)) (now (head .entry))) (checkpointOf c) ⌝ }
 {
-    head[LEN] = len;
-    head[SENT] = 0;
-    head[PC] = c.pc;
-    head[R0] = c.r0;
-    head[R1] = c.r1;
-    head[R2] = c.r2;
-    head[R3] = c.r3;
-    head[SAVED0] = minus(head[SAVED0], c.t0);
-    head[SAVED1] = minus(head[SAVED1], c.t1);
-    head[SAVED2] = minus(head[SAVED2], c.t2);
-    head[SAVED3] = minus(head[SAVED3], c.t3);
+    let all = together(c.t0, c.t1, c.t2, c.t3);
+    if all == 0 {
+        return 0;
+    }
+    let len = wide(head[LEN]);
+    head[LEN] = less(len, all) as u32;
+    if all >= len {
+        return 0;
+    }
+    compact(log, len, [c.t0, c.t1, c.t2, c.t3], all)
+}
+
+// The head after a checkpoint: its state, no count, and the tallies less what was taken. The log's length is written apart.
+fn restate(head: &mut [u32; HEAD], c: Checkpoint)
+    ensures { λ _. ⌜ now (head .exit) ≡ restatedIn (now (head .entry)) c ⌝ }
+{
+    *head = [
+        head[LEN],
+        0,
+        c.pc,
+        c.r0,
+        c.r1,
+        c.r2,
+        c.r3,
+        minus(head[SAVED0], c.t0),
+        minus(head[SAVED1], c.t1),
+        minus(head[SAVED2], c.t2),
+        minus(head[SAVED3], c.t3),
+    ];
 }
 
 // A sync that is refused drops nothing, and says so.
@@ -303,34 +316,20 @@ fn report(head: &[u32; HEAD], c: Checkpoint, rounds: usize) -> Metered
     }
 }
 
-// A checkpoint lands, with its rounds counted: 0, or 21 or 23. Where nothing was taken, or all that was saved, nothing moves, and there is no
-// round.
+// A checkpoint lands, with its rounds counted: 0, or 21 or 23.
 pub fn metered_sync_in(log: &mut [u64; LOG], head: &mut [u32; HEAD], c: Checkpoint) -> Metered
     ensures { λ r. ⌜ Called (now (log .entry)) (now (head .entry)) (now (log .exit)) (now (head .exit)) (r .landed .number) (λ v. sync v (checkpointOf c)) ⌝ }
     ensures { λ r. ⌜ Reports (now (log .entry)) (now (head .entry)) c (r .landed) ⌝ }
     ensures { λ r. ⌜ OnePass (viewIn (now (log .entry)) (now (head .entry))) (checkpointOf c) (r .landed .number) (r .rounds) ⌝ }
     ensures { λ r. ⌜ r .landed .number ≡ syncNumberIn (now (head .entry)) c ⌝ }
 {
-    let len = wide(head[LEN]);
-    if len > LOG {
-        return refusal(20);
+    let number = sync_number(head, c);
+    if number > 0 {
+        return refusal(number);
     }
-    if c.pc > PC_MOST {
-        return refusal(21);
-    }
-    if lacks(head, c) {
-        return refusal(23);
-    }
-    let all = all_taken(c);
-    restate(head, less(len, all) as u32, c);
-    if all == 0 {
-        return report(head, c, 0);
-    }
-    if all >= len {
-        return report(head, c, 0);
-    }
-    let p = compact(log, len, [c.t0, c.t1, c.t2, c.t3], all);
-    report(head, c, p.rounds)
+    restate(head, c);
+    let rounds = drop_taken(log, head, c);
+    report(head, c, rounds)
 }
 
 // A checkpoint lands: 0, or 21 or 23, and what it dropped and left.

@@ -14,7 +14,7 @@ const REPETITIONS: u64 = 2000;
 const RECORDS: usize = 64;
 
 /// Saved words at most; a head in place, and one by value: length, count, place and registers, and in place also the words on each slot.
-const LOG: usize = 48;
+const LOG: usize = 64;
 const HEAD: usize = 11;
 const SHORT: usize = 7;
 

@@ -59,7 +59,11 @@ array-write-left : tie.Need-array-write-left Inv-loop μ-loop Inv-loop2 μ-loop2
 array-write-left c = search needs
 
 sub-due : tie.Need-sub-due Inv-loop μ-loop Inv-loop2 μ-loop2 Inv-loop3 μ-loop3
-sub-due c = let z = sifting-due (c .before .before .before .before .before .loop .inv) (c .before .before .before .before .loop-test .taken) (c .before .lane .result) (c .before .lane .ensures) (c .if2 .taken) in search needs
+sub-due c =
+    let l = c .before .before .before .before .before .loop in
+    let t = c .before .before .before .before .loop-test .taken in
+    let z = sifting-due (l .inv) (omega arith) (c .before .lane .result) (c .before .lane .ensures) (c .if2 .taken) in
+    search needs
 
 mul-log : tie.Need-mul-log Inv-loop μ-loop Inv-loop2 μ-loop2 Inv-loop3 μ-loop3
 mul-log c = search needs
@@ -82,7 +86,7 @@ loop-less c = search needs
 loop-again : tie.Need-loop-again Inv-loop μ-loop Inv-loop2 μ-loop2 Inv-loop3 μ-loop3
 loop-again c =
     let l = c .before .before .before .before .before .loop in
-    let t = c .before .before .before .before .loop-test .taken in
+    let t : l .i < c .before .before .before .before .before .before .args .len = (let k = c .before .before .before .before .loop-test .taken in omega arith) in
     let s = c .before .lane in
     ⊎-elim
     (λ w. rw (w .1, w .2, w .3, w .4) (sifting-goes (l .inv) t (s .result) (s .ensures) (w .0 .taken)))

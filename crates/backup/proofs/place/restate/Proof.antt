@@ -7,26 +7,8 @@ use Rattle.backup.proofs.place.restate.Reads as reads
 use Rattle.backup.proofs.place.restate.Lts as lts
 use Rattle.backup.proofs.place.minus.Reads as minus-reads
 
-element-write-head : tie.Need-element-write-head
-element-write-head c = search needs
-
-element-write-head-2 : tie.Need-element-write-head-2
-element-write-head-2 c = search needs
-
-element-write-head-3 : tie.Need-element-write-head-3
-element-write-head-3 c = search needs
-
-element-write-head-4 : tie.Need-element-write-head-4
-element-write-head-4 c = search needs
-
-element-write-head-5 : tie.Need-element-write-head-5
-element-write-head-5 c = search needs
-
-element-write-head-6 : tie.Need-element-write-head-6
-element-write-head-6 c = search needs
-
-element-write-head-7 : tie.Need-element-write-head-7
-element-write-head-7 c = search needs
+element-copy-out-t5 : tie.Need-element-copy-out-t5
+element-copy-out-t5 c = search needs
 
 element-copy-out-minus : tie.Need-element-copy-out-minus
 element-copy-out-minus c = search needs
@@ -34,17 +16,11 @@ element-copy-out-minus c = search needs
 minus-requires : tie.Need-minus-requires
 minus-requires c κs = search needs
 
-element-write-head-8 : tie.Need-element-write-head-8
-element-write-head-8 c = search needs
-
 element-copy-out-minus-2 : tie.Need-element-copy-out-minus-2
 element-copy-out-minus-2 c = search needs
 
 minus-requires-2 : tie.Need-minus-requires-2
 minus-requires-2 c κs = search needs
-
-element-write-head-9 : tie.Need-element-write-head-9
-element-write-head-9 c = search needs
 
 element-copy-out-minus-3 : tie.Need-element-copy-out-minus-3
 element-copy-out-minus-3 c = search needs
@@ -52,43 +28,27 @@ element-copy-out-minus-3 c = search needs
 minus-requires-3 : tie.Need-minus-requires-3
 minus-requires-3 c κs = search needs
 
-element-write-head-10 : tie.Need-element-write-head-10
-element-write-head-10 c = search needs
-
 element-copy-out-minus-4 : tie.Need-element-copy-out-minus-4
 element-copy-out-minus-4 c = search needs
 
 minus-requires-4 : tie.Need-minus-requires-4
 minus-requires-4 c κs = search needs
 
-element-write-head-11 : tie.Need-element-write-head-11
-element-write-head-11 c = search needs
-
 returns : tie.Need-returns
 unfolding restatedIn
-returns c = rw (c .minus4 .ensures, c .before .before .minus3 .ensures, c .before .before .before .before .minus2 .ensures, c .before .before .before .before .before .before .minus .ensures)
+returns c = rw (c .before .minus4 .ensures, c .before .before .before .minus3 .ensures, c .before .before .before .before .before .minus2 .ensures, c .before .before .before .before .before .before .before .minus .ensures)
 
 pub restate-spec : {M : Type 1} → statement M
 restate-spec =
     tie.close
     (tie.spec
-    element-write-head
-    element-write-head-2
-    element-write-head-3
-    element-write-head-4
-    element-write-head-5
-    element-write-head-6
-    element-write-head-7
+    element-copy-out-t5
     element-copy-out-minus
     minus-requires
-    element-write-head-8
     element-copy-out-minus-2
     minus-requires-2
-    element-write-head-9
     element-copy-out-minus-3
     minus-requires-3
-    element-write-head-10
     element-copy-out-minus-4
     minus-requires-4
-    element-write-head-11
     returns)
