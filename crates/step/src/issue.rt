@@ -31,8 +31,8 @@ pub fn issue(rows: &mut [[u32; ROW]; 16], queues: &mut [[u32; QUEUE_ROW]; 16], a
         return refused(38, 1, a);
     }
     let at = place(&queues[b], b);
-    checkpoint::issue(&mut rows[p]);
     rows[p][WAITS] = 1;
+    checkpoint::issue(&mut rows[p]);
     push(&mut queues[b]);
     Moved {
         answer: Answer {
