@@ -197,7 +197,8 @@ fn land(state: &mut [u32], reply: &mut [u32], m: MeteredReply) -> MeteredCall
 // The call on slices of the right lengths.
 fn perform(state: &mut [u32], call: &[u32], reply: &mut [u32]) -> MeteredCall
     requires { ⌜ Sized (now state) (now call) (now reply) ⌝ }
-    ensures { λ r. ⌜ Exported (now (state .entry)) (now (call .entry)) (now (reply .entry)) (r .number) (now (state .exit)) (now (reply .exit)) ⌝ }
+    ensures { λ r. ⌜ Exported (now (state .entry)) (now (call .entry)) (now (reply .entry)) (r .number) (now (state .exit))
+        (now (reply .exit)) ⌝ }
     ensures { λ r. ⌜ CallPass (now (state .entry)) (now (call .entry)) (now (reply .entry)) (r .number) (r .rounds) ⌝ }
 {
     let number = call[0];
@@ -219,7 +220,8 @@ fn perform(state: &mut [u32], call: &[u32], reply: &mut [u32]) -> MeteredCall
 
 // The call, with the rounds of its sync counted.
 pub fn metered_call(state: &mut [u32], call: &[u32], reply: &mut [u32]) -> MeteredCall
-    ensures { λ r. ⌜ Exported (now (state .entry)) (now (call .entry)) (now (reply .entry)) (r .number) (now (state .exit)) (now (reply .exit)) ⌝ }
+    ensures { λ r. ⌜ Exported (now (state .entry)) (now (call .entry)) (now (reply .entry)) (r .number) (now (state .exit))
+        (now (reply .exit)) ⌝ }
     ensures { λ r. ⌜ CallPass (now (state .entry)) (now (call .entry)) (now (reply .entry)) (r .number) (r .rounds) ⌝ }
 {
     if state.len() != STATE {

@@ -27,7 +27,8 @@ pub fn transmit_word(
     word: u32,
 ) -> Answer
     ensures { λ r. ⌜ Carries (now (wires .entry)) (now (rows .entry)) (now (mails .entry)) (now (logs .entry)) (now (heads .entry))
-        (now (totals .entry)) channel word (now (rows .exit)) (now (mails .exit)) (now (logs .exit)) (now (heads .exit)) (now (totals .exit)) r ⌝ }
+        (now (totals .entry)) channel word (now (rows .exit)) (now (mails .exit)) (now (logs .exit)) (now (heads .exit))
+        (now (totals .exit)) r ⌝ }
 {
     let k = index32(channel);
     let p = index16(sender(wires, k));

@@ -36,7 +36,8 @@ fn conduct(
     report: &mut [u8],
 ) -> bool
     requires { ⌜ Roomy records (sheetsOf (now answers) (now reasons)) ⌝ }
-    ensures { λ r. ⌜ Conducts (now (table .entry)) (now (schedule .entry)) records plan (buffersOf (now (answers .entry)) (now (reasons .entry)) (now (report .entry))) r
+    ensures { λ r. ⌜ Conducts (now (table .entry)) (now (schedule .entry)) records plan
+        (buffersOf (now (answers .entry)) (now (reasons .entry)) (now (report .entry))) r
         (buffersOf (now (answers .exit)) (now (reasons .exit)) (now (report .exit))) ⌝ }
 {
     let counts = plan.counts;
@@ -79,7 +80,8 @@ pub fn run(
     reasons: &mut [u8],
     report: &mut [u8],
 ) -> Verdict
-    ensures { λ r. ⌜ Runs (now (table .entry)) (now (schedule .entry)) (buffersOf (now (answers .entry)) (now (reasons .entry)) (now (report .entry))) r
+    ensures { λ r. ⌜ Runs (now (table .entry)) (now (schedule .entry))
+        (buffersOf (now (answers .entry)) (now (reasons .entry)) (now (report .entry))) r
         (buffersOf (now (answers .exit)) (now (reasons .exit)) (now (report .exit))) ⌝ }
 {
     let d = decode(table);

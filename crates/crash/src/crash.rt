@@ -33,7 +33,8 @@ pub fn crash(
     totals: &mut [u32; 32],
     a: u32,
 ) -> Answer
-    ensures { λ r. ⌜ Crashes counts (now (programs .entry)) (now (wires .entry)) (now (rows .entry)) (now (mails .entry)) (now (logs .entry)) (now (heads .entry))
+    ensures { λ r. ⌜ Crashes counts (now (programs .entry)) (now (wires .entry)) (now (rows .entry)) (now (mails .entry)) (now (logs .entry))
+        (now (heads .entry))
         (now (queues .entry)) (now (totals .entry)) a (now (rows .exit)) (now (mails .exit)) (now (queues .exit)) (now (totals .exit)) r ⌝ }
 {
     let b = index16(a);

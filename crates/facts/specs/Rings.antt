@@ -25,7 +25,8 @@ listed-more f zero = refl
 listed-more {A} f (suc n) = ap (λ (l : List A). f zero ∷ l) (listed-more (λ i. f (suc i)) n)
 
 -- one more at the end, the others as they were
-pub listed-push : {A : Type 0} (f g : ℕ → A) (n : ℕ) (x : A) → ((i : ℕ) → i < n → g i ≡ f i) → g n ≡ x → listed g (suc n) ≡ listed f n ++ (x ∷ [])
+pub listed-push : {A : Type 0} (f g : ℕ → A) (n : ℕ) (x : A) → ((i : ℕ) → i < n → g i ≡ f i) → g n ≡ x
+    → listed g (suc n) ≡ listed f n ++ (x ∷ [])
 listed-push f g n x h e = listed-more g n ∙ (λ k. listed-same g f n h k ++ (e k ∷ []))
 
 -- one left out, those behind it a place earlier
@@ -62,7 +63,8 @@ module _ {A : Type 0} (d : A) (entries : List A) (b first count : ℕ) (x : A) (
       (λ i l. getD-set-other entries at (32 * b + (first + i) % 32) x d (λ e. omega arith)) (getD-set-same entries at x d (omega arith))
 
   -- and no other
-  pub ring-apart : (b′ first′ count′ : ℕ) → b′ ≢ b → ring d (set entries (32 * b + (first + count) % 32) x) b′ first′ count′ ≡ ring d entries b′ first′ count′
+  pub ring-apart : (b′ first′ count′ : ℕ) → b′ ≢ b
+      → ring d (set entries (32 * b + (first + count) % 32) x) b′ first′ count′ ≡ ring d entries b′ first′ count′
   unfolding ring
   ring-apart b′ first′ count′ n =
       listed-same (λ i. getD (set entries (32 * b + (first + count) % 32) x) (32 * b′ + (first′ + i) % 32) d) (λ i. getD entries (32 * b′ + (first′ + i) % 32) d) count′

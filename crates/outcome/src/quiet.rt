@@ -85,7 +85,8 @@ pub fn quiescent(
     mails: &[[u64; LOG]; 16],
     queues: &[[u32; QUEUE_ROW]; 16],
 ) -> bool
-    ensures { λ r. ⌜ Quiets (now (table .entry)) counts (now (programs .entry)) (now (rows .entry)) (now (mails .entry)) (now (queues .entry)) r ⌝ }
+    ensures { λ r. ⌜ Quiets (now (table .entry)) counts (now (programs .entry)) (now (rows .entry)) (now (mails .entry))
+        (now (queues .entry)) r ⌝ }
 {
     if !all_rest(table, counts.processes, programs, rows, mails) {
         return false;

@@ -64,4 +64,5 @@ pub record Playing (l : Plan) (schedule : List ℕ) (records : ℕ) (s₀ : Stor
 -- all of them, whatever entries are left
 pub record Plays (l : Plan) (schedule : List ℕ) (records : ℕ) (s : Store) (sheets : Sheets) (s′ : Store) (sheets′ : Sheets) : Type 0 where
   pub entries : List Entry
-  pub played : (t : Table) → Suited t l schedule records s (replicate 512 blankEntry) → Played t (decodeSchedule schedule) s′ entries sheets sheets′
+  pub played : (t : Table) → Suited t l schedule records s (replicate 512 blankEntry)
+      → Played t (decodeSchedule schedule) s′ entries sheets sheets′

@@ -39,7 +39,8 @@ use words::index16;
 // The i-th answer, and why.
 fn write(answers: &mut [u8], reasons: &mut [u8], i: usize, r: Answer)
     requires { ⌜ (6 * i + 6 ≤ length (now answers)) × (i < length (now reasons)) ⌝ }
-    ensures { λ _. ⌜ Writes (sheetsOf (now (answers .entry)) (now (reasons .entry))) i r (sheetsOf (now (answers .exit)) (now (reasons .exit))) ⌝ }
+    ensures { λ _. ⌜ Writes (sheetsOf (now (answers .entry)) (now (reasons .entry))) i r
+        (sheetsOf (now (answers .exit)) (now (reasons .exit))) ⌝ }
 {
     put_reason(reasons, i, r.code, r.cause);
     put(answers, i, r);

@@ -72,7 +72,8 @@ pub fn rebackup(
     totals: &[u32; 32],
     a: u32,
 ) -> Moved
-    ensures { λ r. ⌜ Rebackups (now (programs .entry)) (now (wires .entry)) (now (rows .entry)) (now (mails .entry)) (now (logs .entry)) (now (heads .entry))
+    ensures { λ r. ⌜ Rebackups (now (programs .entry)) (now (wires .entry)) (now (rows .entry)) (now (mails .entry)) (now (logs .entry))
+        (now (heads .entry))
         (now (queues .entry)) (now (totals .entry)) a (now (rows .exit)) (now (logs .exit)) (now (heads .exit)) (now (queues .exit)) r ⌝ }
 {
     let p = index16(a);

@@ -39,7 +39,8 @@ pub fn step(
     totals: &mut [u32; 32],
     a: u32,
 ) -> Moved
-    ensures { λ r. ⌜ Steps (now (table .entry)) (now (programs .entry)) (now (wires .entry)) (now (rows .entry)) (now (mails .entry)) (now (queues .entry))
+    ensures { λ r. ⌜ Steps (now (table .entry)) (now (programs .entry)) (now (wires .entry)) (now (rows .entry)) (now (mails .entry))
+        (now (queues .entry))
         (now (totals .entry)) a (now (rows .exit)) (now (mails .exit)) (now (queues .exit)) (now (totals .exit)) r ⌝ }
 {
     let p = index16(a);
