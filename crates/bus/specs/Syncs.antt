@@ -1,5 +1,6 @@
 -- The carry of a checkpoint. Document 01: "A sync replaces the state in the process's backup record, drops the oldest saved words slot by
--- slot as taken, and zeroes the count"; "5 sync carried, 6 sync with no backup left (process, 0)". W-202: 5 "with the total dropped as its word".
+-- slot as taken, and zeroes the count"; "5 sync carried, 6 sync with no backup left (process, 0)". W-202: 5 "with the total dropped as its
+-- word".
 use mathlib.Core.Path.{_≡_}
 use mathlib.Core.List.{List, [], _∷_}
 use Prim.Native.Nat.{ℕ, suc, _+_, _%_, _<_}

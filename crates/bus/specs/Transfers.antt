@@ -1,5 +1,5 @@
--- The carry of a state transfer. W-210: "When that entry is carried, its other table board holds a new record with those words, then all that have
--- arrived since issue, and count 0." "Its carry answers 5 with word 0".
+-- The carry of a state transfer. W-210: "When that entry is carried, its other table board holds a new record with those words, then all
+-- that have arrived since issue, and count 0." "Its carry answers 5 with word 0".
 use mathlib.Core.Path.{_≡_}
 use mathlib.Core.List.{List, [], _∷_}
 use Prim.Native.Nat.{ℕ, _<_}

@@ -71,8 +71,8 @@ pub record SameLengths (s s′ : Store) : Type 0 where
   pub queues-same : length (s′ .queues) ≡ length (s .queues)
   pub totals-same : length (s′ .totals) ≡ length (s .totals)
 
--- The move that the rules call `rule`, of the process, board or channel a, made on lists s that are then s′. `asks` is what it supposes of a, and
--- of the entries; `entry` is the one that joins a queue by it, and `joins` the code of the answer that says so.
+-- The move that the rules call `rule`, of the process, board or channel a, made on lists s that are then s′. `asks` is what it supposes of
+-- a, and of the entries; `entry` is the one that joins a queue by it, and `joins` the code of the answer that says so.
 pub record Makes (rule : Table → Cabinet → ℕ → Result) (asks : Table → List Entry → Type 0) (joins : ℕ) (l : Plan) (s : Store) (a : ℕ) (entry : Entry)
     (s′ : Store) (r : Moved) : Type 0 where
   -- of a plan that is the table's, and of lists that hold a cabinet which commands reach

@@ -1,5 +1,5 @@
-// Whether a process owes a sync. "37 if backed and acts are 8", its limit since W-207; W-204: "A backed process now also owes a sync after 64 instructions done
-// since its last sync was issued."
+// Whether a process owes a sync. "37 if backed and acts are 8", its limit since W-207; W-204: "A backed process now also owes a sync after
+// 64 instructions done since its last sync was issued."
 ghost use mathlib.Core.Path.{_≡_};
 ghost use Rattle.step.specs.Parts.{exhaustedIn, overrunIn, owingIn, blameIn};
 use process::row::EVENTS;

@@ -1,4 +1,5 @@
-// Move 2: a process's checkpoint joins its board's queue. The loop makes the entry, of the row as it was before. "Sync: 40 no backup, 41 one waiting, 38 queue full."
+// Move 2: a process's checkpoint joins its board's queue. The loop makes the entry, of the row as it was before. "Sync: 40 no backup, 41
+// one waiting, 38 queue full."
 ghost use Rattle.step.specs.Issues.{Issues};
 use process::checkpoint;
 use process::row::BOARD;

@@ -1,5 +1,5 @@
-// A step that takes a word: "For TAKE and FIRST: [..] 37 if backed and acts are 8", its limit since W-207, or 64 instructions (W-204). The word leaves the
-// mailbox, and its channel's total is one less.
+// A step that takes a word: "For TAKE and FIRST: [..] 37 if backed and acts are 8", its limit since W-207, or 64 instructions (W-204). The
+// word leaves the mailbox, and its channel's total is one less.
 ghost use Rattle.step.specs.Parts.{TakeTurns};
 use crate::guards::blame;
 use crate::guards::owing;
