@@ -3,13 +3,13 @@ use mathlib.Core.Path.{_≡_, refl, ap, sym, _∙_, subst}
 use mathlib.Core.List.{List, []}
 use Prim.Native.Nat.{ℕ, _+_, _≤_, _<_}
 use native.Mathlib.Omega.{arith}
-use lib.ListN.{length, getD, set, length-set, length-map}
+use lib.ListN.{length, getD, set, length-set}
 use lib.Seq.{set-out}
 use Rattle.facts.specs.Counts.{same}
-use Rattle.facts.specs.Lists.{prefix, length-prefix}
+use Rattle.facts.specs.Rings.{listed-length}
 use Rattle.backup.specs.Limits.{logMost}
 use Rattle.plan.specs.Plan.{readerIn, portIn}
-use Rattle.process.specs.Row.{processOf, machineOf, mailIn, unreadIn}
+use Rattle.process.specs.Row.{processOf, machineOf, mailAt, unreadIn}
 use Rattle.process.specs.Change.{Became, Received}
 use Rattle.rules.specs.Table.{Table, environment, channelAt, portOf}
 use Rattle.rules.specs.Judge.{Accepted}
@@ -50,7 +50,7 @@ deliver-more t c k word l =
 -- a mailbox has as many words as its row says
 pub mailbox-length : (row mail log head : List ℕ) → length (processOf row mail log head .machine .mailbox) ≡ unreadIn row
 unfolding processOf machineOf
-mailbox-length row mail log head = length-map (prefix (unreadIn row) mail) mailIn ∙ length-prefix (unreadIn row) mail
+mailbox-length row mail log head = listed-length (mailAt row mail) (unreadIn row)
 
 module _ {t : Table} {s : Store} {entries : List Entry} {c : Cabinet} (ok : Accepted t) (h : Holds t s entries c) (k word p : ℕ)
     (reads : channelAt t k .reader ≡ p) (hp : p < length (t .processes)) (row′ mail′ log′ head′ : List ℕ)

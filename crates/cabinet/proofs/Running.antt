@@ -30,7 +30,7 @@ use Rattle.state.specs.declared.entry.Entry.{Entry}
 use Rattle.state.specs.Store.{Store, storeOf, Holds, blankEntry}
 use Rattle.state.specs.Moved.{Reachable}
 use Rattle.plan.specs.Plan.{planOf}
-use Rattle.cabinet.specs.Plays.{sheetsOf, Roomy, Played, Suited, Plays}
+use Rattle.play.specs.Plays.{sheetsOf, Roomy, Played, Suited, Plays}
 use Rattle.outcome.specs.Starts.{Fresh, Placed, Seats}
 use Rattle.outcome.specs.Reports.{Reports}
 use Rattle.outcome.specs.Quiets.{Quiets}

@@ -2,14 +2,14 @@
 // whether the cabinet ended quiet. Document 01, "What each move replies". All state is this call's own; nothing is kept between calls.
 ghost use Rattle.rules.specs.Run.{buffersOf};
 ghost use Rattle.cabinet.specs.Conducts.{Conducts};
-ghost use Rattle.cabinet.specs.Plays.{Roomy, sheetsOf};
+ghost use Rattle.play.specs.Plays.{Roomy, sheetsOf};
 ghost use Rattle.cabinet.specs.Runs.{Runs};
-use crate::play::play;
 use backup::limits::LOG;
 use backup::place::HEAD;
 use outcome::quiet::quiescent;
 use outcome::report::write_report;
 use outcome::start::seat;
+use play::play::play;
 use process::row::ROW;
 use records::schedule::Lengths;
 use records::schedule::judge_run;

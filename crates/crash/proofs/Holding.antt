@@ -1,5 +1,5 @@
 -- The lists after a crash hold the rules' cabinet after it.
-use mathlib.Core.Path.{_≡_, refl, ap, sym, _∙_, subst}
+use mathlib.Core.Path.{_≡_, refl, ap, sym, _∙_}
 use mathlib.Core.Logic.{_≢_}
 use mathlib.Core.Bool.{Bool, true, false, not, cond, Bool·not-not}
 use mathlib.Core.Option.{Option, none, some}
@@ -7,16 +7,16 @@ use mathlib.Core.List.{List, [], _∷_}
 use Prim.Native.Nat.{ℕ, zero, suc, _+_, _≤_, _<_, min}
 use native.Mathlib.Omega.{arith}
 use lib.Dec.{eqb, ltb}
-use lib.ListN.{length, getD, set, length-map, List·getD-eq-default}
+use lib.ListN.{length, getD, set, List·getD-eq-default}
 use lib.Seq.{getD-set-same, getD-set-other}
 use borrow.Author.Tests.{lt-ltb, le-ltb, eqb-true, eq-eqb, ne-eqb}
 use Rattle.facts.specs.Tests.{anyBelow, none-below, by-eq, by-lt}
 use Rattle.facts.specs.Counts.{total-set}
-use Rattle.facts.specs.Lists.{prefix, length-prefix, listed}
+use Rattle.facts.specs.Lists.{listed}
 use Rattle.facts.specs.Rings.{getD-listed, listed-length}
 use Rattle.backup.specs.Limits.{logMost}
 use Rattle.plan.specs.Plan.{Plan, Planned, arityIn, senderIn, readerIn}
-use Rattle.process.specs.Row.{boardIn, flagIn, unreadIn, waitsIn, mailIn, mailsIn, processOf, machineOf}
+use Rattle.process.specs.Row.{boardIn, flagIn, unreadIn, oldestIn, waitsIn, mailIn, packedAt, mailsIn, processOf, machineOf}
 use Rattle.process.specs.Promotion.{Routes, promotedBy, BecameAtCrash}
 use Rattle.rules.specs.Table.{Table, environment, inputs, channelAt}
 use Rattle.rules.specs.Machine.{booted}
@@ -99,8 +99,9 @@ unread-below rows mails p k = go (ltb p 16)
     go : (a : Bool) → cond a (unreadHere (getD rows p []) (getD mails p []) k) 0 ≤ logMost
     go true =
         let n : ℕ = min (unreadIn (getD rows p [])) logMost in
-        let few = unread-few k (mailsIn n (getD mails p [])) in
-        let long = length-map (prefix n (getD mails p [])) mailIn ∙ length-prefix n (getD mails p []) in
+        let first : ℕ = oldestIn (getD rows p []) in
+        let few = unread-few k (mailsIn first n (getD mails p [])) in
+        let long = listed-length (λ i. mailIn (packedAt first (getD mails p []) i)) n in
         omega arith
     go false = omega arith
 
@@ -151,7 +152,8 @@ module _ {t : Table} {l : Plan} {s : Store} {entries : List Entry} {c : Cabinet}
   processes-then : allAfterCrash t b 0 (c .processes) ≡ listed (processIn after) (length (t .processes))
   processes-then =
       ap (allAfterCrash t b 0) (h .processes)
-      ∙ all-listed t b 0 (length (t .processes)) (processIn s) (processIn after) (λ p hp. let z : p ≡ 0 + p = omega arith in became p hp .process-is ∙ ap (λ (i : ℕ). afterCrash t b i (processIn s p) (processIn s p .standby)) z)
+      ∙ all-listed t b 0 (length (t .processes)) (processIn s) (processIn after)
+      (λ p hp. became p hp .process-is ∙ ap (λ (i : ℕ). afterCrash t b i (processIn s p) (processIn s p .standby)) (omega arith))
 
   process-then : (p : ℕ) → p < length (t .processes) → processAt (crashedCabinet t c b) p ≡ processIn after p
   process-then p hp = ap (λ (x : List Process). getD x p nobody) processes-then ∙ getD-listed (processIn after) (length (t .processes)) p nobody hp
@@ -203,7 +205,8 @@ module _ {t : Table} {l : Plan} {s : Store} {entries : List Entry} {c : Cabinet}
       at ∙ rw off (omega arith))
       (λ n.
       let inside = sender-inside (reach .accepted) k hk n in
-      let test : lostWords (l .wires) (s .rows) b k ≡ eqb (processAt c (channelAt t k .sender) .board) b = ap (runsOn (s .rows) b) from ∙ runs-is (channelAt t k .sender) inside in
+      let test : lostWords (l .wires) (s .rows) b k ≡ eqb (processAt c (channelAt t k .sender) .board) b =
+      ap (runsOn (s .rows) b) from ∙ runs-is (channelAt t k .sender) inside in
       by-eq (processAt c (channelAt t k .sender) .board) b
       (λ e.
       let its = channel-bounds reach k .queued ∙ ap (λ (i : ℕ). queuedOn k (outboxAt c i)) e in

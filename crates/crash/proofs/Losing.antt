@@ -1,13 +1,11 @@
 -- The losses of a crash: what is true between two rounds of their loops, and at the end.
-use mathlib.Core.Path.{_≡_, refl, ap, _∙_}
-use mathlib.Core.Bool.{Bool, true, false, not, cond}
+use mathlib.Core.Path.{_≡_}
+use mathlib.Core.Bool.{Bool, true, false, cond}
 use mathlib.Core.List.{List, []}
 use Prim.Native.Nat.{ℕ, _+_, _≤_, _<_}
-use native.Mathlib.Omega.{arith}
-use native.Mathlib.Numerals.{add-one}
 use lib.Dec.{eqb}
 use lib.ListN.{getD, set}
-use borrow.Author.Tests.{lt-ltb, le-ltb, eq-eqb, ne-eqb}
+use borrow.Author.Tests.{lt-ltb, le-ltb}
 use Rattle.process.specs.Row.{boardIn}
 use Rattle.crash.specs.Losses.{runsOn, Zeroed}
 use Rattle.crash.proofs.Passing.{Passing, passing-start, passing-on, passing-over, passing-end}

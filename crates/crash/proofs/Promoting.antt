@@ -40,24 +40,16 @@ module _ (n : ℕ) (programs : List ℕ) (rows₀ mails₀ logs heads : List (Li
         let channels : (k0 ∷ k1 ∷ k2 ∷ k3 ∷ []) ≡ portChannels programs i = λ j. e0 j ∷ e1 j ∷ e2 j ∷ e3 j ∷ [] in
         let was = c .rest-at i (omega arith) in
         let mine : Crashed (getD rows₀ i []) (getD mails₀ i []) (getD logs i []) (getD heads i []) row mail a (portChannels programs i) =
-        subst (λ (x : List ℕ). Crashed x (getD mails₀ i []) (getD logs i []) (getD heads i []) row mail a (portChannels programs i)) (was .0)
-        (subst (λ (x : List ℕ). Crashed (getD rows i []) x (getD logs i []) (getD heads i []) row mail a (portChannels programs i)) (was .1)
-        (subst (λ (x : List ℕ). Crashed (getD rows i []) (getD mails i []) (getD logs i []) (getD heads i []) row mail a x) channels h)) in
+        rw (was .0, was .1, channels) at h in
         record {
           looked = omega arith;
           rows-length = length-set rows i row ∙ c .rows-length;
           mails-length = length-set mails i mail ∙ c .mails-length;
           done-at = λ p x y z. by-eq p i
-              (λ f.
-              let r : getD (set rows i row) p [] ≡ row = rw f (getD-set-same rows i row [] (let q = c .rows-length in omega arith)) in
-              let m : getD (set mails i mail) p [] ≡ mail = rw f (getD-set-same mails i mail [] (let q = c .mails-length in omega arith)) in
-              subst (λ (x : List ℕ). Crashed (getD rows₀ p []) (getD mails₀ p []) (getD logs p []) (getD heads p []) x (getD (set mails i mail) p []) a (portChannels programs p)) (sym r)
-              (subst (λ (x : List ℕ). Crashed (getD rows₀ p []) (getD mails₀ p []) (getD logs p []) (getD heads p []) row x a (portChannels programs p)) (sym m)
-              (subst (λ (q : ℕ). Crashed (getD rows₀ q []) (getD mails₀ q []) (getD logs q []) (getD heads q []) row mail a (portChannels programs q)) (sym f) mine)))
-              (λ f.
-              subst (λ (x : List ℕ). Crashed (getD rows₀ p []) (getD mails₀ p []) (getD logs p []) (getD heads p []) x (getD (set mails i mail) p []) a (portChannels programs p)) (sym (getD-set-other rows i p row [] f))
-              (subst (λ (x : List ℕ). Crashed (getD rows₀ p []) (getD mails₀ p []) (getD logs p []) (getD heads p []) (getD rows p []) x a (portChannels programs p)) (sym (getD-set-other mails i p mail [] f))
-              (c .done-at p (omega arith) y z)));
+              (λ f. subst (λ (q : ℕ). Crashed (getD rows₀ q []) (getD mails₀ q []) (getD logs q []) (getD heads q [])
+              (getD (set rows i row) q []) (getD (set mails i mail) q []) a (portChannels programs q)) (sym f)
+              (rw (getD-set-same rows i row [] (let q = c .rows-length in omega arith), getD-set-same mails i mail [] (let q = c .mails-length in omega arith)) mine))
+              (λ f. rw (getD-set-other rows i p row [] f, getD-set-other mails i p mail [] f) (c .done-at p (omega arith) y z));
           rest-at = λ p x.
               let f : p ≡ i → ⊥ = (λ q. omega arith) in
               let g = c .rest-at p (omega arith) in

@@ -6,13 +6,13 @@ use lib.Dec.{ltb}
 use lib.ListN.{getD}
 use Rattle.backup.specs.Limits.{logMost}
 use Rattle.rules.specs.Cabinet.{unreadOn}
-use Rattle.process.specs.Row.{unreadIn, mailsIn}
+use Rattle.process.specs.Row.{unreadIn, oldestIn, mailsIn}
 use Rattle.plan.specs.Plan.{readerIn}
 use Rattle.crash.specs.Each.{Each}
 
 -- how many unread words of channel k a row and a mailbox have
 abbrev pub unreadHere : List ℕ → List ℕ → ℕ → ℕ
-unreadHere row mail k = unreadOn k (mailsIn (min (unreadIn row) logMost) mail)
+unreadHere row mail k = unreadOn k (mailsIn (oldestIn row) (min (unreadIn row) logMost) mail)
 
 -- how many process p has; none where p is no process
 abbrev pub unreadAt : List (List ℕ) → List (List ℕ) → ℕ → ℕ → ℕ

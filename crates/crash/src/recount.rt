@@ -3,12 +3,13 @@ ghost use mathlib.Core.Path.{_≡_};
 ghost use Prim.Native.Nat.{_≤_, _<_};
 ghost use Rattle.backup.specs.Limits.{logMost};
 ghost use Rattle.rules.specs.Cabinet.{unreadOn};
-ghost use Rattle.process.specs.Row.{mailIn, mailsIn};
+ghost use Rattle.process.specs.Row.{oldestIn, mailIn, mailsIn};
 ghost use Rattle.crash.specs.Recount.{unreadHere, unreadAt, Dropped, Added};
 use backup::limits::LOG;
 use plan::WIRES;
 use plan::reader;
 use process::mail::channel_of;
+use process::mail::word_at;
 use process::row::ROW;
 use process::row::UNREAD;
 use words::least;
@@ -21,15 +22,15 @@ fn channel_at(x: u64) -> usize
     wide(channel_of(x))
 }
 
-// How many of a mailbox's first n words are on channel k.
-fn count_on(mail: &[u64; LOG], n: usize, k: usize) -> u32
+// How many of the n oldest words of a process's mailbox are on channel k.
+fn count_on(row: &[u32; ROW], mail: &[u64; LOG], n: usize, k: usize) -> u32
     requires { ⌜ n ≤ logMost ⌝ }
-    ensures { λ r. ⌜ r ≡ unreadOn k (mailsIn n (now (mail .entry))) ⌝ }
+    ensures { λ r. ⌜ r ≡ unreadOn k (mailsIn (oldestIn (now (row .entry))) n (now (mail .entry))) ⌝ }
 {
     let mut count = 0;
     let mut i = 0;
     while i < n {
-        if channel_at(mail[i]) == k {
+        if channel_at(word_at(row, mail, i)) == k {
             count = std::num::wrapping_add_u32(count, 1);
         }
         i += 1;
@@ -41,7 +42,7 @@ fn count_on(mail: &[u64; LOG], n: usize, k: usize) -> u32
 fn unread_of(row: &[u32; ROW], mail: &[u64; LOG], k: usize) -> u32
     ensures { λ r. ⌜ r ≡ unreadHere (now (row .entry)) (now (mail .entry)) k ⌝ }
 {
-    count_on(mail, least(wide(row[UNREAD]), LOG), k)
+    count_on(row, mail, least(wide(row[UNREAD]), LOG), k)
 }
 
 // How many process p has; none where p is no process.

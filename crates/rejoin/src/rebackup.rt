@@ -97,8 +97,8 @@ pub fn rebackup(
         return refused(38, 3, a);
     }
     let at = place(&queues[b], b);
-    reback(&mut rows[p], &mails[p], &mut logs[p], &mut heads[p], wires);
     rows[p][WAITS] = 1;
+    reback(&mut rows[p], &mails[p], &mut logs[p], &mut heads[p], wires);
     push(&mut queues[b]);
     Moved {
         answer: Answer {

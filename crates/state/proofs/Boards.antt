@@ -81,8 +81,10 @@ module _ {t : Table} {s : Store} {entries : List Entry} {c : Cabinet} (h : Holds
       let queue : List ℕ = getD (s .queues) b [] in
       let l = h .queue-three b hb in
       let m = length-set queue 1 0 in
-      let is-first : getD (set (set queue 1 0) 2 dead) 0 0 ≡ getD queue 0 0 = getD-set-other (set queue 1 0) 2 0 dead 0 (λ e. omega arith) ∙ getD-set-other queue 1 0 0 0 (λ e. omega arith) in
-      let is-count : getD (set (set queue 1 0) 2 dead) 1 0 ≡ 0 = getD-set-other (set queue 1 0) 2 1 dead 0 (λ e. omega arith) ∙ getD-set-same queue 1 0 0 (omega arith) in
+      let is-first : getD (set (set queue 1 0) 2 dead) 0 0 ≡ getD queue 0 0 =
+      getD-set-other (set queue 1 0) 2 0 dead 0 (λ e. omega arith) ∙ getD-set-other queue 1 0 0 0 (λ e. omega arith) in
+      let is-count : getD (set (set queue 1 0) 2 dead) 1 0 ≡ 0 =
+      getD-set-other (set queue 1 0) 2 1 dead 0 (λ e. omega arith) ∙ getD-set-same queue 1 0 0 (omega arith) in
       boards-then (record {
         first-fits = rw is-first (h .first-small b hb);
         count-fits = rw is-count (omega arith);

@@ -30,6 +30,7 @@ alike-flag row v l small = record {
     unread = rw (getD-set-other row 16 14 v 0 (λ e. omega arith)) (k .unread);
     words = stored {l = row} 16 v small (record { word = k .words }) .word;
     flag = rw (getD-set-other row 16 12 v 0 (λ e. omega arith)) (k .flag);
+    oldest = rw (getD-set-other row 16 17 v 0 (λ e. omega arith)) (k .oldest);
     sound = k .sound;
   };
   seated-again = seated-cell 16 v (λ e. omega arith) (λ e. omega arith);

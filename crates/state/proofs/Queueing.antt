@@ -1,7 +1,7 @@
 -- An entry joins the queue of a board, or the oldest leaves it: the cabinet then held.
-use mathlib.Core.Path.{_≡_, refl, ap, sym, _∙_, subst}
+use mathlib.Core.Path.{_≡_, refl, ap, sym, _∙_}
 use mathlib.Core.Logic.{_≢_}
-use mathlib.Core.Bool.{Bool, true, false, not, cond, _||_}
+use mathlib.Core.Bool.{false, not}
 use mathlib.Core.List.{List, [], _∷_, _++_, map, map-append}
 use Prim.Native.Nat.{ℕ, suc, _+_, _*_, _%_, _≤_, _<_}
 use native.Mathlib.Omega.{arith}
@@ -12,11 +12,10 @@ use Rattle.facts.specs.Lists.{listed-same}
 use Rattle.facts.specs.Rings.{ring, ring-push, ring-apart, ring-pop}
 use Rattle.rules.specs.Table.{Table}
 use Rattle.rules.specs.Cabinet as rules
-use Rattle.rules.specs.Cabinet.{Cabinet, outboxMost, processAt, outboxAt, deadAt, inFlight, isOn, waiting}
+use Rattle.rules.specs.Cabinet.{Cabinet, outboxMost, processAt, outboxAt, deadAt, waiting}
 use Rattle.rules.specs.Moves.{withOutbox, enqueue}
-use Rattle.rules.proofs.Counting.{weight, flight-joined, flight-leave}
 use Rattle.state.specs.declared.entry.Entry.{Entry}
-use Rattle.state.specs.Queue.{firstIn, countIn, deadIn}
+use Rattle.state.specs.Queue.{firstIn, countIn}
 use Rattle.state.specs.Store.{Store, Totalled, Holds, processIn, itemOf, blankEntry, outboxIn, flag}
 use Rattle.process.specs.Row.{waitsIn}
 use Rattle.state.proofs.Flagging.{Flagged}

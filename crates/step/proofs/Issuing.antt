@@ -51,15 +51,21 @@ module _ {t : Table} {s : Store} {entries : List Entry} {c : Cabinet} (reach : R
       refused-38 : outboxMost ≤ countIn (s .queues) b → issue t c p ≡ refuse syncBlocked
       unfolding issue guard
       refused-38 l =
-          rw (is-protected reach h p hp true (eq-eqb _ 1 n), waits-off reach h p hp w,
-          le-leb outboxMost (length (outboxAt c (processAt c p .board))) (rw (queue-has reach h p hp) l))
+          rw (
+            is-protected reach h p hp true (eq-eqb _ 1 n),
+            waits-off reach h p hp w,
+            le-leb outboxMost (length (outboxAt c (processAt c p .board))) (rw (queue-has reach h p hp) l),
+          )
 
       accepted-so : countIn (s .queues) b < outboxMost
           → issue t c p ≡ accept (withProcess p (issued (processAt c p)) (enqueue (processAt c p .board) (rules.checkpoint p (snapshot (processAt c p))) c)) issueDone
       unfolding issue guard
       accepted-so l =
-          rw (is-protected reach h p hp true (eq-eqb _ 1 n), waits-off reach h p hp w,
-          lt-leb outboxMost (length (outboxAt c (processAt c p .board))) (rw (queue-has reach h p hp) l))
+          rw (
+            is-protected reach h p hp true (eq-eqb _ 1 n),
+            waits-off reach h p hp w,
+            lt-leb outboxMost (length (outboxAt c (processAt c p .board))) (rw (queue-has reach h p hp) l),
+          )
 
   -- ---- the checkpoint joins
 

@@ -139,7 +139,7 @@ module _ (table programs wires : List ℕ) (rows mails queues : List (List ℕ))
           process-there = hp;
           limit-is = sym (planned .limit-at p hp) ∙ sym is-limit;
           intends = subst (Intends (codeOf t p) (getD rows p []) (getD mails p []) (lengthIn programs p) (j .code) (j .a) (j .operand)) (m .is)
-              (m .examined (codeOf t p) its-length (h .kept p hp .unread));
+              (m .examined (codeOf t p) its-length);
         }
 
     intending : {t : Table} {counts : Counts} {logs heads : List (List ℕ)} {entries : List Entry} {c : Cabinet} → Reachable t c

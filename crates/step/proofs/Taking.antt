@@ -8,8 +8,8 @@ use lib.ListN.{length, getD, set, length-set}
 use lib.Seq.{set-getD}
 use Rattle.facts.specs.Tests.{by-eq}
 use Rattle.facts.specs.Counts.{same, same-yes}
-use Rattle.backup.specs.Limits.{logMost, ports}
-use Rattle.process.specs.Row.{mailIn, machineOf, processOf}
+use Rattle.backup.specs.Limits.{ports}
+use Rattle.process.specs.Row.{mailAt, machineOf, processOf}
 use Rattle.process.specs.Change.{Became}
 use Rattle.instruction.specs.Instruction.{Intends, Takes, TallyRoom, afterTake}
 use Rattle.instruction.specs.declared.instruction.Intent.the-variants.{Take}
@@ -63,7 +63,7 @@ module _ {t : Table} {s : Store} {entries : List Entry} {c : Cabinet} (reach : R
 
   -- the word, and the machine without it
   abbrev x : Mail
-  x = mailIn (getD mail at 0)
+  x = mailAt row mail at
 
   abbrev m1 : Machine
   m1 = afterTake code a at row mail
@@ -157,15 +157,9 @@ module _ (wires : List ℕ) (rows mails : List (List ℕ)) (totals : List ℕ) (
       (take-refused reach h a ha n code register operand at (i .intends) (rw (i .limit-is, ← q) e)) f
       (ap₂ (λ (k z : ℕ). refusalOf k z a) (sym (owed-number (limitOf t a) (processAt c a))) (rw (blame-is h a ha, i .limit-is, ← q) b)))
 
-  -- no word stands past the mailbox's end
-  pub take-none : logMost ≤ at → r ≡ refusedWith 36 0 a → TakeTurns wires rows mails totals limit a code register at rows mails totals r
-  take-none past g table counts programs logs heads queues n operand =
-      makes-refused 36 0 g (λ t entries c command reach planned h f i.
-      absurd (let l = i .intends .inside at refl in let u = h .kept a (i .process-there) .unread in omega arith))
-
-  -- the word at the index
+  -- the word at the position
   abbrev its-word : Mail
-  its-word = mailIn (getD (getD mails p []) at 0)
+  its-word = mailAt (getD rows p []) (getD mails p []) at
 
   pub take-done : (k port left : ℕ) (row′ mail′ : List ℕ) → owingIn limit (getD rows p []) ≡ false → (its-word .channel < 32 → k ≡ its-word .channel)
       → port ≡ portIn wires k → Takes (getD rows p []) (getD mails p []) code register at port row′ mail′ → (left + 1) % 2 ^ 32 ≡ getD totals k 0 → left < 2 ^ 32

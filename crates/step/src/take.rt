@@ -8,6 +8,7 @@ use instruction::instruction::take_word;
 use plan::WIRES;
 use plan::port;
 use process::mail::channel_of;
+use process::mail::word_at;
 use process::mail::word_of;
 use process::row::ROW;
 use state::moved::Answer;
@@ -17,7 +18,7 @@ use state::moved::refused;
 use words::index16;
 use words::index32;
 
-// Process a takes the word at an index of its mailbox into a register; no word stands past the mailbox's end.
+// Process a takes the word at a position of its mailbox into a register.
 pub fn take(
     wires: &[u32; WIRES],
     rows: &mut [[u32; ROW]; 16],
@@ -36,10 +37,7 @@ pub fn take(
     if owing(&rows[p], limit) {
         return refused(37, blame(&rows[p], limit), a);
     }
-    if at >= LOG {
-        return refused(36, 0, a);
-    }
-    let x = mails[p][at];
+    let x = word_at(&rows[p], &mails[p], at);
     let channel = channel_of(x);
     let k = index32(channel);
     take_word(

@@ -2,7 +2,7 @@ use mathlib.Core.Path.{ap, _∙_}
 use Prim.Native.Nat.{ℕ, min}
 use Rattle.backup.specs.Limits.{logMost}
 use Rattle.rules.specs.Cabinet.{unreadOn}
-use Rattle.process.specs.Row.{mailsIn}
+use Rattle.process.specs.Row.{oldestIn, mailsIn}
 use native.Mathlib.Omega.{arith}
 use borrow.Author.Needs.{needs}
 use Rattle.crash.proofs.recount.unread_of.Statement.{statement}
@@ -29,7 +29,7 @@ returns : tie.Need-returns
 returns c =
     let a = c .before .before .before .before .args in
     c .count-on .ensures
-    ∙ ap (λ (n : ℕ). unreadOn (a .k) (mailsIn n (a .mail .now))) (c .before .least .ensures ∙ ap (λ (n : ℕ). min n logMost) (c .before .before .wide .ensures .0))
+    ∙ ap (λ (n : ℕ). unreadOn (a .k) (mailsIn (oldestIn (a .row .now)) n (a .mail .now))) (c .before .least .ensures ∙ ap (λ (n : ℕ). min n logMost) (c .before .before .wide .ensures .0))
 
 pub unread-of-spec : {M : Type 1} → statement M
 unread-of-spec =
