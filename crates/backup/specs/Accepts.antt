@@ -111,7 +111,8 @@ pub enough : (taken : List ℕ) (log : List Message) → lacking taken log ≡ f
 enough taken log h p l = ltb-false (savedOn p log) (takenOn taken p) (none-below (λ q. ltb (savedOn q log) (takenOn taken q)) ports h p l)
 
 -- a sync is never refused if each port has at least what is taken and the program counter is small enough
-pub sync-number : (r : Replica) (c : Checkpoint) → fit r ≡ true → c .pc ≤ pcMost → ((p : ℕ) → p < ports → takenOn (c .taken) p ≤ savedOn p (r .log))
+pub sync-number : (r : Replica) (c : Checkpoint) → fit r ≡ true → c .pc ≤ pcMost
+    → ((p : ℕ) → p < ports → takenOn (c .taken) p ≤ savedOn p (r .log))
     → syncNumber r c ≡ 0
 unfolding syncNumber
 sync-number r c f p h = rw (f, le-ltb pcMost (c .pc) p, not-lacking (c .taken) (r .log) h)
@@ -127,7 +128,8 @@ sync-parts r c h = go (fit r) (ltb pcMost (c .pc)) (lacking (c .taken) (r .log))
     go true false true e = absurd (omega arith)
     go true false false e = (refl, refl)
 
-pub sync-accepted : (r : Replica) (c : Checkpoint) → fit r ≡ true → c .pc ≤ pcMost → ((p : ℕ) → p < ports → takenOn (c .taken) p ≤ savedOn p (r .log))
+pub sync-accepted : (r : Replica) (c : Checkpoint) → fit r ≡ true → c .pc ≤ pcMost
+    → ((p : ℕ) → p < ports → takenOn (c .taken) p ≤ savedOn p (r .log))
     → sync r c ≡ record { number = 0; replica = synced r c }
 unfolding sync
 sync-accepted r c f p h = rw (sync-number r c f p h)

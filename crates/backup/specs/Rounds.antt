@@ -48,11 +48,13 @@ pub syncRounds-none : (r : Replica) (c : Checkpoint) → allTaken (c .taken) ≡
 unfolding syncRounds
 syncRounds-none r c h = rw (eq-eqb (allTaken (c .taken)) 0 h)
 
-pub syncRounds-all : (r : Replica) (c : Checkpoint) → (allTaken (c .taken) ≡ 0 → ⊥) → length (r .log) ≤ allTaken (c .taken) → syncRounds 0 r c ≡ 0
+pub syncRounds-all : (r : Replica) (c : Checkpoint) → (allTaken (c .taken) ≡ 0 → ⊥) → length (r .log) ≤ allTaken (c .taken)
+    → syncRounds 0 r c ≡ 0
 unfolding syncRounds
 syncRounds-all r c h a = rw (ne-eqb (allTaken (c .taken)) 0 h, le-leb (length (r .log)) (allTaken (c .taken)) a)
 
-pub syncRounds-some : (r : Replica) (c : Checkpoint) → (allTaken (c .taken) ≡ 0 → ⊥) → allTaken (c .taken) < length (r .log) → syncRounds 0 r c ≡ length (r .log)
+pub syncRounds-some : (r : Replica) (c : Checkpoint) → (allTaken (c .taken) ≡ 0 → ⊥) → allTaken (c .taken) < length (r .log)
+    → syncRounds 0 r c ≡ length (r .log)
 unfolding syncRounds
 syncRounds-some r c h a = rw (ne-eqb (allTaken (c .taken)) 0 h, lt-leb (length (r .log)) (allTaken (c .taken)) a)
 

@@ -318,7 +318,8 @@ fn report(head: &[u32; HEAD], c: Checkpoint, rounds: usize) -> Metered
 
 // A checkpoint lands, with its rounds counted: 0, or 21 or 23.
 pub fn metered_sync_in(log: &mut [u64; LOG], head: &mut [u32; HEAD], c: Checkpoint) -> Metered
-    ensures { λ r. ⌜ Called (now (log .entry)) (now (head .entry)) (now (log .exit)) (now (head .exit)) (r .landed .number) (λ v. sync v (checkpointOf c)) ⌝ }
+    ensures { λ r. ⌜ Called (now (log .entry)) (now (head .entry)) (now (log .exit)) (now (head .exit)) (r .landed .number)
+        (λ v. sync v (checkpointOf c)) ⌝ }
     ensures { λ r. ⌜ Reports (now (log .entry)) (now (head .entry)) c (r .landed) ⌝ }
     ensures { λ r. ⌜ OnePass (viewIn (now (log .entry)) (now (head .entry))) (checkpointOf c) (r .landed .number) (r .rounds) ⌝ }
     ensures { λ r. ⌜ r .landed .number ≡ syncNumberIn (now (head .entry)) c ⌝ }
@@ -334,7 +335,8 @@ pub fn metered_sync_in(log: &mut [u64; LOG], head: &mut [u32; HEAD], c: Checkpoi
 
 // A checkpoint lands: 0, or 21 or 23, and what it dropped and left.
 pub fn sync_in(log: &mut [u64; LOG], head: &mut [u32; HEAD], c: Checkpoint) -> Landed
-    ensures { λ r. ⌜ Called (now (log .entry)) (now (head .entry)) (now (log .exit)) (now (head .exit)) (r .number) (λ v. sync v (checkpointOf c)) ⌝ }
+    ensures { λ r. ⌜ Called (now (log .entry)) (now (head .entry)) (now (log .exit)) (now (head .exit)) (r .number)
+        (λ v. sync v (checkpointOf c)) ⌝ }
     ensures { λ r. ⌜ Reports (now (log .entry)) (now (head .entry)) c r ⌝ }
     ensures { λ r. ⌜ r .number ≡ syncNumberIn (now (head .entry)) c ⌝ }
 {

@@ -197,7 +197,8 @@ fn land(state: &mut [u32], reply: &mut [u32], m: MeteredReply) -> MeteredCall
 // The call on slices of the right lengths.
 fn perform(state: &mut [u32], call: &[u32], reply: &mut [u32]) -> MeteredCall
     requires { ⌜ Sized (now state) (now call) (now reply) ⌝ }
-    ensures { λ r. ⌜ Exported (now (state .entry)) (now (call .entry)) (now (reply .entry)) (r .number) (now (state .exit)) (now (reply .exit)) ⌝ }
+    ensures { λ r. ⌜ Exported (now (state .entry)) (now (call .entry)) (now (reply .entry)) (r .number) (now (state .exit))
+        (now (reply .exit)) ⌝ }
     ensures { λ r. ⌜ CallPass (now (state .entry)) (now (call .entry)) (now (reply .entry)) (r .number) (r .rounds) ⌝ }
 {
     let number = call[0];
@@ -219,7 +220,8 @@ fn perform(state: &mut [u32], call: &[u32], reply: &mut [u32]) -> MeteredCall
 
 // The call, with the rounds of its sync counted.
 pub fn metered_call(state: &mut [u32], call: &[u32], reply: &mut [u32]) -> MeteredCall
-    ensures { λ r. ⌜ Exported (now (state .entry)) (now (call .entry)) (now (reply .entry)) (r .number) (now (state .exit)) (now (reply .exit)) ⌝ }
+    ensures { λ r. ⌜ Exported (now (state .entry)) (now (call .entry)) (now (reply .entry)) (r .number) (now (state .exit))
+        (now (reply .exit)) ⌝ }
     ensures { λ r. ⌜ CallPass (now (state .entry)) (now (call .entry)) (now (reply .entry)) (r .number) (r .rounds) ⌝ }
 {
     if state.len() != STATE {
@@ -234,9 +236,10 @@ pub fn metered_call(state: &mut [u32], call: &[u32], reply: &mut [u32]) -> Meter
     perform(state, call, reply)
 }
 
-// The call. `state` is a backup in STATE numbers, `call` a number and its arguments: 0 new; 1 arrive: port, word; 2 count;
-// 3 sync: place, four registers, four takes, which writes into `reply` how many words it dropped on each slot, and then how many remain on
-// each; 4 take over, which writes into `reply` what it hands over, laid out as a state. The result is document 01's number, or 25 for a slice of another length, or 26 for a call of another number.
+// The call. `state` is a backup in STATE numbers, `call` a number and its arguments: 0 new; 1 arrive: port, word; 2 count; 3 sync: place,
+// four registers, four takes, which writes into `reply` how many words it dropped on each slot, and then how many remain on each; 4 take
+// over, which writes into `reply` what it hands over, laid out as a state. The result is document 01's number, or 25 for a slice of another
+// length, or 26 for a call of another number.
 pub fn backup_call(state: &mut [u32], call: &[u32], reply: &mut [u32]) -> u32
     ensures { λ n. ⌜ Exported (now (state .entry)) (now (call .entry)) (now (reply .entry)) n (now (state .exit)) (now (reply .exit)) ⌝ }
 {

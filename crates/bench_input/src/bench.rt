@@ -25,7 +25,8 @@ fn print(
     report: &[u8],
     out: &mut [u8],
 ) -> usize
-    ensures { λ r. ⌜ Printed processes (ranOf number records quiet (shownOf (now (answers .entry)) (now (report .entry)))) (now (out .entry)) r (now (out .exit)) ⌝ }
+    ensures { λ r. ⌜ Printed processes (ranOf number records quiet (shownOf (now (answers .entry)) (now (report .entry))))
+        (now (out .entry)) r (now (out .exit)) ⌝ }
 {
     write_page(number, records, quiet, answers, processes, report, out)
 }

@@ -3,12 +3,13 @@ use mathlib.Core.Path.{_≡_, refl, ap, sym, _∙_, subst}
 use mathlib.Core.List.{List, []}
 use Prim.Native.Nat.{ℕ, _+_, _≤_, _<_}
 use native.Mathlib.Omega.{arith}
-use lib.ListN.{length, getD, set, length-map}
+use lib.ListN.{length, getD, set, length-set}
 use lib.Seq.{set-out}
 use Rattle.facts.specs.Counts.{same}
-use Rattle.facts.specs.Lists.{prefix, length-prefix}
+use Rattle.facts.specs.Rings.{listed-length}
 use Rattle.backup.specs.Limits.{logMost}
-use Rattle.process.specs.Row.{processOf, machineOf, mailIn}
+use Rattle.plan.specs.Plan.{readerIn, portIn}
+use Rattle.process.specs.Row.{processOf, machineOf, mailAt, unreadIn}
 use Rattle.process.specs.Change.{Became, Received}
 use Rattle.rules.specs.Table.{Table, environment, channelAt, portOf}
 use Rattle.rules.specs.Judge.{Accepted}
@@ -27,7 +28,8 @@ use Rattle.bus.specs.Delivers.{mailOf, Delivers}
 -- ---- what it makes of the cabinet
 
 -- a word that the outside reads goes to no process
-pub deliver-outside : (t : Table) (c : Cabinet) (k word : ℕ) → length (c .processes) ≤ environment → channelAt t k .reader ≡ environment → deliver t (mailOf k word) c ≡ c
+pub deliver-outside : (t : Table) (c : Cabinet) (k word : ℕ) → length (c .processes) ≤ environment → channelAt t k .reader ≡ environment
+    → deliver t (mailOf k word) c ≡ c
 unfolding deliver
 deliver-outside t c k word few out =
     let r : ℕ = channelAt t k .reader in
@@ -40,18 +42,20 @@ pub deliver-more : (t : Table) (c : Cabinet) (k word : ℕ) → channelAt t k .r
 unfolding deliver receive delivered
 deliver-more t c k word l =
     let r : ℕ = channelAt t k .reader in
-    occupancy-more t c r l (receive t r (mailOf k word) (processAt c r)) k refl (λ i. unread-append i (processAt c r .machine .mailbox) (mailOf k word))
+    occupancy-more t c r l (receive t r (mailOf k word) (processAt c r)) k refl
+    (λ i. unread-append i (processAt c r .machine .mailbox) (mailOf k word))
 
 -- ---- and of the lists
 
 -- a mailbox has as many words as its row says
-pub mailbox-length : (row mail log head : List ℕ) → length (processOf row mail log head .machine .mailbox) ≡ getD row 14 0
+pub mailbox-length : (row mail log head : List ℕ) → length (processOf row mail log head .machine .mailbox) ≡ unreadIn row
 unfolding processOf machineOf
-mailbox-length row mail log head = length-map (prefix (getD row 14 0) mail) mailIn ∙ length-prefix (getD row 14 0) mail
+mailbox-length row mail log head = listed-length (mailAt row mail) (unreadIn row)
 
 module _ {t : Table} {s : Store} {entries : List Entry} {c : Cabinet} (ok : Accepted t) (h : Holds t s entries c) (k word p : ℕ)
     (reads : channelAt t k .reader ≡ p) (hp : p < length (t .processes)) (row′ mail′ log′ head′ : List ℕ)
-    (became : Became (getD (s .rows) p []) (getD (s .mails) p []) (getD (s .logs) p []) (getD (s .heads) p []) row′ mail′ log′ head′ (receive t p (mailOf k word))) where
+    (became : Became (getD (s .rows) p []) (getD (s .mails) p []) (getD (s .logs) p []) (getD (s .heads) p [])
+    row′ mail′ log′ head′ (receive t p (mailOf k word))) where
   abbrev x′ : Process
   x′ = processOf row′ mail′ log′ head′
 
@@ -67,28 +71,44 @@ module _ {t : Table} {s : Store} {entries : List Entry} {c : Cabinet} (ok : Acce
   then-is = ap (λ (y : Process). withProcess p y c) is ∙ ap (λ (q : ℕ). withProcess q (receive t q (mailOf k word) (processAt c q)) c) (sym reads)
 
   pub received : (totals : List ℕ) → Totalled t totals (deliver t (mailOf k word) c)
-      → Holds t (storeOf (set (s .rows) p row′) (set (s .mails) p mail′) (set (s .logs) p log′) (set (s .heads) p head′) (s .boards) totals (s .waits)) entries
+      → Holds t (storeOf (set (s .rows) p row′) (set (s .mails) p mail′) (set (s .logs) p log′) (set (s .heads) p head′) (s .queues) totals) entries
       (deliver t (mailOf k word) c)
   received totals u =
-      subst (Holds t (storeOf (set (s .rows) p row′) (set (s .mails) p mail′) (set (s .logs) p log′) (set (s .heads) p head′) (s .boards) totals (s .waits)) entries) then-is
-      (changed h (ok .processes-high) p hp row′ mail′ log′ head′ totals (became .kept-again) (became .seated-again) board-same (subst (Totalled t totals) (sym then-is) u))
+      subst (Holds t (storeOf (set (s .rows) p row′) (set (s .mails) p mail′) (set (s .logs) p log′) (set (s .heads) p head′) (s .queues) totals)
+      entries) then-is
+      (changed h (ok .processes-high) p hp row′ mail′ log′ head′ totals (became .kept-again) (became .seated-again) (became .waits-again) board-same
+      (subst (Totalled t totals) (sym then-is) u))
 
-pub delivers : (reader port : List ℕ) (rows mails logs heads : List (List ℕ)) (channel word k p : ℕ) → (channel < 32 → k ≡ channel)
-    → (getD reader k 0 < 16 → p ≡ getD reader k 0) → (row′ mail′ log′ head′ : List ℕ)
-    → Received (getD rows p []) (getD mails p []) (getD logs p []) (getD heads p []) row′ mail′ log′ head′ (getD port k 0) channel word
-    → Delivers reader port rows mails logs heads channel word (set rows p row′) (set mails p mail′) (set logs p log′) (set heads p head′)
-delivers reader port rows mails logs heads channel word k p is-k is-p row′ mail′ log′ head′ got = record {
-  holds = λ t sender boards totals totals′ waits entries c ok wired h inside room totalled.
+-- ---- what the call promises
+
+pub delivers : (wires : List ℕ) (rows mails logs heads : List (List ℕ)) (channel word k reader p port : ℕ) → (channel < 32 → k ≡ channel)
+    → reader ≡ readerIn wires k → (reader < 16 → p ≡ reader) → port ≡ portIn wires k → (row′ mail′ log′ head′ : List ℕ)
+    → Received (getD rows p []) (getD mails p []) (getD logs p []) (getD heads p []) row′ mail′ log′ head′ port channel word
+    → Delivers wires rows mails logs heads channel word (set rows p row′) (set mails p mail′) (set logs p log′) (set heads p head′)
+delivers wires rows mails logs heads channel word k reader p port is-k is-reader is-p is-port row′ mail′ log′ head′ got = record {
+  holds = λ t table counts programs queues totals totals′ entries c ok planned h inside room totalled.
       let l : channel < length (t .channels) = read-inside ok channel inside in
-      let s : Store = storeOf rows mails logs heads boards totals waits in
+      let s : Store = storeOf rows mails logs heads queues totals in
       let e : k ≡ channel = is-k (let z = ok .channels-high in omega arith) in
       let r : ℕ = channelAt t channel .reader in
-      let its : getD reader k 0 ≡ r = ap (λ (i : ℕ). getD reader i 0) e ∙ wired .reader-at channel l in
+      let its : reader ≡ r = is-reader ∙ ap (readerIn wires) e ∙ planned .reader-at channel l in
       let pr : p ≡ r = is-p (let z = ok .processes-high in omega arith) ∙ its in
       let hp : p < length (t .processes) = rw pr inside in
       let now-there : processAt c r ≡ processIn s p = ap (processAt c) (sym pr) ∙ at-process h p hp in
-      let few : getD (getD rows p []) 14 0 < logMost =
-      (let a = room inside in let b = ap (λ (x : Process). length (x .machine .mailbox)) now-there in let d = mailbox-length (getD rows p []) (getD mails p []) (getD logs p []) (getD heads p []) in omega arith) in
-      let its-port : portOf t p channel ≡ getD port k 0 = ap (λ (q : ℕ). portOf t q channel) pr ∙ sym (wired .port-at channel l inside) ∙ ap (λ (i : ℕ). getD port i 0) (sym e) in
+      let few : unreadIn (getD rows p []) < logMost =
+      (let a = room inside in
+      let b = ap (λ (x : Process). length (x .machine .mailbox)) now-there in
+      let d = mailbox-length (getD rows p []) (getD mails p []) (getD logs p []) (getD heads p []) in
+      omega arith) in
+      let its-port : portOf t p channel ≡ port =
+      ap (λ (q : ℕ). portOf t q channel) pr ∙ sym (planned .port-at channel l inside) ∙ ap (portIn wires) (sym e) ∙ sym is-port in
       received ok h channel word p (sym pr) hp row′ mail′ log′ head′ (got .became (h .kept p hp) few t p its-port) totals′ totalled;
+  same-lengths = λ queues totals. record {
+    rows-same = length-set rows p row′;
+    mails-same = length-set mails p mail′;
+    logs-same = length-set logs p log′;
+    heads-same = length-set heads p head′;
+    queues-same = refl;
+    totals-same = refl;
+  };
 }

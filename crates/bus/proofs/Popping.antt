@@ -5,12 +5,16 @@ use Prim.Native.Nat.{ℕ, _+_, _%_, _^_, _<_}
 use native.Mathlib.Omega.{arith}
 use lib.ListN.{getD, set}
 use lib.Seq.{getD-set-other}
-use Rattle.bus.specs.Oldest.{poppedIn}
-use Rattle.bus.proofs.Carrying.{is-less}
+use Rattle.bus.specs.Oldest.{lessOne, poppedIn}
 
-pub popped : (board : List ℕ) (more less : ℕ) → more ≡ (getD board 0 0 + 1) % 2 ^ 32 → (less + 1) % 2 ^ 32 ≡ getD (set board 0 (more % 32)) 1 0 → less < 2 ^ 32
-    → set (set board 0 (more % 32)) 1 less ≡ poppedIn board
-popped board more less e f l =
-    let a : more % 32 ≡ (getD board 0 0 + 1) % 32 = omega arith in
-    let b : getD (set board 0 (more % 32)) 1 0 ≡ getD board 1 0 = getD-set-other board 0 1 (more % 32) 0 (λ z. omega arith) in
-    ap (λ (n : ℕ). set (set board 0 n) 1 less) a ∙ ap (set (set board 0 ((getD board 0 0 + 1) % 32)) 1) (is-less (getD board 1 0) less (f ∙ b) l)
+-- a number one less in 32 bits
+is-less : (n less : ℕ) → (less + 1) % 2 ^ 32 ≡ n → less < 2 ^ 32 → less ≡ lessOne n
+is-less n less e l = omega arith
+
+pub popped : (queue : List ℕ) (more less : ℕ) → more ≡ (getD queue 0 0 + 1) % 2 ^ 32
+    → (less + 1) % 2 ^ 32 ≡ getD (set queue 0 (more % 32)) 1 0 → less < 2 ^ 32
+    → set (set queue 0 (more % 32)) 1 less ≡ poppedIn queue
+popped queue more less e f l =
+    let a : more % 32 ≡ (getD queue 0 0 + 1) % 32 = omega arith in
+    let b : getD (set queue 0 (more % 32)) 1 0 ≡ getD queue 1 0 = getD-set-other queue 0 1 (more % 32) 0 (λ z. omega arith) in
+    ap (λ (n : ℕ). set (set queue 0 n) 1 less) a ∙ ap (set (set queue 0 ((getD queue 0 0 + 1) % 32)) 1) (is-less (getD queue 1 0) less (f ∙ b) l)

@@ -3,7 +3,7 @@ use mathlib.Core.Path.{_≡_, refl, ap, sym, _∙_, subst}
 use mathlib.Core.Logic.{_≢_}
 use mathlib.Core.Bool.{Bool, true, false, cond}
 use mathlib.Core.List.{List, [], _∷_, map}
-use Prim.Native.Nat.{ℕ, zero, suc, _+_, _-_, _%_, _<_}
+use Prim.Native.Nat.{ℕ, zero, suc, _+_, _%_, _<_}
 use native.Mathlib.Omega.{arith}
 use lib.Dec.{eqb}
 use lib.ListN.{length, getD, set, length-set}
@@ -15,23 +15,28 @@ use Rattle.facts.specs.Lists.{listed}
 use Rattle.facts.specs.Rings.{ring, ring-pop}
 use Rattle.backup.specs.declared.place.Checkpoint as code
 use Rattle.backup.specs.Place.{checkpointOf}
+use Rattle.plan.specs.declared.Counts.{Counts}
+use Rattle.plan.specs.Plan.{planOf, Planned}
+use Rattle.process.specs.Row.{waitsIn}
 use Rattle.rules.specs.Table.{Table}
+use Rattle.rules.specs.Judge.{Accepted}
 use Rattle.rules.specs.Cabinet as rules
 use Rattle.rules.specs.Cabinet.{Cabinet, outboxAt, processAt, occupancy, waiting}
 use Rattle.rules.specs.Moves.{Command, Result, refuse, guard, transmitDead, outboxEmpty, refusalNumber, transmit, transmitOldest, transmitItem, withOutbox, numbers}
+use Rattle.rules.specs.Reasons.{refusalCause, causeOf}
 use Rattle.rules.proofs.Counting.{flight-leave}
 use Rattle.state.specs.declared.entry.Entry.{Entry}
 use Rattle.state.specs.declared.entry.Item.{Item}
 use Rattle.state.specs.declared.entry.Item.the-variants.{Word, Sync, Transfer}
 use Rattle.state.specs.declared.moved.Answer.{Answer}
-use Rattle.state.specs.Store.{Store, storeOf, Holds, itemOf, blankEntry, outboxIn, firstIn, countIn, flag}
-use Rattle.rules.specs.Reasons.{refusalCause, causeOf}
-use Rattle.state.specs.Moved.{Reachable, Answered, refusalOf}
-use Rattle.state.specs.Wired.{Wired}
+use Rattle.state.specs.Queue.{firstIn, countIn}
+use Rattle.state.specs.Store.{Store, storeOf, Holds, itemOf, blankEntry, outboxIn, flag}
+use Rattle.state.specs.Moved.{Reachable, Answered, SameLengths, refusalOf, aloneOf}
 use Rattle.state.proofs.Reading.{at-outbox, at-dead, how-many-boards}
 use Rattle.state.proofs.Totals.{occupancy-outbox, totalled-afresh}
-use Rattle.state.proofs.Queueing.{left}
-use Rattle.state.proofs.Refusing.{turned-away}
+use Rattle.state.proofs.Flagging.{flagged-none}
+use Rattle.state.proofs.Queueing.{entry-leaves}
+use Rattle.state.proofs.Refusing.{turned-away, makes-refused}
 use Rattle.state.proofs.Ends.{sent-inside}
 use Rattle.state.proofs.Owners.{word-owner}
 use Rattle.state.proofs.Arrivals.{room-for-oldest}
@@ -42,7 +47,7 @@ use Rattle.bus.specs.Oldest.{frontOf, lessOne, poppedIn}
 use Rattle.bus.specs.Carries.{OnBus, Carries}
 use Rattle.bus.specs.Syncs.{Popped, Syncs}
 use Rattle.bus.specs.Transfers.{Transfers}
-use Rattle.bus.specs.Transmits.{oldestPlace, Transmits}
+use Rattle.bus.specs.Transmits.{oldestPlace, Oldest as OldestAt, Transmits}
 
 -- ---- what stands in front
 
@@ -54,18 +59,18 @@ abbrev its-item : Item → Front → Item
 its-item d (Oldest i) = i
 its-item d Empty = d
 
-front-none : (board : List ℕ) (x : Entry) → frontOf board x ≡ Empty → getD board 1 0 ≡ 0
-front-none board x e = go (eqb (getD board 1 0) 0) refl e
+front-none : (queue : List ℕ) (x : Entry) → frontOf queue x ≡ Empty → getD queue 1 0 ≡ 0
+front-none queue x e = go (eqb (getD queue 1 0) 0) refl e
   where
-    go : (b : Bool) → eqb (getD board 1 0) 0 ≡ b → cond b Empty (Oldest (x .item)) ≡ Empty → getD board 1 0 ≡ 0
-    go true f g = eqb-true (getD board 1 0) 0 f
+    go : (b : Bool) → eqb (getD queue 1 0) 0 ≡ b → cond b Empty (Oldest (x .item)) ≡ Empty → getD queue 1 0 ≡ 0
+    go true f g = eqb-true (getD queue 1 0) 0 f
     go false f g = absurd (no-way (ap is-empty g))
 
-front-some : (board : List ℕ) (x : Entry) (i : Item) → frontOf board x ≡ Oldest i → (getD board 1 0 ≢ 0) × (x .item ≡ i)
-front-some board x i e =
-    by-eq (getD board 1 0) 0
-    (λ f. absurd (no-way (sym (ap is-empty (sym (ap (λ (b : Bool). cond b Empty (Oldest (x .item))) (eq-eqb (getD board 1 0) 0 f)) ∙ e)))))
-    (λ n. (n, ap (its-item i) (sym (ap (λ (b : Bool). cond b Empty (Oldest (x .item))) (ne-eqb (getD board 1 0) 0 n)) ∙ e)))
+front-some : (queue : List ℕ) (x : Entry) (i : Item) → frontOf queue x ≡ Oldest i → (getD queue 1 0 ≢ 0) × (x .item ≡ i)
+front-some queue x i e =
+    by-eq (getD queue 1 0) 0
+    (λ f. absurd (no-way (sym (ap is-empty (sym (ap (λ (b : Bool). cond b Empty (Oldest (x .item))) (eq-eqb (getD queue 1 0) 0 f)) ∙ e)))))
+    (λ n. (n, ap (its-item i) (sym (ap (λ (b : Bool). cond b Empty (Oldest (x .item))) (ne-eqb (getD queue 1 0) 0 n)) ∙ e)))
 
 -- ---- the queue
 
@@ -77,52 +82,59 @@ record Begins (c : Cabinet) (b count : ℕ) (i : rules.Item) : Type 0 where
   is-queue : outboxAt c b ≡ i ∷ rest
 
 module _ {t : Table} {s : Store} {entries : List Entry} {c : Cabinet} (h : Holds t s entries c) (b : ℕ) (hb : b < t .boards) where
-  refused-34 : getD (getD (s .boards) b []) 2 0 ≢ 0 → transmit t c b ≡ refuse transmitDead
+  refused-34 : getD (getD (s .queues) b []) 2 0 ≢ 0 → transmit t c b ≡ refuse transmitDead
   unfolding transmit guard
   refused-34 n = rw (at-dead h b hb, ne-eqb _ 0 n)
 
-  live : getD (getD (s .boards) b []) 2 0 ≡ 0 → transmit t c b ≡ transmitOldest t c b (outboxAt c b)
+  live : getD (getD (s .queues) b []) 2 0 ≡ 0 → transmit t c b ≡ transmitOldest t c b (outboxAt c b)
   unfolding transmit guard
   live z = rw (at-dead h b hb, eq-eqb _ 0 z)
 
-  refused-42 : getD (getD (s .boards) b []) 2 0 ≡ 0 → countIn (s .boards) b ≡ 0 → transmit t c b ≡ refuse outboxEmpty
+  refused-42 : getD (getD (s .queues) b []) 2 0 ≡ 0 → countIn (s .queues) b ≡ 0 → transmit t c b ≡ refuse outboxEmpty
   unfolding transmitOldest outboxIn ring
-  refused-42 z e = live z ∙ ap (transmitOldest t c b) (at-outbox h b hb ∙ ap (λ (n : ℕ). map (λ (x : Entry). itemOf (x .item)) (ring blankEntry entries b (firstIn (s .boards) b) n)) e)
+  refused-42 z e =
+      live z
+      ∙ ap (transmitOldest t c b) (at-outbox h b hb
+      ∙ ap (λ (n : ℕ). map (λ (x : Entry). itemOf (x .item)) (ring blankEntry entries b (firstIn (s .queues) b) n)) e)
 
-  begins : countIn (s .boards) b ≢ 0 → Begins c b (countIn (s .boards) b) (itemOf (getD entries (oldestPlace (s .boards) b) blankEntry .item))
+  begins : countIn (s .queues) b ≢ 0 → Begins c b (countIn (s .queues) b) (itemOf (getD entries (oldestPlace (s .queues) b) blankEntry .item))
   unfolding outboxIn
-  begins n = go (countIn (s .boards) b) n (at-outbox h b hb)
+  begins n = go (countIn (s .queues) b) n (at-outbox h b hb)
     where
-      go : (count : ℕ) → count ≢ 0 → outboxAt c b ≡ map (λ (x : Entry). itemOf (x .item)) (ring blankEntry entries b (firstIn (s .boards) b) count)
-          → Begins c b count (itemOf (getD entries (oldestPlace (s .boards) b) blankEntry .item))
+      go : (count : ℕ) → count ≢ 0 → outboxAt c b ≡ map (λ (x : Entry). itemOf (x .item)) (ring blankEntry entries b (firstIn (s .queues) b) count)
+          → Begins c b count (itemOf (getD entries (oldestPlace (s .queues) b) blankEntry .item))
       go zero k e = absurd (k refl)
       go (suc count) k e = record {
         fewer = count;
-        rest = map (λ (x : Entry). itemOf (x .item)) (ring blankEntry entries b ((firstIn (s .boards) b + 1) % 32) count);
+        rest = map (λ (x : Entry). itemOf (x .item)) (ring blankEntry entries b ((firstIn (s .queues) b + 1) % 32) count);
         is-count = refl;
-        is-queue = e ∙ ap (map (λ (x : Entry). itemOf (x .item))) (ring-pop blankEntry entries b (firstIn (s .boards) b) count);
+        is-queue = e ∙ ap (map (λ (x : Entry). itemOf (x .item))) (ring-pop blankEntry entries b (firstIn (s .queues) b) count);
       }
 
   -- the row when the oldest has left
-  pub row-then : (count : ℕ) → countIn (s .boards) b ≡ suc count → Popped (getD (s .boards) b []) (poppedIn (getD (s .boards) b []))
+  pub row-then : (count : ℕ) → countIn (s .queues) b ≡ suc count → Popped (getD (s .queues) b []) (poppedIn (getD (s .queues) b []))
   row-then count e =
-      let board : List ℕ = getD (s .boards) b [] in
-      let l = h .board-length b hb in
-      let first : List ℕ = set board 0 ((getD board 0 0 + 1) % 32) in
+      let queue : List ℕ = getD (s .queues) b [] in
+      let l = h .queue-three b hb in
+      let first : List ℕ = set queue 0 ((getD queue 0 0 + 1) % 32) in
       let few = h .count-small b hb in
-      let z : length first ≡ length board = length-set board 0 _ in
+      let z : length first ≡ length queue = length-set queue 0 _ in
       record {
-        first-is = getD-set-other first 1 0 (lessOne (getD board 1 0)) 0 (λ i. omega arith) ∙ getD-set-same board 0 ((getD board 0 0 + 1) % 32) 0 (omega arith);
-        count-is = let a = getD-set-same first 1 (lessOne (getD board 1 0)) 0 (omega arith) in omega arith;
-        dead-is = getD-set-other first 1 2 (lessOne (getD board 1 0)) 0 (λ i. omega arith) ∙ getD-set-other board 0 2 ((getD board 0 0 + 1) % 32) 0 (λ i. omega arith);
+        first-is =
+            getD-set-other first 1 0 (lessOne (getD queue 1 0)) 0 (λ i. omega arith)
+            ∙ getD-set-same queue 0 ((getD queue 0 0 + 1) % 32) 0 (omega arith);
+        count-is = let a = getD-set-same first 1 (lessOne (getD queue 1 0)) 0 (omega arith) in omega arith;
+        dead-is =
+            getD-set-other first 1 2 (lessOne (getD queue 1 0)) 0 (λ i. omega arith)
+            ∙ getD-set-other queue 0 2 ((getD queue 0 0 + 1) % 32) 0 (λ i. omega arith);
         three = length-set first 1 _ ∙ z ∙ l;
       }
 
 -- ---- a word leaves
 
 module _ {t : Table} {s : Store} {entries : List Entry} {c : Cabinet} (reach : Reachable t c) (h : Holds t s entries c) (b : ℕ) (hb : b < t .boards)
-    (channel word fewer : ℕ) (rest : List rules.Item) (is-count : countIn (s .boards) b ≡ suc fewer)
-    (is-word : itemOf (getD entries (oldestPlace (s .boards) b) blankEntry .item) ≡ rules.message (mailOf channel word))
+    (channel word fewer : ℕ) (rest : List rules.Item) (is-count : countIn (s .queues) b ≡ suc fewer)
+    (is-word : itemOf (getD entries (oldestPlace (s .queues) b) blankEntry .item) ≡ rules.message (mailOf channel word))
     (is-queue : outboxAt c b ≡ rules.message (mailOf channel word) ∷ rest) where
   there : channel < length (t .channels)
   there = sent-inside (reach .accepted) channel (word-owner reach b (mailOf channel word) rest is-queue .0)
@@ -141,22 +153,26 @@ module _ {t : Table} {s : Store} {entries : List Entry} {c : Cabinet} (reach : R
   }
 
   -- no checkpoint waits less
-  waits-still : (p : ℕ) → p < length (t .processes) → getD (s .waits) p 0 ≡ flag (waiting p (getD (set (c .outboxes) b rest) (processAt c p .board) []))
+  waits-still : (p : ℕ) → p < length (t .processes)
+      → waitsIn (getD (s .rows) p []) ≡ flag (waiting p (getD (set (c .outboxes) b rest) (processAt c p .board) []))
   waits-still p l =
       by-eq (processAt c p .board) b
       (λ e. h .waits-is p l
       ∙ ap (λ (q : List rules.Item). flag (waiting p q)) (ap (outboxAt c) e ∙ is-queue)
-      ∙ ap (λ (q : List rules.Item). flag (waiting p q)) (sym (ap (λ (i : ℕ). getD (set (c .outboxes) b rest) i []) e ∙ getD-set-same (c .outboxes) b rest [] (rw (how-many-boards h) hb))))
-      (λ n. h .waits-is p l ∙ ap (λ (q : List rules.Item). flag (waiting p q)) (sym (getD-set-other (c .outboxes) b (processAt c p .board) rest [] n)))
+      ∙ ap (λ (q : List rules.Item). flag (waiting p q))
+      (sym (ap (λ (i : ℕ). getD (set (c .outboxes) b rest) i []) e ∙ getD-set-same (c .outboxes) b rest [] (rw (how-many-boards h) hb))))
+      (λ n. h .waits-is p l
+      ∙ ap (λ (q : List rules.Item). flag (waiting p q)) (sym (getD-set-other (c .outboxes) b (processAt c p .board) rest [] n)))
 
   -- what a count made afresh gives meanwhile
   abbrev between : List ℕ
   between = listed (occupancy t left-cabinet) 32
 
-  word-left : Holds t (storeOf (s .rows) (s .mails) (s .logs) (s .heads) (set (s .boards) b (poppedIn (getD (s .boards) b []))) between (s .waits)) entries left-cabinet
+  word-left : Holds t (storeOf (s .rows) (s .mails) (s .logs) (s .heads) (set (s .queues) b (poppedIn (getD (s .queues) b []))) between)
+      entries left-cabinet
   word-left =
       let row = row-then h b hb fewer is-count in
-      left h (reach .accepted .boards-high) b hb (poppedIn (getD (s .boards) b [])) between (s .waits) fewer rest is-count
+      entry-leaves h (reach .accepted .boards-high) b hb (s .rows) (poppedIn (getD (s .queues) b [])) between fewer rest is-count
       (is-queue ∙ ap (λ (i : rules.Item). i ∷ rest) (sym is-word))
       (record {
         is-first = row .first-is;
@@ -164,104 +180,132 @@ module _ {t : Table} {s : Store} {entries : List Entry} {c : Cabinet} (reach : R
         is-dead = row .dead-is;
         three = row .three;
         totalled-then = totalled-afresh t left-cabinet (reach .accepted .channels-high);
+        flagged = flagged-none t (s .rows);
         waiting-there = waits-still;
-        waits-long = h .waits-length;
       })
 
   -- and what the rules make of it
-  word-answered : {sender reader port : List ℕ} (rows′ mails′ logs′ heads′ : List (List ℕ)) (totals′ : List ℕ) (r : Answer) (command : Command) → Wired t sender reader port
-      → Carries sender reader port (s .rows) (s .mails) (s .logs) (s .heads) (s .totals) channel word rows′ mails′ logs′ heads′ totals′ r
-      → Answered t (storeOf rows′ mails′ logs′ heads′ (set (s .boards) b (poppedIn (getD (s .boards) b []))) totals′ (s .waits)) entries c command
+  word-answered : {table : List ℕ} {counts : Counts} {programs wires : List ℕ} (rows′ mails′ logs′ heads′ : List (List ℕ)) (totals′ : List ℕ)
+      (r : Answer) (command : Command) → Planned t (planOf table counts programs wires)
+      → Carries wires (s .rows) (s .mails) (s .logs) (s .heads) (s .totals) channel word rows′ mails′ logs′ heads′ totals′ r
+      → Answered t (storeOf rows′ mails′ logs′ heads′ (set (s .queues) b (poppedIn (getD (s .queues) b []))) totals′) entries c command
       (transmitItem t left-cabinet (rules.message (mailOf channel word))) r
   unfolding transmitItem numbers causeOf
-  word-answered rows′ mails′ logs′ heads′ totals′ r command wired carried =
-      let boards′ : List (List ℕ) = set (s .boards) b (poppedIn (getD (s .boards) b [])) in
-      let after = carried .holds t boards′ between (s .waits) entries left-cabinet (reach .accepted) wired word-left on-bus there
+  word-answered {table} {counts} {programs} rows′ mails′ logs′ heads′ totals′ r command planned carried =
+      let queues′ : List (List ℕ) = set (s .queues) b (poppedIn (getD (s .queues) b [])) in
+      let after = carried .holds t table counts programs queues′ between entries left-cabinet (reach .accepted) planned word-left on-bus there
       (word-owner reach b (mailOf channel word) rest is-queue .0) (room-for-oldest reach b (mailOf channel word) rest is-queue) in
-      subst (λ (z : Answer). Answered t (storeOf rows′ mails′ logs′ heads′ boards′ totals′ (s .waits)) entries c command (transmitItem t left-cabinet (rules.message (mailOf channel word))) z) (sym (carried .answer-is))
+      subst (λ (z : Answer). Answered t (storeOf rows′ mails′ logs′ heads′ queues′ totals′) entries c command
+      (transmitItem t left-cabinet (rules.message (mailOf channel word))) z) (sym (carried .answer-is))
       (record { answer-is = refl; cause-is = refl; holds = after })
 
 -- ---- what the move promises
 
--- of a board of the table the clamped number is the number
-pub at-its-board : {sender reader port : List ℕ} {rows mails logs heads boards : List (List ℕ)} {totals waits : List ℕ} {x : Entry}
-    {rows′ mails′ logs′ heads′ boards′ : List (List ℕ)} {totals′ waits′ : List ℕ} {r : Answer} (b a : ℕ) → (a < 16 → b ≡ a)
-    → (a ≡ b → Transmits sender reader port rows mails logs heads boards totals waits b x rows′ mails′ logs′ heads′ boards′ totals′ waits′ r)
-    → Transmits sender reader port rows mails logs heads boards totals waits a x rows′ mails′ logs′ heads′ boards′ totals′ waits′ r
-at-its-board {sender} {reader} {port} {rows} {mails} {logs} {heads} {boards} {totals} {waits} {x} {rows′} {mails′} {logs′} {heads′} {boards′} {totals′} {waits′} {r} b a is-b given = record {
-  answered = λ t entries c command reach wired h f ha o.
-      let e : b ≡ a = is-b (let z = reach .accepted .boards-high in omega arith) in
-      subst (λ (i : ℕ). Transmits sender reader port rows mails logs heads boards totals waits i x rows′ mails′ logs′ heads′ boards′ totals′ waits′ r) e (given (sym e))
-      .answered t entries c command reach wired h f ha o;
-}
+module _ (wires : List ℕ) (rows mails logs heads queues : List (List ℕ)) (totals : List ℕ) (a b : ℕ) (x : Entry) (r : Answer)
+    (is-b : a < 16 → b ≡ a) where
+  -- of a board of the table the clamped number is the number
+  its-board : {t : Table} → Accepted t → a < t .boards → b ≡ a
+  its-board ok l = is-b (let z = ok .boards-high in omega arith)
 
-module _ (sender reader port : List ℕ) (rows mails logs heads boards : List (List ℕ)) (totals waits : List ℕ) (b : ℕ) (x : Entry) (r : Answer) where
-  pub transmits-34 : getD (getD boards b []) 2 0 ≢ 0 → r ≡ refusalOf 34 0 b
-      → Transmits sender reader port rows mails logs heads boards totals waits b x rows mails logs heads boards totals waits r
+  pub transmits-34 : getD (getD queues b []) 2 0 ≢ 0 → r ≡ refusalOf 34 0 a
+      → Transmits wires rows mails logs heads queues totals a x rows mails logs heads queues totals r
   unfolding refusalNumber refusalCause
-  transmits-34 n e = record { answered = λ t entries c command reach wired h f hb o. turned-away command b transmitDead h (refused-34 h b hb n) f e }
+  transmits-34 n e table counts programs =
+      makes-refused 34 0 (ap aloneOf e) (λ t entries c command reach planned h f o.
+      let same : b ≡ a = its-board (reach .accepted) (o .board-there) in
+      turned-away command a transmitDead h (refused-34 h a (o .board-there) (subst (λ (i : ℕ). getD (getD queues i []) 2 0 ≢ 0) same n)) f refl)
 
-  pub transmits-42 : getD (getD boards b []) 2 0 ≡ 0 → frontOf (getD boards b []) x ≡ Empty → r ≡ refusalOf 42 0 b
-      → Transmits sender reader port rows mails logs heads boards totals waits b x rows mails logs heads boards totals waits r
-  unfolding refusalNumber refusalCause
-  transmits-42 z none e = record {
-    answered = λ t entries c command reach wired h f hb o. turned-away command b outboxEmpty h (refused-42 h b hb z (front-none (getD boards b []) x none)) f e;
-  }
+  module _ (alive : getD (getD queues b []) 2 0 ≡ 0) where
+    alive-there : b ≡ a → getD (getD queues a []) 2 0 ≡ 0
+    alive-there e = ap (λ (i : ℕ). getD (getD queues i []) 2 0) (sym e) ∙ alive
 
-  module _ (z : getD (getD boards b []) 2 0 ≡ 0) (i : Item) (some : frontOf (getD boards b []) x ≡ Oldest i) (board′ : List ℕ) (leaves : board′ ≡ poppedIn (getD boards b [])) where
-    -- the entry in front is the queue's oldest
-    opened : {t : Table} {entries : List Entry} {c : Cabinet} (h : Holds t (storeOf rows mails logs heads boards totals waits) entries c) → b < t .boards
-        → x ≡ getD entries (oldestPlace boards b) blankEntry → Begins c b (countIn boards b) (itemOf i)
-    opened {t} {entries} {c} h hb o =
-        let all = front-some (getD boards b []) x i some in
-        subst (λ (y : rules.Item). Begins c b (countIn boards b) y) (ap (λ (y : Entry). itemOf (y .item)) (sym o) ∙ ap itemOf (all .1)) (begins h b hb (all .0))
+    pub transmits-42 : frontOf (getD queues b []) x ≡ Empty → r ≡ refusalOf 42 0 a
+        → Transmits wires rows mails logs heads queues totals a x rows mails logs heads queues totals r
+    unfolding refusalNumber refusalCause
+    transmits-42 none e table counts programs =
+        makes-refused 42 0 (ap aloneOf e) (λ t entries c command reach planned h f o.
+        let same : b ≡ a = its-board (reach .accepted) (o .board-there) in
+        let empty : countIn queues a ≡ 0 = ap (countIn queues) (sym same) ∙ front-none (getD queues b []) x none in
+        turned-away command a outboxEmpty h (refused-42 h a (o .board-there) (alive-there same) empty) f refl)
 
-    -- what the rules make of it
-    so : {t : Table} {entries : List Entry} {c : Cabinet} (h : Holds t (storeOf rows mails logs heads boards totals waits) entries c) → (hb : b < t .boards)
-        → (q : Begins c b (countIn boards b) (itemOf i)) → transmit t c b ≡ transmitItem t (withOutbox b (q .rest) c) (itemOf i)
-    unfolding transmitOldest
-    so {t} {entries} {c} h hb q = live h b hb z ∙ ap (transmitOldest t c b) (q .is-queue)
+    module _ (i : Item) (some : frontOf (getD queues b []) x ≡ Oldest i) (queue′ : List ℕ) (leaves : queue′ ≡ poppedIn (getD queues b [])) where
+      -- the entry in front is the queue's oldest
+      oldest-there : {t : Table} {entries : List Entry} → OldestAt queues a x t entries
+          → itemOf (getD entries (oldestPlace queues a) blankEntry .item) ≡ itemOf i
+      oldest-there o = ap (λ (y : Entry). itemOf (y .item)) (sym (o .oldest-is)) ∙ ap itemOf (front-some (getD queues b []) x i some .1)
 
-    pub transmits-word : (channel word : ℕ) → i ≡ Word channel word → (rows′ mails′ logs′ heads′ : List (List ℕ)) (totals′ : List ℕ)
-        → Carries sender reader port rows mails logs heads totals channel word rows′ mails′ logs′ heads′ totals′ r
-        → Transmits sender reader port rows mails logs heads boards totals waits b x rows′ mails′ logs′ heads′ (set boards b board′) totals′ waits r
-    transmits-word channel word is-word rows′ mails′ logs′ heads′ totals′ carried = record {
-      answered = λ t entries c command reach wired h f hb o.
-          let q = opened h hb o in
-          let m : itemOf i ≡ rules.message (mailOf channel word) = ap itemOf is-word in
-          let all = front-some (getD boards b []) x i some in
-          let first : itemOf (getD entries (oldestPlace boards b) blankEntry .item) ≡ rules.message (mailOf channel word) =
-          ap (λ (y : Entry). itemOf (y .item)) (sym o) ∙ ap itemOf (all .1) ∙ m in
-          let done = word-answered reach h b hb channel word (q .fewer) (q .rest) (q .is-count) first (q .is-queue ∙ ap (λ (y : rules.Item). y ∷ q .rest) m)
-          rows′ mails′ logs′ heads′ totals′ r command wired carried in
-          subst (λ (l : List ℕ). Answered t (storeOf rows′ mails′ logs′ heads′ (set boards b l) totals′ waits) entries c command (transmit t c b) r) (sym leaves)
-          (subst (λ (y : Result). Answered t (storeOf rows′ mails′ logs′ heads′ (set boards b (poppedIn (getD boards b []))) totals′ waits) entries c command y r)
-          (sym (so h hb q ∙ ap (transmitItem t (withOutbox b (q .rest) c)) m)) done);
-    }
+      -- what was made of the lists where the oldest entry is this one
+      abbrev Carried : rules.Item → List (List ℕ) → List (List ℕ) → List (List ℕ) → List (List ℕ) → List ℕ → Type 0
+      Carried item rows′ mails′ logs′ heads′ totals′ =
+          (t : Table) (table : List ℕ) (counts : Counts) (programs : List ℕ) (entries : List Entry) (c : Cabinet) (command : Command) → Reachable t c
+          → Planned t (planOf table counts programs wires) → Holds t (storeOf rows mails logs heads queues totals) entries c → a < t .boards
+          → itemOf (getD entries (oldestPlace queues a) blankEntry .item) ≡ item → (q : Begins c a (countIn queues a) item)
+          → Answered t (storeOf rows′ mails′ logs′ heads′ (set queues a (poppedIn (getD queues a []))) totals′) entries c command
+          (transmitItem t (withOutbox a (q .rest) c) item) r
 
-    pub transmits-sync : (process : ℕ) (checkpoint : code.Checkpoint) → i ≡ Sync process checkpoint → (logs′ heads′ : List (List ℕ)) (waits′ : List ℕ)
-        → Syncs rows logs heads waits process checkpoint logs′ heads′ waits′ r
-        → Transmits sender reader port rows mails logs heads boards totals waits b x rows mails logs′ heads′ (set boards b board′) totals waits′ r
-    transmits-sync process checkpoint is-sync logs′ heads′ waits′ carried = record {
-      answered = λ t entries c command reach wired h f hb o.
-          let q = opened h hb o in
-          let m : itemOf i ≡ rules.checkpoint process (checkpointOf checkpoint) = ap itemOf is-sync in
-          let done = carried .answered t mails boards totals entries c command b (poppedIn (getD boards b [])) (q .rest) reach h hb
-          (row-then h b hb (q .fewer) (q .is-count)) (q .is-queue ∙ ap (λ (y : rules.Item). y ∷ q .rest) m) in
-          subst (λ (l : List ℕ). Answered t (storeOf rows mails logs′ heads′ (set boards b l) totals waits′) entries c command (transmit t c b) r) (sym leaves)
-          (subst (λ (y : Result). Answered t (storeOf rows mails logs′ heads′ (set boards b (poppedIn (getD boards b []))) totals waits′) entries c command y r)
-          (sym (so h hb q ∙ ap (transmitItem t (withOutbox b (q .rest) c)) m)) done);
-    }
+      transmits-so : (item : rules.Item) → itemOf i ≡ item → (rows′ mails′ logs′ heads′ : List (List ℕ)) (totals′ : List ℕ) → r .code < 32
+          → SameLengths (storeOf rows mails logs heads queues totals) (storeOf rows′ mails′ logs′ heads′ queues totals′)
+          → Carried item rows′ mails′ logs′ heads′ totals′
+          → Transmits wires rows mails logs heads queues totals a x rows′ mails′ logs′ heads′ (set queues b queue′) totals′ r
+      unfolding transmitOldest
+      transmits-so item m rows′ mails′ logs′ heads′ totals′ done long carried table counts programs = record {
+        made = λ t entries c command reach planned h f o.
+            let hb : a < t .boards = o .board-there in
+            let same : b ≡ a = its-board (reach .accepted) hb in
+            let first = oldest-there o ∙ m in
+            let some-wait : countIn queues a ≢ 0 = λ e. front-some (getD queues b []) x i some .0 (ap (countIn queues) same ∙ e) in
+            let q = subst (Begins c a (countIn queues a)) first (begins h a hb some-wait) in
+            let rule : transmit t c a ≡ transmitItem t (withOutbox a (q .rest) c) item =
+            live h a hb (alive-there same) ∙ ap (transmitOldest t c a) (q .is-queue) in
+            let then-is : set queues a (poppedIn (getD queues a [])) ≡ set queues b queue′ =
+            ap (λ (k : ℕ). set queues k (poppedIn (getD queues k []))) (sym same) ∙ ap (set queues b) (sym leaves) in
+            subst (λ (l : List (List ℕ)). Answered t (storeOf rows′ mails′ logs′ heads′ l totals′) entries c command (transmit t c a) r) then-is
+            (subst (λ (y : Result). Answered t (storeOf rows′ mails′ logs′ heads′ (set queues a (poppedIn (getD queues a []))) totals′) entries c command y r)
+            (sym rule) (carried t table counts programs entries c command reach planned h hb first q));
+        untouched = λ l. absurd (omega arith);
+        none-joins = λ _. omega arith;
+        same-lengths = record {
+          rows-same = long .rows-same;
+          mails-same = long .mails-same;
+          logs-same = long .logs-same;
+          heads-same = long .heads-same;
+          queues-same = length-set queues b queue′;
+          totals-same = long .totals-same;
+        };
+      }
 
-    pub transmits-transfer : (process : ℕ) → i ≡ Transfer process → (rows′ : List (List ℕ)) (waits′ : List ℕ) → Transfers rows waits process rows′ waits′ r
-        → Transmits sender reader port rows mails logs heads boards totals waits b x rows′ mails logs heads (set boards b board′) totals waits′ r
-    transmits-transfer process is-transfer rows′ waits′ carried = record {
-      answered = λ t entries c command reach wired h f hb o.
-          let q = opened h hb o in
-          let m : itemOf i ≡ rules.transfer process = ap itemOf is-transfer in
-          let done = carried .answered t mails logs heads boards totals entries c command b (poppedIn (getD boards b [])) (q .rest) reach h hb
-          (row-then h b hb (q .fewer) (q .is-count)) (q .is-queue ∙ ap (λ (y : rules.Item). y ∷ q .rest) m) in
-          subst (λ (l : List ℕ). Answered t (storeOf rows′ mails logs heads (set boards b l) totals waits′) entries c command (transmit t c b) r) (sym leaves)
-          (subst (λ (y : Result). Answered t (storeOf rows′ mails logs heads (set boards b (poppedIn (getD boards b []))) totals waits′) entries c command y r)
-          (sym (so h hb q ∙ ap (transmitItem t (withOutbox b (q .rest) c)) m)) done);
-    }
+      pub transmits-word : (channel word : ℕ) → i ≡ Word channel word → (rows′ mails′ logs′ heads′ : List (List ℕ)) (totals′ : List ℕ)
+          → Carries wires rows mails logs heads totals channel word rows′ mails′ logs′ heads′ totals′ r
+          → Transmits wires rows mails logs heads queues totals a x rows′ mails′ logs′ heads′ (set queues b queue′) totals′ r
+      transmits-word channel word is-word rows′ mails′ logs′ heads′ totals′ carried =
+          transmits-so (rules.message (mailOf channel word)) (ap itemOf is-word) rows′ mails′ logs′ heads′ totals′
+          (let z = ap (λ (y : Answer). y .code) (carried .answer-is) in omega arith) (carried .same-lengths queues)
+          (λ t table counts programs entries c command reach planned h hb first q.
+          word-answered reach h a hb channel word (q .fewer) (q .rest) (q .is-count) first (q .is-queue)
+          rows′ mails′ logs′ heads′ totals′ r command planned carried)
+
+      pub transmits-sync : (process : ℕ) (checkpoint : code.Checkpoint) → i ≡ Sync process checkpoint → (rows′ logs′ heads′ : List (List ℕ))
+          → Syncs rows logs heads process checkpoint rows′ logs′ heads′ r
+          → Transmits wires rows mails logs heads queues totals a x rows′ mails logs′ heads′ (set queues b queue′) totals r
+      transmits-sync process checkpoint is-sync rows′ logs′ heads′ carried =
+          transmits-so (rules.checkpoint process (checkpointOf checkpoint)) (ap itemOf is-sync) rows′ mails logs′ heads′ totals
+          (carried .done) (carried .same-lengths mails queues totals)
+          (λ t table counts programs entries c command reach planned h hb first q.
+          carried .answered t mails queues totals entries c command a (poppedIn (getD queues a [])) (q .rest) reach h hb
+          (row-then h a hb (q .fewer) (q .is-count)) (q .is-queue))
+
+      pub transmits-transfer : (process : ℕ) → i ≡ Transfer process → (rows′ : List (List ℕ)) → Transfers rows process rows′ r
+          → Transmits wires rows mails logs heads queues totals a x rows′ mails logs heads (set queues b queue′) totals r
+      transmits-transfer process is-transfer rows′ carried =
+          transmits-so (rules.transfer process) (ap itemOf is-transfer) rows′ mails logs heads totals (carried .done)
+          (record {
+            rows-same = carried .same-length;
+            mails-same = refl;
+            logs-same = refl;
+            heads-same = refl;
+            queues-same = refl;
+            totals-same = refl;
+          })
+          (λ t table counts programs entries c command reach planned h hb first q.
+          carried .answered t mails logs heads queues totals entries c command a (poppedIn (getD queues a [])) (q .rest) reach h hb
+          (row-then h a hb (q .fewer) (q .is-count)) (q .is-queue))

@@ -11,7 +11,9 @@ use Rattle.rules.specs.Moves.{deliver, counts, withProcess}
 use Rattle.state.specs.declared.entry.Entry.{Entry}
 use Rattle.state.specs.declared.moved.Answer.{Answer}
 use Rattle.state.specs.Store.{storeOf, Holds}
-use Rattle.state.specs.Wired.{Wired}
+use Rattle.state.specs.Moved.{SameLengths}
+use Rattle.plan.specs.declared.Counts.{Counts}
+use Rattle.plan.specs.Plan.{planOf, Planned}
 use Rattle.bus.specs.Delivers.{mailOf, Room}
 use Rattle.bus.specs.Transmitted.{transmittedOf}
 
@@ -24,11 +26,14 @@ pub record OnBus (t : Table) (totals : List ℕ) (channel : ℕ) (c : Cabinet) :
   pub total-is : (k : ℕ) → k < length (t .channels) → getD totals k 0 ≡ occupancy t c k + same k channel
   pub totals-length : length totals ≡ 32
 
--- whatever the lists are that it isn't lent
-pub record Carries (sender reader port : List ℕ) (rows mails logs heads : List (List ℕ)) (totals : List ℕ) (channel word : ℕ)
+-- whatever the plan and the lists are that it isn't lent
+pub record Carries (wires : List ℕ) (rows mails logs heads : List (List ℕ)) (totals : List ℕ) (channel word : ℕ)
     (rows′ mails′ logs′ heads′ : List (List ℕ)) (totals′ : List ℕ) (r : Answer) : Type 0 where
   pub answer-is : r ≡ transmittedOf channel word
-  pub holds : (t : Table) (boards : List (List ℕ)) (between waits : List ℕ) (entries : List Entry) (c : Cabinet)
-      → Accepted t → Wired t sender reader port → Holds t (storeOf rows mails logs heads boards between waits) entries c → OnBus t totals channel c
-      → channel < length (t .channels) → channelAt t channel .sender < length (t .processes) → Room t c channel
-      → Holds t (storeOf rows′ mails′ logs′ heads′ boards totals′ waits) entries (deliver t (mailOf channel word) (countedAt t channel c))
+  pub holds : (t : Table) (table : List ℕ) (counts : Counts) (programs : List ℕ) (queues : List (List ℕ)) (between : List ℕ)
+      (entries : List Entry) (c : Cabinet)
+      → Accepted t → Planned t (planOf table counts programs wires) → Holds t (storeOf rows mails logs heads queues between) entries c
+      → OnBus t totals channel c → channel < length (t .channels) → channelAt t channel .sender < length (t .processes) → Room t c channel
+      → Holds t (storeOf rows′ mails′ logs′ heads′ queues totals′) entries (deliver t (mailOf channel word) (countedAt t channel c))
+  pub same-lengths : (queues : List (List ℕ))
+      → SameLengths (storeOf rows mails logs heads queues totals) (storeOf rows′ mails′ logs′ heads′ queues totals′)

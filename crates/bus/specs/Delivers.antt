@@ -11,7 +11,9 @@ use Rattle.rules.specs.Cabinet.{Cabinet, processAt}
 use Rattle.rules.specs.Moves.{deliver}
 use Rattle.state.specs.declared.entry.Entry.{Entry}
 use Rattle.state.specs.Store.{storeOf, Totalled, Holds}
-use Rattle.state.specs.Wired.{Wired}
+use Rattle.state.specs.Moved.{SameLengths}
+use Rattle.plan.specs.declared.Counts.{Counts}
+use Rattle.plan.specs.Plan.{planOf, Planned}
 
 -- a word on a channel
 abbrev pub mailOf : ℕ → ℕ → Mail
@@ -21,10 +23,13 @@ mailOf channel word = record { channel = channel; word = word }
 abbrev pub Room : Table → Cabinet → ℕ → Type 0
 Room t c k = channelAt t k .reader < length (t .processes) → length (processAt c (channelAt t k .reader) .machine .mailbox) < logMost
 
--- whatever the lists are that it isn't lent; the totals are those that are true afterwards, and its caller's matter
-pub record Delivers (reader port : List ℕ) (rows mails logs heads : List (List ℕ)) (channel word : ℕ)
+-- whatever the plan and the lists are that it isn't lent; the totals are those that are true afterwards, and its caller's matter
+pub record Delivers (wires : List ℕ) (rows mails logs heads : List (List ℕ)) (channel word : ℕ)
     (rows′ mails′ logs′ heads′ : List (List ℕ)) : Type 0 where
-  pub holds : (t : Table) (sender : List ℕ) (boards : List (List ℕ)) (totals totals′ waits : List ℕ) (entries : List Entry) (c : Cabinet)
-      → Accepted t → Wired t sender reader port → Holds t (storeOf rows mails logs heads boards totals waits) entries c
+  pub holds : (t : Table) (table : List ℕ) (counts : Counts) (programs : List ℕ) (queues : List (List ℕ)) (totals totals′ : List ℕ)
+      (entries : List Entry) (c : Cabinet)
+      → Accepted t → Planned t (planOf table counts programs wires) → Holds t (storeOf rows mails logs heads queues totals) entries c
       → channelAt t channel .reader < length (t .processes) → Room t c channel → Totalled t totals′ (deliver t (mailOf channel word) c)
-      → Holds t (storeOf rows′ mails′ logs′ heads′ boards totals′ waits) entries (deliver t (mailOf channel word) c)
+      → Holds t (storeOf rows′ mails′ logs′ heads′ queues totals′) entries (deliver t (mailOf channel word) c)
+  pub same-lengths : (queues : List (List ℕ)) (totals : List ℕ)
+      → SameLengths (storeOf rows mails logs heads queues totals) (storeOf rows′ mails′ logs′ heads′ queues totals)

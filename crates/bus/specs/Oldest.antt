@@ -10,7 +10,7 @@ use Rattle.bus.specs.declared.queue.Front.the-variants.{Oldest, Empty}
 
 -- "Carry looks at the oldest entry; with none the answer is 42."
 abbrev pub frontOf : List ℕ → Entry → Front
-frontOf board oldest = cond (eqb (getD board 1 0) 0) Empty (Oldest (oldest .item))
+frontOf queue oldest = cond (eqb (getD queue 1 0) 0) Empty (Oldest (oldest .item))
 
 -- one less, in 32 bits
 abbrev pub lessOne : ℕ → ℕ
@@ -18,4 +18,4 @@ lessOne n = (n + 4294967295) % 2 ^ 32
 
 -- the row after the oldest left
 abbrev pub poppedIn : List ℕ → List ℕ
-poppedIn board = set (set board 0 ((getD board 0 0 + 1) % 32)) 1 (lessOne (getD board 1 0))
+poppedIn queue = set (set queue 0 ((getD queue 0 0 + 1) % 32)) 1 (lessOne (getD queue 1 0))

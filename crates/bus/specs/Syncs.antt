@@ -1,5 +1,6 @@
 -- The carry of a checkpoint. Document 01: "A sync replaces the state in the process's backup record, drops the oldest saved words slot by
--- slot as taken, and zeroes the count"; "5 sync carried, 6 sync with no backup left (process, 0)". W-202: 5 "with the total dropped as its word".
+-- slot as taken, and zeroes the count"; "5 sync carried, 6 sync with no backup left (process, 0)". W-202: 5 "with the total dropped as its
+-- word".
 use mathlib.Core.Path.{_≡_}
 use mathlib.Core.List.{List, [], _∷_}
 use Prim.Native.Nat.{ℕ, suc, _+_, _%_, _<_}
@@ -13,22 +14,25 @@ use Rattle.rules.specs.Moves.{Command, withOutbox, transmitItem}
 use Rattle.state.specs.declared.entry.Entry.{Entry}
 use Rattle.state.specs.declared.moved.Answer.{Answer}
 use Rattle.state.specs.Store.{storeOf, Holds}
-use Rattle.state.specs.Moved.{Reachable, Answered}
+use Rattle.state.specs.Moved.{Reachable, Answered, SameLengths}
 
 -- a board's row before and after its oldest entry left
-pub record Popped (board board′ : List ℕ) : Type 0 where
-  pub first-is : getD board′ 0 0 ≡ (getD board 0 0 + 1) % 32
-  pub count-is : suc (getD board′ 1 0) ≡ getD board 1 0
-  pub dead-is : getD board′ 2 0 ≡ getD board 2 0
-  pub three : length board′ ≡ 3
+pub record Popped (queue queue′ : List ℕ) : Type 0 where
+  pub first-is : getD queue′ 0 0 ≡ (getD queue 0 0 + 1) % 32
+  pub count-is : suc (getD queue′ 1 0) ≡ getD queue 1 0
+  pub dead-is : getD queue′ 2 0 ≡ getD queue 2 0
+  pub three : length queue′ ≡ 3
 
 -- Of the cabinet that the lists held before the checkpoint, board b's oldest entry, left that board's row: afterwards, with the row as the
 -- leaving made it, they hold the cabinet that the rules give. Whatever the lists are that it isn't lent.
-pub record Syncs (rows logs heads : List (List ℕ)) (waits : List ℕ) (process : ℕ) (checkpoint : code.Checkpoint)
-    (logs′ heads′ : List (List ℕ)) (waits′ : List ℕ) (r : Answer) : Type 0 where
-  pub answered : (t : Table) (mails boards : List (List ℕ)) (totals : List ℕ) (entries : List Entry) (c : Cabinet) (command : Command)
-      (b : ℕ) (board′ : List ℕ) (rest : List rules.Item)
-      → Reachable t c → Holds t (storeOf rows mails logs heads boards totals waits) entries c → b < t .boards
-      → Popped (getD boards b []) board′ → outboxAt c b ≡ rules.checkpoint process (checkpointOf checkpoint) ∷ rest
-      → Answered t (storeOf rows mails logs′ heads′ (set boards b board′) totals waits′) entries c command
+pub record Syncs (rows logs heads : List (List ℕ)) (process : ℕ) (checkpoint : code.Checkpoint)
+    (rows′ logs′ heads′ : List (List ℕ)) (r : Answer) : Type 0 where
+  pub answered : (t : Table) (mails queues : List (List ℕ)) (totals : List ℕ) (entries : List Entry) (c : Cabinet) (command : Command)
+      (b : ℕ) (queue′ : List ℕ) (rest : List rules.Item)
+      → Reachable t c → Holds t (storeOf rows mails logs heads queues totals) entries c → b < t .boards
+      → Popped (getD queues b []) queue′ → outboxAt c b ≡ rules.checkpoint process (checkpointOf checkpoint) ∷ rest
+      → Answered t (storeOf rows′ mails logs′ heads′ (set queues b queue′) totals) entries c command
       (transmitItem t (withOutbox b rest c) (rules.checkpoint process (checkpointOf checkpoint))) r
+  pub done : r .code < 32
+  pub same-lengths : (mails queues : List (List ℕ)) (totals : List ℕ)
+      → SameLengths (storeOf rows mails logs heads queues totals) (storeOf rows′ mails logs′ heads′ queues totals)

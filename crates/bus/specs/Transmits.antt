@@ -3,24 +3,29 @@ use mathlib.Core.Path.{_≡_}
 use mathlib.Core.List.{List}
 use Prim.Native.Nat.{ℕ, _+_, _*_, _%_, _<_}
 use lib.ListN.{getD}
+use Rattle.plan.specs.declared.Counts.{Counts}
+use Rattle.plan.specs.Plan.{planOf}
 use Rattle.rules.specs.Table.{Table}
-use Rattle.rules.specs.Cabinet.{Cabinet}
-use Rattle.rules.specs.Moves.{Command, transmit}
+use Rattle.rules.specs.Moves.{transmit}
 use Rattle.state.specs.declared.entry.Entry.{Entry}
 use Rattle.state.specs.declared.moved.Answer.{Answer}
-use Rattle.state.specs.Store.{storeOf, Holds, blankEntry, firstIn}
-use Rattle.state.specs.Moved.{Reachable, Answered}
-use Rattle.state.specs.Wired.{Wired}
+use Rattle.state.specs.Queue.{firstIn}
+use Rattle.state.specs.Store.{storeOf, blankEntry}
+use Rattle.state.specs.Moved.{MakesAlone}
 
 -- where board b's oldest entry stands, if it has one
 abbrev pub oldestPlace : List (List ℕ) → ℕ → ℕ
-oldestPlace boards b = 32 * b + firstIn boards b % 32
+oldestPlace queues b = 32 * b + firstIn queues b % 32
 
--- whatever the entries are of which it is handed the oldest
-pub record Transmits (sender reader port : List ℕ) (rows mails logs heads boards : List (List ℕ)) (totals waits : List ℕ) (a : ℕ) (oldest : Entry)
-    (rows′ mails′ logs′ heads′ boards′ : List (List ℕ)) (totals′ waits′ : List ℕ) (r : Answer) : Type 0 where
-  pub answered : (t : Table) (entries : List Entry) (c : Cabinet) (command : Command)
-      → Reachable t c → Wired t sender reader port
-      → Holds t (storeOf rows mails logs heads boards totals waits) entries c → command .a ≡ a → a < t .boards
-      → oldest ≡ getD entries (oldestPlace boards a) blankEntry
-      → Answered t (storeOf rows′ mails′ logs′ heads′ boards′ totals′ waits′) entries c command (transmit t c a) r
+-- a is a board, and this is what stands where its oldest entry does
+pub record Oldest (queues : List (List ℕ)) (a : ℕ) (oldest : Entry) (t : Table) (entries : List Entry) : Type 0 where
+  pub board-there : a < t .boards
+  pub oldest-is : oldest ≡ getD entries (oldestPlace queues a) blankEntry
+
+-- whatever the plan is that it isn't lent, and the entries of which it is handed the oldest
+abbrev pub Transmits : List ℕ → List (List ℕ) → List (List ℕ) → List (List ℕ) → List (List ℕ) → List (List ℕ) → List ℕ → ℕ → Entry
+    → List (List ℕ) → List (List ℕ) → List (List ℕ) → List (List ℕ) → List (List ℕ) → List ℕ → Answer → Type 0
+Transmits wires rows mails logs heads queues totals a oldest rows′ mails′ logs′ heads′ queues′ totals′ r =
+    (table : List ℕ) (counts : Counts) (programs : List ℕ)
+    → MakesAlone transmit (Oldest queues a oldest) (planOf table counts programs wires)
+    (storeOf rows mails logs heads queues totals) a (storeOf rows′ mails′ logs′ heads′ queues′ totals′) r

@@ -2,14 +2,16 @@
 ghost use Rattle.bus.specs.Delivers.{Delivers};
 use backup::limits::LOG;
 use backup::place::HEAD;
+use plan::WIRES;
+use plan::port;
+use plan::reader;
 use process::delivery::receive;
 use process::row::ROW;
-use state::board::index16;
-use state::channel::index32;
+use words::index16;
+use words::index32;
 
 pub fn deliver(
-    reader: &[u32; 32],
-    port: &[u32; 32],
+    wires: &[u32; WIRES],
     rows: &mut [[u32; ROW]; 16],
     mails: &mut [[u64; LOG]; 16],
     logs: &mut [[u64; LOG]; 16],
@@ -17,16 +19,17 @@ pub fn deliver(
     channel: u32,
     word: u32,
 )
-    ensures { λ _. ⌜ Delivers (now (reader .entry)) (now (port .entry)) (now (rows .entry)) (now (mails .entry)) (now (logs .entry)) (now (heads .entry)) channel word (now (rows .exit)) (now (mails .exit)) (now (logs .exit)) (now (heads .exit)) ⌝ }
+    ensures { λ _. ⌜ Delivers (now (wires .entry)) (now (rows .entry)) (now (mails .entry)) (now (logs .entry)) (now (heads .entry)) channel word
+        (now (rows .exit)) (now (mails .exit)) (now (logs .exit)) (now (heads .exit)) ⌝ }
 {
     let k = index32(channel);
-    let p = index16(reader[k]);
+    let p = index16(reader(wires, k));
     receive(
         &mut rows[p],
         &mut mails[p],
         &mut logs[p],
         &mut heads[p],
-        port[k],
+        port(wires, k),
         channel,
         word,
     );

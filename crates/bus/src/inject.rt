@@ -3,17 +3,18 @@ ghost use Rattle.bus.specs.Injects.{Injects};
 use crate::delivery::deliver;
 use backup::limits::LOG;
 use backup::place::HEAD;
+use plan::WIRES;
+use plan::reader;
+use plan::sender;
 use process::row::ROW;
 use state::channel::ENVIRONMENT;
-use state::channel::held;
-use state::channel::index32;
+use state::channel::full;
 use state::moved::Answer;
 use state::moved::refusal;
+use words::index32;
 
 pub fn inject(
-    sender: &[u32; 32],
-    reader: &[u32; 32],
-    port: &[u32; 32],
+    wires: &[u32; WIRES],
     rows: &mut [[u32; ROW]; 16],
     mails: &mut [[u64; LOG]; 16],
     logs: &mut [[u64; LOG]; 16],
@@ -22,16 +23,17 @@ pub fn inject(
     a: u32,
     word: u32,
 ) -> Answer
-    ensures { λ r. ⌜ Injects (now (sender .entry)) (now (reader .entry)) (now (port .entry)) (now (rows .entry)) (now (mails .entry)) (now (logs .entry)) (now (heads .entry)) (now (totals .entry)) a word (now (rows .exit)) (now (mails .exit)) (now (logs .exit)) (now (heads .exit)) (now (totals .exit)) r ⌝ }
+    ensures { λ r. ⌜ Injects (now (wires .entry)) (now (rows .entry)) (now (mails .entry)) (now (logs .entry)) (now (heads .entry))
+        (now (totals .entry)) a word (now (rows .exit)) (now (mails .exit)) (now (logs .exit)) (now (heads .exit)) (now (totals .exit)) r ⌝ }
 {
     let k = index32(a);
-    if sender[k] != ENVIRONMENT {
+    if sender(wires, k) != ENVIRONMENT {
         return refusal(43, 0, a);
     }
-    if held(reader[k], totals[k]) {
+    if full(reader(wires, k), totals[k]) {
         return refusal(39, 1, a);
     }
-    deliver(reader, port, rows, mails, logs, heads, a, word);
+    deliver(wires, rows, mails, logs, heads, a, word);
     totals[k] = std::num::wrapping_add_u32(totals[k], 1);
     Answer {
         code: 4,

@@ -1,11 +1,11 @@
 // The front of a board's queue: whether there is an oldest entry, and that it leaves.
 ghost use mathlib.Core.Path.{_≡_};
 ghost use Rattle.bus.specs.Oldest.{frontOf, poppedIn};
-use state::board::BOARD_ROW;
-use state::board::COUNT;
-use state::board::FIRST;
 use state::entry::Entry;
 use state::entry::Item;
+use state::queue::COUNT;
+use state::queue::FIRST;
+use state::queue::QUEUE_ROW;
 
 // Document 01: "Carry looks at the oldest entry; with none the answer is 42."
 pub enum Front {
@@ -14,10 +14,10 @@ pub enum Front {
 }
 
 // What stands where the oldest entry does is the oldest entry, if the board has one.
-pub fn peek(board: &[u32; BOARD_ROW], oldest: Entry) -> Front
-    ensures { λ r. ⌜ r ≡ frontOf (now (board .entry)) oldest ⌝ }
+pub fn peek(queue: &[u32; QUEUE_ROW], oldest: Entry) -> Front
+    ensures { λ r. ⌜ r ≡ frontOf (now (queue .entry)) oldest ⌝ }
 {
-    if board[COUNT] == 0 {
+    if queue[COUNT] == 0 {
         return Front::Empty;
     }
     let item = oldest.item;
@@ -25,9 +25,9 @@ pub fn peek(board: &[u32; BOARD_ROW], oldest: Entry) -> Front
 }
 
 // The oldest entry leaves.
-pub fn pop(board: &mut [u32; BOARD_ROW])
-    ensures { λ _. ⌜ now (board .exit) ≡ poppedIn (now (board .entry)) ⌝ }
+pub fn pop(queue: &mut [u32; QUEUE_ROW])
+    ensures { λ _. ⌜ now (queue .exit) ≡ poppedIn (now (queue .entry)) ⌝ }
 {
-    board[FIRST] = std::num::wrapping_add_u32(board[FIRST], 1) % 32;
-    board[COUNT] = std::num::wrapping_sub_u32(board[COUNT], 1);
+    queue[FIRST] = std::num::wrapping_add_u32(queue[FIRST], 1) % 32;
+    queue[COUNT] = std::num::wrapping_sub_u32(queue[COUNT], 1);
 }

@@ -8,22 +8,23 @@ use process::checkpoint::keep;
 use process::row::COMPLETE;
 use process::row::PROTECTED;
 use process::row::ROW;
-use state::board::index16;
+use process::row::WAITS;
 use state::moved::Answer;
+use words::index16;
 
 pub fn transmit_sync(
-    rows: &[[u32; ROW]; 16],
+    rows: &mut [[u32; ROW]; 16],
     logs: &mut [[u64; LOG]; 16],
     heads: &mut [[u32; HEAD]; 16],
-    waits: &mut [u32; 16],
     process: u32,
     checkpoint: Checkpoint,
 ) -> Answer
-    ensures { λ r. ⌜ Syncs (now (rows .entry)) (now (logs .entry)) (now (heads .entry)) (now (waits .entry)) process checkpoint (now (logs .exit)) (now (heads .exit)) (now (waits .exit)) r ⌝ }
+    ensures { λ r. ⌜ Syncs (now (rows .entry)) (now (logs .entry)) (now (heads .entry)) process checkpoint
+        (now (rows .exit)) (now (logs .exit)) (now (heads .exit)) r ⌝ }
 {
     let p = index16(process);
     let dropped = keep(&rows[p], &mut logs[p], &mut heads[p], checkpoint);
-    waits[p] = 0;
+    rows[p][WAITS] = 0;
     if rows[p][PROTECTED] != COMPLETE {
         return Answer {
             code: 6,

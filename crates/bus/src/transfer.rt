@@ -3,16 +3,17 @@
 // cause 3.
 ghost use Rattle.bus.specs.Transfers.{Transfers};
 use process::row::ROW;
+use process::row::WAITS;
 use process::transfer::complete;
-use state::board::index16;
 use state::moved::Answer;
+use words::index16;
 
-pub fn transmit_transfer(rows: &mut [[u32; ROW]; 16], waits: &mut [u32; 16], process: u32) -> Answer
-    ensures { λ r. ⌜ Transfers (now (rows .entry)) (now (waits .entry)) process (now (rows .exit)) (now (waits .exit)) r ⌝ }
+pub fn transmit_transfer(rows: &mut [[u32; ROW]; 16], process: u32) -> Answer
+    ensures { λ r. ⌜ Transfers (now (rows .entry)) process (now (rows .exit)) r ⌝ }
 {
     let p = index16(process);
     complete(&mut rows[p]);
-    waits[p] = 0;
+    rows[p][WAITS] = 0;
     Answer {
         code: 5,
         cause: 3,

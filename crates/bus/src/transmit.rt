@@ -11,54 +11,52 @@ use crate::transfer::transmit_transfer;
 use crate::word::transmit_word;
 use backup::limits::LOG;
 use backup::place::HEAD;
+use plan::WIRES;
 use process::row::ROW;
-use state::board::BOARD_ROW;
-use state::board::DEAD;
-use state::board::FIRST;
-use state::board::index16;
-use state::board::wide;
 use state::entry::Entry;
 use state::entry::Item;
 use state::moved::Answer;
 use state::moved::refusal;
+use state::queue::DEAD;
+use state::queue::FIRST;
+use state::queue::QUEUE_ROW;
+use words::index16;
+use words::wide;
 
 // Where board b's oldest entry stands, if it has one.
-pub fn oldest(board: &[u32; BOARD_ROW], b: usize) -> usize
-    ensures { λ r. ⌜ (r < 512) × (b < 16 → r ≡ 32 * b + getD (now (board .entry)) 0 0 % 32) ⌝ }
+pub fn oldest(queue: &[u32; QUEUE_ROW], b: usize) -> usize
+    ensures { λ r. ⌜ (r < 512) × (b < 16 → r ≡ 32 * b + getD (now (queue .entry)) 0 0 % 32) ⌝ }
 {
-    32 * (b % 16) + wide(board[FIRST]) % 32
+    32 * (b % 16) + wide(queue[FIRST]) % 32
 }
 
 // `oldest` is what stands where the board's oldest entry does, if it has one.
 pub fn transmit(
-    sender: &[u32; 32],
-    reader: &[u32; 32],
-    port: &[u32; 32],
+    wires: &[u32; WIRES],
     rows: &mut [[u32; ROW]; 16],
     mails: &mut [[u64; LOG]; 16],
     logs: &mut [[u64; LOG]; 16],
     heads: &mut [[u32; HEAD]; 16],
-    boards: &mut [[u32; BOARD_ROW]; 16],
+    queues: &mut [[u32; QUEUE_ROW]; 16],
     totals: &mut [u32; 32],
-    waits: &mut [u32; 16],
     a: u32,
     oldest: Entry,
 ) -> Answer
-    ensures { λ r. ⌜ Transmits (now (sender .entry)) (now (reader .entry)) (now (port .entry)) (now (rows .entry)) (now (mails .entry)) (now (logs .entry)) (now (heads .entry)) (now (boards .entry)) (now (totals .entry)) (now (waits .entry)) a oldest (now (rows .exit)) (now (mails .exit)) (now (logs .exit)) (now (heads .exit)) (now (boards .exit)) (now (totals .exit)) (now (waits .exit)) r ⌝ }
+    ensures { λ r. ⌜ Transmits (now (wires .entry)) (now (rows .entry)) (now (mails .entry)) (now (logs .entry)) (now (heads .entry))
+        (now (queues .entry)) (now (totals .entry)) a oldest (now (rows .exit)) (now (mails .exit)) (now (logs .exit)) (now (heads .exit))
+        (now (queues .exit)) (now (totals .exit)) r ⌝ }
 {
     let b = index16(a);
-    if boards[b][DEAD] != 0 {
+    if queues[b][DEAD] != 0 {
         return refusal(34, 0, a);
     }
-    let Front::Oldest { item } = peek(&boards[b], oldest) else {
+    let Front::Oldest { item } = peek(&queues[b], oldest) else {
         return refusal(42, 0, a);
     };
-    pop(&mut boards[b]);
+    pop(&mut queues[b]);
     match item {
         Item::Word { channel, word } => transmit_word(
-            sender,
-            reader,
-            port,
+            wires,
             rows,
             mails,
             logs,
@@ -70,7 +68,7 @@ pub fn transmit(
         Item::Sync {
             process,
             checkpoint,
-        } => transmit_sync(rows, logs, heads, waits, process, checkpoint),
-        Item::Transfer { process } => transmit_transfer(rows, waits, process),
+        } => transmit_sync(rows, logs, heads, process, checkpoint),
+        Item::Transfer { process } => transmit_transfer(rows, process),
     }
 }

@@ -4,19 +4,20 @@ ghost use Rattle.bus.specs.Carries.{Carries};
 use crate::delivery::deliver;
 use backup::limits::LOG;
 use backup::place::HEAD;
+use plan::WIRES;
+use plan::reader;
+use plan::sender;
 use process::delivery::counts;
 use process::row::ROW;
-use state::board::index16;
 use state::channel::ENVIRONMENT;
-use state::channel::index32;
 use state::moved::Answer;
+use words::index16;
+use words::index32;
 
 // The sender's half, and then the reader's, which may be the same process. The sender of a word in a queue is one. The channel's total stays,
 // with a word less in the queues and one more unread; of a word that the outside reads it is one less.
 pub fn transmit_word(
-    sender: &[u32; 32],
-    reader: &[u32; 32],
-    port: &[u32; 32],
+    wires: &[u32; WIRES],
     rows: &mut [[u32; ROW]; 16],
     mails: &mut [[u64; LOG]; 16],
     logs: &mut [[u64; LOG]; 16],
@@ -25,10 +26,12 @@ pub fn transmit_word(
     channel: u32,
     word: u32,
 ) -> Answer
-    ensures { λ r. ⌜ Carries (now (sender .entry)) (now (reader .entry)) (now (port .entry)) (now (rows .entry)) (now (mails .entry)) (now (logs .entry)) (now (heads .entry)) (now (totals .entry)) channel word (now (rows .exit)) (now (mails .exit)) (now (logs .exit)) (now (heads .exit)) (now (totals .exit)) r ⌝ }
+    ensures { λ r. ⌜ Carries (now (wires .entry)) (now (rows .entry)) (now (mails .entry)) (now (logs .entry)) (now (heads .entry))
+        (now (totals .entry)) channel word (now (rows .exit)) (now (mails .exit)) (now (logs .exit)) (now (heads .exit))
+        (now (totals .exit)) r ⌝ }
 {
     let k = index32(channel);
-    let p = index16(sender[k]);
+    let p = index16(sender(wires, k));
     counts(&rows[p], &mut heads[p]);
     let answer = Answer {
         code: 4,
@@ -36,10 +39,10 @@ pub fn transmit_word(
         a: channel,
         word: word,
     };
-    if reader[k] == ENVIRONMENT {
+    if reader(wires, k) == ENVIRONMENT {
         totals[k] = std::num::wrapping_sub_u32(totals[k], 1);
         return answer;
     }
-    deliver(reader, port, rows, mails, logs, heads, channel, word);
+    deliver(wires, rows, mails, logs, heads, channel, word);
     answer
 }

@@ -1,3 +1,2 @@
 -- Why the run is the rules'.
-pub mod Playing
 pub mod Running

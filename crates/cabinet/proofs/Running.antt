@@ -8,16 +8,14 @@ use lib.Dec.{eqb, leb}
 use lib.ListN.{length, getD, replicate}
 use borrow.Author.Tests.{eqb-true, eq-eqb, ne-eqb, leb-true}
 use Rattle.facts.specs.Tests.{and-left, and-right}
-use Rattle.records.specs.Fetch.{fetched, instructionOf}
 use Rattle.records.specs.Commands.{ScheduleJudged, judgedRun}
 use Rattle.rules.specs.Transparency.{FailureTransparency}
 use Rattle.records.specs.declared.schedule.Judged.{Judged}
 use Rattle.records.proofs.Judged.{run-is}
 use Rattle.table.specs.Plan.{Plans, Decodes}
 use Rattle.table.specs.declared.Decoded.{Decoded}
-use Rattle.table.specs.declared.plan.Plan.{Plan}
-use Rattle.table.proofs.Programs.{fetched-code}
-use Rattle.rules.specs.Table.{Table, SET, codeOf}
+use Rattle.table.specs.declared.Plan.{Plan}
+use Rattle.rules.specs.Table.{Table}
 use Rattle.rules.specs.Judge.{Accepted}
 use Rattle.rules.specs.Bytes.{allBytes, written}
 use Rattle.rules.specs.Format.{lengthField, processesIn, decodeTable, validateTable}
@@ -31,35 +29,14 @@ use Rattle.rules.proofs.Theorem.{failure-transparency}
 use Rattle.state.specs.declared.entry.Entry.{Entry}
 use Rattle.state.specs.Store.{Store, storeOf, Holds, blankEntry}
 use Rattle.state.specs.Moved.{Reachable}
-use Rattle.command.specs.Plan.{Lent, lentOf, Suits}
-use Rattle.cabinet.specs.Plays.{sheetsOf, Played, Suited, Plays}
+use Rattle.plan.specs.Plan.{planOf}
+use Rattle.play.specs.Plays.{sheetsOf, Roomy, Played, Suited, Plays}
 use Rattle.outcome.specs.Starts.{Fresh, Placed, Seats}
 use Rattle.outcome.specs.Reports.{Reports}
 use Rattle.outcome.specs.Quiets.{Quiets}
 use Rattle.cabinet.specs.Conducts.{Conducts}
 use Rattle.cabinet.specs.Runs.{ranBy, Runs}
 use Rattle.cabinet.specs.declared.run.Verdict.{Verdict}
-
--- ---- the plan of an accepted table
-
-abbrev pub lentBy : List ℕ → Plan → Lent
-lentBy table plan = lentOf table (plan .boards) (plan .processes) (plan .channels) (plan .start) (plan .length) (plan .limit) (plan .sender) (plan .reader) (plan .port) (plan .inputs) (plan .arity)
-
-suits : (table : List ℕ) (plan : Plan) → validateTable table ≡ 0 → Plans table plan → Suits (decodeTable table) (lentBy table plan)
-suits table plan ok p = record {
-  boards-is = p .boards-is;
-  processes-is = p .processes-is;
-  channels-is = p .channels-is;
-  wired = record { sender-at = p .sender-at; reader-at = p .reader-at; port-at = p .port-at };
-  programmed = record {
-    length-at = p .length-at;
-    code-at = λ q h k l.
-        ap (λ (at : ℕ). instructionOf (fetched table at k)) (p .start-at q h)
-        ∙ fetched-code table (valid table ok .extent-ok) q (rw (← processes-counted table) h) k l;
-  };
-  limited = p .limit-at;
-  addressed = record { arity-at = p .arity-at; input-at = p .input-at };
-}
 
 -- ---- an accepted run
 
@@ -81,12 +58,13 @@ unfolding accepted ranFrom
 passed table schedule buffers h = rw h
 
 module _ (table schedule : List ℕ) (records : ℕ) (plan : Plan) (answers reasons report answers′ reasons′ report′ : List ℕ)
-    (rows rows₀ mails₀ logs₀ heads₀ boards₀ : List (List ℕ)) (totals₀ waits₀ : List ℕ) (s : Store) (quiet : Bool)
-    (fresh : Fresh (storeOf rows₀ mails₀ logs₀ heads₀ boards₀ totals₀ waits₀) (replicate 512 blankEntry))
-    (seats : Seats rows₀ (plan .primary) (plan .standby) (plan .processes) rows)
-    (plays : Plays (lentBy table plan) schedule records (storeOf rows mails₀ logs₀ heads₀ boards₀ totals₀ waits₀) (sheetsOf answers reasons) s (sheetsOf answers′ reasons′))
-    (reports : Reports (s .rows) (plan .processes) report report′)
-    (quiets : Quiets table (plan .boards) (plan .processes) (plan .start) (plan .length) (s .rows) (s .mails) (s .boards) quiet) where
+    (rows rows₀ mails₀ logs₀ heads₀ queues₀ : List (List ℕ)) (totals₀ : List ℕ) (s : Store) (quiet : Bool)
+    (fresh : Fresh (storeOf rows₀ mails₀ logs₀ heads₀ queues₀ totals₀) (replicate 512 blankEntry))
+    (seats : Seats rows₀ (plan .primary) (plan .standby) (plan .counts .processes) rows)
+    (plays : Plays (planOf table (plan .counts) (plan .programs) (plan .wires)) schedule records (storeOf rows mails₀ logs₀ heads₀ queues₀ totals₀)
+    (sheetsOf answers reasons) s (sheetsOf answers′ reasons′))
+    (reports : Reports (s .rows) (plan .counts .processes) report report′)
+    (quiets : Quiets table (plan .counts) (plan .programs) (s .rows) (s .mails) (s .queues) quiet) where
   abbrev t : Table
   t = decodeTable table
 
@@ -101,23 +79,16 @@ module _ (table schedule : List ℕ) (records : ℕ) (plan : Plan) (answers reas
         let acc = passed table schedule before ok in
         let tv = table-valid table schedule before acc in
         let at : Accepted t = decoded-accepted table tv in
-        let su = suits table plan tv plans in
-        let placed : Placed t (plan .primary) (plan .standby) (plan .processes) = record { processes-is = plans .processes-is; primary-at = plans .primary-at; standby-at = plans .standby-at } in
-        let begins = seats .holds t mails₀ logs₀ heads₀ boards₀ totals₀ waits₀ (replicate 512 blankEntry) at placed fresh in
+        let planned = plans .planned in
+        let placed : Placed t (plan .primary) (plan .standby) (plan .counts .processes) =
+        record { processes-is = planned .processes-is; primary-at = plans .primary-at; standby-at = plans .standby-at } in
+        let begins = seats .holds t mails₀ logs₀ heads₀ queues₀ totals₀ (replicate 512 blankEntry) at placed fresh in
         let so-many : records ≡ length (decodeSchedule schedule) = many ∙ sym (commands-many schedule) in
-        let played = plays .played t
-        (record {
-          accepted = at;
-          suits = su;
-          records-is = so-many;
-          room = rw many (answers-fit table schedule before acc);
-          reasons-room = rw many (reasons-fit table schedule before acc);
-          starts = begins;
-        }) in
+        let played = plays .played t (record { accepted = at; planned = planned; records-is = so-many; starts = begins }) in
         let reach : Reachable t end = record { accepted = at; commands = decodeSchedule schedule; is-reached = refl } in
-        let room : 20 * plan .processes ≤ length report = rw (plans .processes-is, processes-counted table) (report-fits table schedule before acc) in
-        let r = reports .reported t (s .mails) (s .logs) (s .heads) (s .boards) (s .totals) (s .waits) (plays .entries) end reach (played .holds) (plans .processes-is) room in
-        let q = quiets .answers t (s .logs) (s .heads) (s .totals) (s .waits) (plays .entries) end reach (su .programmed) (played .holds) (plans .boards-is) (plans .processes-is) in
+        let room : 20 * plan .counts .processes ≤ length report = rw (planned .processes-is, processes-counted table) (report-fits table schedule before acc) in
+        let r = reports .reported t (s .mails) (s .logs) (s .heads) (s .queues) (s .totals) (plays .entries) end reach (played .holds) (planned .processes-is) room in
+        let q = quiets .answers t (plan .wires) (s .logs) (s .heads) (s .totals) (plays .entries) end reach planned (played .holds) in
         λ i. record { number = 0; records = so-many i; quiet = q i; buffers = record { answers = played .answers-are i; reasons = played .reasons-are i; report = r i } };
   }
 
@@ -125,10 +96,10 @@ module _ (table schedule : List ℕ) (records : ℕ) (plan : Plan) (answers reas
 
 module _ (table schedule : List ℕ) (before : Buffers) (d : Decoded) (j : Judged) (is-d : Decodes table d) (is-j : ScheduleJudged schedule j) where
   abbrev number : ℕ
-  number = judgedRun (d .number) (d .plan .processes) j (record { answers = length (before .answers); reasons = length (before .reasons); report = length (before .report) })
+  number = judgedRun (d .number) (d .plan .counts .processes) j (record { answers = length (before .answers); reasons = length (before .reasons); report = length (before .report) })
 
   judged : number ≡ validateRun table schedule (lengthsOf before)
-  judged = run-is table schedule _ (d .number) (d .plan .processes) j (is-d .number-is) (λ z. is-d .accepted z .processes-is ∙ processes-counted table) is-j
+  judged = run-is table schedule _ (d .number) (d .plan .counts .processes) j (is-d .number-is) (λ z. is-d .accepted z .planned .processes-is ∙ processes-counted table) is-j
 
   pub refuses : (n : ℕ) → n ≡ number → (n ≡ 0 → ⊥) → Runs table schedule before (record { number = n; records = 0; quiet = false }) before
   unfolding run refusedWith
@@ -136,6 +107,14 @@ module _ (table schedule : List ℕ) (before : Buffers) (d : Decoded) (j : Judge
     ran = rw (← judged, ← e, ne-eqb n 0 h);
     failure-transparent = λ z. absurd (h z);
   }
+
+  -- a run that is not refused has room for its records
+  pub roomy : (n : ℕ) → n ≡ number → n ≡ 0 → Roomy (j .records) (sheetsOf (before .answers) (before .reasons))
+  roomy n e z =
+      let acc = passed table schedule before (sym judged ∙ sym e ∙ z) in
+      let sv = schedule-valid table schedule before acc in
+      let many : j .records ≡ commandsIn schedule = is-j .records-is ∙ ap (λ (m : ℕ). cond (eqb m 0) (commandsIn schedule) 0) sv in
+      record { answers-room = rw many (answers-fit table schedule before acc); reasons-room = rw many (reasons-fit table schedule before acc) }
 
   pub accepts : (n : ℕ) → n ≡ number → n ≡ 0 → (quiet : Bool) (after : Buffers) → Conducts table schedule (j .records) (d .plan) before quiet after
       → Runs table schedule before (record { number = 0; records = j .records; quiet = quiet }) after

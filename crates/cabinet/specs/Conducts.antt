@@ -4,7 +4,7 @@ use mathlib.Core.Bool.{Bool}
 use mathlib.Core.List.{List}
 use Prim.Native.Nat.{ℕ}
 use Rattle.table.specs.Plan.{Plans}
-use Rattle.table.specs.declared.plan.Plan.{Plan}
+use Rattle.table.specs.declared.Plan.{Plan}
 use Rattle.rules.specs.Format.{decodeTable}
 use Rattle.rules.specs.Schedule.{commandsIn, decodeSchedule}
 use Rattle.rules.specs.Run.{Buffers, lengthsOf, ranOf, validateRun, ranFrom}

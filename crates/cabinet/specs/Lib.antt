@@ -1,4 +1,3 @@
--- What the records one after the other promise, and the run.
-pub mod Plays
+-- What the run promises.
 pub mod Conducts
 pub mod Runs

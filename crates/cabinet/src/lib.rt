@@ -1,3 +1,2 @@
 // The whole run: a table and a schedule in, answers and a report out. `run::run` is the public call.
-mod play;
 pub mod run;

@@ -2,20 +2,21 @@
 // whether the cabinet ended quiet. Document 01, "What each move replies". All state is this call's own; nothing is kept between calls.
 ghost use Rattle.rules.specs.Run.{buffersOf};
 ghost use Rattle.cabinet.specs.Conducts.{Conducts};
+ghost use Rattle.play.specs.Plays.{Roomy, sheetsOf};
 ghost use Rattle.cabinet.specs.Runs.{Runs};
-use crate::play::play;
 use backup::limits::LOG;
 use backup::place::HEAD;
 use outcome::quiet::quiescent;
 use outcome::report::write_report;
 use outcome::start::seat;
+use play::play::play;
 use process::row::ROW;
 use records::schedule::Lengths;
 use records::schedule::judge_run;
 use records::schedule::judge_schedule;
-use state::board::BOARD_ROW;
+use state::queue::QUEUE_ROW;
+use table::Plan;
 use table::decode;
-use table::plan::Plan;
 
 // "An accepted run returns 0, its number of records, and whether it ended quiet." A refused one its number, 0 and false.
 pub struct Verdict {
@@ -34,66 +35,41 @@ fn conduct(
     reasons: &mut [u8],
     report: &mut [u8],
 ) -> bool
-    ensures { λ r. ⌜ Conducts (now (table .entry)) (now (schedule .entry)) records plan (buffersOf (now (answers .entry)) (now (reasons .entry)) (now (report .entry))) r
+    requires { ⌜ Roomy records (sheetsOf (now answers) (now reasons)) ⌝ }
+    ensures { λ r. ⌜ Conducts (now (table .entry)) (now (schedule .entry)) records plan
+        (buffersOf (now (answers .entry)) (now (reasons .entry)) (now (report .entry))) r
         (buffersOf (now (answers .exit)) (now (reasons .exit)) (now (report .exit))) ⌝ }
 {
-    let boards_many = plan.boards;
-    let processes = plan.processes;
-    let channels = plan.channels;
-    let start = plan.start;
-    let lengths = plan.length;
-    let limits = plan.limit;
+    let counts = plan.counts;
+    let programs = plan.programs;
+    let wires = plan.wires;
     let primary = plan.primary;
     let standby = plan.standby;
-    let sender = plan.sender;
-    let reader = plan.reader;
-    let port = plan.port;
-    let ins = plan.inputs;
-    let arity = plan.arity;
     let mut rows = [[0u32; ROW]; 16];
     let mut mails = [[0u64; LOG]; 16];
     let mut logs = [[0u64; LOG]; 16];
     let mut heads = [[0u32; HEAD]; 16];
-    let mut boards = [[0u32; BOARD_ROW]; 16];
+    let mut queues = [[0u32; QUEUE_ROW]; 16];
     let mut totals = [0u32; 32];
-    let mut waits = [0u32; 16];
-    seat(&mut rows, &primary, &standby, processes);
+    seat(&mut rows, &primary, &standby, counts.processes);
     play(
         table,
         schedule,
         records,
-        boards_many,
-        processes,
-        channels,
-        &start,
-        &lengths,
-        &limits,
-        &sender,
-        &reader,
-        &port,
-        &ins,
-        &arity,
+        counts,
+        &programs,
+        &wires,
         &mut rows,
         &mut mails,
         &mut logs,
         &mut heads,
-        &mut boards,
+        &mut queues,
         &mut totals,
-        &mut waits,
         answers,
         reasons,
     );
-    write_report(&rows, processes, report);
-    quiescent(
-        table,
-        boards_many,
-        processes,
-        &start,
-        &lengths,
-        &rows,
-        &mails,
-        &boards,
-    )
+    write_report(&rows, counts.processes, report);
+    quiescent(table, counts, &programs, &rows, &mails, &queues)
 }
 
 // The run of a table and a schedule, whatever bytes they are.
@@ -104,21 +80,22 @@ pub fn run(
     reasons: &mut [u8],
     report: &mut [u8],
 ) -> Verdict
-    ensures { λ r. ⌜ Runs (now (table .entry)) (now (schedule .entry)) (buffersOf (now (answers .entry)) (now (reasons .entry)) (now (report .entry))) r
+    ensures { λ r. ⌜ Runs (now (table .entry)) (now (schedule .entry))
+        (buffersOf (now (answers .entry)) (now (reasons .entry)) (now (report .entry))) r
         (buffersOf (now (answers .exit)) (now (reasons .exit)) (now (report .exit))) ⌝ }
 {
     let d = decode(table);
     let s = judge_schedule(schedule);
     let table_number = d.number;
     let plan = d.plan;
-    let processes = plan.processes;
+    let counts = plan.counts;
     let records = s.records;
     let lengths = Lengths {
         answers: answers.len(),
         reasons: reasons.len(),
         report: report.len(),
     };
-    let number = judge_run(table_number, processes, s, lengths);
+    let number = judge_run(table_number, counts.processes, s, lengths);
     if number != 0 {
         return Verdict {
             number: number,

@@ -1,151 +1,182 @@
 -- 32 and 33: where one of them applies the rules refuse with it, and otherwise they make the move.
-use mathlib.Core.Path.{_≡_, refl, ap, _∙_, subst}
+use mathlib.Core.Path.{_≡_, refl, ap, sym, _∙_, subst}
 use mathlib.Core.Bool.{Bool, true, false, not, cond, _&&_}
+use mathlib.Core.List.{List}
 use Prim.Native.Nat.{ℕ, _<_}
 use native.Mathlib.Omega.{arith}
 use lib.Dec.{eqb, leb}
 use lib.ListN.{length}
 use borrow.Author.Tests.{leb-false}
+use Rattle.plan.specs.declared.Counts.{Counts}
+use Rattle.plan.specs.Plan.{Plan, Planned}
+use Rattle.records.specs.declared.schedule.Command as code
+use Rattle.records.specs.Commands.{commandOf}
 use Rattle.rules.specs.Table.{Table}
 use Rattle.rules.specs.Cabinet.{Cabinet}
-use Rattle.rules.specs.Moves.{Refusal, unknownMove, strayWord, noProcess, noBoard, noChannel, refusalNumber, Result, refuse, guard, step, issue, transmit, inject, crash, rejoin, rebackup, Move, stepMove, issueMove, transmitMove, injectMove, crashMove, rejoinMove, rebackupMove, unknown, moveOf, perform, judged}
+use Rattle.rules.specs.Moves.{Command, Refusal, unknownMove, strayWord, noProcess, noBoard, noChannel, refusalNumber, Result, refuse, guard, step, issue, transmit, inject, crash, rejoin, rebackup, Move, stepMove, issueMove, transmitMove, injectMove, crashMove, rejoinMove, rebackupMove, unknown, moveOf, perform, judged}
 use Rattle.rules.specs.Reasons.{refusalCause}
-use Rattle.rules.specs.Schedule.{command}
 use Rattle.rules.proofs.Decoded.{isFeed, moveOf-feed, moveOf-unknown}
-use Rattle.command.specs.Turns.{beyondOf, numberOf, wordedOf, judgeOf, faultOf, causeBy}
+use Rattle.state.specs.declared.entry.Entry.{Entry}
+use Rattle.state.specs.declared.moved.Answer.{Answer}
+use Rattle.state.specs.Store.{Store, Holds}
+use Rattle.state.specs.Moved.{Answered, refusalOf}
+use Rattle.state.proofs.Refusing.{turned-away}
+use Rattle.command.specs.Judges.{beyondOf, numberOf, judgeOf, faultOf, causeBy}
 
--- an unknown move's number
-pub unknown-number : (boards processes channels a mv : ℕ) → (mv ≡ 1 → ⊥) → (mv ≡ 2 → ⊥) → (mv ≡ 3 → ⊥) → (mv ≡ 4 → ⊥) → (mv ≡ 5 → ⊥) → (mv ≡ 6 → ⊥) → (mv ≡ 7 → ⊥)
-    → numberOf boards processes channels a (moveOf mv) ≡ 32
-unfolding numberOf
-unknown-number boards processes channels a mv h1 h2 h3 h4 h5 h6 h7 = ap (numberOf boards processes channels a) (moveOf-unknown mv h1 h2 h3 h4 h5 h6 h7)
+-- ---- a move that is none of the seven
 
--- an unknown move's cause
-pub unknown-cause : (number mv : ℕ) → (mv ≡ 1 → ⊥) → (mv ≡ 2 → ⊥) → (mv ≡ 3 → ⊥) → (mv ≡ 4 → ⊥) → (mv ≡ 5 → ⊥) → (mv ≡ 6 → ⊥) → (mv ≡ 7 → ⊥) → causeBy number (moveOf mv) ≡ 0
-unfolding causeBy
-unknown-cause number mv h1 h2 h3 h4 h5 h6 h7 = ap (causeBy number) (moveOf-unknown mv h1 h2 h3 h4 h5 h6 h7)
+module _ (mv : ℕ) (h1 : mv ≡ 1 → ⊥) (h2 : mv ≡ 2 → ⊥) (h3 : mv ≡ 3 → ⊥) (h4 : mv ≡ 4 → ⊥) (h5 : mv ≡ 5 → ⊥) (h6 : mv ≡ 6 → ⊥) (h7 : mv ≡ 7 → ⊥) where
+  is-unknown : moveOf mv ≡ unknown
+  is-unknown = moveOf-unknown mv h1 h2 h3 h4 h5 h6 h7
+
+  pub unknown-number : (counts : Counts) (a : ℕ) → numberOf counts a (moveOf mv) ≡ 32
+  unfolding numberOf
+  unknown-number counts a = ap (numberOf counts a) is-unknown
+
+  pub unknown-cause : (number : ℕ) → causeBy number (moveOf mv) ≡ 0
+  unfolding causeBy
+  unknown-cause number = ap (causeBy number) is-unknown
+
+-- ---- what the rules make of a record
 
 -- a result is a refusal of this number and the cause of that number
-pub record Refuses (result : Result) (n : ℕ) (cause : ℕ → ℕ) : Type 0 where
-  pub why : Refusal
-  pub result-is : result ≡ refuse why
-  pub number-is : n ≡ refusalNumber why
-  pub cause-is : cause n ≡ refusalCause why
+record Refuses (result : Result) (n : ℕ) (cause : ℕ → ℕ) : Type 0 where
+  why : Refusal
+  result-is : result ≡ refuse why
+  number-is : n ≡ refusalNumber why
+  cause-is : cause n ≡ refusalCause why
 
--- a result is a refusal of this number, or the number is 0
-pub data Tested (result : Result) (n : ℕ) (cause : ℕ → ℕ) : Type 0 where
-  stops : Refuses result n cause → Tested result n cause
-  goes : n ≡ 0 → Tested result n cause
+-- The rule that a move is, of the process, board or channel a, and how many of those a table has: of an unknown one none.
+abbrev pub ruleOf : Move → ℕ → Table → Cabinet → ℕ → Result
+ruleOf stepMove word t c a = step t c a
+ruleOf issueMove word t c a = issue t c a
+ruleOf transmitMove word t c a = transmit t c a
+ruleOf injectMove word t c a = inject t c (record { channel = a; word = word })
+ruleOf crashMove word t c a = crash t c a
+ruleOf rejoinMove word t c a = rejoin t c a
+ruleOf rebackupMove word t c a = rebackup t c a
+ruleOf unknown word t c a = refuse unknownMove
 
-pub must-stop : {result : Result} {n : ℕ} {cause : ℕ → ℕ} → Tested result n cause → (n ≡ 0 → ⊥) → Refuses result n cause
-must-stop (stops r) h = r
-must-stop (goes e) h = absurd (h e)
+abbrev pub mostOf : Move → Table → ℕ
+mostOf stepMove t = length (t .processes)
+mostOf issueMove t = length (t .processes)
+mostOf transmitMove t = t .boards
+mostOf injectMove t = length (t .channels)
+mostOf crashMove t = t .boards
+mostOf rejoinMove t = t .boards
+mostOf rebackupMove t = length (t .processes)
+mostOf unknown t = 0
 
--- a check, of the rules and of the code
-tested-guard : (cause : ℕ → ℕ) (b : Bool) (why : Refusal) (rest : Result) (m n : ℕ) → m ≡ refusalNumber why → cause m ≡ refusalCause why
-    → Tested rest n cause → Tested (guard b why rest) (cond b m n) cause
-unfolding guard
-tested-guard cause true why rest m n e f h = stops (record { why = why; result-is = refl; number-is = e; cause-is = f })
-tested-guard cause false why rest m n e f h = h
+-- a result is a rule's own, of a number that there is
+pub record Passes (result rule : Result) (a most : ℕ) : Type 0 where
+  pub result-is : result ≡ rule
+  pub a-inside : a < most
 
-module _ (t : Table) (c : Cabinet) (a word : ℕ) where
-  abbrev number : Move → ℕ
-  number m = numberOf (t .boards) (length (t .processes)) (length (t .channels)) a m
+-- one of the two, by whether the number is 0
+data Tested (result rule : Result) (a most n : ℕ) (cause : ℕ → ℕ) : Type 0 where
+  stops : (n ≡ 0 → ⊥) → Refuses result n cause → Tested result rule a most n cause
+  goes : n ≡ 0 → Passes result rule a most → Tested result rule a most n cause
 
-  abbrev pub judgement : ℕ → ℕ
-  judgement mv = judgeOf (t .boards) (length (t .processes)) (length (t .channels)) mv a word
+-- ---- the tests, one before the other
 
-  -- an unknown move is 32 whatever its word
-  unknown-tested : (b : Bool) → Tested (refuse unknownMove) (cond b 32 32) (λ _. 0)
+module _ (rule : Result) (a most : ℕ) (cause : ℕ → ℕ) where
+  -- a check, of the rules and of the code
+  tested-guard : (b : Bool) (why : Refusal) (rest : Result) (m n : ℕ) → (m ≡ 0 → ⊥) → m ≡ refusalNumber why → cause m ≡ refusalCause why
+      → (b ≡ false → Tested rest rule a most n cause) → Tested (guard b why rest) rule a most (cond b m n) cause
+  unfolding guard
+  tested-guard true why rest m n h e f then = stops h (record { why = why; result-is = refl; number-is = e; cause-is = f })
+  tested-guard false why rest m n h e f then = then refl
+
+  tested-unknown : (b : Bool) → cause 32 ≡ 0 → Tested (refuse unknownMove) rule a most (cond b 32 32) cause
   unfolding refusalNumber refusalCause
-  unknown-tested true = stops (record { why = unknownMove; result-is = refl; number-is = refl; cause-is = refl })
-  unknown-tested false = stops (record { why = unknownMove; result-is = refl; number-is = refl; cause-is = refl })
+  tested-unknown true e = stops (λ z. omega arith) (record { why = unknownMove; result-is = refl; number-is = refl; cause-is = e })
+  tested-unknown false e = stops (λ z. omega arith) (record { why = unknownMove; result-is = refl; number-is = refl; cause-is = e })
+
+module _ (t : Table) (counts : Counts) (is-boards : counts .boards ≡ t .boards) (is-processes : counts .processes ≡ length (t .processes))
+    (is-channels : counts .channels ≡ length (t .channels)) (c : Cabinet) (x : Command) where
+  abbrev a : ℕ
+  a = x .a
+
+  abbrev stray : Bool
+  stray = not (eqb (x .word) 0)
+
+  -- of a known move, by what it says of a 33
+  abbrev blame : Refusal → ℕ → ℕ
+  blame why k = faultOf k (refusalCause why)
 
   -- 33, and before it 32 for a word
-  beyond : (why : Refusal) (most : ℕ) (rest : Result) → 33 ≡ refusalNumber why
-      → Tested (guard (leb most a) why rest) (beyondOf a most) (λ n. faultOf n (refusalCause why))
-  beyond why most rest e = tested-guard (λ n. faultOf n (refusalCause why)) (leb most a) why rest 33 0 e refl (goes refl)
+  beyond : (why : Refusal) (n most : ℕ) (rule : Result) → n ≡ most → 33 ≡ refusalNumber why
+      → Tested (guard (leb most a) why rule) rule a most (beyondOf a n) (blame why)
+  beyond why n most rule e f =
+      subst (λ (k : ℕ). Tested (guard (leb most a) why rule) rule a most (beyondOf a k) (blame why)) (sym e)
+      (tested-guard rule a most (blame why) (leb most a) why rule 33 0 (λ z. omega arith) f refl
+      (λ h. goes refl (record { result-is = refl; a-inside = leb-false most a h })))
 
-  worded : (why : Refusal) (most : ℕ) (rest : Result) → 33 ≡ refusalNumber why
-      → Tested (guard (not (eqb word 0)) strayWord (guard (leb most a) why rest)) (cond (not (eqb word 0)) 32 (beyondOf a most)) (λ n. faultOf n (refusalCause why))
+  worded : (why : Refusal) (n most : ℕ) (rule : Result) → n ≡ most → 33 ≡ refusalNumber why
+      → Tested (guard stray strayWord (guard (leb most a) why rule)) rule a most (cond stray 32 (beyondOf a n)) (blame why)
   unfolding refusalNumber refusalCause
-  worded why most rest e =
-      tested-guard (λ n. faultOf n (refusalCause why)) (not (eqb word 0)) strayWord (guard (leb most a) why rest) 32 (beyondOf a most) refl refl (beyond why most rest e)
+  worded why n most rule e f =
+      tested-guard rule a most (blame why) stray strayWord (guard (leb most a) why rule) 32 (beyondOf a n) (λ z. omega arith) refl refl
+      (λ _. beyond why n most rule e f)
 
-  performed : (mv : ℕ) (m : Move) → Tested (perform t c (command mv a word) m) (cond (not (isFeed m) && not (eqb word 0)) 32 (number m)) (λ n. causeBy n m)
+  performed : (m : Move)
+      → Tested (perform t c x m) (ruleOf m (x .word) t c a) a (mostOf m t) (cond (not (isFeed m) && stray) 32 (numberOf counts a m)) (λ k. causeBy k m)
   unfolding perform numberOf causeBy refusalNumber refusalCause
-  performed mv stepMove = worded noProcess (length (t .processes)) (step t c a) refl
-  performed mv issueMove = worded noProcess (length (t .processes)) (issue t c a) refl
-  performed mv transmitMove = worded noBoard (t .boards) (transmit t c a) refl
-  performed mv injectMove = beyond noChannel (length (t .channels)) (inject t c (record { channel = a; word = word })) refl
-  performed mv crashMove = worded noBoard (t .boards) (crash t c a) refl
-  performed mv rejoinMove = worded noBoard (t .boards) (rejoin t c a) refl
-  performed mv rebackupMove = worded noProcess (length (t .processes)) (rebackup t c a) refl
-  performed mv unknown = unknown-tested (not (eqb word 0))
+  performed stepMove = worded noProcess (counts .processes) _ (step t c a) is-processes refl
+  performed issueMove = worded noProcess (counts .processes) _ (issue t c a) is-processes refl
+  performed transmitMove = worded noBoard (counts .boards) _ (transmit t c a) is-boards refl
+  performed injectMove = beyond noChannel (counts .channels) _ (inject t c (record { channel = a; word = x .word })) is-channels refl
+  performed crashMove = worded noBoard (counts .boards) _ (crash t c a) is-boards refl
+  performed rejoinMove = worded noBoard (counts .boards) _ (rejoin t c a) is-boards refl
+  performed rebackupMove = worded noProcess (counts .processes) _ (rebackup t c a) is-processes refl
+  performed unknown = tested-unknown (refuse unknownMove) a 0 (λ _. 0) stray refl
 
-  tested : (mv : ℕ) → Tested (judged t c (command mv a word)) (judgement mv) (λ n. causeBy n (moveOf mv))
+module _ {result rule : Result} {a most n : ℕ} {cause : ℕ → ℕ} where
+  must-stop : Tested result rule a most n cause → (n ≡ 0 → ⊥) → Refuses result n cause
+  must-stop (stops z r) h = r
+  must-stop (goes e p) h = absurd (h e)
+
+  must-go : Tested result rule a most n cause → n ≡ 0 → Passes result rule a most
+  must-go (stops z r) h = absurd (z h)
+  must-go (goes e p) h = p
+
+-- ---- what the loop over a schedule needs: n is what `judge` answers of the record x, and a the process, board or channel that x names
+
+module _ {t : Table} {l : Plan} (u : Planned t l) (x : code.Command) (n : ℕ) (is-n : n ≡ judgeOf (l .counts) x) (c : Cabinet)
+    (a : ℕ) (is-a : a ≡ x .a) where
+  abbrev result : Result
+  result = judged t c (commandOf x)
+
+  tested : Tested result (ruleOf (moveOf (x .mv)) (x .word) t c (x .a)) (x .a) (mostOf (moveOf (x .mv)) t) n (λ k. causeBy k (moveOf (x .mv)))
   unfolding judged judgeOf
-  tested mv =
-      subst (λ (b : Bool). Tested (perform t c (command mv a word) (moveOf mv)) (cond (not b && not (eqb word 0)) 32 (number (moveOf mv))) (λ n. causeBy n (moveOf mv)))
-      (moveOf-feed mv) (performed mv (moveOf mv))
+  tested =
+      let m : Move = moveOf (x .mv) in
+      let of : ℕ → Type 0 = λ k. Tested (perform t c (commandOf x) m) (ruleOf m (x .word) t c (x .a)) (x .a) (mostOf m t) k (λ k. causeBy k m) in
+      subst of (sym is-n)
+      (subst (λ (b : Bool). of (cond (not b && not (eqb (x .word) 0)) 32 (numberOf (l .counts) (x .a) m))) (moveOf-feed (x .mv))
+      (performed t (l .counts) (u .boards-is) (u .processes-is) (u .channels-is) c (commandOf x) m))
 
-  -- a number other than 0 is the rules' refusal
-  pub refuses : (mv : ℕ) → (judgement mv ≡ 0 → ⊥) → Refuses (judged t c (command mv a word)) (judgement mv) (λ n. causeBy n (moveOf mv))
-  refuses mv h = must-stop (tested mv) h
+  -- A number other than 0 is the rules' refusal, with its cause.
+  pub refused : {s : Store} {entries : List Entry} {r : Answer} (cause : ℕ) → Holds t s entries c → (n ≡ 0 → ⊥) → cause ≡ causeBy n (moveOf (x .mv))
+      → r ≡ refusalOf n cause a → Answered t s entries c (commandOf x) (judged t c (commandOf x)) r
+  refused cause h z e f =
+      let y = must-stop tested z in
+      turned-away (commandOf x) a (y .why) h (y .result-is) (sym is-a) (f ∙ (λ i. refusalOf (y .number-is i) ((e ∙ y .cause-is) i) a))
 
-  -- none of the two applies: the move is made, and a is in the table
-  inside : (b : Bool) (why : Refusal) (rest : Result) → _≡_ {A = ℕ} (cond b 33 0) 0 → (guard b why rest ≡ rest) × (b ≡ false)
-  unfolding guard
-  inside true why rest e = absurd (omega arith)
-  inside false why rest e = (refl, refl)
+  -- Where it is 0 the move is made, of a process, board or channel of the table.
+  pub passes : (k : ℕ) → x .mv ≡ k → n ≡ 0
+      → Passes (judged t c (commandOf x)) (ruleOf (moveOf k) (x .word) t c a) a (mostOf (moveOf k) t)
+  passes k e z =
+      subst (λ (j : ℕ). Passes result (ruleOf (moveOf j) (x .word) t c a) a (mostOf (moveOf j) t)) e
+      (subst (λ (j : ℕ). Passes result (ruleOf (moveOf (x .mv)) (x .word) t c j) j (mostOf (moveOf (x .mv)) t)) (sym is-a) (must-go tested z))
 
-  within : (why : Refusal) (most : ℕ) (rest : Result) → beyondOf a most ≡ 0 → (guard (leb most a) why rest ≡ rest) × (a < most)
-  within why most rest e = let i = inside (leb most a) why rest e in (i .0, leb-false most a (i .1))
+  -- So what the move's own rule answers, the record is answered.
+  pub made : {s : Store} {entries : List Entry} {r : Answer} (k : ℕ) → x .mv ≡ k → n ≡ 0
+      → Answered t s entries c (commandOf x) (ruleOf (moveOf k) (x .word) t c a) r → Answered t s entries c (commandOf x) (judged t c (commandOf x)) r
+  made {s} {entries} {r} k e z = subst (λ (y : Result). Answered t s entries c (commandOf x) y r) (sym (passes k e z .result-is))
 
-  first-passed : (b : Bool) (why : Refusal) (rest : Result) (m : ℕ) → cond b 32 m ≡ 0 → (guard b why rest ≡ rest) × (m ≡ 0)
-  unfolding guard
-  first-passed true why rest m e = absurd (omega arith)
-  first-passed false why rest m e = (refl, e)
-
-  passed : (why : Refusal) (most : ℕ) (rest : Result) → cond (not (eqb word 0)) 32 (beyondOf a most) ≡ 0
-      → (guard (not (eqb word 0)) strayWord (guard (leb most a) why rest) ≡ rest) × (a < most)
-  passed why most rest e =
-      let one = first-passed (not (eqb word 0)) strayWord (guard (leb most a) why rest) (beyondOf a most) e in
-      let two = within why most rest (one .1) in
-      (one .0 ∙ two .0, two .1)
-
-  pub steps : judgement 1 ≡ 0 → (judged t c (command 1 a word) ≡ step t c a) × (a < length (t .processes))
-  unfolding judged perform judgeOf numberOf
-  steps = passed noProcess (length (t .processes)) (step t c a)
-
-  pub issues : judgement 2 ≡ 0 → (judged t c (command 2 a word) ≡ issue t c a) × (a < length (t .processes))
-  unfolding judged perform judgeOf numberOf
-  issues = passed noProcess (length (t .processes)) (issue t c a)
-
-  pub transmits : judgement 3 ≡ 0 → (judged t c (command 3 a word) ≡ transmit t c a) × (a < t .boards)
-  unfolding judged perform judgeOf numberOf
-  transmits = passed noBoard (t .boards) (transmit t c a)
-
-  pub injects : judgement 4 ≡ 0 → (judged t c (command 4 a word) ≡ inject t c (record { channel = a; word = word })) × (a < length (t .channels))
-  unfolding judged perform judgeOf numberOf
-  injects = within noChannel (length (t .channels)) (inject t c (record { channel = a; word = word }))
-
-  pub crashes : judgement 5 ≡ 0 → (judged t c (command 5 a word) ≡ crash t c a) × (a < t .boards)
-  unfolding judged perform judgeOf numberOf
-  crashes = passed noBoard (t .boards) (crash t c a)
-
-  pub rejoins : judgement 6 ≡ 0 → (judged t c (command 6 a word) ≡ rejoin t c a) × (a < t .boards)
-  unfolding judged perform judgeOf numberOf
-  rejoins = passed noBoard (t .boards) (rejoin t c a)
-
-  pub rebacks : judgement 7 ≡ 0 → (judged t c (command 7 a word) ≡ rebackup t c a) × (a < length (t .processes))
-  unfolding judged perform judgeOf numberOf
-  rebacks = passed noProcess (length (t .processes)) (rebackup t c a)
-
-  -- and no other move has none
-  pub known : (mv : ℕ) → judgement mv ≡ 0 → (mv ≡ 1 → ⊥) → (mv ≡ 2 → ⊥) → (mv ≡ 3 → ⊥) → (mv ≡ 4 → ⊥) → (mv ≡ 5 → ⊥) → (mv ≡ 6 → ⊥) → (mv ≡ 7 → ⊥) → ⊥
-  unfolding judgeOf
-  known mv h h1 h2 h3 h4 h5 h6 h7 =
-      let e = first-passed (wordedOf mv word) unknownMove (refuse unknownMove) (number (moveOf mv)) h .1 in
-      let f = unknown-number (t .boards) (length (t .processes)) (length (t .channels)) a mv h1 h2 h3 h4 h5 h6 h7 in
+  -- And no unknown move passes.
+  pub known : n ≡ 0 → (x .mv ≡ 1 → ⊥) → (x .mv ≡ 2 → ⊥) → (x .mv ≡ 3 → ⊥) → (x .mv ≡ 4 → ⊥) → (x .mv ≡ 5 → ⊥) → (x .mv ≡ 6 → ⊥) → (x .mv ≡ 7 → ⊥) → ⊥
+  known z h1 h2 h3 h4 h5 h6 h7 =
+      let y = subst (λ (m : Move). x .a < mostOf m t) (is-unknown (x .mv) h1 h2 h3 h4 h5 h6 h7) (must-go tested z .a-inside) in
       omega arith

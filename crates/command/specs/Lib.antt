@@ -1,3 +1,2 @@
--- What one record of a schedule promises.
-pub mod Plan
-pub mod Turns
+-- What judging one record of a schedule answers.
+pub mod Judges

@@ -1,2 +1,2 @@
-// One record of a schedule: judged, and its move made.
-pub mod turn;
+// One record of a schedule, judged before its move is made.
+pub mod judge;

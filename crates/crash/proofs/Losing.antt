@@ -1,20 +1,18 @@
 -- The losses of a crash: what is true between two rounds of their loops, and at the end.
-use mathlib.Core.Path.{_≡_, refl, ap, _∙_}
-use mathlib.Core.Bool.{Bool, true, false, not, cond}
+use mathlib.Core.Path.{_≡_}
+use mathlib.Core.Bool.{Bool, true, false, cond}
 use mathlib.Core.List.{List, []}
 use Prim.Native.Nat.{ℕ, _+_, _≤_, _<_}
-use native.Mathlib.Omega.{arith}
-use native.Mathlib.Numerals.{add-one}
 use lib.Dec.{eqb}
 use lib.ListN.{getD, set}
-use borrow.Author.Tests.{lt-ltb, le-ltb, eq-eqb, ne-eqb}
-use Rattle.facts.specs.Tests.{anyBelow}
+use borrow.Author.Tests.{lt-ltb, le-ltb}
+use Rattle.process.specs.Row.{boardIn}
 use Rattle.crash.specs.Losses.{runsOn, Zeroed}
 use Rattle.crash.proofs.Passing.{Passing, passing-start, passing-on, passing-over, passing-end}
 
 -- ---- tests
 
-pub runs-here : (rows : List (List ℕ)) (a p : ℕ) → p < 16 → eqb (getD (getD rows p []) 0 0) a ≡ runsOn rows a p
+pub runs-here : (rows : List (List ℕ)) (a p : ℕ) → p < 16 → eqb (boardIn (getD rows p [])) a ≡ runsOn rows a p
 runs-here rows a p l = rw (lt-ltb p 16 l)
 
 pub runs-nowhere : (rows : List (List ℕ)) (a p : ℕ) → 16 ≤ p → false ≡ runsOn rows a p

@@ -1,22 +1,17 @@
 -- Move 5 (document 01: "crash board a: its queue is lost"; W-210: 44).
-use mathlib.Core.Path.{_≡_}
 use mathlib.Core.List.{List}
-use Prim.Native.Nat.{ℕ, _<_}
-use lib.ListN.{length}
-use Rattle.rules.specs.Table.{Table}
-use Rattle.rules.specs.Cabinet.{Cabinet}
-use Rattle.rules.specs.Moves.{Command, crash}
-use Rattle.state.specs.declared.entry.Entry.{Entry}
+use Prim.Native.Nat.{ℕ}
+use Rattle.plan.specs.declared.Counts.{Counts}
+use Rattle.plan.specs.Plan.{planOf}
+use Rattle.rules.specs.Moves.{crash}
 use Rattle.state.specs.declared.moved.Answer.{Answer}
-use Rattle.state.specs.Store.{storeOf, Holds}
-use Rattle.state.specs.Moved.{Reachable, Answered}
-use Rattle.state.specs.Wired.{Wired, Addressed}
+use Rattle.state.specs.Store.{storeOf}
+use Rattle.state.specs.Moved.{MakesAlone, aBoard}
 
--- whatever the lists are that it isn't lent
-pub record Crashes (processes channels : ℕ) (sender reader ins arity : List ℕ) (rows mails logs heads boards : List (List ℕ)) (totals waits : List ℕ) (a : ℕ)
-    (rows′ mails′ boards′ : List (List ℕ)) (totals′ waits′ : List ℕ) (r : Answer) : Type 0 where
-  pub answered : (t : Table) (port : List ℕ) (entries : List Entry) (c : Cabinet) (command : Command)
-      → Reachable t c → Wired t sender reader port → Addressed t ins arity
-      → processes ≡ length (t .processes) → channels ≡ length (t .channels)
-      → Holds t (storeOf rows mails logs heads boards totals waits) entries c → command .a ≡ a → a < t .boards
-      → Answered t (storeOf rows′ mails′ logs heads boards′ totals′ waits′) entries c command (crash t c a) r
+-- whatever the table's bytes are, which it isn't lent
+abbrev pub Crashes : Counts → List ℕ → List ℕ → List (List ℕ) → List (List ℕ) → List (List ℕ) → List (List ℕ) → List (List ℕ) → List ℕ → ℕ
+    → List (List ℕ) → List (List ℕ) → List (List ℕ) → List ℕ → Answer → Type 0
+Crashes counts programs wires rows mails logs heads queues totals a rows′ mails′ queues′ totals′ r =
+    (table : List ℕ)
+    → MakesAlone crash (aBoard a) (planOf table counts programs wires)
+    (storeOf rows mails logs heads queues totals) a (storeOf rows′ mails′ logs heads queues′ totals′) r

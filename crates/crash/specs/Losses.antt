@@ -4,19 +4,21 @@ use mathlib.Core.List.{List, []}
 use Prim.Native.Nat.{ℕ}
 use lib.Dec.{eqb, ltb}
 use lib.ListN.{getD, set}
+use Rattle.plan.specs.Plan.{senderIn}
+use Rattle.process.specs.Row.{boardIn, flagIn}
 use Rattle.crash.specs.Each.{Each}
 
 -- p is a process that runs on board a
 abbrev pub runsOn : List (List ℕ) → ℕ → ℕ → Bool
-runsOn rows a p = ltb p 16 && eqb (getD (getD rows p []) 0 0) a
+runsOn rows a p = ltb p 16 && eqb (boardIn (getD rows p [])) a
 
 -- process p has no backup; one that is being made is none
 abbrev pub unbackedIn : List (List ℕ) → ℕ → Bool
-unbackedIn rows p = not (eqb (getD (getD rows p []) 12 0) 1)
+unbackedIn rows p = not (eqb (flagIn (getD rows p [])) 1)
 
 -- channel k has a sender that runs on board a
 abbrev pub lostWords : List ℕ → List (List ℕ) → ℕ → ℕ → Bool
-lostWords sender rows a k = runsOn rows a (getD sender k 0)
+lostWords wires rows a k = runsOn rows a (senderIn wires k)
 
 -- of the first n numbers those that the test names are 0, and the others as they were
 abbrev pub Zeroed : (ℕ → Bool) → ℕ → List ℕ → List ℕ → Type 0
@@ -24,4 +26,4 @@ Zeroed named n l l′ = Each (λ i x. cond (named i) 0 x) n l l′
 
 -- a board's row once it is dead
 abbrev pub deadRow : List ℕ → List ℕ
-deadRow board = set (set board 1 0) 2 1
+deadRow queue = set (set queue 1 0) 2 1

@@ -6,16 +6,17 @@ use lib.Dec.{ltb}
 use lib.ListN.{getD}
 use Rattle.backup.specs.Limits.{logMost}
 use Rattle.rules.specs.Cabinet.{unreadOn}
-use Rattle.process.specs.Row.{mailsIn}
+use Rattle.process.specs.Row.{unreadIn, oldestIn, mailsIn}
+use Rattle.plan.specs.Plan.{readerIn}
 use Rattle.crash.specs.Each.{Each}
 
 -- how many unread words of channel k a row and a mailbox have
 abbrev pub unreadHere : List ℕ → List ℕ → ℕ → ℕ
-unreadHere row mail k = unreadOn k (mailsIn (min (getD row 14 0) logMost) mail)
+unreadHere row mail k = unreadOn k (mailsIn (oldestIn row) (min (unreadIn row) logMost) mail)
 
 -- how many process p has; none where p is no process
-abbrev pub unreadIn : List (List ℕ) → List (List ℕ) → ℕ → ℕ → ℕ
-unreadIn rows mails p k = cond (ltb p 16) (unreadHere (getD rows p []) (getD mails p []) k) 0
+abbrev pub unreadAt : List (List ℕ) → List (List ℕ) → ℕ → ℕ → ℕ
+unreadAt rows mails p k = cond (ltb p 16) (unreadHere (getD rows p []) (getD mails p []) k) 0
 
 -- a number less or more another, in 32 bits
 abbrev pub lessBy : ℕ → ℕ → ℕ
@@ -24,9 +25,16 @@ lessBy x y = (x + (2 ^ 32 - y)) % 2 ^ 32
 abbrev pub moreBy : ℕ → ℕ → ℕ
 moreBy x y = (x + y) % 2 ^ 32
 
--- each of the first n totals less, or more, the unread words of its channel
+-- a total less, or more, the unread words of its channel
+abbrev pub lessUnread : List ℕ → List (List ℕ) → List (List ℕ) → ℕ → ℕ → ℕ
+lessUnread wires rows mails k total = lessBy total (unreadAt rows mails (readerIn wires k) k)
+
+abbrev pub moreUnread : List ℕ → List (List ℕ) → List (List ℕ) → ℕ → ℕ → ℕ
+moreUnread wires rows mails k total = moreBy total (unreadAt rows mails (readerIn wires k) k)
+
+-- each of the first n totals
 abbrev pub Dropped : ℕ → List ℕ → List (List ℕ) → List (List ℕ) → List ℕ → List ℕ → Type 0
-Dropped n reader rows mails totals totals′ = Each (λ k x. lessBy x (unreadIn rows mails (getD reader k 0) k)) n totals totals′
+Dropped n wires rows mails totals totals′ = Each (lessUnread wires rows mails) n totals totals′
 
 abbrev pub Added : ℕ → List ℕ → List (List ℕ) → List (List ℕ) → List ℕ → List ℕ → Type 0
-Added n reader rows mails totals totals′ = Each (λ k x. moreBy x (unreadIn rows mails (getD reader k 0) k)) n totals totals′
+Added n wires rows mails totals totals′ = Each (moreUnread wires rows mails) n totals totals′

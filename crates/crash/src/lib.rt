@@ -1,5 +1,4 @@
 // A board crashes (move 5).
-mod bounds;
 pub mod crash;
 mod losses;
 mod processes;

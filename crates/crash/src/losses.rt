@@ -1,16 +1,18 @@
-// What a board's crash takes with it: "its queue is lost", and with it the words and the checkpoints of the processes that run there.
+// What a board's crash takes with it: "its queue is lost", and with it the words of the processes that run there.
 ghost use mathlib.Core.Path.{_≡_};
 ghost use Prim.Native.Nat.{_≤_, _<_};
 ghost use Rattle.facts.specs.Tests.{anyBelow};
 ghost use Rattle.crash.specs.Losses.{runsOn, unbackedIn, Zeroed, lostWords, deadRow};
+use plan::WIRES;
+use plan::sender;
 use process::row::BOARD;
 use process::row::COMPLETE;
 use process::row::PROTECTED;
 use process::row::ROW;
-use state::board::BOARD_ROW;
-use state::board::COUNT;
-use state::board::DEAD;
-use state::board::wide;
+use state::queue::COUNT;
+use state::queue::DEAD;
+use state::queue::QUEUE_ROW;
+use words::wide;
 
 // Whether p is a process that runs on board a.
 pub fn runs_on(rows: &[[u32; ROW]; 16], p: usize, a: u32) -> bool
@@ -46,41 +48,27 @@ pub fn some_unbacked(n: usize, rows: &[[u32; ROW]; 16]) -> bool
 // Of the words in queues those of a process that runs on board a are lost.
 pub fn lose_words(
     n: usize,
-    sender: &[u32; 32],
+    wires: &[u32; WIRES],
     rows: &[[u32; ROW]; 16],
     a: u32,
     totals: &mut [u32; 32],
 )
     requires { ⌜ n ≤ 32 ⌝ }
-    ensures { λ _. ⌜ Zeroed (lostWords (now (sender .entry)) (now (rows .entry)) a) n (now (totals .entry)) (now (totals .exit)) ⌝ }
+    ensures { λ _. ⌜ Zeroed (lostWords (now (wires .entry)) (now (rows .entry)) a) n (now (totals .entry)) (now (totals .exit)) ⌝ }
 {
     let mut k = 0;
     while k < n {
-        if runs_on(rows, wide(sender[k]), a) {
+        if runs_on(rows, wide(sender(wires, k)), a) {
             totals[k] = 0;
         }
         k += 1;
     }
 }
 
-// No checkpoint of a process that runs on board a waits any more.
-pub fn lose_flags(n: usize, rows: &[[u32; ROW]; 16], a: u32, waits: &mut [u32; 16])
-    requires { ⌜ n ≤ 16 ⌝ }
-    ensures { λ _. ⌜ Zeroed (runsOn (now (rows .entry)) a) n (now (waits .entry)) (now (waits .exit)) ⌝ }
-{
-    let mut p = 0;
-    while p < n {
-        if runs_on(rows, p, a) {
-            waits[p] = 0;
-        }
-        p += 1;
-    }
-}
-
 // A board's row once it is dead: no entry is left.
-pub fn die(board: &mut [u32; BOARD_ROW])
-    ensures { λ _. ⌜ now (board .exit) ≡ deadRow (now (board .entry)) ⌝ }
+pub fn die(queue: &mut [u32; QUEUE_ROW])
+    ensures { λ _. ⌜ now (queue .exit) ≡ deadRow (now (queue .entry)) ⌝ }
 {
-    board[COUNT] = 0;
-    board[DEAD] = 1;
+    queue[COUNT] = 0;
+    queue[DEAD] = 1;
 }

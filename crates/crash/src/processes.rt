@@ -1,20 +1,23 @@
 // The processes after a crash: "Each process running there goes on at its backup board".
 ghost use mathlib.Core.Path.{_≡_};
 ghost use Prim.Native.Nat.{_≤_, _<_};
-ghost use Rattle.crash.specs.Processes.{inputIn, AllCrashed};
+ghost use Rattle.crash.specs.Processes.{portChannel, AllCrashed};
 use backup::limits::LOG;
 use backup::place::HEAD;
+use plan::PROGRAMS;
+use plan::arity;
+use plan::input;
 use process::crash::crash;
 use process::row::ROW;
-use state::board::wide;
+use words::wide;
 
 // The channel of a port of process p; 0 stands for one that it doesn't have.
-fn input_at(ins: &[u32; 64], arity: &[u32; 16], p: usize, port: usize) -> u32
+fn input_at(programs: &[u32; PROGRAMS], p: usize, port: usize) -> u32
     requires { ⌜ (p < 16) × (port < 4) ⌝ }
-    ensures { λ r. ⌜ r ≡ inputIn (now (ins .entry)) (now (arity .entry)) p port ⌝ }
+    ensures { λ r. ⌜ r ≡ portChannel (now (programs .entry)) p port ⌝ }
 {
-    if port < wide(arity[p]) {
-        ins[4 * p + port]
+    if port < wide(arity(programs, p)) {
+        input(programs, p, port)
     } else {
         0
     }
@@ -23,8 +26,7 @@ fn input_at(ins: &[u32; 64], arity: &[u32; 16], p: usize, port: usize) -> u32
 // Board a crashes, in each of n processes.
 pub fn crash_all(
     n: usize,
-    ins: &[u32; 64],
-    arity: &[u32; 16],
+    programs: &[u32; PROGRAMS],
     rows: &mut [[u32; ROW]; 16],
     mails: &mut [[u64; LOG]; 16],
     logs: &[[u64; LOG]; 16],
@@ -32,15 +34,16 @@ pub fn crash_all(
     a: u32,
 )
     requires { ⌜ n ≤ 16 ⌝ }
-    ensures { λ _. ⌜ AllCrashed n (now (ins .entry)) (now (arity .entry)) (now (rows .entry)) (now (mails .entry)) (now (logs .entry)) (now (heads .entry)) a (now (rows .exit)) (now (mails .exit)) ⌝ }
+    ensures { λ _. ⌜ AllCrashed n (now (programs .entry)) (now (rows .entry)) (now (mails .entry)) (now (logs .entry)) (now (heads .entry)) a
+        (now (rows .exit)) (now (mails .exit)) ⌝ }
 {
     let mut p = 0;
     while p < n {
         let channels = [
-            input_at(ins, arity, p, 0),
-            input_at(ins, arity, p, 1),
-            input_at(ins, arity, p, 2),
-            input_at(ins, arity, p, 3),
+            input_at(programs, p, 0),
+            input_at(programs, p, 1),
+            input_at(programs, p, 2),
+            input_at(programs, p, 3),
         ];
         crash(
             &mut rows[p],

@@ -3,14 +3,17 @@ ghost use mathlib.Core.Path.{_≡_};
 ghost use Prim.Native.Nat.{_≤_, _<_};
 ghost use Rattle.backup.specs.Limits.{logMost};
 ghost use Rattle.rules.specs.Cabinet.{unreadOn};
-ghost use Rattle.process.specs.Row.{mailIn, mailsIn};
-ghost use Rattle.crash.specs.Recount.{unreadHere, unreadIn, Dropped, Added};
-use crate::bounds::most_words;
+ghost use Rattle.process.specs.Row.{oldestIn, mailIn, mailsIn};
+ghost use Rattle.crash.specs.Recount.{unreadHere, unreadAt, Dropped, Added};
 use backup::limits::LOG;
+use plan::WIRES;
+use plan::reader;
 use process::mail::channel_of;
+use process::mail::word_at;
 use process::row::ROW;
 use process::row::UNREAD;
-use state::board::wide;
+use words::least;
+use words::wide;
 
 // The channel of a word of a mailbox.
 fn channel_at(x: u64) -> usize
@@ -19,15 +22,15 @@ fn channel_at(x: u64) -> usize
     wide(channel_of(x))
 }
 
-// How many of a mailbox's first n words are on channel k.
-fn count_on(mail: &[u64; LOG], n: usize, k: usize) -> u32
+// How many of the n oldest words of a process's mailbox are on channel k.
+fn count_on(row: &[u32; ROW], mail: &[u64; LOG], n: usize, k: usize) -> u32
     requires { ⌜ n ≤ logMost ⌝ }
-    ensures { λ r. ⌜ r ≡ unreadOn k (mailsIn n (now (mail .entry))) ⌝ }
+    ensures { λ r. ⌜ r ≡ unreadOn k (mailsIn (oldestIn (now (row .entry))) n (now (mail .entry))) ⌝ }
 {
     let mut count = 0;
     let mut i = 0;
     while i < n {
-        if channel_at(mail[i]) == k {
+        if channel_at(word_at(row, mail, i)) == k {
             count = std::num::wrapping_add_u32(count, 1);
         }
         i += 1;
@@ -39,12 +42,12 @@ fn count_on(mail: &[u64; LOG], n: usize, k: usize) -> u32
 fn unread_of(row: &[u32; ROW], mail: &[u64; LOG], k: usize) -> u32
     ensures { λ r. ⌜ r ≡ unreadHere (now (row .entry)) (now (mail .entry)) k ⌝ }
 {
-    count_on(mail, most_words(wide(row[UNREAD])), k)
+    count_on(row, mail, least(wide(row[UNREAD]), LOG), k)
 }
 
 // How many process p has; none where p is no process.
 fn unread_at(rows: &[[u32; ROW]; 16], mails: &[[u64; LOG]; 16], p: usize, k: usize) -> u32
-    ensures { λ r. ⌜ r ≡ unreadIn (now (rows .entry)) (now (mails .entry)) p k ⌝ }
+    ensures { λ r. ⌜ r ≡ unreadAt (now (rows .entry)) (now (mails .entry)) p k ⌝ }
 {
     if p < 16 {
         unread_of(&rows[p], &mails[p], k)
@@ -56,17 +59,17 @@ fn unread_at(rows: &[[u32; ROW]; 16], mails: &[[u64; LOG]; 16], p: usize, k: usi
 // Each of n totals less its channel's unread words: the words in queues are left.
 pub fn drop_unread(
     n: usize,
-    reader: &[u32; 32],
+    wires: &[u32; WIRES],
     rows: &[[u32; ROW]; 16],
     mails: &[[u64; LOG]; 16],
     totals: &mut [u32; 32],
 )
     requires { ⌜ n ≤ 32 ⌝ }
-    ensures { λ _. ⌜ Dropped n (now (reader .entry)) (now (rows .entry)) (now (mails .entry)) (now (totals .entry)) (now (totals .exit)) ⌝ }
+    ensures { λ _. ⌜ Dropped n (now (wires .entry)) (now (rows .entry)) (now (mails .entry)) (now (totals .entry)) (now (totals .exit)) ⌝ }
 {
     let mut k = 0;
     while k < n {
-        let unread = unread_at(rows, mails, wide(reader[k]), k);
+        let unread = unread_at(rows, mails, wide(reader(wires, k)), k);
         totals[k] = std::num::wrapping_sub_u32(totals[k], unread);
         k += 1;
     }
@@ -75,17 +78,17 @@ pub fn drop_unread(
 // Each of n totals and its channel's unread words.
 pub fn add_unread(
     n: usize,
-    reader: &[u32; 32],
+    wires: &[u32; WIRES],
     rows: &[[u32; ROW]; 16],
     mails: &[[u64; LOG]; 16],
     totals: &mut [u32; 32],
 )
     requires { ⌜ n ≤ 32 ⌝ }
-    ensures { λ _. ⌜ Added n (now (reader .entry)) (now (rows .entry)) (now (mails .entry)) (now (totals .entry)) (now (totals .exit)) ⌝ }
+    ensures { λ _. ⌜ Added n (now (wires .entry)) (now (rows .entry)) (now (mails .entry)) (now (totals .entry)) (now (totals .exit)) ⌝ }
 {
     let mut k = 0;
     while k < n {
-        let unread = unread_at(rows, mails, wide(reader[k]), k);
+        let unread = unread_at(rows, mails, wide(reader(wires, k)), k);
         totals[k] = std::num::wrapping_add_u32(totals[k], unread);
         k += 1;
     }

@@ -38,7 +38,8 @@ module _ {A : Type 0} (w : A → ℕ) where
   total-replicate (suc n) x h = let m = total-replicate n x h in omega arith
 
 -- every element but the one at b weighs nothing
-pub total-one : {A : Type 0} (w : A → ℕ) (l : List A) (b : ℕ) (d : A) → w d ≡ 0 → ((j : ℕ) → j ≢ b → w (getD l j d) ≡ 0) → total w l ≡ w (getD l b d)
+pub total-one : {A : Type 0} (w : A → ℕ) (l : List A) (b : ℕ) (d : A) → w d ≡ 0 → ((j : ℕ) → j ≢ b → w (getD l j d) ≡ 0)
+    → total w l ≡ w (getD l b d)
 total-one w [] b d z h = sym z
 total-one w (x ∷ l) zero d z h = let a = total-one w l (length l) d z (λ j _. h (suc j) (λ e. absurd (omega arith))) in let e = ap w (List·getD-eq-default l d {n = length l} (omega arith)) in omega arith
 total-one w (x ∷ l) (suc b) d z h =
@@ -144,7 +145,8 @@ total-occurs l (x ∷ extra) once = let a = once x in let b = total-occurs l ext
     parts (y ∷ r) = let h = parts r in let g = same-symmetric y x in omega arith
 
 -- each term is at most a constant and a weight
-pub total-most : (f g : ℕ → ℕ) (most : ℕ) (l : List ℕ) → ((i : ℕ) → i < length l → f (getD l i 0) ≤ most + g (getD l i 0)) → total f l ≤ most * length l + total g l
+pub total-most : (f g : ℕ → ℕ) (most : ℕ) (l : List ℕ) → ((i : ℕ) → i < length l → f (getD l i 0) ≤ most + g (getD l i 0))
+    → total f l ≤ most * length l + total g l
 total-most f g most [] h = omega arith
 total-most f g most (x ∷ l) h =
     let a = h zero (omega arith) in

@@ -78,29 +78,6 @@ removeAt i [] = []
 removeAt zero (x ∷ l) = l
 removeAt (suc i) (x ∷ l) = x ∷ removeAt i l
 
-pub map-removeAt : {A B : Type 0} (f : A → B) (i : ℕ) (l : List A) → map f (removeAt i l) ≡ removeAt i (map f l)
-map-removeAt f i [] = refl
-map-removeAt f zero (x ∷ l) = refl
-map-removeAt f (suc i) (x ∷ l) = ap (λ (r : List _). f x ∷ r) (map-removeAt f i l)
-
-pub length-removeAt : {A : Type 0} (i : ℕ) (l : List A) → i < length l → suc (length (removeAt i l)) ≡ length l
-length-removeAt i [] h = absurd (not-suc-le-zero h)
-length-removeAt zero (x ∷ l) h = refl
-length-removeAt (suc i) (x ∷ l) h = ap suc (length-removeAt i l (le-of-suc-le-suc h))
-
--- before that place nothing has moved, from it on everything by one
-pub getD-removeAt-before : {A : Type 0} (i k : ℕ) (l : List A) (d : A) → k < i → getD (removeAt i l) k d ≡ getD l k d
-getD-removeAt-before i k [] d h = refl
-getD-removeAt-before zero k (x ∷ l) d h = absurd (not-suc-le-zero h)
-getD-removeAt-before (suc i) zero (x ∷ l) d h = refl
-getD-removeAt-before (suc i) (suc k) (x ∷ l) d h = getD-removeAt-before i k l d (le-of-suc-le-suc h)
-
-pub getD-removeAt-behind : {A : Type 0} (i k : ℕ) (l : List A) (d : A) → i ≤ k → getD (removeAt i l) k d ≡ getD l (suc k) d
-getD-removeAt-behind i k [] d h = refl
-getD-removeAt-behind zero k (x ∷ l) d h = refl
-getD-removeAt-behind (suc i) zero (x ∷ l) d h = absurd (not-suc-le-zero h)
-getD-removeAt-behind (suc i) (suc k) (x ∷ l) d h = getD-removeAt-behind i k l d (le-of-suc-le-suc h)
-
 -- a part that goes on to the list's end is all that follows its start
 pub part-rest : {A : Type 0} (l : List A) (at : ℕ) → take (length l - at) (drop at l) ≡ drop at l
 part-rest l at = take-all (length l - at) (drop at l) (let h = length-drop at l in omega arith)

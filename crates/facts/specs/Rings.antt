@@ -1,5 +1,5 @@
 -- Lists given by a function of the place, and rings of 32 in a flat list: an entry joins at the end, the oldest leaves.
-use mathlib.Core.Path.{_≡_, refl, ap, sym, _∙_}
+use mathlib.Core.Path.{_≡_, refl, ap, _∙_}
 use mathlib.Core.Logic.{_≢_}
 use mathlib.Core.List.{List, [], _∷_, _++_}
 use Prim.Native.Nat.{ℕ, zero, suc, _+_, _*_, _%_, _≤_, _<_}
@@ -7,8 +7,7 @@ use native.Mathlib.Omega.{arith}
 use native.Mathlib.Nat.{not-suc-le-zero, le-of-suc-le-suc}
 use lib.ListN.{length, getD, set}
 use lib.Seq.{getD-set-same, getD-set-other}
-use Rattle.facts.specs.Tests.{by-eq}
-use Rattle.facts.specs.Lists.{listed, listed-same}
+use Rattle.facts.specs.Lists.{listed, listed-same, removeAt}
 
 -- ---- listed
 
@@ -24,6 +23,20 @@ getD-listed f (suc n) (suc i) d h = getD-listed (λ k. f (suc k)) n i d (le-of-s
 pub listed-more : {A : Type 0} (f : ℕ → A) (n : ℕ) → listed f (suc n) ≡ listed f n ++ (f n ∷ [])
 listed-more f zero = refl
 listed-more {A} f (suc n) = ap (λ (l : List A). f zero ∷ l) (listed-more (λ i. f (suc i)) n)
+
+-- one more at the end, the others as they were
+pub listed-push : {A : Type 0} (f g : ℕ → A) (n : ℕ) (x : A) → ((i : ℕ) → i < n → g i ≡ f i) → g n ≡ x
+    → listed g (suc n) ≡ listed f n ++ (x ∷ [])
+listed-push f g n x h e = listed-more g n ∙ (λ k. listed-same g f n h k ++ (e k ∷ []))
+
+-- one left out, those behind it a place earlier
+pub listed-removeAt : {A : Type 0} (f g : ℕ → A) (n at : ℕ) → at ≤ n → ((i : ℕ) → i < at → g i ≡ f i)
+    → ((i : ℕ) → at ≤ i → i < n → g i ≡ f (suc i)) → listed g n ≡ removeAt at (listed f (suc n))
+listed-removeAt f g n zero h a b = listed-same g (λ i. f (suc i)) n (λ i l. b i (omega arith) l)
+listed-removeAt f g zero (suc at) h a b = absurd (not-suc-le-zero h)
+listed-removeAt f g (suc n) (suc at) h a b =
+    λ k. a zero (omega arith) k ∷ listed-removeAt (λ i. f (suc i)) (λ i. g (suc i)) n at (le-of-suc-le-suc h)
+    (λ i l. a (suc i) (omega arith)) (λ i l m. b (suc i) (omega arith) (omega arith)) k
 
 -- one place differs: a store there
 pub listed-set : {A : Type 0} (f g : ℕ → A) (n k : ℕ) → ((i : ℕ) → i < n → i ≢ k → g i ≡ f i) → listed g n ≡ set (listed f n) k (g k)
@@ -45,15 +58,13 @@ module _ {A : Type 0} (d : A) (entries : List A) (b first count : ℕ) (x : A) (
   pub ring-push : ring d (set entries (32 * b + (first + count) % 32) x) b first (suc count) ≡ ring d entries b first count ++ (x ∷ [])
   unfolding ring
   ring-push =
-      listed-more (λ i. getD (set entries (32 * b + (first + count) % 32) x) (32 * b + (first + i) % 32) d) count
-      ∙ ap (λ (y : A). listed (λ i. getD (set entries (32 * b + (first + count) % 32) x) (32 * b + (first + i) % 32) d) count ++ (y ∷ []))
-      (getD-set-same entries (32 * b + (first + count) % 32) x d (omega arith))
-      ∙ ap (λ (l : List A). l ++ (x ∷ []))
-      (listed-same (λ i. getD (set entries (32 * b + (first + count) % 32) x) (32 * b + (first + i) % 32) d) (λ i. getD entries (32 * b + (first + i) % 32) d) count
-      (λ i l. getD-set-other entries (32 * b + (first + count) % 32) (32 * b + (first + i) % 32) x d (λ e. omega arith)))
+      let at = 32 * b + (first + count) % 32 in
+      listed-push (λ i. getD entries (32 * b + (first + i) % 32) d) (λ i. getD (set entries at x) (32 * b + (first + i) % 32) d) count x
+      (λ i l. getD-set-other entries at (32 * b + (first + i) % 32) x d (λ e. omega arith)) (getD-set-same entries at x d (omega arith))
 
   -- and no other
-  pub ring-apart : (b′ first′ count′ : ℕ) → b′ ≢ b → ring d (set entries (32 * b + (first + count) % 32) x) b′ first′ count′ ≡ ring d entries b′ first′ count′
+  pub ring-apart : (b′ first′ count′ : ℕ) → b′ ≢ b
+      → ring d (set entries (32 * b + (first + count) % 32) x) b′ first′ count′ ≡ ring d entries b′ first′ count′
   unfolding ring
   ring-apart b′ first′ count′ n =
       listed-same (λ i. getD (set entries (32 * b + (first + count) % 32) x) (32 * b′ + (first′ + i) % 32) d) (λ i. getD entries (32 * b′ + (first′ + i) % 32) d) count′

@@ -1,25 +1,25 @@
 -- A SET, an ADD or a JUMP: what its stores make of the process.
-use mathlib.Core.Path.{_≡_, refl, ap, sym, _∙_}
+use mathlib.Core.Path.{_≡_, refl, sym, _∙_}
 use mathlib.Core.Logic.{_≢_}
-use mathlib.Core.Bool.{Bool, true, false, cond}
-use mathlib.Core.List.{List, [], _∷_}
-use Prim.Native.Nat.{ℕ, zero, suc, _+_, _%_, _^_, _≤_, _<_}
+use mathlib.Core.Bool.{true, false}
+use mathlib.Core.List.{List}
+use Prim.Native.Nat.{ℕ, zero, suc, _+_, _%_, _^_, _<_}
 use native.Mathlib.Omega.{arith}
 use lib.Dec.{eqb}
-use lib.ListN.{length, getD, set}
+use lib.ListN.{getD, set}
 use lib.Seq.{getD-set-other}
 use borrow.Author.Tests.{eq-eqb, ne-eqb}
 use Rattle.facts.specs.Tests.{no-way}
 use Rattle.rules.specs.Table.{Instruction}
-use Rattle.rules.specs.Machine.{Mail, Machine, Outcome, noMail, moved, internal, took, next, Pull, nothing, found, take1, first1, pull, bit, execute}
+use Rattle.rules.specs.Machine.{Machine, moved, internal, next, Pull, nothing, found, take1, first1, pull, bit, execute}
 use Rattle.rules.specs.Format.{instruction}
 use Rattle.rules.specs.Cabinet.{Process}
 use Rattle.rules.specs.Moves.{advanced}
-use Rattle.process.specs.Row.{rowLength, machineOf, standbyOf, processOf, Kept}
+use Rattle.process.specs.Row.{pcIn, machineOf, standbyOf, processOf, Kept}
 use Rattle.process.specs.Change.{Became}
-use Rattle.instruction.specs.Instruction.{InRange, afterInternal, Intends, bumped, Room, Evaluates}
+use Rattle.instruction.specs.Instruction.{afterInternal, Intends, bumped, Room, Evaluates}
 use Rattle.instruction.specs.declared.instruction.Intent.the-variants.{Internal}
-use Rattle.process.proofs.Rows.{spelled}
+use Rattle.process.proofs.Rows.{spelled, waits-cell}
 use Rattle.instruction.proofs.Examining.{register-is, step-executes}
 use Rattle.instruction.proofs.Cells.{seated-on, kept-cell, bumped-is, going}
 
@@ -75,9 +75,10 @@ module _ (row mail log head : List ℕ) (k : Kept row mail log head) where
       let s : Room (set row i v) 1 = omega arith in
       rw (bumped-is (set row i v) 1 s, o)
       (record {
-        process-is = set-process a v (suc (getD row 1 0)) h;
-        kept-again = kept-cell 1 (suc (getD row 1 0)) (omega arith) (omega arith) (kept-cell i v (omega arith) w k);
+        process-is = set-process a v (suc (pcIn row)) h;
+        kept-again = kept-cell 1 (suc (pcIn row)) (omega arith) (omega arith) (kept-cell i v (omega arith) w k);
         seated-again = λ x y s. seated-on 1 _ (omega arith) (λ e. omega arith) x y (seated-on i v (omega arith) (λ e. omega arith) x y s);
+        waits-again = waits-cell (set row i v) 1 (suc (pcIn row)) (λ e. omega arith) ∙ waits-cell row i v (λ e. omega arith);
       })
 
   -- the place alone
@@ -88,6 +89,7 @@ module _ (row mail log head : List ℕ) (k : Kept row mail log head) where
     process-is = spelled row (λ (r : List ℕ). processOf (set r 1 p) mail log head) (k .row-length);
     kept-again = kept-cell 1 p (omega arith) w k;
     seated-again = seated-on 1 p (omega arith) (λ e. omega arith);
+    waits-again = waits-cell row 1 p (λ e. omega arith);
   }
 
 -- ---- the three instructions
@@ -131,7 +133,7 @@ module _ (row : List ℕ) (code a operand : ℕ) where
       let f = i .fetched in
       let l = f .few in
       let e : eqb (getD (machineOf row mail .registers) a 0) 0 ≡ true = rw (register-is row a (f .in-range g .first)) (eq-eqb _ 0 z) in
-      rw (c, e, bumped-is row 1 (omega arith)) (pc-became row mail log head k (suc (getD row 1 0)) (omega arith))
+      rw (c, e, bumped-is row 1 (omega arith)) (pc-became row mail log head k (suc (pcIn row)) (omega arith))
 
   pub evaluates-jump : code ≡ 6 → getD row (2 + a % 4) 0 ≢ 0 → operand < 2 ^ 32 → Evaluates row code a operand (set row 1 operand)
   unfolding execute machineOf

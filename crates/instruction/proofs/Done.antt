@@ -1,20 +1,20 @@
 -- An instruction more, behind whatever else was done: what its counter makes of the process.
-use mathlib.Core.Path.{_≡_, refl, ap, sym, _∙_}
+use mathlib.Core.Path.{_≡_, refl, ap, _∙_}
 use mathlib.Core.Bool.{Bool, true, false, not, cond}
-use mathlib.Core.List.{List, [], _∷_}
-use Prim.Native.Nat.{ℕ, suc, _+_, _<_, _^_}
+use mathlib.Core.List.{List}
+use Prim.Native.Nat.{ℕ, suc, _+_}
 use native.Mathlib.Omega.{arith}
 use lib.Dec.{eqb}
-use lib.ListN.{getD, set}
+use lib.ListN.{set}
 use borrow.Author.Tests.{eq-eqb, ne-eqb}
 use Rattle.facts.specs.Tests.{no-way}
 use Rattle.rules.specs.Machine.{Machine}
 use Rattle.rules.specs.Cabinet.{Since, Process, limited}
 use Rattle.rules.specs.Moves.{advanced, counting, oneDone}
-use Rattle.process.specs.Row.{machineOf, standbyOf, processOf, Kept}
+use Rattle.process.specs.Row.{flagIn, instructionsIn, machineOf, standbyOf, processOf, Kept}
 use Rattle.process.specs.Change.{Became}
 use Rattle.instruction.specs.Instruction.{afterSend, bumped, oneIn, tallied, TallyRoom, Evaluates, Computes, Queues}
-use Rattle.process.proofs.Rows.{spelled, limited-is}
+use Rattle.process.proofs.Rows.{spelled, limited-is, waits-cell}
 use Rattle.instruction.proofs.Cells.{kept-other, seated-on, tally-fits, tallied-is, anotherSend, going, queued-became}
 
 -- ---- the counter
@@ -31,14 +31,15 @@ done-became : (row mail log head : List ℕ) → Kept row mail log head → Tall
 unfolding processOf machineOf standbyOf advanced
 done-became row mail log head k room =
     let x : Process = processOf row mail log head in
-    let n = getD row 15 0 + oneIn row in
+    let n = instructionsIn row + oneIn row in
     let fits = tally-fits row 15 (k .words 15) room in
     rw (tallied-is row 15 fits)
     (record {
       process-is = spelled row (λ (r : List ℕ). processOf (set r 15 n) mail log head) (k .row-length)
-          ∙ ap (λ (s : Since). advanced (x .machine) s (x .suppress) x) (counting-done x (eqb (getD row 12 0) 0) (limited-is row mail log head) n refl);
-      kept-again = kept-other 15 n (λ e. omega arith) (λ e. omega arith) fits k;
+          ∙ ap (λ (s : Since). advanced (x .machine) s (x .suppress) x) (counting-done x (eqb (flagIn row) 0) (limited-is row mail log head) n refl);
+      kept-again = kept-other 15 n (λ e. omega arith) (λ e. omega arith) (λ e. omega arith) fits k;
       seated-again = seated-on 15 n (omega arith) (λ e. omega arith);
+      waits-again = waits-cell row 15 n (λ e. omega arith);
     })
 
 -- ---- behind whatever else was done to machine and counters
@@ -54,9 +55,9 @@ module _ (row mail log head row′ mail′ : List ℕ) (m : Machine) (since : Pr
   room : TallyRoom row 15 → TallyRoom row′ 15
   unfolding processOf advanced
   room h n =
-      let was : getD row′ 15 0 ≡ getD row 15 0 = ap (λ (x : Process). x .since .instructions) (b .process-is) ∙ same in
-      let r = h (λ z. no-way (let a : limited (processOf row mail log head) ≡ false = limited-is row mail log head ∙ ap not (eq-eqb (getD row 12 0) 0 z) in
-      let c : limited (processOf row′ mail′ log head) ≡ true = limited-is row′ mail′ log head ∙ ap not (ne-eqb (getD row′ 12 0) 0 n) in
+      let was : instructionsIn row′ ≡ instructionsIn row = ap (λ (x : Process). x .since .instructions) (b .process-is) ∙ same in
+      let r = h (λ z. no-way (let a : limited (processOf row mail log head) ≡ false = limited-is row mail log head ∙ ap not (eq-eqb (flagIn row) 0 z) in
+      let c : limited (processOf row′ mail′ log head) ≡ true = limited-is row′ mail′ log head ∙ ap not (ne-eqb (flagIn row′) 0 n) in
       let d = still-limited in
       cc)) in
       omega arith
@@ -66,7 +67,12 @@ module _ (row mail log head row′ mail′ : List ℕ) (m : Machine) (since : Pr
   unfolding advanced
   and-done h =
       let d = done-became row′ mail′ log head (b .kept-again) (room h) in
-      record { process-is = d .process-is ∙ ap anotherDone (b .process-is); kept-again = d .kept-again; seated-again = λ x y s. d .seated-again x y (b .seated-again x y s) }
+      record {
+        process-is = d .process-is ∙ ap anotherDone (b .process-is);
+        kept-again = d .kept-again;
+        seated-again = λ x y s. d .seated-again x y (b .seated-again x y s);
+        waits-again = d .waits-again ∙ b .waits-again;
+      }
 
 -- what is counted of an act, and then of its instruction
 pub act-and-done : (f : Since → Since) (x : Process) → cond (limited x) (oneDone (counting f x)) (counting f x) ≡ counting (λ n. oneDone (f n)) x
@@ -101,4 +107,5 @@ queues row program n code a operand channel word mail log head k i e h room =
       process-is = d .process-is ∙ ap (λ (s : Since). advanced (afterSend (machineOf row mail)) s 0 x) (act-and-done anotherSend x);
       kept-again = d .kept-again;
       seated-again = d .seated-again;
+      waits-again = d .waits-again;
     }

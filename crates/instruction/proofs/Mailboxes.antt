@@ -1,20 +1,21 @@
 -- A mailbox: the test of a mask, the look through the words, and the shift that takes one out.
 use mathlib.Core.Path.{_≡_, refl, ap, sym, _∙_}
 use mathlib.Core.Bool.{Bool, true, false}
-use mathlib.Core.List.{List, [], _∷_, map}
+use mathlib.Core.List.{List, [], _∷_}
 use Prim.Native.Nat.{ℕ, zero, suc, _+_, _-_, _/_, _^_, _≤_, _<_}
 use native.Mathlib.Nat.{not-suc-le-zero, le-of-suc-le-suc, lt-of-lt-of-le, div-eq-of-lt}
 use native.Mathlib.Omega.{arith}
 use lib.Dec.{eqb}
 use lib.Bits.{bitAnd, and-mask}
 use lib.Pow.{pow-mono}
-use lib.ListN.{length, getD, set, length-set, length-map, List·getD-map}
-use lib.Seq.{getD-set-same, getD-set-other, ext-getD}
-use Rattle.facts.specs.Tests.{by-eq, by-lt}
-use Rattle.facts.specs.Lists.{prefix, length-prefix, getD-prefix, removeAt, map-removeAt, length-removeAt, getD-removeAt-before, getD-removeAt-behind}
+use lib.ListN.{length, getD, set, length-set}
+use lib.Seq.{getD-set-same, getD-set-other}
+use Rattle.facts.specs.Tests.{by-eq}
+use Rattle.facts.specs.Lists.{removeAt}
+use Rattle.facts.specs.Rings.{listed-length, getD-listed, listed-removeAt}
 use Rattle.backup.specs.Limits.{logMost}
 use Rattle.rules.specs.Machine.{Mail, nothing, found, pull, bit}
-use Rattle.process.specs.Row.{mailIn, mailsIn}
+use Rattle.process.specs.Row.{placeIn, mailIn, packedAt, mailsIn}
 use Rattle.instruction.specs.Mailbox.{Looks, Removed}
 
 -- ---- a mask
@@ -28,11 +29,11 @@ past-mask mask k h l = rw (div-eq-of-lt {n = mask} {m = 2 ^ k} (lt-of-lt-of-le h
 
 -- ---- the words as a list
 
-mails-length : (n : ℕ) (mail : List ℕ) → length (mailsIn n mail) ≡ n
-mails-length n mail = length-map (prefix n mail) mailIn ∙ length-prefix n mail
+mails-length : (first n : ℕ) (mail : List ℕ) → length (mailsIn first n mail) ≡ n
+mails-length first n mail = listed-length (λ i. mailIn (packedAt first mail i)) n
 
-mail-at : (n : ℕ) (mail : List ℕ) (i : ℕ) → i < n → getD (mailsIn n mail) i (mailIn 0) ≡ mailIn (getD mail i 0)
-mail-at n mail i h = List·getD-map mailIn (prefix n mail) i 0 ∙ ap mailIn (getD-prefix n mail i h)
+mail-at : (first n : ℕ) (mail : List ℕ) (i : ℕ) → i < n → getD (mailsIn first n mail) i (mailIn 0) ≡ mailIn (packedAt first mail i)
+mail-at first n mail i h = getD-listed (λ j. mailIn (packedAt first mail j)) n i (mailIn 0) h
 
 -- ---- the look for the oldest
 
@@ -49,111 +50,91 @@ module _ (f : ℕ → Bool) (d : Mail) where
   pull-nothing (x ∷ l) n = rw (n zero (omega arith), pull-nothing l (λ k s. n (suc k) (omega arith)))
 
 -- i of n words have been looked at: none is on a channel that passes
-pub record Looking (f : ℕ → Bool) (mail : List ℕ) (n i : ℕ) : Type 0 where
+pub record Looking (f : ℕ → Bool) (mail : List ℕ) (first n i : ℕ) : Type 0 where
   pub looked : i ≤ n
-  pub small : n ≤ logMost
-  pub passed : (k : ℕ) → k < i → f (mailIn (getD mail k 0) .channel) ≡ false
+  pub passed : (k : ℕ) → k < i → f (mailIn (packedAt first mail k) .channel) ≡ false
 
-module _ (f : ℕ → Bool) (mail : List ℕ) (n : ℕ) where
-  -- too many words
-  pub look-long : logMost < n → Looks f mail n n
-  look-long h = record { no-more = omega arith; finds = λ s l. absurd (omega arith); misses = λ s l. absurd (omega arith) }
+module _ (f : ℕ → Bool) (mail : List ℕ) (first n : ℕ) where
+  pub looking-start : Looking f mail first n 0
+  looking-start = record { looked = omega arith; passed = λ k l. absurd (not-suc-le-zero l) }
 
-  pub looking-start : n ≤ logMost → Looking f mail n 0
-  looking-start h = record { looked = omega arith; small = h; passed = λ k l. absurd (not-suc-le-zero l) }
-
-  pub looking-on : (i : ℕ) → Looking f mail n i → i < n → f (mailIn (getD mail i 0) .channel) ≡ false → Looking f mail n (i + 1)
+  pub looking-on : (i : ℕ) → Looking f mail first n i → i < n → f (mailIn (packedAt first mail i) .channel) ≡ false → Looking f mail first n (i + 1)
   looking-on i p h e = record {
     looked = omega arith;
-    small = p .small;
     passed = λ k l. by-eq k i (λ s. rw s e) (λ s. p .passed k (omega arith));
   }
 
-  module _ (i : ℕ) (p : Looking f mail n i) where
-    before-it : (k : ℕ) → k < i → f (getD (mailsIn n mail) k (mailIn 0) .channel) ≡ false
-    before-it k l = let q = p .looked in rw (mail-at n mail k (omega arith)) (p .passed k l)
+  module _ (i : ℕ) (p : Looking f mail first n i) where
+    before-it : (k : ℕ) → k < i → f (getD (mailsIn first n mail) k (mailIn 0) .channel) ≡ false
+    before-it k l = let q = p .looked in rw (mail-at first n mail k (omega arith)) (p .passed k l)
 
-    pub look-found : i < n → f (mailIn (getD mail i 0) .channel) ≡ true → Looks f mail n i
+    pub look-found : i < n → f (mailIn (packedAt first mail i) .channel) ≡ true → Looks f mail first n i
     look-found h e = record {
-      no-more = p .looked;
-      finds = λ s l.
-          rw (← mail-at n mail i h)
-          (pull-found f (mailIn 0) (mailsIn n mail) i (rw (mails-length n mail) h) before-it (rw (mail-at n mail i h) e));
-      misses = λ s l. absurd (omega arith);
+      finds = λ l.
+          rw (← mail-at first n mail i h)
+          (pull-found f (mailIn 0) (mailsIn first n mail) i (rw (mails-length first n mail) h) before-it (rw (mail-at first n mail i h) e));
+      misses = λ l. absurd (omega arith);
     }
 
-    pub look-missed : n ≤ i → Looks f mail n n
+    pub look-missed : n ≤ i → Looks f mail first n n
     look-missed h = record {
-      no-more = omega arith;
-      finds = λ s l. absurd (omega arith);
-      misses = λ s l. pull-nothing f (mailIn 0) (mailsIn n mail) (λ k z. before-it k (let y = mails-length n mail in omega arith));
+      finds = λ l. absurd (omega arith);
+      misses = λ l. pull-nothing f (mailIn 0) (mailsIn first n mail) (λ k z. before-it k (let y = mails-length first n mail in omega arith));
     }
 
 -- ---- a word taken out
 
--- the words from `at` to before place i - 1 are those that stood one place further, the others stand where they stood
-pub record Shifting (mail₀ : List ℕ) (n at : ℕ) (mail : List ℕ) (i : ℕ) : Type 0 where
-  pub small : n ≤ logMost
-  pub first : at < i
-  pub last : i ≤ n
+-- the words from position i + 1 to `at` are those that stood one before, the others stand where they stood
+pub record Shifting (mail₀ : List ℕ) (first at : ℕ) (mail : List ℕ) (i : ℕ) : Type 0 where
+  pub looked : i ≤ at
   pub same-length : length mail ≡ length mail₀
-  pub front : (k : ℕ) → k < at → getD mail k 0 ≡ getD mail₀ k 0
-  pub shifted : length mail₀ ≡ logMost → (k : ℕ) → at ≤ k → suc k < i → getD mail k 0 ≡ getD mail₀ (suc k) 0
-  pub back : (k : ℕ) → i ≤ suc k → getD mail k 0 ≡ getD mail₀ k 0
+  pub moved : length mail₀ ≡ logMost → (k : ℕ) → i ≤ k → k < at → packedAt first mail (suc k) ≡ packedAt first mail₀ k
+  pub front : (k : ℕ) → k ≤ i → packedAt first mail k ≡ packedAt first mail₀ k
+  pub back : (k : ℕ) → at < k → k < logMost → packedAt first mail k ≡ packedAt first mail₀ k
 
-module _ (mail₀ : List ℕ) (n at : ℕ) where
-  -- no such word, or too many
-  pub removed-none : (n ≤ logMost → at < n → ⊥) → Removed mail₀ n at mail₀
-  removed-none h = record { untouched = λ l. refl; same-length = refl; rest = λ l s k. absurd (h s k) }
-
-  pub shifting-start : n ≤ logMost → at < n → Shifting mail₀ n at mail₀ (at + 1)
-  shifting-start s h = record {
-    small = s;
-    first = omega arith;
-    last = omega arith;
+module _ (mail₀ : List ℕ) (first at : ℕ) (small : at < logMost) where
+  pub shifting-start : Shifting mail₀ first at mail₀ at
+  shifting-start = record {
+    looked = omega arith;
     same-length = refl;
+    moved = λ l k a b. absurd (omega arith);
     front = λ k l. refl;
-    shifted = λ l k a b. absurd (omega arith);
-    back = λ k l. refl;
+    back = λ k l m. refl;
   }
 
-  module _ (mail : List ℕ) (i : ℕ) (p : Shifting mail₀ n at mail i) where
-    pub shifting-on : i < n → Shifting mail₀ n at (set mail (i - 1) (getD mail i 0)) (i + 1)
+  module _ (mail : List ℕ) (i : ℕ) (p : Shifting mail₀ first at mail i) where
+    pub shifting-on : 0 < i → Shifting mail₀ first at (set mail (placeIn first i) (packedAt first mail (i - 1))) (i - 1)
     shifting-on h =
-        let a = p .first in
-        let o : (k : ℕ) → (k ≡ i - 1 → ⊥) → getD (set mail (i - 1) (getD mail i 0)) k 0 ≡ getD mail k 0 = λ k s. getD-set-other mail (i - 1) k (getD mail i 0) 0 s in
+        let a = p .looked in
+        let x = packedAt first mail (i - 1) in
+        let o : (k : ℕ) → (placeIn first k ≡ placeIn first i → ⊥) → packedAt first (set mail (placeIn first i) x) k ≡ packedAt first mail k =
+        λ k n. getD-set-other mail (placeIn first i) (placeIn first k) x 0 n in
         record {
-          small = p .small;
-          first = omega arith;
-          last = omega arith;
-          same-length = length-set mail (i - 1) (getD mail i 0) ∙ p .same-length;
-          front = λ k l. o k (λ e. omega arith) ∙ p .front k l;
-          shifted = λ l k y z.
+          looked = omega arith;
+          same-length = length-set mail (placeIn first i) x ∙ p .same-length;
+          moved = λ l k y z.
               by-eq k (i - 1)
-              (λ e. let s : suc k ≡ i = omega arith in
-              rw (e, getD-set-same mail (i - 1) (getD mail i 0) 0 (let q = p .same-length in let w = p .small in omega arith))
-              (p .back i (omega arith) ∙ ap (λ (j : ℕ). getD mail₀ j 0) (omega arith)))
-              (λ e. o k e ∙ p .shifted l k y (omega arith));
-          back = λ k l. o k (λ e. omega arith) ∙ p .back k (omega arith);
+              (λ e.
+              let s : suc k ≡ i = omega arith in
+              ap (packedAt first (set mail (placeIn first i) x)) s
+              ∙ getD-set-same mail (placeIn first i) x 0 (let q = p .same-length in omega arith)
+              ∙ p .front (i - 1) (omega arith) ∙ ap (packedAt first mail₀) (sym e))
+              (λ e. o (suc k) (λ f. omega arith) ∙ p .moved l k (omega arith) z);
+          front = λ k l. o k (λ f. omega arith) ∙ p .front k (omega arith);
+          back = λ k l m. o k (λ f. omega arith) ∙ p .back k l m;
         }
 
-    pub shifting-end : n ≤ i → Removed mail₀ n at mail
-    shifting-end h = record { untouched = λ l. absurd (let a = p .first in let b = p .last in omega arith); same-length = p .same-length; rest = λ l s k. whole l }
-      where
-        cell : length mail₀ ≡ logMost → (k : ℕ) → k < n - 1 → getD mail k 0 ≡ getD (removeAt at (prefix n mail₀)) k 0
-        cell l k z =
-            by-lt k at
-            (λ y. p .front k y ∙ sym (getD-removeAt-before at k (prefix n mail₀) 0 y ∙ getD-prefix n mail₀ k (omega arith)))
-            (λ y. let w = p .last in p .shifted l k y (omega arith) ∙ sym (getD-removeAt-behind at k (prefix n mail₀) 0 y ∙ getD-prefix n mail₀ (suc k) (omega arith)))
+    -- counted from the next place on, a position is one less
+    next-on : (k : ℕ) → packedAt (placeIn first 1) mail k ≡ packedAt first mail (suc k)
+    next-on k = let e : placeIn (placeIn first 1) k ≡ placeIn first (suc k) = omega arith in ap (λ (j : ℕ). getD mail j 0) e
 
-        places : length mail₀ ≡ logMost → prefix (n - 1) mail ≡ removeAt at (prefix n mail₀)
-        places l =
-            let a = p .first in
-            let b = p .last in
-            let c = length-prefix n mail₀ in
-            let e = length-removeAt at (prefix n mail₀) (omega arith) in
-            ext-getD 0 (prefix (n - 1) mail) (removeAt at (prefix n mail₀)) (length-prefix (n - 1) mail ∙ omega arith)
-            (λ k z. let y : k < n - 1 = (let w = length-prefix (n - 1) mail in omega arith) in getD-prefix (n - 1) mail k y ∙ cell l k y)
-
-        whole : length mail₀ ≡ logMost → mailsIn (n - 1) mail ≡ removeAt at (mailsIn n mail₀)
-        whole l = ap (map mailIn) (places l) ∙ map-removeAt mailIn at (prefix n mail₀)
+    pub shifting-end : i ≤ 0 → Removed mail₀ first at mail
+    shifting-end h = record {
+      same-length = p .same-length;
+      rest = λ l n s z.
+          let e : suc (n - 1) ≡ n = omega arith in
+          listed-removeAt (λ k. mailIn (packedAt first mail₀ k)) (λ k. mailIn (packedAt (placeIn first 1) mail k)) (n - 1) at (omega arith)
+          (λ k a. ap mailIn (next-on k ∙ p .moved l k (omega arith) a))
+          (λ k a b. ap mailIn (next-on k ∙ p .back (suc k) (omega arith) (omega arith)))
+          ∙ ap (λ (m : ℕ). removeAt at (mailsIn first m mail₀)) e;
+    }

@@ -1,19 +1,18 @@
 -- What the calls on one instruction promise: what it would do is what the rules' `localStep` says, and what it does makes the process
 -- that the rules' `advanced` gives. Document 01: "Instructions, each moving the place on by one unless said".
 use mathlib.Core.Path.{_≡_}
-use mathlib.Core.Bool.{Bool, cond}
-use mathlib.Core.List.{List, [], _∷_}
+use mathlib.Core.Bool.{cond}
+use mathlib.Core.List.{List}
 use Prim.Native.Nat.{ℕ, suc, _+_, _%_, _^_, _≤_, _<_}
 use lib.Dec.{eqb}
 use lib.ListN.{length, getD, set}
 use Rattle.facts.specs.Lists.{removeAt}
-use Rattle.backup.specs.Limits.{logMost, pcMost, ports}
+use Rattle.backup.specs.Limits.{pcMost, ports}
 use Rattle.rules.specs.Table.{Instruction, SET}
 use Rattle.rules.specs.Machine.{Mail, Machine, Outcome, halted, noMail, moved, internal, took, sent, booted, next, pull, nothing, found, execute, localStep}
 use Rattle.rules.specs.Format.{instruction}
-use Rattle.rules.specs.Cabinet.{Process}
 use Rattle.rules.specs.Moves.{advanced, counting, oneDone, oneSent, oneTaken}
-use Rattle.process.specs.Row.{mailIn, mailsIn, machineOf, Kept}
+use Rattle.process.specs.Row.{pcIn, suppressIn, flagIn, unreadIn, mailIn, packedAt, mailsIn, mailAt, machineOf, Kept}
 use Rattle.process.specs.Change.{Became}
 use Rattle.instruction.specs.Mailbox.{names}
 use Rattle.instruction.specs.declared.instruction.Intent.{Intent}
@@ -31,8 +30,8 @@ pub record InRange (code a operand : ℕ) : Type 0 where
 pub record Fetched (program : List Instruction) (row : List ℕ) (n code a operand : ℕ) : Type 0 where
   pub length-is : length program ≡ n
   pub few : n ≤ pcMost
-  pub instruction-is : getD row 1 0 < n → getD program (getD row 1 0) (SET 0 0) ≡ instruction code a operand
-  pub in-range : getD row 1 0 < n → InRange code a operand
+  pub instruction-is : pcIn row < n → getD program (pcIn row) (SET 0 0) ≡ instruction code a operand
+  pub in-range : pcIn row < n → InRange code a operand
 
 -- ---- what it would do
 
@@ -45,14 +44,14 @@ machineAfter (moved m act) = m
 abbrev pub afterInternal : ℕ → ℕ → ℕ → Machine → Machine
 afterInternal code a operand m = machineAfter (execute (instruction code a operand) m)
 
--- after a TAKE or a FIRST of the word at an index of the mailbox: the word goes into register a, of a FIRST its channel into a + 1
+-- after a TAKE or a FIRST of the word at a position of the mailbox: the word goes into register a, of a FIRST its channel into a + 1
 abbrev pub loaded : ℕ → ℕ → Mail → List ℕ → List ℕ
 loaded code a x registers = cond (eqb code 4) (set (set registers a (x .word)) (suc a) (x .channel)) (set registers a (x .word))
 
 abbrev pub afterTake : ℕ → ℕ → ℕ → List ℕ → List ℕ → Machine
 afterTake code a at row mail =
     let m = machineOf row mail in
-    next m (loaded code a (mailIn (getD mail at 0)) (m .registers)) (removeAt at (m .mailbox))
+    next m (loaded code a (mailAt row mail at) (m .registers)) (removeAt at (m .mailbox))
 
 -- after a SEND
 abbrev pub afterSend : Machine → Machine
@@ -63,27 +62,27 @@ abbrev pub outcomeOf : List ℕ → List ℕ → ℕ → ℕ → ℕ → Intent 
 outcomeOf row mail code a operand Halted = halted
 outcomeOf row mail code a operand NoMail = noMail
 outcomeOf row mail code a operand Internal = moved (afterInternal code a operand (machineOf row mail)) internal
-outcomeOf row mail code a operand (Take at) = moved (afterTake code a at row mail) (took (mailIn (getD mail at 0)))
+outcomeOf row mail code a operand (Take at) = moved (afterTake code a at row mail) (took (mailAt row mail at))
 outcomeOf row mail code a operand (Send channel word) = moved (afterSend (machineOf row mail)) (sent (record { channel = channel; word = word }))
 
 -- The intent is the instruction's: the rules' local step has its outcome, and the word that it would take is in the mailbox.
 pub record Intends (program : List Instruction) (row mail : List ℕ) (n code a operand : ℕ) (intent : Intent) : Type 0 where
   pub fetched : Fetched program row n code a operand
   pub outcome : localStep program (machineOf row mail) ≡ outcomeOf row mail code a operand intent
-  pub inside : (at : ℕ) → intent ≡ Take at → at < getD row 14 0
+  pub inside : (at : ℕ) → intent ≡ Take at → at < unreadIn row
 
 abbrev pub Examined : List ℕ → List ℕ → ℕ → ℕ → ℕ → ℕ → Intent → Type 0
 Examined row mail n code a operand intent =
-    (program : List Instruction) → Fetched program row n code a operand → getD row 14 0 ≤ logMost → Intends program row mail n code a operand intent
+    (program : List Instruction) → Fetched program row n code a operand → Intends program row mail n code a operand intent
 
--- a TAKE or a FIRST, from n words
-abbrev pub Sought : List ℕ → ℕ → ℕ → ℕ → Intent → Type 0
-Sought mail n code operand Halted = ⊥
-Sought mail n code operand NoMail = n ≤ logMost → pull (names code operand) (mailsIn n mail) ≡ nothing
-Sought mail n code operand Internal = ⊥
-Sought mail n code operand (Take at) =
-    (at < n) × (n ≤ logMost → pull (names code operand) (mailsIn n mail) ≡ found (mailIn (getD mail at 0)) (removeAt at (mailsIn n mail)))
-Sought mail n code operand (Send channel word) = ⊥
+-- a TAKE or a FIRST, from n words from place `first` on
+abbrev pub Sought : List ℕ → ℕ → ℕ → ℕ → ℕ → Intent → Type 0
+Sought mail first n code operand Halted = ⊥
+Sought mail first n code operand NoMail = pull (names code operand) (mailsIn first n mail) ≡ nothing
+Sought mail first n code operand Internal = ⊥
+Sought mail first n code operand (Take at) =
+    (at < n) × (pull (names code operand) (mailsIn first n mail) ≡ found (mailIn (packedAt first mail at)) (removeAt at (mailsIn first n mail)))
+Sought mail first n code operand (Send channel word) = ⊥
 
 -- ---- what it does to the row
 
@@ -93,7 +92,7 @@ bumped row i = set row i ((getD row i 0 + 1) % 2 ^ 32)
 
 -- what an act or an instruction of the process counts for: 1 where it is limited, and 0 where it is not
 abbrev pub oneIn : List ℕ → ℕ
-oneIn row = cond (eqb (getD row 12 0) 0) 0 1
+oneIn row = cond (eqb (flagIn row) 0) 0 1
 
 -- one more in a counter that is counted on while the process is limited
 abbrev pub tallied : List ℕ → ℕ → List ℕ
@@ -120,18 +119,19 @@ Room row i = getD row i 0 + 1 < 2 ^ 32
 
 -- the same of a counter that is counted on while the process is limited
 abbrev pub TallyRoom : List ℕ → ℕ → Type 0
-TallyRoom row i = (getD row 12 0 ≡ 0 → ⊥) → Room row i
+TallyRoom row i = (flagIn row ≡ 0 → ⊥) → Room row i
 
 -- A SET, an ADD or a JUMP was done: machine, and an instruction more that is counted.
 abbrev pub Computes : List ℕ → ℕ → ℕ → ℕ → List ℕ → Type 0
 Computes row code a operand row′ =
     (program : List Instruction) (n : ℕ) (mail log head : List ℕ) → Kept row mail log head → Intends program row mail n code a operand Internal
     → TallyRoom row 15
-    → Became row mail log head row′ mail log head (λ x. advanced (afterInternal code a operand (machineOf row mail)) (counting oneDone x) (x .suppress) x)
+    → Became row mail log head row′ mail log head
+    (λ x. advanced (afterInternal code a operand (machineOf row mail)) (counting oneDone x) (x .suppress) x)
 
 -- A word was taken that had come in on a port: machine, and what is counted. Nothing changes where no unread word stands there.
 pub record Takes (row mail : List ℕ) (code a at port : ℕ) (row′ mail′ : List ℕ) : Type 0 where
-  pub untouched : getD row 14 0 ≤ at → (row′ ≡ row) × (mail′ ≡ mail)
+  pub untouched : unreadIn row ≤ at → (row′ ≡ row) × (mail′ ≡ mail)
   pub became : (program : List Instruction) (n operand : ℕ) (log head : List ℕ) → Kept row mail log head
       → Intends program row mail n code a operand (Take at) → port < ports → TallyRoom row 7 → TallyRoom row (8 + port) → TallyRoom row 15
       → Became row mail log head row′ mail′ log head
@@ -141,12 +141,12 @@ pub record Takes (row mail : List ℕ) (code a at port : ℕ) (row′ mail′ : 
 abbrev pub Suppresses : List ℕ → List ℕ → Type 0
 Suppresses row row′ =
     (program : List Instruction) (n code a operand channel word left : ℕ) (mail log head : List ℕ) → Kept row mail log head
-    → Intends program row mail n code a operand (Send channel word) → getD row 6 0 ≡ suc left
+    → Intends program row mail n code a operand (Send channel word) → suppressIn row ≡ suc left
     → Became row mail log head row′ mail log head (λ x. advanced (afterSend (machineOf row mail)) (x .since) left x)
 
 -- A SEND was queued, there being none to suppress: machine, and what is counted.
 abbrev pub Queues : List ℕ → List ℕ → Type 0
 Queues row row′ =
     (program : List Instruction) (n code a operand channel word : ℕ) (mail log head : List ℕ) → Kept row mail log head
-    → Intends program row mail n code a operand (Send channel word) → getD row 6 0 ≡ 0 → TallyRoom row 7 → TallyRoom row 15
+    → Intends program row mail n code a operand (Send channel word) → suppressIn row ≡ 0 → TallyRoom row 7 → TallyRoom row 15
     → Became row mail log head row′ mail log head (λ x. advanced (afterSend (machineOf row mail)) (counting oneSent x) 0 x)

@@ -4,14 +4,18 @@
 ghost use mathlib.Core.Path.{_≡_};
 ghost use Prim.Native.Nat.{_+_, _%_, _^_, _<_};
 ghost use lib.ListN.{getD};
-ghost use Rattle.instruction.specs.Instruction.{bumped, oneIn, tallied, Loads, Examined, Sought, Evaluates, Computes, Takes, Suppresses, Queues};
+ghost use Rattle.process.specs.Row.{rowLength};
+ghost use Rattle.instruction.specs.Instruction.{bumped, oneIn, tallied, Loads, Examined, Sought, Evaluates};
+ghost use Rattle.instruction.specs.Instruction.{Computes, Takes, Suppresses, Queues};
 use crate::mailbox::look;
 use crate::mailbox::remove;
 use backup::limits::LOG;
 use process::mail::channel_of;
+use process::mail::place;
 use process::mail::word_of;
 use process::row::EVENTS;
 use process::row::INSTRUCTIONS;
+use process::row::OLDEST;
 use process::row::PC;
 use process::row::PROTECTED;
 use process::row::R0;
@@ -20,7 +24,7 @@ use process::row::ROW;
 use process::row::SUPPRESS;
 use process::row::T0;
 use process::row::UNREAD;
-use process::row::wide;
+use words::wide;
 
 // What the instruction at a process's place would do.
 pub enum Intent {
@@ -30,7 +34,7 @@ pub enum Intent {
     NoMail,
     // a SET, an ADD or a JUMP
     Internal,
-    // a TAKE or a FIRST of the word at this index of the mailbox
+    // a TAKE or a FIRST of the word at this position of the mailbox
     Take { at: usize },
     // a SEND of this word to this channel
     Send { channel: u32, word: u32 },
@@ -58,7 +62,7 @@ fn register(row: &[u32; ROW], a: u32) -> u32
 
 // One more in a cell of the row.
 fn bump(row: &mut [u32; ROW], i: usize)
-    requires { ⌜ i < 16 ⌝ }
+    requires { ⌜ i < rowLength ⌝ }
     ensures { λ _. ⌜ now (row .exit) ≡ bumped (now (row .entry)) i ⌝ }
 {
     row[i] = std::num::wrapping_add_u32(row[i], 1);
@@ -73,17 +77,17 @@ fn one(row: &[u32; ROW]) -> u32
 
 // One more in a counter, if the process's acts and instructions are counted.
 fn tally(row: &mut [u32; ROW], i: usize)
-    requires { ⌜ i < 16 ⌝ }
+    requires { ⌜ i < rowLength ⌝ }
     ensures { λ _. ⌜ now (row .exit) ≡ tallied (now (row .entry)) i ⌝ }
 {
     row[i] = std::num::wrapping_add_u32(row[i], one(row));
 }
 
 // A TAKE or a FIRST would take the oldest word that it names.
-fn seek(mail: &[u64; LOG], unread: usize, code: u8, operand: u32) -> Intent
-    ensures { λ r. ⌜ Sought (now (mail .entry)) unread code operand r ⌝ }
+fn seek(mail: &[u64; LOG], first: usize, unread: usize, code: u8, operand: u32) -> Intent
+    ensures { λ r. ⌜ Sought (now (mail .entry)) first unread code operand r ⌝ }
 {
-    let at = look(mail, unread, code, operand);
+    let at = look(mail, first, unread, code, operand);
     if at < unread {
         Intent::Take { at: at }
     } else {
@@ -107,7 +111,7 @@ pub fn examine(
     }
     match code {
         1 | 2 | 6 => Intent::Internal,
-        3 | 4 => seek(mail, wide(row[UNREAD]), code, operand),
+        3 | 4 => seek(mail, wide(row[OLDEST]), wide(row[UNREAD]), code, operand),
         5 => Intent::Send {
             channel: operand,
             word: register(row, a),
@@ -174,7 +178,7 @@ fn load(row: &mut [u32; ROW], code: u8, a: u32, x: u64)
     }
 }
 
-// A TAKE or a FIRST is done: the word at an index of the mailbox leaves it, and counts as an event and a receive on its port. Where no
+// A TAKE or a FIRST is done: the word at a position of the mailbox leaves it, and counts as an event and a receive on its port. Where no
 // unread word stands there nothing changes.
 pub fn take_word(
     row: &mut [u32; ROW],
@@ -193,9 +197,11 @@ pub fn take_word(
     if at >= unread {
         return;
     }
-    load(row, code, a, mail[at]);
-    remove(mail, unread, at);
+    let first = wide(row[OLDEST]);
+    load(row, code, a, mail[place(first, at)]);
+    remove(mail, first, at);
     row[UNREAD] = std::num::wrapping_sub_u32(row[UNREAD], 1);
+    row[OLDEST] = std::num::wrapping_add_u32(row[OLDEST], 1) % 64;
     tally(row, T0 + wide(port % 4));
     event(row);
 }

@@ -1,10 +1,13 @@
-// The look into a mailbox in place (document 01: inbox): unread words, oldest first, each one number, channel times 2^32 plus word. These
-// calls ask nothing of their caller; a mailbox is said to hold `unread` words, and where that is more than it can hold they do nothing.
+// The look into a mailbox in place (document 01: inbox): unread words, oldest first, in a ring as `process::mail` says. A word's position is 0
+// where it is the oldest.
 ghost use mathlib.Core.Path.{_≡_};
+ghost use Prim.Native.Nat.{_<_};
+ghost use Rattle.backup.specs.Limits.{logMost};
 ghost use Rattle.rules.specs.Machine.{bit};
 ghost use Rattle.instruction.specs.Mailbox.{names, Looks, Removed};
 use backup::limits::LOG;
 use process::mail::channel_of;
+use process::mail::place;
 
 // Whether a channel is in FIRST's mask.
 pub fn wanted(mask: u32, channel: u32) -> bool
@@ -28,16 +31,13 @@ pub fn named(code: u8, operand: u32, channel: u32) -> bool
     }
 }
 
-// The index of the oldest word that a TAKE or a FIRST names; where there is none, `unread`.
-pub fn look(mail: &[u64; LOG], unread: usize, code: u8, operand: u32) -> usize
-    ensures { λ r. ⌜ Looks (names code operand) (now (mail .entry)) unread r ⌝ }
+// The position of the oldest word that a TAKE or a FIRST names; where there is none, `unread`.
+pub fn look(mail: &[u64; LOG], first: usize, unread: usize, code: u8, operand: u32) -> usize
+    ensures { λ r. ⌜ Looks (names code operand) (now (mail .entry)) first unread r ⌝ }
 {
-    if unread > LOG {
-        return unread;
-    }
     let mut i = 0;
     while i < unread {
-        if named(code, operand, channel_of(mail[i])) {
+        if named(code, operand, channel_of(mail[place(first, i)])) {
             return i;
         }
         i += 1;
@@ -45,19 +45,15 @@ pub fn look(mail: &[u64; LOG], unread: usize, code: u8, operand: u32) -> usize
     unread
 }
 
-// Takes the word at an index out: those behind it move forward by one.
-pub fn remove(mail: &mut [u64; LOG], unread: usize, at: usize)
-    ensures { λ _. ⌜ Removed (now (mail .entry)) unread at (now (mail .exit)) ⌝ }
+// Takes the word at a position out: those before it move up by one, so that the oldest of the others stands one place further on. The oldest
+// word itself is taken with no move.
+pub fn remove(mail: &mut [u64; LOG], first: usize, at: usize)
+    requires { ⌜ at < logMost ⌝ }
+    ensures { λ _. ⌜ Removed (now (mail .entry)) first at (now (mail .exit)) ⌝ }
 {
-    if unread > LOG {
-        return;
-    }
-    if at >= unread {
-        return;
-    }
-    let mut i = at + 1;
-    while i < unread {
-        mail[i - 1] = mail[i];
-        i += 1;
+    let mut i = at;
+    while i > 0 {
+        mail[place(first, i)] = mail[place(first, i - 1)];
+        i -= 1;
     }
 }

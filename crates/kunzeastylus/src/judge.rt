@@ -18,12 +18,13 @@ pub extern "C" fn ks_judge(
 {
     let d = decode(table);
     let number = d.number;
-    let processes = d.plan.processes;
+    let plan = d.plan;
+    let counts = plan.counts;
     let s = judge_schedule(schedule);
     let lengths = Lengths {
         answers: answers,
         reasons: reasons,
         report: report,
     };
-    judge_run(number, processes, s, lengths) as u32
+    judge_run(number, counts.processes, s, lengths) as u32
 }

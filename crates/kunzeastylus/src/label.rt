@@ -30,7 +30,8 @@ pub extern "C" fn ks_label_run(
     reasons: &mut [u8],
     report: &mut [u8],
 ) -> u64
-    ensures { λ n. ⌜ RunsLinePacked first (now (schedule .entry)) (buffersOf (now (answers .entry)) (now (reasons .entry)) (now (report .entry))) n
+    ensures { λ n. ⌜ RunsLinePacked first (now (schedule .entry))
+        (buffersOf (now (answers .entry)) (now (reasons .entry)) (now (report .entry))) n
         (buffersOf (now (answers .exit)) (now (reasons .exit)) (now (report .exit))) ⌝ }
 {
     packed(run_line(first, schedule, answers, reasons, report))

@@ -31,7 +31,8 @@ pub extern "C" fn ks_run(
     reasons: &mut [u8],
     report: &mut [u8],
 ) -> u64
-    ensures { λ n. ⌜ RunsPacked (now (table .entry)) (now (schedule .entry)) (buffersOf (now (answers .entry)) (now (reasons .entry)) (now (report .entry))) n
+    ensures { λ n. ⌜ RunsPacked (now (table .entry)) (now (schedule .entry))
+        (buffersOf (now (answers .entry)) (now (reasons .entry)) (now (report .entry))) n
         (buffersOf (now (answers .exit)) (now (reasons .exit)) (now (report .exit))) ⌝ }
 {
     packed(run(table, schedule, answers, reasons, report))

@@ -31,7 +31,8 @@ pub extern "C" fn ks_table_write(
     out: &mut [u8],
 ) -> u64
     ensures { λ n. ⌜ WritesPacked (given (record { version = version; boards = boards; processes = processes; channels = channels })
-        (now (ends .entry)) (now (placements .entry)) (now (limits .entry)) (now (instructions .entry))) (now (out .entry)) n (now (out .exit)) ⌝ }
+        (now (ends .entry)) (now (placements .entry)) (now (limits .entry)) (now (instructions .entry))) (now (out .entry)) n (now
+        (out .exit)) ⌝ }
 {
     let head = Head {
         version: version,

@@ -18,8 +18,8 @@ use Rattle.label_line.specs.Outlet.{labels, cartons, atOutlet, serials, 
 use Rattle.label_line.specs.Spaced.{TakesOften}
 use Rattle.label_line.specs.declared.MadeTable.{MadeTable}
 
--- Of the commands of a schedule, their answers, and whether the run ended quiet. W-203 asks it of "one crash at any place or none"; since W-211 it is of
--- "every accepted sequence of crashes, returns and resyncs".
+-- Of the commands of a schedule, their answers, and whether the run ended quiet. W-203 asks it of "one crash at any place or none"; since
+-- W-211 it is of "every accepted sequence of crashes, returns and resyncs".
 pub record Labelled (first : ℕ) (commands : List Command) (answers : List Numbers) (quiet : Bool) : Type 0 where
   -- "With one crash at any place or none, the outlet's words so far are a beginning of that sequence."
   pub beginning : IsPrefix (atOutlet answers) (labels first (cartons commands answers))

@@ -1,6 +1,5 @@
 -- What is written:
 pub mod Writing
-pub mod Answers
 pub mod Reporting
 -- the start, and quiet:
 pub mod Starting

@@ -5,43 +5,45 @@ use mathlib.Core.List.{List, [], _∷_, _++_, append-assoc, append-nil}
 use Prim.Native.Nat.{ℕ, zero, suc, _+_, _*_, _/_, _%_, _^_, _≤_, _<_}
 use native.Mathlib.Omega.{arith}
 use native.Mathlib.Numerals.{add-one}
-use lib.ListN.{length, getD, set, length-map, length-append}
+use lib.ListN.{length, getD, set, length-append}
 use lib.Seq.{sets, length-sets}
-use Rattle.facts.specs.Lists.{listed, prefix, length-prefix}
-use Rattle.facts.specs.Rings.{listed-more}
+use Rattle.facts.specs.Lists.{listed}
+use Rattle.facts.specs.Rings.{listed-more, listed-length}
 use Rattle.rules.specs.Table.{Table}
 use Rattle.rules.specs.Cabinet.{limitMost, Cabinet, Process}
 use Rattle.rules.specs.Bytes.{wordBytes, allBytes, written}
 use Rattle.rules.specs.Run.{reportBytes}
-use Rattle.process.specs.Row.{mailIn, machineOf, processOf}
+use Rattle.process.specs.Row.{boardIn, pcIn, suppressIn, unreadIn, mailAt, machineOf, processOf}
 use Rattle.state.specs.declared.entry.Entry.{Entry}
 use Rattle.state.specs.Store.{Store, Holds, processIn}
 use Rattle.state.specs.Moved.{Reachable}
 use Rattle.state.proofs.Reading.{at-process}
 use Rattle.state.proofs.Reaching.{bounds}
-use Rattle.outcome.specs.Written.{low, twentyBytes}
-use Rattle.outcome.specs.Reports.{headBytes, LinePut, Reports}
+use Rattle.outcome.specs.Reports.{headBytes, twentyBytes, LinePut, Reports}
 use Rattle.outcome.proofs.Writing.{written-more}
 
 -- ---- one line
 
 -- four bytes in a row
-pub word-put : (buffer : List ℕ) (n word x0 x1 x2 x3 : ℕ) → word < 2 ^ 32 → x0 ≡ word / 16777216 % 256 → x1 ≡ word / 65536 % 256 → x2 ≡ word / 256 % 256 → x3 ≡ word % 256
+four-put : (buffer : List ℕ) (n x0 x1 x2 x3 : ℕ) → set (set (set (set buffer n x0) (n + 1) x1) (n + 2) x2) (n + 3) x3 ≡ sets buffer n (x0 ∷ x1 ∷ x2 ∷ x3 ∷ [])
+four-put buffer n x0 x1 x2 x3 =
+    let i1 : n + 1 ≡ suc n = omega arith in
+    let i2 : n + 2 ≡ suc (suc n) = omega arith in
+    let i3 : n + 3 ≡ suc (suc (suc n)) = omega arith in
+    λ j. set (set (set (set buffer n x0) (i1 j) x1) (i2 j) x2) (i3 j) x3
+
+pub word-put : (buffer : List ℕ) (n word x0 x1 x2 x3 : ℕ) → word < 2 ^ 32
+    → x0 ≡ word / 16777216 % 256 → x1 ≡ word / 65536 % 256 → x2 ≡ word / 256 % 256 → x3 ≡ word % 256
     → set (set (set (set buffer n x0) (n + 1) x1) (n + 2) x2) (n + 3) x3 ≡ sets buffer n (wordBytes word)
 word-put buffer n word x0 x1 x2 x3 w e0 e1 e2 e3 =
-    let i1 : n + 1 ≡ suc n = omega arith in
-    let i2 : n + 2 ≡ suc (suc n) = omega arith in
-    let i3 : n + 3 ≡ suc (suc (suc n)) = omega arith in
     let y0 : x0 ≡ word / 2 ^ 24 = omega arith in
-    λ j. set (set (set (set buffer n (y0 j)) (i1 j) (e1 j)) (i2 j) (e2 j)) (i3 j) (e3 j)
+    four-put buffer n x0 x1 x2 x3 ∙ (λ j. sets buffer n (y0 j ∷ e1 j ∷ e2 j ∷ e3 j ∷ []))
 
-pub head-put : (row buffer : List ℕ) (n x0 x1 x2 x3 : ℕ) → x0 ≡ getD row 0 0 % 256 → x1 ≡ getD row 1 0 % 256 → x2 ≡ getD row 14 0 % 256 → x3 ≡ getD row 6 0 % 256
+pub head-put : (row buffer : List ℕ) (n x0 x1 x2 x3 : ℕ)
+    → x0 ≡ boardIn row % 256 → x1 ≡ pcIn row % 256 → x2 ≡ unreadIn row % 256 → x3 ≡ suppressIn row % 256
     → set (set (set (set buffer n x0) (n + 1) x1) (n + 2) x2) (n + 3) x3 ≡ sets buffer n (headBytes row)
 head-put row buffer n x0 x1 x2 x3 e0 e1 e2 e3 =
-    let i1 : n + 1 ≡ suc n = omega arith in
-    let i2 : n + 2 ≡ suc (suc n) = omega arith in
-    let i3 : n + 3 ≡ suc (suc (suc n)) = omega arith in
-    λ j. set (set (set (set buffer n (e0 j)) (i1 j) (e1 j)) (i2 j) (e2 j)) (i3 j) (e3 j)
+    four-put buffer n x0 x1 x2 x3 ∙ (λ j. sets buffer n (e0 j ∷ e1 j ∷ e2 j ∷ e3 j ∷ []))
 
 -- four and sixteen more
 twenty-put : (row buffer b0 b1 b2 b3 b4 : List ℕ) (n : ℕ) → b0 ≡ sets buffer n (headBytes row) → b1 ≡ sets b0 (n + 4) (wordBytes (getD row 2 0))
@@ -114,18 +116,18 @@ reporting-on rows n report₀ report report′ p w l put = record {
 
 -- ---- a row's line is its process's
 
-small : (x : ℕ) → x < 256 → x ≡ low x
+small : (x : ℕ) → x < 256 → x ≡ x % 256
 small x h = omega arith
 
-line-is : (row mail log head : List ℕ) → getD row 0 0 < 256 → getD row 1 0 < 256 → getD row 14 0 < 256 → getD row 6 0 < 256
+line-is : (row mail log head : List ℕ) → boardIn row < 256 → pcIn row < 256 → unreadIn row < 256 → suppressIn row < 256
     → reportBytes (processOf row mail log head) ≡ twentyBytes row
 unfolding processOf machineOf
 line-is row mail log head h0 h1 h2 h3 =
-    let e2 = length-map (prefix (getD row 14 0) mail) mailIn ∙ length-prefix (getD row 14 0) mail ∙ small (getD row 14 0) h2 in
-    λ j. small (getD row 0 0) h0 j
-    ∷ small (getD row 1 0) h1 j
+    let e2 = listed-length (mailAt row mail) (unreadIn row) ∙ small (unreadIn row) h2 in
+    λ j. small (boardIn row) h0 j
+    ∷ small (pcIn row) h1 j
     ∷ e2 j
-    ∷ small (getD row 6 0) h3 j
+    ∷ small (suppressIn row) h3 j
     ∷ (wordBytes (getD row 2 0) ++ (wordBytes (getD row 3 0) ++ (wordBytes (getD row 4 0) ++ wordBytes (getD row 5 0))))
 
 bytes-same : {A B : Type 0} (f : A → List ℕ) (g : B → List ℕ) (u : ℕ → A) (v : ℕ → B) (n : ℕ) → ((i : ℕ) → i < n → f (u i) ≡ g (v i))
@@ -157,7 +159,7 @@ module _ {t : Table} {s : Store} {entries : List Entry} {c : Cabinet} (reach : R
 pub reporting-end : (rows : List (List ℕ)) (processes n : ℕ) (report₀ report : List ℕ) (p : ℕ) → (processes ≤ 16 → n ≡ processes) → Reporting rows n report₀ report p
     → n ≤ p → Reports rows processes report₀ report
 reporting-end rows processes n report₀ report p clamp w h = record {
-  reported = λ t mails logs heads boards totals waits entries c reach holds e room.
+  reported = λ t mails logs heads queues totals entries c reach holds e room.
       let high = reach .accepted .processes-high in
       let within = w .within in
       let en : n ≡ processes = clamp (omega arith) in

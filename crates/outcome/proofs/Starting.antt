@@ -4,7 +4,7 @@ use mathlib.Core.Logic.{_≢_}
 use mathlib.Core.Bool.{true, false}
 use mathlib.Core.Option.{some}
 use mathlib.Core.List.{List, [], _∷_, map}
-use Prim.Native.Nat.{ℕ, zero, suc, _+_, _≤_, _<_, _^_}
+use Prim.Native.Nat.{ℕ, zero, suc, _+_, _≤_, _<_, _^_, min}
 use native.Mathlib.Omega.{arith}
 use native.Mathlib.Nat.{not-suc-le-zero}
 use lib.ListN.{length, getD, set, replicate, length-set, length-map, length-replicate, getD-replicate, List·getD-eq-default}
@@ -14,11 +14,11 @@ use Rattle.facts.specs.Tests.{by-eq, by-lt}
 use Rattle.facts.specs.Lists.{listed, listed-same, map-listed, written-out}
 use Rattle.facts.specs.Indexing.{getD-map, getD-replicate-any}
 use Rattle.facts.specs.Rings.{ring}
-use Rattle.backup.specs.Limits.{logMost, ports}
+use Rattle.backup.specs.Limits.{logMost}
 use Rattle.backup.specs.Replica.{Replica}
 use Rattle.backup.specs.Place as place
 use Rattle.backup.specs.PlaceLaws.{fresh-in}
-use Rattle.process.specs.Row.{rowLength, machineOf, standbyOf, processOf, Kept, Seated}
+use Rattle.process.specs.Row.{rowLength, waitsIn, machineOf, standbyOf, processOf, Kept, Seated}
 use Rattle.process.proofs.Rows.{Words, stored}
 use Rattle.rules.specs.Table.{Table, Placement, nowhere, placementAt, channelAt}
 use Rattle.rules.specs.Judge.{Accepted}
@@ -29,7 +29,8 @@ use Rattle.rules.specs.Moves.{withStandby}
 use Rattle.rules.proofs.Tables.{primary-ok, standby-ok, apart-ok}
 use Rattle.rules.proofs.Counting.{flight-none}
 use Rattle.state.specs.declared.entry.Entry.{Entry}
-use Rattle.state.specs.Store.{Store, storeOf, Totalled, Holds, blankEntry, processIn, outboxIn, deadIn, flag}
+use Rattle.state.specs.Queue.{deadIn}
+use Rattle.state.specs.Store.{Store, storeOf, Totalled, Holds, blankEntry, processIn, outboxIn, flag}
 use Rattle.outcome.specs.Starts.{seatedIn, Fresh, Seats}
 
 -- ---- a list of one value
@@ -58,6 +59,7 @@ seated-kept primary standby a b = record {
   row-length = refl;
   mail-length = refl;
   unread = omega arith;
+  oldest = omega arith;
   words = seated-words primary standby a b .word;
   flag = omega arith;
   sound = fresh .is-sound;
@@ -74,13 +76,11 @@ seated-there primary standby n = record { runs-on = rw (ne-eqb standby primary n
 
 -- ---- fresh lists with their rows seated
 
-module _ (t : Table) (ok : Accepted t) (rows′ mails logs heads boards : List (List ℕ)) (totals waits : List ℕ) (entries : List Entry)
-    (mails-is : mails ≡ replicate 16 (zeros logMost)) (logs-is : logs ≡ replicate 16 (zeros logMost)) (heads-is : heads ≡ replicate 16 (zeros 11))
-    (boards-is : boards ≡ replicate 16 (zeros 3)) (totals-is : totals ≡ zeros 32) (waits-is : waits ≡ zeros 16)
-    (entries-is : entries ≡ replicate 512 blankEntry) (rows-length : length rows′ ≡ 16)
+module _ (t : Table) (ok : Accepted t) (rows rows′ mails logs heads queues : List (List ℕ)) (totals : List ℕ) (entries : List Entry)
+    (new : Fresh (storeOf rows mails logs heads queues totals) entries) (rows-length : length rows′ ≡ 16)
     (row-at : (p : ℕ) → p < length (t .processes) → getD rows′ p [] ≡ seatedRow (placementAt t p .primary) (placementAt t p .standby)) where
   abbrev s : Store
-  s = storeOf rows′ mails logs heads boards totals waits
+  s = storeOf rows′ mails logs heads queues totals
 
   -- one of 16
   one-of : (l : List (List ℕ)) (x : List ℕ) → l ≡ replicate 16 x → (p : ℕ) → p < 16 → getD l p [] ≡ x
@@ -89,13 +89,20 @@ module _ (t : Table) (ok : Accepted t) (rows′ mails logs heads boards : List (
   below : (p : ℕ) → p < length (t .processes) → p < 16
   below p h = let a = ok .processes-high in omega arith
 
-  below-boards : (b : ℕ) → b < t .boards → b < 16
-  below-boards b h = let a = ok .boards-high in omega arith
+  mail-at : (p : ℕ) → p < length (t .processes) → getD mails p [] ≡ zeros logMost
+  mail-at p h = one-of mails (zeros logMost) (new .mails-is) p (below p h)
+
+  log-at : (p : ℕ) → p < length (t .processes) → getD logs p [] ≡ zeros logMost
+  log-at p h = one-of logs (zeros logMost) (new .logs-is) p (below p h)
+
+  head-at : (p : ℕ) → p < length (t .processes) → getD heads p [] ≡ zeros 11
+  head-at p h = one-of heads (zeros 11) (new .heads-is) p (below p h)
+
+  queue-at : (b : ℕ) → b < t .boards → getD queues b [] ≡ zeros 3
+  queue-at b h = one-of queues (zeros 3) (new .queues-is) b (let a = ok .boards-high in omega arith)
 
   process-at : (p : ℕ) → p < length (t .processes) → processIn s p ≡ placed (placementAt t p)
-  process-at p h =
-      (λ i. processOf (row-at p h i) (one-of mails (zeros logMost) mails-is p (below p h) i) (one-of logs (zeros logMost) logs-is p (below p h) i) (one-of heads (zeros 11) heads-is p (below p h) i))
-      ∙ seated-is (placementAt t p)
+  process-at p h = (λ i. processOf (row-at p h i) (mail-at p h i) (log-at p h i) (head-at p h i)) ∙ seated-is (placementAt t p)
 
   all-processes : started t .processes ≡ listed (processIn s) (length (t .processes))
   unfolding started
@@ -104,16 +111,13 @@ module _ (t : Table) (ok : Accepted t) (rows′ mails logs heads boards : List (
       ∙ map-listed placed (placementAt t) (length (t .processes))
       ∙ listed-same (λ p. placed (placementAt t p)) (processIn s) (length (t .processes)) (λ p h. sym (process-at p h))
 
-  board-at : (b : ℕ) → b < t .boards → getD boards b [] ≡ zeros 3
-  board-at b h = one-of boards (zeros 3) boards-is b (below-boards b h)
-
   -- no entry in any queue
-  queue-at : (b : ℕ) → b < t .boards → [] ≡ outboxIn boards entries b
+  none-queued : (b : ℕ) → b < t .boards → [] ≡ outboxIn queues entries b
   unfolding outboxIn ring
-  queue-at b h = rw (board-at b h)
+  none-queued b h = rw (queue-at b h)
 
-  live-at : (b : ℕ) → b < t .boards → false ≡ deadIn boards b
-  live-at b h = rw (board-at b h)
+  live-at : (b : ℕ) → b < t .boards → false ≡ deadIn queues b
+  live-at b h = rw (queue-at b h)
 
   -- also where the table has no such process
   mailbox-is : (p : ℕ) → processAt (started t) p .machine .mailbox ≡ []
@@ -121,7 +125,8 @@ module _ (t : Table) (ok : Accepted t) (rows′ mails logs heads boards : List (
   mailbox-is p =
       by-lt p (length (t .processes))
       (λ h. ap (λ (x : Process). x .machine .mailbox) (getD-map placed (t .processes) p nowhere nobody h))
-      (λ h. ap (λ (x : Process). x .machine .mailbox) (List·getD-eq-default (map placed (t .processes)) nobody {n = p} (let a = length-map (t .processes) placed in omega arith)))
+      (λ h. ap (λ (x : Process). x .machine .mailbox)
+      (List·getD-eq-default (map placed (t .processes)) nobody {n = p} (let a = length-map (t .processes) placed in omega arith)))
 
   outbox-is : (b : ℕ) → outboxAt (started t) b ≡ []
   unfolding started
@@ -136,11 +141,12 @@ module _ (t : Table) (ok : Accepted t) (rows′ mails logs heads boards : List (
 
   kept-at : (p : ℕ) → p < length (t .processes) → Kept (getD rows′ p []) (getD mails p []) (getD logs p []) (getD heads p [])
   kept-at p h =
-      rw (row-at p h, one-of mails (zeros logMost) mails-is p (below p h), one-of logs (zeros logMost) logs-is p (below p h), one-of heads (zeros 11) heads-is p (below p h))
+      rw (row-at p h, mail-at p h, log-at p h, head-at p h)
       (seated-kept (placementAt t p .primary) (placementAt t p .standby) (a-word _ (primary-ok t ok p h)) (a-word _ (standby-ok t ok p h)))
 
-  number-at : (l : List ℕ) (n : ℕ) → l ≡ zeros n → (k : ℕ) → getD l k 0 ≡ 0
-  number-at l n e k = ap (λ (x : List ℕ). getD x k 0) e ∙ getD-replicate-any {A = ℕ} n k 0
+  -- nothing of any process waits
+  waits-at : (p : ℕ) → p < length (t .processes) → waitsIn (getD rows′ p []) ≡ flag (waiting p (outboxAt (started t) (processAt (started t) p .board)))
+  waits-at p h = ap (λ (row : List ℕ). waitsIn row) (row-at p h) ∙ ap (λ (q : List rules.Item). flag (waiting p q)) (sym (outbox-is (processAt (started t) p .board)))
 
   -- no word is unread or in a queue
   start-totalled : Totalled t totals (started t)
@@ -149,30 +155,31 @@ module _ (t : Table) (ok : Accepted t) (rows′ mails logs heads boards : List (
     total-is = λ k h.
         let a = ap (λ (l : List Mail). unreadOn k l) (mailbox-is (channelAt t k .reader)) in
         let b = in-flight k in
-        number-at totals 32 totals-is k ∙ omega arith;
-    totals-length = ap length totals-is;
+        ap (λ (l : List ℕ). getD l k 0) (new .totals-is) ∙ getD-replicate-any {A = ℕ} 32 k 0 ∙ omega arith;
+    totals-length = ap length (new .totals-is);
   }
 
   pub start-held : Holds t s entries (started t)
   unfolding started
   start-held = record {
     processes = all-processes;
-    outboxes = listed-one {A = List rules.Item} [] (t .boards) ∙ listed-same (λ _. []) (outboxIn boards entries) (t .boards) queue-at;
-    dead = listed-one false (t .boards) ∙ listed-same (λ _. false) (deadIn boards) (t .boards) live-at;
+    outboxes = listed-one {A = List rules.Item} [] (t .boards) ∙ listed-same (λ _. []) (outboxIn queues entries) (t .boards) none-queued;
+    dead = listed-one false (t .boards) ∙ listed-same (λ _. false) (deadIn queues) (t .boards) live-at;
     kept = kept-at;
     seated = λ p h. rw (row-at p h) (seated-there (placementAt t p .primary) (placementAt t p .standby) (apart-ok t ok p h));
-    first-small = λ b h. rw (board-at b h) (omega arith);
-    count-small = λ b h. rw (board-at b h) (omega arith);
-    board-length = λ b h. rw (board-at b h);
+    waits-is = waits-at;
+    first-small = λ b h. rw (queue-at b h) (omega arith);
+    count-small = λ b h. rw (queue-at b h) (omega arith);
+    queue-three = λ b h. rw (queue-at b h);
     totalled = start-totalled;
-    waits-is = λ p h. number-at waits 16 waits-is p ∙ ap (λ (q : List rules.Item). flag (waiting p q)) (sym (outbox-is (processAt (started t) p .board)));
-    rows-length = rows-length;
-    mails-length = ap length mails-is;
-    logs-length = ap length logs-is;
-    heads-length = ap length heads-is;
-    boards-length = ap length boards-is;
-    waits-length = ap length waits-is;
-    entries-length = ap length entries-is ∙ length-replicate 512 blankEntry;
+    shape = record {
+      rows-length = rows-length;
+      mails-length = ap length (new .mails-is);
+      logs-length = ap length (new .logs-is);
+      heads-length = ap length (new .heads-is);
+      queues-length = ap length (new .queues-is);
+      entries-length = ap length (new .entries-is) ∙ length-replicate 512 blankEntry;
+    };
   }
 
 -- ---- seating, row by row
@@ -201,36 +208,36 @@ module _ (rows : List (List ℕ)) (primary standby : List ℕ) (most : ℕ) (row
     others = λ p k. getD-set-other rows′ i p row [] (λ f. omega arith) ∙ h .others p (omega arith);
   }
 
-  pub seating-end : (processes : ℕ) → most ≤ i → most ≤ processes → (most < 16 → most ≡ processes) → Seats rows primary standby processes rows′
-  seating-end processes l k m =
+  pub seating-end : (processes : ℕ) → most ≡ min processes 16 → most ≤ i → Seats rows primary standby processes rows′
+  seating-end processes m l =
       let at : length rows ≡ 16 → (p : ℕ) → p < 16 → p < processes → getD rows′ p [] ≡ seatedIn (getD rows p []) (getD primary p 0) (getD standby p 0) =
-      λ z p u v. h .seated-at z p u (by-lt most 16 (λ w. let e = m w in omega arith) (λ w. omega arith)) in
+      λ z p u v. h .seated-at z p u (omega arith) in
       record {
         same-length = h .same-length;
         seated-at = at;
         others = λ p u. h .others p (let w = h .so-far in omega arith);
-        holds = λ t mails logs heads boards totals waits entries ok places fresh.
-            let z : length rows ≡ 16 = ap length (fresh .rows-is) in
-            start-held t ok rows′ mails logs heads boards totals waits entries (fresh .mails-is) (fresh .logs-is) (fresh .heads-is) (fresh .boards-is)
-            (fresh .totals-is) (fresh .waits-is) (fresh .entries-is) (h .same-length ∙ z)
+        holds = λ t mails logs heads queues totals entries ok places new.
+            let z : length rows ≡ 16 = ap length (new .rows-is) in
+            start-held t ok rows rows′ mails logs heads queues totals entries new (h .same-length ∙ z)
             (λ p u.
             let v : p < 16 = (let a = ok .processes-high in omega arith) in
             at z p v (rw (places .processes-is) u)
-            ∙ (λ j. seatedIn (getD (fresh .rows-is j) p []) (places .primary-at p u j) (places .standby-at p u j))
+            ∙ (λ j. seatedIn (getD (new .rows-is j) p []) (places .primary-at p u j) (places .standby-at p u j))
             ∙ ap (λ (r : List ℕ). seatedIn r (placementAt t p .primary) (placementAt t p .standby)) (getD-replicate 16 p (zeros rowLength) [] v));
       }
 
 -- ---- lists as an array of zeros and an array of blank entries come out
 
 pub fresh-made : (entries : List Entry) → entries ≡ replicate 512 blankEntry
-    → Fresh (storeOf (replicate 16 (zeros rowLength)) (replicate 16 (zeros logMost)) (replicate 16 (zeros logMost)) (replicate 16 (zeros 11)) (replicate 16 (zeros 3)) (zeros 32) (zeros 16)) entries
+    → Fresh
+    (storeOf (replicate 16 (zeros rowLength)) (replicate 16 (zeros logMost)) (replicate 16 (zeros logMost)) (replicate 16 (zeros 11)) (replicate 16 (zeros 3)) (zeros 32))
+    entries
 fresh-made entries e = record {
   rows-is = refl;
   mails-is = refl;
   logs-is = refl;
   heads-is = refl;
-  boards-is = refl;
+  queues-is = refl;
   totals-is = refl;
-  waits-is = refl;
   entries-is = e;
 }

@@ -1,5 +1,4 @@
--- What is promised of a run's start, of the bytes that it writes, and of its end.
-pub mod Written
+-- What is promised of a run's start, of its report, and of its end.
 pub mod Starts
 pub mod Reports
 pub mod Quiets

@@ -22,9 +22,8 @@ pub record Fresh (s : Store) (entries : List Entry) : Type 0 where
   pub mails-is : s .mails ≡ replicate 16 (replicate logMost 0)
   pub logs-is : s .logs ≡ replicate 16 (replicate logMost 0)
   pub heads-is : s .heads ≡ replicate 16 (replicate 11 0)
-  pub boards-is : s .boards ≡ replicate 16 (replicate 3 0)
+  pub queues-is : s .queues ≡ replicate 16 (replicate 3 0)
   pub totals-is : s .totals ≡ replicate 32 0
-  pub waits-is : s .waits ≡ replicate 16 0
   pub entries-is : entries ≡ replicate 512 blankEntry
 
 -- The two boards of each process of table t, and how many processes it has.
@@ -36,8 +35,9 @@ pub record Placed (t : Table) (primary standby : List ℕ) (processes : ℕ) : T
 -- What seating promises of 16 rows: those of the processes are seated, the others stay; and fresh lists then hold the table's start.
 pub record Seats (rows : List (List ℕ)) (primary standby : List ℕ) (processes : ℕ) (rows′ : List (List ℕ)) : Type 0 where
   pub same-length : length rows′ ≡ length rows
-  pub seated-at : length rows ≡ 16 → (p : ℕ) → p < 16 → p < processes → getD rows′ p [] ≡ seatedIn (getD rows p []) (getD primary p 0) (getD standby p 0)
+  pub seated-at : length rows ≡ 16 → (p : ℕ) → p < 16 → p < processes
+      → getD rows′ p [] ≡ seatedIn (getD rows p []) (getD primary p 0) (getD standby p 0)
   pub others : (p : ℕ) → processes ≤ p → getD rows′ p [] ≡ getD rows p []
-  pub holds : (t : Table) (mails logs heads boards : List (List ℕ)) (totals waits : List ℕ) (entries : List Entry)
-      → Accepted t → Placed t primary standby processes → Fresh (storeOf rows mails logs heads boards totals waits) entries
-      → Holds t (storeOf rows′ mails logs heads boards totals waits) entries (started t)
+  pub holds : (t : Table) (mails logs heads queues : List (List ℕ)) (totals : List ℕ) (entries : List Entry)
+      → Accepted t → Placed t primary standby processes → Fresh (storeOf rows mails logs heads queues totals) entries
+      → Holds t (storeOf rows′ mails logs heads queues totals) entries (started t)

@@ -1,6 +1,4 @@
-// What stands at a run's two ends: the lists as the table gives them, the bytes of an answer and of the report, and whether the cabinet is
-// quiet.
-pub mod answer;
+// What stands at a run's two ends: the lists as the table gives them, the bytes of the report, and whether the cabinet is quiet.
 pub mod quiet;
 pub mod report;
 pub mod start;

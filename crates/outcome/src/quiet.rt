@@ -1,16 +1,20 @@
 // "Quiet: each process is halted or would answer 36, and no queue has an entry."
 ghost use mathlib.Core.Path.{_≡_};
 ghost use Rattle.outcome.specs.Quiets.{restsOf, Rests, AllRest, AllEmpty, Quiets};
-use crate::report::at_most_16;
 use backup::limits::LOG;
 use instruction::instruction::Intent;
 use instruction::instruction::examine;
+use plan::Counts;
+use plan::PROGRAMS;
+use plan::length;
+use plan::start;
 use process::row::PC;
 use process::row::ROW;
 use records::fetch::fetch;
-use state::board::BOARD_ROW;
-use state::board::COUNT;
-use state::board::wide;
+use state::queue::COUNT;
+use state::queue::QUEUE_ROW;
+use words::most16;
+use words::wide;
 
 // Halted, or waits for a word.
 fn idle(intent: Intent) -> bool
@@ -36,17 +40,22 @@ fn rests(table: &[u8], at: u32, length: u32, row: &[u32; ROW], mail: &[u64; LOG]
 fn all_rest(
     table: &[u8],
     processes: usize,
-    start: &[u32; 16],
-    lengths: &[u32; 16],
+    programs: &[u32; PROGRAMS],
     rows: &[[u32; ROW]; 16],
     mails: &[[u64; LOG]; 16],
 ) -> bool
-    ensures { λ r. ⌜ AllRest (now (table .entry)) processes (now (start .entry)) (now (lengths .entry)) (now (rows .entry)) (now (mails .entry)) r ⌝ }
+    ensures { λ r. ⌜ AllRest (now (table .entry)) processes (now (programs .entry)) (now (rows .entry)) (now (mails .entry)) r ⌝ }
 {
-    let n = at_most_16(processes);
+    let n = most16(processes);
     let mut p = 0;
     while p < n {
-        if !rests(table, start[p], lengths[p], &rows[p], &mails[p]) {
+        if !rests(
+            table,
+            start(programs, p),
+            length(programs, p),
+            &rows[p],
+            &mails[p],
+        ) {
             return false;
         }
         p += 1;
@@ -54,13 +63,13 @@ fn all_rest(
     true
 }
 
-fn all_empty(boards_many: usize, boards: &[[u32; BOARD_ROW]; 16]) -> bool
-    ensures { λ r. ⌜ AllEmpty «boards_many» (now (boards .entry)) r ⌝ }
+fn all_empty(boards: usize, queues: &[[u32; QUEUE_ROW]; 16]) -> bool
+    ensures { λ r. ⌜ AllEmpty boards (now (queues .entry)) r ⌝ }
 {
-    let n = at_most_16(boards_many);
+    let n = most16(boards);
     let mut b = 0;
     while b < n {
-        if boards[b][COUNT] != 0 {
+        if queues[b][COUNT] != 0 {
             return false;
         }
         b += 1;
@@ -70,18 +79,17 @@ fn all_empty(boards_many: usize, boards: &[[u32; BOARD_ROW]; 16]) -> bool
 
 pub fn quiescent(
     table: &[u8],
-    boards_many: usize,
-    processes: usize,
-    start: &[u32; 16],
-    lengths: &[u32; 16],
+    counts: Counts,
+    programs: &[u32; PROGRAMS],
     rows: &[[u32; ROW]; 16],
     mails: &[[u64; LOG]; 16],
-    boards: &[[u32; BOARD_ROW]; 16],
+    queues: &[[u32; QUEUE_ROW]; 16],
 ) -> bool
-    ensures { λ r. ⌜ Quiets (now (table .entry)) «boards_many» processes (now (start .entry)) (now (lengths .entry)) (now (rows .entry)) (now (mails .entry)) (now (boards .entry)) r ⌝ }
+    ensures { λ r. ⌜ Quiets (now (table .entry)) counts (now (programs .entry)) (now (rows .entry)) (now (mails .entry))
+        (now (queues .entry)) r ⌝ }
 {
-    if !all_rest(table, processes, start, lengths, rows, mails) {
+    if !all_rest(table, counts.processes, programs, rows, mails) {
         return false;
     }
-    all_empty(boards_many, boards)
+    all_empty(counts.boards, queues)
 }

@@ -1,6 +1,6 @@
 // The report in bytes: "board, place, unread count and hold-back, a byte each, then four registers."
 ghost use mathlib.Core.Path.{_≡_};
-ghost use Prim.Native.Nat.{_+_, _%_, _≤_};
+ghost use Prim.Native.Nat.{_+_, _≤_};
 ghost use lib.ListN.{length};
 ghost use lib.Seq.{sets};
 ghost use Rattle.rules.specs.Bytes.{wordBytes};
@@ -14,22 +14,18 @@ use process::row::R3;
 use process::row::ROW;
 use process::row::SUPPRESS;
 use process::row::UNREAD;
-
-fn low(x: u32) -> u8
-    ensures { λ r. ⌜ r ≡ x % 256 ⌝ }
-{
-    (x % 256) as u8
-}
+use words::low_byte;
+use words::most16;
 
 // A word in four bytes.
 fn put_word(report: &mut [u8], at: usize, word: u32)
     requires { ⌜ at + 4 ≤ length (now report) ⌝ }
     ensures { λ _. ⌜ now (report .exit) ≡ sets (now (report .entry)) at (wordBytes word) ⌝ }
 {
-    report[at] = low(word / 16777216);
-    report[at + 1] = low(word / 65536);
-    report[at + 2] = low(word / 256);
-    report[at + 3] = low(word);
+    report[at] = low_byte(word / 16777216);
+    report[at + 1] = low_byte(word / 65536);
+    report[at + 2] = low_byte(word / 256);
+    report[at + 3] = low_byte(word);
 }
 
 // A line's first four bytes.
@@ -37,10 +33,10 @@ fn put_head(row: &[u32; ROW], report: &mut [u8], at: usize)
     requires { ⌜ at + 4 ≤ length (now report) ⌝ }
     ensures { λ _. ⌜ now (report .exit) ≡ sets (now (report .entry)) at (headBytes (now (row .entry))) ⌝ }
 {
-    report[at] = low(row[BOARD]);
-    report[at + 1] = low(row[PC]);
-    report[at + 2] = low(row[UNREAD]);
-    report[at + 3] = low(row[SUPPRESS]);
+    report[at] = low_byte(row[BOARD]);
+    report[at + 1] = low_byte(row[PC]);
+    report[at + 2] = low_byte(row[UNREAD]);
+    report[at + 3] = low_byte(row[SUPPRESS]);
 }
 
 // The p-th line, of 20 bytes; a buffer that has no room for it stays as it is.
@@ -58,18 +54,11 @@ fn put_line(row: &[u32; ROW], report: &mut [u8], p: usize)
     put_word(report, at + 16, row[R3]);
 }
 
-// No more than there are rows.
-pub(crate) fn at_most_16(n: usize) -> usize
-    ensures { λ r. ⌜ (r ≤ 16) × (n ≤ 16 → r ≡ n) ⌝ }
-{
-    if n > 16 { 16 } else { n }
-}
-
 // A line for each process. Bytes beyond stay.
 pub fn write_report(rows: &[[u32; ROW]; 16], processes: usize, report: &mut [u8])
     ensures { λ _. ⌜ Reports (now (rows .entry)) processes (now (report .entry)) (now (report .exit)) ⌝ }
 {
-    let n = at_most_16(processes);
+    let n = most16(processes);
     let mut p = 0;
     while p < n {
         put_line(&rows[p], report, p);

@@ -1,11 +1,11 @@
 // The start: each process on its primary board, with its backup on the other one.
 ghost use mathlib.Core.Path.{_≡_};
-ghost use Prim.Native.Nat.{_≤_, _<_};
 ghost use Rattle.outcome.specs.Starts.{seatedIn, Seats};
 use process::row::BOARD;
 use process::row::PROTECTED;
 use process::row::ROW;
 use process::row::STANDBY;
+use words::least;
 
 // One process's row.
 fn seat_row(row: &mut [u32; ROW], primary: u32, standby: u32)
@@ -16,18 +16,11 @@ fn seat_row(row: &mut [u32; ROW], primary: u32, standby: u32)
     row[STANDBY] = standby;
 }
 
-// A number, or 16 where it is more.
-fn at_most_16(n: usize) -> usize
-    ensures { λ r. ⌜ (r ≤ n) × ((r ≤ 16) × (r < 16 → r ≡ n)) ⌝ }
-{
-    if n < 16 { n } else { 16 }
-}
-
 // The rows of all processes, of which there are 16 at most. On lists of zeros and blank entries this is the cabinet that the table gives.
 pub fn seat(rows: &mut [[u32; ROW]; 16], primary: &[u32; 16], standby: &[u32; 16], processes: usize)
     ensures { λ _. ⌜ Seats (now (rows .entry)) (now (primary .entry)) (now (standby .entry)) processes (now (rows .exit)) ⌝ }
 {
-    let most = at_most_16(processes);
+    let most = least(processes, 16);
     let mut p = 0;
     while p < most {
         seat_row(&mut rows[p], primary[p], standby[p]);

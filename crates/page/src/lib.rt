@@ -42,7 +42,8 @@ fn put_accepted(
 ) -> usize
     requires { ⌜ 6 * records + 6 < most ⌝ }
     requires { ⌜ 20 * processes + 20 < most ⌝ }
-    ensures { λ r. ⌜ Put (acceptedPage processes (ranOf 0 records quiet (shownOf (now (answers .entry)) (now (report .entry))))) (now (out .entry)) 0 r (now (out .exit)) ⌝ }
+    ensures { λ r. ⌜ Put (acceptedPage processes (ranOf 0 records quiet (shownOf (now (answers .entry)) (now (report .entry)))))
+        (now (out .entry)) 0 r (now (out .exit)) ⌝ }
 {
     let a = put_text(out, 0, b"records ", 0);
     let b = put_number(out, a, records as u64, LINE_FEED);
@@ -72,7 +73,8 @@ fn write_accepted(
     report: &[u8],
     out: &mut [u8],
 ) -> usize
-    ensures { λ r. ⌜ Written (acceptedPage processes (ranOf 0 records quiet (shownOf (now (answers .entry)) (now (report .entry))))) (now (out .entry)) r (now (out .exit)) ⌝ }
+    ensures { λ r. ⌜ Written (acceptedPage processes (ranOf 0 records quiet (shownOf (now (answers .entry)) (now (report .entry)))))
+        (now (out .entry)) r (now (out .exit)) ⌝ }
 {
     if records > out.len() / 8 {
         return 0;
@@ -99,7 +101,8 @@ pub fn write_page(
     report: &[u8],
     out: &mut [u8],
 ) -> usize
-    ensures { λ r. ⌜ Written (pageOf processes (ranOf number records quiet (shownOf (now (answers .entry)) (now (report .entry))))) (now (out .entry)) r (now (out .exit)) ⌝ }
+    ensures { λ r. ⌜ Written (pageOf processes (ranOf number records quiet (shownOf (now (answers .entry)) (now (report .entry)))))
+        (now (out .entry)) r (now (out .exit)) ⌝ }
 {
     if number != 0 {
         return write_refused(number, out);

@@ -1,4 +1,5 @@
--- A table's plan as the moves are lent it, and that it is the table's: a row of eight numbers for each process, and one of three for each channel.
+-- A table's plan as the moves are lent it, and that it is the table's: a row of eight numbers for each process, and one of three for each
+-- channel.
 use mathlib.Core.Path.{_≡_}
 use mathlib.Core.List.{List}
 use Prim.Native.Nat.{ℕ, _+_, _*_, _<_}

@@ -10,8 +10,8 @@ pub const PROCESSES: usize = 16;
 // Channels that it has at most.
 pub const CHANNELS: usize = 32;
 
-// A process's row: where in the table its program begins, how many instructions it has, the limit of its acts, how many channels it reads, and the
-// channel at each of its ports.
+// A process's row: where in the table its program begins, how many instructions it has, the limit of its acts, how many channels it reads,
+// and the channel at each of its ports.
 pub const START: usize = 0;
 
 pub const LENGTH: usize = 1;

@@ -16,7 +16,7 @@ use Rattle.process.specs.Promotion.{readdressed, Readdressed}
 pub record Filling (mail₀ log : List ℕ) (len : ℕ) (channels mail : List ℕ) (i : ℕ) : Type 0 where
   pub looked : i ≤ len
   pub same-length : length mail ≡ length mail₀
-  pub mails : length mail₀ ≡ logMost → mailsIn i mail ≡ map (readdressed channels) (messages i log)
+  pub mails : length mail₀ ≡ logMost → mailsIn 0 i mail ≡ map (readdressed channels) (messages i log)
 
 pub filling-start : (mail log : List ℕ) (len : ℕ) (channels : List ℕ) → Filling mail log len channels mail 0
 filling-start mail log len channels = record { looked = omega arith; same-length = refl; mails = λ h. refl }
@@ -26,7 +26,7 @@ messages-more n log = ap (map unpack) (prefix-more n log) ∙ map-append unpack 
 
 module _ (mail₀ log : List ℕ) (len : ℕ) (channels mail : List ℕ) (i : ℕ) (f : Filling mail₀ log len channels mail i) where
   pub filling-on : (port word : ℕ) (mail′ : List ℕ) → i < len → len ≤ logMost → port ≡ portIn (getD log i 0) % 4 → word ≡ wordIn (getD log i 0)
-      → Appended mail i (getD channels port 0) word mail′ → Filling mail₀ log len channels mail′ (i + 1)
+      → Appended mail 0 i (getD channels port 0) word mail′ → Filling mail₀ log len channels mail′ (i + 1)
   filling-on port word mail′ l k e g a = record {
     looked = omega arith;
     same-length = a .same-length ∙ f .same-length;

@@ -10,12 +10,13 @@ use Rattle.backup.specs.Place.{viewIn, Sound}
 use Rattle.rules.specs.Table.{Table, placementAt, portOf}
 use Rattle.rules.specs.Machine.{Mail}
 use Rattle.rules.specs.Moves.{rebacking}
-use Rattle.process.specs.Row.{mailIn, mailsIn, Kept, Seated}
+use Rattle.plan.specs.Plan.{portIn}
+use Rattle.process.specs.Row.{pcIn, unreadIn, mailIn, packedAt, mailsIn, mailAt, Kept, Seated}
 use Rattle.process.specs.Change.{Became}
 
--- the port of a word by the plan's list, in which each channel has its own, and the word as a message
+-- the port of a word by the plan's row of its channel, and the word as a message
 abbrev pub portFor : List ℕ → Mail → ℕ
-portFor port x = getD port (x .channel % 32) 0
+portFor wires x = portIn wires (x .channel % 32)
 
 abbrev pub copyOf : List ℕ → Mail → Message
 copyOf port x = record { port = portFor port x; word = x .word }
@@ -24,19 +25,22 @@ copyOf port x = record { port = portFor port x; word = x .word }
 abbrev pub withMore : List Message → Replica → Replica
 withMore l r = record { log = r .log ++ l; sent = r .sent; pc = r .pc; registers = r .registers }
 
--- copies of the first len words of a mailbox joined a record; it is sound again, and has them all where they are on ports and there is room
-pub record Copied (mail : List ℕ) (len : ℕ) (port log head log′ head′ : List ℕ) : Type 0 where
+-- copies of the len words of a mailbox from place `first` on joined a record; it is sound again, and has them all where they are on ports and
+-- there is room
+pub record Copied (mail : List ℕ) (first len : ℕ) (port log head log′ head′ : List ℕ) : Type 0 where
   pub sound-again : Sound log head → Sound log′ head′
-  pub value-is : Sound log head → ((i : ℕ) → i < len → portFor port (mailIn (getD mail i 0)) < ports) → length (viewIn log head .log) + len ≤ logMost
-      → viewIn log′ head′ ≡ withMore (map (copyOf port) (mailsIn len mail)) (viewIn log head)
+  pub value-is : Sound log head → ((i : ℕ) → i < len → portFor port (mailIn (packedAt first mail i)) < ports)
+      → length (viewIn log head .log) + len ≤ logMost
+      → viewIn log′ head′ ≡ withMore (map (copyOf port) (mailsIn first len mail)) (viewIn log head)
 
 -- each unread word is on a port of process p, which the plan's list has
 abbrev pub OnPorts : Table → ℕ → List ℕ → List ℕ → List ℕ → Type 0
 OnPorts t p port row mail =
-    (i : ℕ) → i < getD row 14 0 → (let x = mailIn (getD mail i 0) in (portFor port x ≡ portOf t p (x .channel)) × (portOf t p (x .channel) < ports))
+    (i : ℕ) → i < unreadIn row
+    → (let x = mailAt row mail i in (portFor port x ≡ portOf t p (x .channel)) × (portOf t p (x .channel) < ports))
 
 -- the process with a record being made, as the rules' `rebacking` has it
 abbrev pub Rebacks : List ℕ → List ℕ → List ℕ → List ℕ → List ℕ → List ℕ → List ℕ → List ℕ → Type 0
 Rebacks row mail log head port row′ log′ head′ =
-    Kept row mail log head → (t : Table) (p : ℕ) → OnPorts t p port row mail → getD row 1 0 ≤ pcMost
+    Kept row mail log head → (t : Table) (p : ℕ) → OnPorts t p port row mail → pcIn row ≤ pcMost
     → Seated (placementAt t p .primary) (placementAt t p .standby) row → Became row mail log head row′ mail log′ head′ (rebacking t p)

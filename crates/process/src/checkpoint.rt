@@ -2,11 +2,9 @@
 // Document 01: "a snapshot (registers, place, takes per slot since the last issue) joins the queue; acts become 0"; "A sync replaces the
 // state in the process's backup record, drops the oldest saved words slot by slot as taken, and zeroes the count."
 ghost use mathlib.Core.Path.{_≡_};
-ghost use mathlib.Core.List.{List};
-ghost use Prim.Native.Nat.{ℕ};
 ghost use Rattle.backup.specs.Place.{checkpointOf};
-ghost use Rattle.rules.specs.Moves.{snapshot as snapshotOf, issued, keeps};
-ghost use Rattle.process.specs.Row.{processOf};
+ghost use Rattle.rules.specs.Moves.{issued, keeps};
+ghost use Rattle.process.specs.Row.{checkpointIn};
 ghost use Rattle.process.specs.Change.{RowBecame, BackupBecame, Drops};
 use crate::row::COMPLETE;
 use crate::row::EVENTS;
@@ -30,7 +28,7 @@ use backup::place::total_dropped;
 
 // The process as a checkpoint.
 pub fn snapshot(row: &[u32; ROW]) -> Checkpoint
-    ensures { λ r. ⌜ ((mail log head : List ℕ) → checkpointOf r ≡ snapshotOf (processOf (now (row .entry)) mail log head)) ⌝ }
+    ensures { λ r. ⌜ r ≡ checkpointIn (now (row .entry)) ⌝ }
 {
     Checkpoint {
         pc: row[PC],
@@ -59,7 +57,8 @@ pub fn issue(row: &mut [u32; ROW])
 
 // A checkpoint lands: the backup keeps it, if there is one. How many messages that dropped.
 pub fn keep(row: &[u32; ROW], log: &mut [u64; LOG], head: &mut [u32; HEAD], c: Checkpoint) -> u32
-    ensures { λ _. ⌜ BackupBecame (now (row .entry)) (now (log .entry)) (now (head .entry)) (now (log .exit)) (now (head .exit)) (keeps (checkpointOf c)) ⌝ }
+    ensures { λ _. ⌜ BackupBecame (now (row .entry)) (now (log .entry)) (now (head .entry)) (now (log .exit)) (now (head .exit))
+        (keeps (checkpointOf c)) ⌝ }
     ensures { λ r. ⌜ Drops (now (row .entry)) (now (log .entry)) (now (head .entry)) (checkpointOf c) r ⌝ }
 {
     if row[PROTECTED] == COMPLETE {

@@ -1,7 +1,5 @@
 // A crash, in one process: it goes on as its backup, or loses its backup, or neither.
 // Document 01: "All processes that had either half there have no backup from then on."
-ghost use mathlib.Core.List.{List};
-ghost use Prim.Native.Nat.{ℕ};
 ghost use Rattle.rules.specs.Moves.{unprotected};
 ghost use Rattle.process.specs.Change.{RowBecame};
 ghost use Rattle.process.specs.Promotion.{Crashed};
@@ -29,7 +27,8 @@ pub fn crash(
     b: u32,
     channels: [u32; 4],
 )
-    ensures { λ _. ⌜ Crashed (now (row .entry)) (now (mail .entry)) (now (log .entry)) (now (head .entry)) (now (row .exit)) (now (mail .exit)) b channels ⌝ }
+    ensures { λ _. ⌜ Crashed (now (row .entry)) (now (mail .entry)) (now (log .entry)) (now (head .entry)) (now (row .exit))
+        (now (mail .exit)) b channels ⌝ }
 {
     if row[PROTECTED] == 0 {
         return;

@@ -2,8 +2,7 @@
 // Document 02, W-210: "its snapshot and copies of all its unread words join the queue as one entry." "When that entry is carried, its other
 // table board holds a new record with those words, then all that have arrived since issue, and count 0." While a process has no backup its
 // log and its head are free: the new record is made there at issue, and from then on what arrives is saved in it.
-ghost use mathlib.Core.List.{List};
-ghost use Prim.Native.Nat.{ℕ, _≤_};
+ghost use Prim.Native.Nat.{_≤_};
 ghost use Rattle.backup.specs.Limits.{logMost};
 ghost use Rattle.rules.specs.Moves.{rebacked};
 ghost use Rattle.process.specs.Change.{RowBecame};
@@ -11,35 +10,41 @@ ghost use Rattle.process.specs.Transfer.{Copied, Rebacks};
 use crate::checkpoint::issue;
 use crate::checkpoint::snapshot;
 use crate::mail::channel_of;
+use crate::mail::place;
 use crate::mail::word_of;
 use crate::row::COMING;
 use crate::row::COMPLETE;
+use crate::row::OLDEST;
 use crate::row::PROTECTED;
 use crate::row::ROW;
 use crate::row::UNREAD;
-use crate::row::wide;
 use backup::limits::LOG;
 use backup::place::HEAD;
 use backup::place::arrive_in;
 use backup::place::new_in;
 use backup::place::sync_in;
+use plan::WIRES;
+use plan::port;
+use words::wide;
 
-// Copies of the first len words of a mailbox join a log, each by its channel's port.
+// Copies of the len words of a mailbox from place `first` on join a log, each by its channel's port.
 fn copy(
     mail: &[u64; LOG],
+    first: usize,
     len: usize,
-    port: &[u32; 32],
+    wires: &[u32; WIRES],
     log: &mut [u64; LOG],
     head: &mut [u32; HEAD],
 )
     requires { ⌜ len ≤ logMost ⌝ }
-    ensures { λ _. ⌜ Copied (now (mail .entry)) len (now (port .entry)) (now (log .entry)) (now (head .entry)) (now (log .exit)) (now (head .exit)) ⌝ }
+    ensures { λ _. ⌜ Copied (now (mail .entry)) first len (now (wires .entry)) (now (log .entry)) (now (head .entry)) (now (log .exit))
+        (now (head .exit)) ⌝ }
 {
     let mut i = 0;
     while i < len {
-        let x = mail[i];
+        let x = mail[place(first, i)];
         let k = wide(channel_of(x)) % 32;
-        arrive_in(log, head, port[k], word_of(x));
+        arrive_in(log, head, port(wires, k), word_of(x));
         i += 1;
     }
 }
@@ -51,10 +56,12 @@ pub fn reback(
     mail: &[u64; LOG],
     log: &mut [u64; LOG],
     head: &mut [u32; HEAD],
-    port: &[u32; 32],
+    wires: &[u32; WIRES],
 )
-    ensures { λ _. ⌜ Rebacks (now (row .entry)) (now (mail .entry)) (now (log .entry)) (now (head .entry)) (now (port .entry)) (now (row .exit)) (now (log .exit)) (now (head .exit)) ⌝ }
+    ensures { λ _. ⌜ Rebacks (now (row .entry)) (now (mail .entry)) (now (log .entry)) (now (head .entry)) (now (wires .entry))
+        (now (row .exit)) (now (log .exit)) (now (head .exit)) ⌝ }
 {
+    let first = wide(row[OLDEST]);
     let len = wide(row[UNREAD]);
     if len > LOG {
         return;
@@ -62,7 +69,7 @@ pub fn reback(
     issue(row);
     new_in(head);
     sync_in(log, head, snapshot(row));
-    copy(mail, len, port, log, head);
+    copy(mail, first, len, wires, log, head);
     row[PROTECTED] = COMING;
 }
 

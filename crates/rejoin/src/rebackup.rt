@@ -3,62 +3,57 @@
 // has a backup or its other table board is dead."
 ghost use mathlib.Core.Path.{_≡_};
 ghost use Prim.Native.Nat.{_<_, min};
-ghost use lib.ListN.{getD};
 ghost use Rattle.facts.specs.Tests.{anyBelow};
 ghost use Rattle.backup.specs.Limits.{ports};
+ghost use Rattle.plan.specs.Plan.{arityIn};
 ghost use Rattle.rejoin.specs.Rebackups.{crowdedOn, Rebackups};
 use backup::limits::LOG;
 use backup::place::HEAD;
+use plan::PROGRAMS;
+use plan::WIRES;
+use plan::arity;
+use plan::input;
 use process::row::BOARD;
 use process::row::COMPLETE;
 use process::row::PROTECTED;
 use process::row::ROW;
 use process::row::STANDBY;
 use process::row::SUPPRESS;
+use process::row::WAITS;
 use process::transfer::reback;
-use state::board::BOARD_ROW;
-use state::board::COUNT;
-use state::board::DEAD;
-use state::board::QUEUE;
-use state::board::index16;
-use state::board::place;
-use state::board::push;
-use state::board::wide;
-use state::entry::Entry;
-use state::entry::Item;
+use state::channel::OCCUPANCY;
 use state::moved::Answer;
 use state::moved::Moved;
 use state::moved::refused;
-
-// Words unread and in queues together that a channel may have.
-const READY_MOST: u32 = 8;
-
-// A count of ports; 4 stands for any that is more.
-fn most4(n: u32) -> usize
-    ensures { λ r. ⌜ r ≡ min n ports ⌝ }
-{
-    if n > 4 { 4 } else { wide(n) }
-}
+use state::queue::COUNT;
+use state::queue::DEAD;
+use state::queue::QUEUE;
+use state::queue::QUEUE_ROW;
+use state::queue::place;
+use state::queue::push;
+use words::index16;
+use words::least;
+use words::wide;
 
 // Whether the channel at a port of process p has more words than it may.
-fn crowds(ins: &[u32; 64], totals: &[u32; 32], p: usize, port: usize) -> bool
+fn crowds(programs: &[u32; PROGRAMS], totals: &[u32; 32], p: usize, port: usize) -> bool
     requires { ⌜ (p < 16) × (port < ports) ⌝ }
-    ensures { λ r. ⌜ r ≡ crowdedOn (now (ins .entry)) (now (totals .entry)) p port ⌝ }
+    ensures { λ r. ⌜ r ≡ crowdedOn (now (programs .entry)) (now (totals .entry)) p port ⌝ }
 {
-    let k = wide(ins[4 * p + port]) % 32;
-    totals[k] > READY_MOST
+    let k = wide(input(programs, p, port)) % 32;
+    totals[k] > OCCUPANCY
 }
 
 // Whether one of them has.
-fn crowded(ins: &[u32; 64], arity: &[u32; 16], totals: &[u32; 32], p: usize) -> bool
+fn crowded(programs: &[u32; PROGRAMS], totals: &[u32; 32], p: usize) -> bool
     requires { ⌜ p < 16 ⌝ }
-    ensures { λ r. ⌜ r ≡ anyBelow (crowdedOn (now (ins .entry)) (now (totals .entry)) p) (min (getD (now (arity .entry)) p 0) ports) ⌝ }
+    ensures { λ r. ⌜ r ≡ anyBelow (crowdedOn (now (programs .entry)) (now (totals .entry)) p) (min (arityIn (now (programs .entry)) p) ports) ⌝ }
 {
-    let n = most4(arity[p]);
+    let n = least(wide(arity(programs, p)), 4);
     let mut found = false;
     let mut port = 0;
     while port < n {
-        if crowds(ins, totals, p, port) {
+        if crowds(programs, totals, p, port) {
             found = true;
         }
         port += 1;
@@ -67,45 +62,45 @@ fn crowded(ins: &[u32; 64], arity: &[u32; 16], totals: &[u32; 32], p: usize) -> 
 }
 
 pub fn rebackup(
-    port: &[u32; 32],
-    ins: &[u32; 64],
-    arity: &[u32; 16],
+    programs: &[u32; PROGRAMS],
+    wires: &[u32; WIRES],
     rows: &mut [[u32; ROW]; 16],
     mails: &[[u64; LOG]; 16],
     logs: &mut [[u64; LOG]; 16],
     heads: &mut [[u32; HEAD]; 16],
-    boards: &mut [[u32; BOARD_ROW]; 16],
+    queues: &mut [[u32; QUEUE_ROW]; 16],
     totals: &[u32; 32],
-    waits: &mut [u32; 16],
     a: u32,
 ) -> Moved
-    ensures { λ r. ⌜ Rebackups (now (port .entry)) (now (ins .entry)) (now (arity .entry)) (now (rows .entry)) (now (mails .entry)) (now (logs .entry)) (now (heads .entry)) (now (boards .entry)) (now (totals .entry)) (now (waits .entry)) a (now (rows .exit)) (now (logs .exit)) (now (heads .exit)) (now (boards .exit)) (now (waits .exit)) r ⌝ }
+    ensures { λ r. ⌜ Rebackups (now (programs .entry)) (now (wires .entry)) (now (rows .entry)) (now (mails .entry)) (now (logs .entry))
+        (now (heads .entry))
+        (now (queues .entry)) (now (totals .entry)) a (now (rows .exit)) (now (logs .exit)) (now (heads .exit)) (now (queues .exit)) r ⌝ }
 {
     let p = index16(a);
     if rows[p][PROTECTED] == COMPLETE {
         return refused(50, 0, a);
     }
     let other = index16(rows[p][STANDBY]);
-    if boards[other][DEAD] != 0 {
+    if queues[other][DEAD] != 0 {
         return refused(50, 0, a);
     }
     if rows[p][SUPPRESS] != 0 {
         return refused(49, 0, a);
     }
-    if crowded(ins, arity, totals, p) {
+    if crowded(programs, totals, p) {
         return refused(49, 0, a);
     }
-    if waits[p] != 0 {
+    if rows[p][WAITS] != 0 {
         return refused(41, 3, a);
     }
     let b = index16(rows[p][BOARD]);
-    if boards[b][COUNT] >= QUEUE {
+    if queues[b][COUNT] >= QUEUE {
         return refused(38, 3, a);
     }
-    let at = place(&boards[b], b);
-    reback(&mut rows[p], &mails[p], &mut logs[p], &mut heads[p], port);
-    push(&mut boards[b]);
-    waits[p] = 1;
+    let at = place(&queues[b], b);
+    rows[p][WAITS] = 1;
+    reback(&mut rows[p], &mails[p], &mut logs[p], &mut heads[p], wires);
+    push(&mut queues[b]);
     Moved {
         answer: Answer {
             code: 0,
@@ -114,8 +109,5 @@ pub fn rebackup(
             word: 0,
         },
         at: at,
-        entry: Entry {
-            item: Item::Transfer { process: a },
-        },
     }
 }

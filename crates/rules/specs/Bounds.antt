@@ -49,12 +49,14 @@ pub record BackupBounds (t : Table) (c : Cabinet) (p : ℕ) (s : Standby) : Type
   -- the saved words, less those taken since the backup's state, are the inbox
   pub saved : mails t p (remaining (processAt c p .since .taken) (remaining (issuedTakes p (outboxAt c (processAt c p .board))) (s .replica .log))) ≡ processAt c p .machine .mailbox
   -- no call of the backup is refused. "A word goes [..] to the sender's backup record, which counts it":
-  pub counts : (b : ℕ) (x : Mail) (rest : List Item) → outboxAt c b ≡ message x ∷ rest → channelAt t (x .channel) .sender ≡ p → countNumber (s .replica) ≡ 0
+  pub counts : (b : ℕ) (x : Mail) (rest : List Item) → outboxAt c b ≡ message x ∷ rest → channelAt t (x .channel) .sender ≡ p
+      → countNumber (s .replica) ≡ 0
   -- "to [..] the reader's backup record". "Where a process sends to itself, its one record saves the word and counts it."
   pub arrives : (b : ℕ) (x : Mail) (rest : List Item) → outboxAt c b ≡ message x ∷ rest → channelAt t (x .channel) .reader ≡ p
       → arriveNumber (cond (eqb (channelAt t (x .channel) .sender) p) (counted (s .replica)) (s .replica)) (portOf t p (x .channel)) ≡ 0
   -- "feed outside channel a with a word: to the inbox and the backup record"
-  pub feeds : (k : ℕ) → channelAt t k .sender ≡ environment → channelAt t k .reader ≡ p → full t c k ≡ false → arriveNumber (s .replica) (portOf t p k) ≡ 0
+  pub feeds : (k : ℕ) → channelAt t k .sender ≡ environment → channelAt t k .reader ≡ p → full t c k ≡ false
+      → arriveNumber (s .replica) (portOf t p k) ≡ 0
   -- "A sync replaces the state in the process's backup record"
   pub syncs : (b : ℕ) (x : Checkpoint) (rest : List Item) → outboxAt c b ≡ checkpoint p x ∷ rest → syncNumber (s .replica) x ≡ 0
   -- "Each process running there goes on at its backup board"

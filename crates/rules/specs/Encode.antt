@@ -107,8 +107,9 @@ listsOk l =
     && (eqb (length (l .placements)) (3 * l .processes) && eqb (length (l .limits)) (limitBytes (l .version) * l .processes)))
     && (allOf (λ n. leb n pcMost) lengths && eqb (length (l .instructions)) (3 * total lengths))
 
--- "The writer refuses with 3 to 8 on the same conditions as the reader": 0, or the lowest of them. W-207: it "refuses any but 1 and 2 with 2, first
--- of all", and with 47 after 8. The tests look at the numbers themselves, so one that fits no byte is refused by the test that looks at it.
+-- "The writer refuses with 3 to 8 on the same conditions as the reader": 0, or the lowest of them. W-207: it "refuses any but 1 and 2 with
+-- 2, first of all", and with 47 after 8. The tests look at the numbers themselves, so one that fits no byte is refused by the test that
+-- looks at it.
 unfoldable pub validateLists : Lists → ℕ
 unfolding tableOf listsOk endsOk inputsOk boardsOk instructionsOk limitsOk
 validateLists l =
@@ -117,7 +118,8 @@ validateLists l =
     (orNumber (listsOk l) 4
     (tableNumber (tableOf l))))
 
--- "45, the output buffer is shorter than the table, checked after 8", and after 47 (W-207: "before 45 in the writer"): 0, or the number that refuses lists and a buffer of so many bytes
+-- "45, the output buffer is shorter than the table, checked after 8", and after 47 (W-207: "before 45 in the writer"): 0, or the number
+-- that refuses lists and a buffer of so many bytes
 unfoldable pub validateWrite : Lists → ℕ → ℕ
 unfolding validateLists encode
 validateWrite l room =

@@ -46,8 +46,8 @@ pub record Repairs (t : Table) (c : Cabinet) (commands : List Command) : Type 0 
 abbrev pub answersThen : Table → List Command → List Command → List Answer
 answersThen t before after = runFrom t (finished t before) after .answers
 
--- The plain run that explains the first part of a run goes on, and explains the rest: what is on the bus afterwards is put there by further steps
--- and feeds of the same plain cabinet, which does each of its steps once.
+-- The plain run that explains the first part of a run goes on, and explains the rest: what is on the bus afterwards is put there by further
+-- steps and feeds of the same plain cabinet, which does each of its steps once.
 pub record Continues (t : Table) (before after : List Command) : Type 0 where
   pub actions : List Action
   pub mid : Reference

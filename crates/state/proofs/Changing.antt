@@ -9,7 +9,7 @@ use lib.Seq.{getD-set-same, getD-set-other, set-getD}
 use Rattle.facts.specs.Tests.{by-eq}
 use Rattle.facts.specs.Lists.{listed}
 use Rattle.facts.specs.Rings.{listed-set, getD-listed, listed-length}
-use Rattle.process.specs.Row.{processOf, Kept, Seated}
+use Rattle.process.specs.Row.{processOf, waitsIn, Kept, Seated}
 use Rattle.process.specs.Change.{Became}
 use Rattle.rules.specs.Table.{Table, channelAt, placementAt}
 use Rattle.rules.specs.Cabinet as rules
@@ -27,9 +27,8 @@ putProcess s p row mail log head totals = record {
   mails = set (s .mails) p mail;
   logs = set (s .logs) p log;
   heads = set (s .heads) p head;
-  boards = s .boards;
+  queues = s .queues;
   totals = totals;
-  waits = s .waits;
 }
 
 module _ {t : Table} {s : Store} {entries : List Entry} {c : Cabinet} (h : Holds t s entries c) (small : length (t .processes) ≤ 16)
@@ -38,16 +37,16 @@ module _ {t : Table} {s : Store} {entries : List Entry} {c : Cabinet} (h : Holds
   after = putProcess s p row mail log head totals
 
   row-here : getD (set (s .rows) p row) p [] ≡ row
-  row-here = getD-set-same (s .rows) p row [] (let l = h .rows-length in omega arith)
+  row-here = getD-set-same (s .rows) p row [] (let l = h .shape .rows-length in omega arith)
 
   mail-here : getD (set (s .mails) p mail) p [] ≡ mail
-  mail-here = getD-set-same (s .mails) p mail [] (let l = h .mails-length in omega arith)
+  mail-here = getD-set-same (s .mails) p mail [] (let l = h .shape .mails-length in omega arith)
 
   log-here : getD (set (s .logs) p log) p [] ≡ log
-  log-here = getD-set-same (s .logs) p log [] (let l = h .logs-length in omega arith)
+  log-here = getD-set-same (s .logs) p log [] (let l = h .shape .logs-length in omega arith)
 
   head-here : getD (set (s .heads) p head) p [] ≡ head
-  head-here = getD-set-same (s .heads) p head [] (let l = h .heads-length in omega arith)
+  head-here = getD-set-same (s .heads) p head [] (let l = h .shape .heads-length in omega arith)
 
   pub process-here : processIn after p ≡ processOf row mail log head
   process-here = rw (row-here, mail-here, log-here, head-here)
@@ -88,9 +87,18 @@ module _ {t : Table} {s : Store} {entries : List Entry} {c : Cabinet} (h : Holds
       (λ f. rw f (ap (λ (x : Process). x .board) at-p ∙ e))
       (λ n. ap (λ (x : Process). x .board) (getD-set-other (c .processes) p q (processOf row mail log head) nobody n))
 
-  pub changed : Kept row mail log head → ((x y : ℕ) → Seated x y (getD (s .rows) p []) → Seated x y row) → processOf row mail log head .board ≡ processAt c p .board → Totalled t totals (withProcess p (processOf row mail log head) c)
-      → Holds t after entries (withProcess p (processOf row mail log head) c)
-  changed k stays e u = record {
+  waits-then : waitsIn row ≡ waitsIn (getD (s .rows) p []) → (q : ℕ) → q < length (t .processes)
+      → waitsIn (getD (set (s .rows) p row) q []) ≡ flag (waiting q (outboxAt c (processAt c q .board)))
+  waits-then stay q l =
+      by-eq q p
+      (λ f. subst (λ (i : ℕ). waitsIn (getD (set (s .rows) p row) i []) ≡ flag (waiting i (outboxAt c (processAt c i .board)))) (sym f)
+      (ap waitsIn row-here ∙ stay ∙ h .waits-is p hp))
+      (λ n. ap waitsIn (getD-set-other (s .rows) p q row [] n) ∙ h .waits-is q l)
+
+  pub changed : Kept row mail log head → ((x y : ℕ) → Seated x y (getD (s .rows) p []) → Seated x y row)
+      → waitsIn row ≡ waitsIn (getD (s .rows) p []) → processOf row mail log head .board ≡ processAt c p .board
+      → Totalled t totals (withProcess p (processOf row mail log head) c) → Holds t after entries (withProcess p (processOf row mail log head) c)
+  changed k stays stay e u = record {
     processes = processes-then;
     outboxes = h .outboxes;
     dead = h .dead;
@@ -98,16 +106,17 @@ module _ {t : Table} {s : Store} {entries : List Entry} {c : Cabinet} (h : Holds
     seated = seated-then stays;
     first-small = h .first-small;
     count-small = h .count-small;
-    board-length = h .board-length;
+    queue-three = h .queue-three;
     totalled = u;
-    waits-is = λ q l. h .waits-is q l ∙ ap (λ (b : ℕ). flag (waiting q (outboxAt c b))) (sym (board-stays e q));
-    rows-length = length-set (s .rows) p row ∙ h .rows-length;
-    mails-length = length-set (s .mails) p mail ∙ h .mails-length;
-    logs-length = length-set (s .logs) p log ∙ h .logs-length;
-    heads-length = length-set (s .heads) p head ∙ h .heads-length;
-    boards-length = h .boards-length;
-    waits-length = h .waits-length;
-    entries-length = h .entries-length;
+    waits-is = λ q l. waits-then stay q l ∙ ap (λ (b : ℕ). flag (waiting q (outboxAt c b))) (sym (board-stays e q));
+    shape = record {
+      rows-length = length-set (s .rows) p row ∙ h .shape .rows-length;
+      mails-length = length-set (s .mails) p mail ∙ h .shape .mails-length;
+      logs-length = length-set (s .logs) p log ∙ h .shape .logs-length;
+      heads-length = length-set (s .heads) p head ∙ h .shape .heads-length;
+      queues-length = h .shape .queues-length;
+      entries-length = h .shape .entries-length;
+    };
   }
 
 -- only the row changed: the other lists are as they were
@@ -115,7 +124,7 @@ pub row-changed : {t : Table} {s : Store} {entries : List Entry} {c : Cabinet} (
     (p : ℕ) (hp : p < length (t .processes)) (row : List ℕ) (change : Process → Process)
     → Became (getD (s .rows) p []) (getD (s .mails) p []) (getD (s .logs) p []) (getD (s .heads) p []) row (getD (s .mails) p []) (getD (s .logs) p []) (getD (s .heads) p []) change
     → change (processAt c p) .board ≡ processAt c p .board → change (processAt c p) .machine .mailbox ≡ processAt c p .machine .mailbox
-    → Holds t (storeOf (set (s .rows) p row) (s .mails) (s .logs) (s .heads) (s .boards) (s .totals) (s .waits)) entries (withProcess p (change (processAt c p)) c)
+    → Holds t (storeOf (set (s .rows) p row) (s .mails) (s .logs) (s .heads) (s .queues) (s .totals)) entries (withProcess p (change (processAt c p)) c)
 row-changed {t} {s} {entries} {c} h small p hp row change b same-board same-mailbox =
     let mail = getD (s .mails) p [] in
     let log = getD (s .logs) p [] in
@@ -123,9 +132,9 @@ row-changed {t} {s} {entries} {c} h small p hp row change b same-board same-mail
     let is : processOf row mail log head ≡ change (processAt c p) = b .process-is ∙ ap change (sym (at-process h p hp)) in
     let u : Totalled t (s .totals) (withProcess p (processOf row mail log head) c) =
     totalled-same (h .totalled) (occupancy-mailbox t c p (rw (how-many h) hp) (processOf row mail log head) (ap (λ (x : Process). x .machine .mailbox) is ∙ same-mailbox)) in
-    let whole = changed h small p hp row mail log head (s .totals) (b .kept-again) (b .seated-again) (ap (λ (x : Process). x .board) is ∙ same-board) u in
-    subst (λ (x : Process). Holds t (storeOf (set (s .rows) p row) (s .mails) (s .logs) (s .heads) (s .boards) (s .totals) (s .waits)) entries (withProcess p x c)) is
-    (subst (λ (l : List (List ℕ)). Holds t (storeOf (set (s .rows) p row) l (s .logs) (s .heads) (s .boards) (s .totals) (s .waits)) entries (withProcess p (processOf row mail log head) c)) (set-getD (s .mails) p [])
-    (subst (λ (l : List (List ℕ)). Holds t (storeOf (set (s .rows) p row) (set (s .mails) p mail) l (s .heads) (s .boards) (s .totals) (s .waits)) entries (withProcess p (processOf row mail log head) c)) (set-getD (s .logs) p [])
-    (subst (λ (l : List (List ℕ)). Holds t (storeOf (set (s .rows) p row) (set (s .mails) p mail) (set (s .logs) p log) l (s .boards) (s .totals) (s .waits)) entries (withProcess p (processOf row mail log head) c)) (set-getD (s .heads) p [])
+    let whole = changed h small p hp row mail log head (s .totals) (b .kept-again) (b .seated-again) (b .waits-again) (ap (λ (x : Process). x .board) is ∙ same-board) u in
+    subst (λ (x : Process). Holds t (storeOf (set (s .rows) p row) (s .mails) (s .logs) (s .heads) (s .queues) (s .totals)) entries (withProcess p x c)) is
+    (subst (λ (l : List (List ℕ)). Holds t (storeOf (set (s .rows) p row) l (s .logs) (s .heads) (s .queues) (s .totals)) entries (withProcess p (processOf row mail log head) c)) (set-getD (s .mails) p [])
+    (subst (λ (l : List (List ℕ)). Holds t (storeOf (set (s .rows) p row) (set (s .mails) p mail) l (s .heads) (s .queues) (s .totals)) entries (withProcess p (processOf row mail log head) c)) (set-getD (s .logs) p [])
+    (subst (λ (l : List (List ℕ)). Holds t (storeOf (set (s .rows) p row) (set (s .mails) p mail) (set (s .logs) p log) l (s .queues) (s .totals)) entries (withProcess p (processOf row mail log head) c)) (set-getD (s .heads) p [])
     whole)))

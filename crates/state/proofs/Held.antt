@@ -13,13 +13,13 @@ use Rattle.rules.specs.Cabinet.{Cabinet, Process, nobody, outboxMost, processAt
 use Rattle.state.specs.declared.entry.Entry.{Entry}
 use Rattle.state.specs.Store.{Store, Totalled, Holds}
 use Rattle.state.specs.Moved.{Reachable}
-use Rattle.state.specs.Channel.{heldIn}
+use Rattle.state.specs.Channel.{fullIn}
 use Rattle.state.proofs.Known.{known}
 use Rattle.state.proofs.Reaching.{bounds, channel-bounds}
 use Rattle.state.proofs.Totals.{unread-few}
 
 pub full-is : {t : Table} {totals : List ℕ} {c : Cabinet} → Totalled t totals c → (k : ℕ) → k < length (t .channels)
-    → (reader : ℕ) → reader ≡ channelAt t k .reader → full t c k ≡ heldIn reader (getD totals k 0)
+    → (reader : ℕ) → reader ≡ channelAt t k .reader → full t c k ≡ fullIn reader (getD totals k 0)
 unfolding full
 full-is h k hk reader e = rw (e, h .total-is k hk)
 

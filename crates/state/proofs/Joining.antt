@@ -11,7 +11,7 @@ use lib.ListN.{length, getD, set, length-set}
 use lib.Seq.{getD-set-same, getD-set-other}
 use borrow.Author.Tests.{eq-eqb, ne-eqb}
 use Rattle.facts.specs.Tests.{by-eq}
-use Rattle.process.specs.Row.{processOf}
+use Rattle.process.specs.Row.{processOf, waitsIn}
 use Rattle.process.proofs.Rows.{protected-is}
 use Rattle.rules.specs.Table.{Table}
 use Rattle.rules.specs.Cabinet as rules
@@ -19,11 +19,13 @@ use Rattle.rules.specs.Cabinet.{isCheckpointOf, Cabinet, Process, outboxMost, p
 use Rattle.rules.specs.Moves.{enqueue}
 use Rattle.rules.proofs.Counting.{weight, flight-joined}
 use Rattle.state.specs.declared.entry.Entry.{Entry}
-use Rattle.state.specs.Board.{placeOf, pushedIn}
-use Rattle.state.specs.Store.{itemOf, Store, storeOf, Holds, processIn, outboxIn, firstIn, countIn, flag}
+use Rattle.state.specs.Queue.{placeOf, pushedIn}
+use Rattle.state.specs.Queue.{firstIn, countIn}
+use Rattle.state.specs.Store.{itemOf, Store, storeOf, Holds, processIn, outboxIn, flag}
 use Rattle.state.specs.Moved.{Reachable}
+use Rattle.state.proofs.Flagging.{withFlag, flag-here, flag-there, flagged-one}
 use Rattle.state.proofs.Reading.{at-process, at-outbox, how-many-boards}
-use Rattle.state.proofs.Queueing.{QueueThen, joined}
+use Rattle.state.proofs.Queueing.{QueueThen, entry-joins}
 use Rattle.state.proofs.Totals.{occupancy-outbox, totalled-same}
 use Rattle.state.proofs.Reaching.{bounds, queue-length}
 
@@ -50,17 +52,17 @@ module _ {t : Table} {s : Store} {entries : List Entry} {c : Cabinet} (reach : R
   pub board-there : getD (getD (s .rows) p []) 0 0 < t .boards
   board-there = rw (← board-is) (bounds reach p hp .board)
 
-  queue-is : outboxAt c (processAt c p .board) ≡ outboxIn (s .boards) entries (getD (getD (s .rows) p []) 0 0)
+  queue-is : outboxAt c (processAt c p .board) ≡ outboxIn (s .queues) entries (getD (getD (s .rows) p []) 0 0)
   queue-is = ap (outboxAt c) board-is ∙ at-outbox h (getD (getD (s .rows) p []) 0 0) board-there
 
-  pub queue-has : length (outboxAt c (processAt c p .board)) ≡ countIn (s .boards) (getD (getD (s .rows) p []) 0 0)
-  queue-has = ap (λ (l : List _). length l) queue-is ∙ queue-length (s .boards) entries (getD (getD (s .rows) p []) 0 0)
+  pub queue-has : length (outboxAt c (processAt c p .board)) ≡ countIn (s .queues) (getD (getD (s .rows) p []) 0 0)
+  queue-has = ap (λ (l : List _). length l) queue-is ∙ queue-length (s .queues) entries (getD (getD (s .rows) p []) 0 0)
 
-  pub waits-on : (getD (s .waits) p 0 ≡ 0 → ⊥) → waiting p (outboxAt c (processAt c p .board)) ≡ true
-  waits-on n = flag-on (waiting p (outboxAt c (processAt c p .board))) (getD (s .waits) p 0) (h .waits-is p hp) n
+  pub waits-on : (waitsIn (getD (s .rows) p []) ≡ 0 → ⊥) → waiting p (outboxAt c (processAt c p .board)) ≡ true
+  waits-on n = flag-on (waiting p (outboxAt c (processAt c p .board))) (waitsIn (getD (s .rows) p [])) (h .waits-is p hp) n
 
-  pub waits-off : getD (s .waits) p 0 ≡ 0 → waiting p (outboxAt c (processAt c p .board)) ≡ false
-  waits-off z = flag-off (waiting p (outboxAt c (processAt c p .board))) (getD (s .waits) p 0) (h .waits-is p hp) z
+  pub waits-off : waitsIn (getD (s .rows) p []) ≡ 0 → waiting p (outboxAt c (processAt c p .board)) ≡ false
+  waits-off z = flag-off (waiting p (outboxAt c (processAt c p .board))) (waitsIn (getD (s .rows) p [])) (h .waits-is p hp) z
 
 -- ---- the entry joins
 
@@ -75,19 +77,25 @@ waiting-joined q p [] x w = rw (w .its q) (or-false (eqb q p))
 waiting-joined q p (i ∷ l) x w = ap (λ (b : Bool). isCheckpointOf q i || b) (waiting-joined q p l x w) ∙ sym (or-assoc (isCheckpointOf q i) (waiting q l) (eqb q p))
 
 module _ {t : Table} {s : Store} {entries : List Entry} {c : Cabinet} (reach : Reachable t c) (h : Holds t s entries c) (p : ℕ) (hp : p < length (t .processes))
-    (x : Entry) (waiter : Waiter p (itemOf (x .item))) (few : countIn (s .boards) (getD (getD (s .rows) p []) 0 0) < outboxMost) where
+    (x : Entry) (waiter : Waiter p (itemOf (x .item))) (few : countIn (s .queues) (getD (getD (s .rows) p []) 0 0) < outboxMost) where
   abbrev b : ℕ
   b = getD (getD (s .rows) p []) 0 0
 
   hb : b < t .boards
   hb = board-there reach h p hp
 
-  abbrev board : List ℕ
-  board = getD (s .boards) b []
+  abbrev queue : List ℕ
+  queue = getD (s .queues) b []
 
-  -- the flags afterwards: p's is on
+  -- the rows afterwards: p's flag is on
+  abbrev rows : List (List ℕ)
+  rows = withFlag (s .rows) p 1
+
+  many : p < length (s .rows)
+  many = let l = h .shape .rows-length in let z = reach .accepted .processes-high in omega arith
+
   waits-then : (q : ℕ) → q < length (t .processes)
-      → getD (set (s .waits) p 1) q 0 ≡ flag (waiting q (getD (set (c .outboxes) b (outboxAt c b ++ (itemOf (x .item) ∷ []))) (processAt c q .board) []))
+      → waitsIn (getD rows q []) ≡ flag (waiting q (getD (set (c .outboxes) b (outboxAt c b ++ (itemOf (x .item) ∷ []))) (processAt c q .board) []))
   waits-then q hq =
       let joined-q : List rules.Item = outboxAt c b ++ (itemOf (x .item) ∷ []) in
       let there : b < length (c .outboxes) = rw (how-many-boards h) hb in
@@ -96,30 +104,31 @@ module _ {t : Table} {s : Store} {entries : List Entry} {c : Cabinet} (reach : R
       (λ e. let same : getD (set (c .outboxes) b joined-q) (processAt c q .board) [] ≡ joined-q = rw e (getD-set-same (c .outboxes) b joined-q [] there) in
       let now-waits : waiting q joined-q ≡ (waiting q (outboxAt c b) || eqb q p) = waiting-joined q p (outboxAt c b) (itemOf (x .item)) waiter in
       by-eq q p
-      (λ f. rw (same, now-waits, eq-eqb q p f, or-true) (rw f (getD-set-same (s .waits) p 1 0 (let l = h .waits-length in let z = reach .accepted .processes-high in omega arith))))
-      (λ n. rw (same, now-waits, ne-eqb q p n, or-false) (getD-set-other (s .waits) p q 1 0 n ∙ old ∙ ap (λ (i : ℕ). flag (waiting q (outboxAt c i))) e)))
+      (λ f. rw (same, now-waits, eq-eqb q p f, or-true) (rw f (flag-here (s .rows) p 1 many (h .kept p hp .row-length))))
+      (λ n. rw (same, now-waits, ne-eqb q p n, or-false) (flag-there (s .rows) p q 1 n ∙ old ∙ ap (λ (i : ℕ). flag (waiting q (outboxAt c i))) e)))
       (λ n. let same : getD (set (c .outboxes) b joined-q) (processAt c q .board) [] ≡ outboxAt c (processAt c q .board) = getD-set-other (c .outboxes) b (processAt c q .board) joined-q [] n in
       let other : q ≢ p = λ f. n (ap (λ (i : ℕ). processAt c i .board) f ∙ board-is reach h p hp) in
-      rw same (getD-set-other (s .waits) p q 1 0 other ∙ old))
+      rw same (flag-there (s .rows) p q 1 other ∙ old))
 
-  queue-then : QueueThen t s c b (pushedIn board) (s .totals) (set (s .waits) p 1) (firstIn (s .boards) b) (suc (countIn (s .boards) b)) (outboxAt c b ++ (itemOf (x .item) ∷ []))
+  queue-then : QueueThen t s c b rows (pushedIn queue) (s .totals) (firstIn (s .queues) b) (suc (countIn (s .queues) b))
+      (outboxAt c b ++ (itemOf (x .item) ∷ []))
   queue-then =
-      let l = h .board-length b hb in
+      let l = h .queue-three b hb in
       record {
-        is-first = getD-set-other board 1 0 ((getD board 1 0 + 1) % 2 ^ 32) 0 (λ e. omega arith);
-        is-count = getD-set-same board 1 ((getD board 1 0 + 1) % 2 ^ 32) 0 (omega arith) ∙ omega arith;
-        is-dead = getD-set-other board 1 2 ((getD board 1 0 + 1) % 2 ^ 32) 0 (λ e. omega arith);
-        three = length-set board 1 _ ∙ l;
+        is-first = getD-set-other queue 1 0 ((getD queue 1 0 + 1) % 2 ^ 32) 0 (λ e. omega arith);
+        is-count = getD-set-same queue 1 ((getD queue 1 0 + 1) % 2 ^ 32) 0 (omega arith) ∙ omega arith;
+        is-dead = getD-set-other queue 1 2 ((getD queue 1 0 + 1) % 2 ^ 32) 0 (λ e. omega arith);
+        three = length-set queue 1 _ ∙ l;
         totalled-then = totalled-same (h .totalled) (λ i.
             let a = flight-joined i (c .outboxes) b (itemOf (x .item)) (rw (how-many-boards h) hb) in
             let d = waiter .no-word i in
             let e = occupancy-outbox t c b (outboxAt c b ++ (itemOf (x .item) ∷ [])) i 0 0 (omega arith) in
             omega arith);
+        flagged = flagged-one t (s .rows) p 1 (h .kept p hp .row-length) (omega arith);
         waiting-there = waits-then;
-        waits-long = length-set (s .waits) p 1 ∙ h .waits-length;
       }
 
   -- the lists then hold the rules' cabinet with the entry in the queue
-  pub waiter-joins : Holds t (storeOf (s .rows) (s .mails) (s .logs) (s .heads) (set (s .boards) b (pushedIn board)) (s .totals) (set (s .waits) p 1))
-      (set entries (placeOf board b) x) (enqueue b (itemOf (x .item)) c)
-  waiter-joins = joined h (reach .accepted .boards-high) b hb (pushedIn board) (s .totals) (set (s .waits) p 1) x few queue-then
+  pub waiter-joins : Holds t (storeOf rows (s .mails) (s .logs) (s .heads) (set (s .queues) b (pushedIn queue)) (s .totals))
+      (set entries (placeOf queue b) x) (enqueue b (itemOf (x .item)) c)
+  waiter-joins = entry-joins h (reach .accepted .boards-high) b hb rows (pushedIn queue) (s .totals) x few queue-then

@@ -2,6 +2,7 @@
 pub mod Reading
 pub mod Totals
 pub mod Changing
+pub mod Boards
 pub mod Queueing
 pub mod Backing
 pub mod Reaching
@@ -13,6 +14,7 @@ pub mod Arrivals
 pub mod Owners
 pub mod Counters
 pub mod Waits
+pub mod Flagging
 pub mod Joining
 pub mod Searching
 pub mod Held

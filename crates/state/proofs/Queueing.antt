@@ -1,129 +1,122 @@
 -- An entry joins the queue of a board, or the oldest leaves it: the cabinet then held.
-use mathlib.Core.Path.{_≡_, refl, ap, sym, _∙_, subst}
+use mathlib.Core.Path.{_≡_, refl, ap, sym, _∙_}
 use mathlib.Core.Logic.{_≢_}
-use mathlib.Core.Bool.{Bool, true, false, not, cond, _||_}
+use mathlib.Core.Bool.{false, not}
 use mathlib.Core.List.{List, [], _∷_, _++_, map, map-append}
 use Prim.Native.Nat.{ℕ, suc, _+_, _*_, _%_, _≤_, _<_}
 use native.Mathlib.Omega.{arith}
 use lib.Dec.{eqb}
 use lib.ListN.{length, getD, set, length-set}
-use lib.Seq.{getD-set-same, getD-set-other}
-use Rattle.facts.specs.Tests.{by-eq}
-use Rattle.facts.specs.Lists.{listed, listed-same}
-use Rattle.facts.specs.Rings.{ring, ring-push, ring-apart, ring-pop, listed-set}
+use lib.Seq.{set-getD}
+use Rattle.facts.specs.Lists.{listed-same}
+use Rattle.facts.specs.Rings.{ring, ring-push, ring-apart, ring-pop}
 use Rattle.rules.specs.Table.{Table}
 use Rattle.rules.specs.Cabinet as rules
-use Rattle.rules.specs.Cabinet.{Cabinet, outboxMost, processAt, outboxAt, inFlight, isOn, waiting}
+use Rattle.rules.specs.Cabinet.{Cabinet, outboxMost, processAt, outboxAt, deadAt, waiting}
 use Rattle.rules.specs.Moves.{withOutbox, enqueue}
-use Rattle.rules.proofs.Counting.{weight, flight-joined, flight-leave}
 use Rattle.state.specs.declared.entry.Entry.{Entry}
-use Rattle.state.specs.Store.{Store, Totalled, Holds, processIn, itemOf, blankEntry, outboxIn, firstIn, countIn, deadIn, flag}
-use Rattle.state.proofs.Reading.{at-outbox, how-many-boards}
+use Rattle.state.specs.Queue.{firstIn, countIn}
+use Rattle.state.specs.Store.{Store, Totalled, Holds, processIn, itemOf, blankEntry, outboxIn, flag}
+use Rattle.process.specs.Row.{waitsIn}
+use Rattle.state.proofs.Flagging.{Flagged}
+use Rattle.state.proofs.Reading.{at-outbox, at-dead}
+use Rattle.state.proofs.Boards.{Boarded, RowThen, boards-then}
 
--- the lists with board b's row, the totals and the waiting checkpoints replaced
-abbrev pub putBoard : Store → ℕ → List ℕ → List ℕ → List ℕ → Store
-putBoard s b board totals waits = record {
-  rows = s .rows;
+-- the lists with the processes' rows, board b's row and the totals replaced
+abbrev pub putQueue : Store → ℕ → List (List ℕ) → List ℕ → List ℕ → Store
+putQueue s b rows queue totals = record {
+  rows = rows;
   mails = s .mails;
   logs = s .logs;
   heads = s .heads;
-  boards = set (s .boards) b board;
+  queues = set (s .queues) b queue;
   totals = totals;
-  waits = waits;
 }
 
 abbrev items : List Entry → List rules.Item
 items l = map (λ (e : Entry). itemOf (e .item)) l
 
--- What is known of a board's new row and of the totals, where its queue becomes q.
-pub record QueueThen (t : Table) (s : Store) (c : Cabinet) (b : ℕ) (board totals waits : List ℕ) (first count : ℕ) (q : List rules.Item) : Type 0 where
-  pub is-first : getD board 0 0 ≡ first
-  pub is-count : getD board 1 0 ≡ count
-  pub is-dead : getD board 2 0 ≡ getD (getD (s .boards) b []) 2 0
-  pub three : length board ≡ 3
+-- What is known of the rows, of a board's new row and of the totals, where its queue becomes q.
+pub record QueueThen (t : Table) (s : Store) (c : Cabinet) (b : ℕ) (rows : List (List ℕ)) (queue totals : List ℕ) (first count : ℕ)
+    (q : List rules.Item) : Type 0 where
+  pub is-first : getD queue 0 0 ≡ first
+  pub is-count : getD queue 1 0 ≡ count
+  pub is-dead : getD queue 2 0 ≡ getD (getD (s .queues) b []) 2 0
+  pub three : length queue ≡ 3
   pub totalled-then : Totalled t totals (withOutbox b q c)
-  pub waiting-there : (p : ℕ) → p < length (t .processes) → getD waits p 0 ≡ flag (waiting p (getD (set (c .outboxes) b q) (processAt c p .board) []))
-  pub waits-long : length waits ≡ 16
+  pub flagged : Flagged t (s .rows) rows
+  pub waiting-there : (p : ℕ) → p < length (t .processes)
+      → waitsIn (getD rows p []) ≡ flag (waiting p (getD (set (c .outboxes) b q) (processAt c p .board) []))
 
 module _ {t : Table} {s : Store} {entries : List Entry} {c : Cabinet} (h : Holds t s entries c) (small : t .boards ≤ 16) (b : ℕ) (hb : b < t .boards)
-    (board totals waits : List ℕ) (first count : ℕ) (q : List rules.Item) (entries′ : List Entry) (u : QueueThen t s c b board totals waits first count q)
+    (rows : List (List ℕ)) (queue totals : List ℕ) (first count : ℕ) (q : List rules.Item) (entries′ : List Entry)
+    (u : QueueThen t s c b rows queue totals first count q)
     (first-fits : first < outboxMost) (count-fits : count ≤ outboxMost) (long : length entries′ ≡ 512)
     (is-queue : items (ring blankEntry entries′ b first count) ≡ q)
-    (others : (i : ℕ) → i ≢ b → ring blankEntry entries′ i (firstIn (s .boards) i) (countIn (s .boards) i) ≡ ring blankEntry entries i (firstIn (s .boards) i) (countIn (s .boards) i)) where
-  here : getD (set (s .boards) b board) b [] ≡ board
-  here = getD-set-same (s .boards) b board [] (let l = h .boards-length in omega arith)
+    (others : (i : ℕ) → i ≢ b → ring blankEntry entries′ i (firstIn (s .queues) i) (countIn (s .queues) i) ≡ ring blankEntry entries i (firstIn (s .queues) i) (countIn (s .queues) i)) where
+  -- the board is as dead or live as it was
+  row-then : RowThen s entries entries′ b queue (deadAt c b) q
+  row-then = record {
+    first-fits = rw (u .is-first) first-fits;
+    count-fits = rw (u .is-count) count-fits;
+    is-dead = ap (λ (n : ℕ). not (eqb n 0)) (u .is-dead) ∙ sym (at-dead h b hb);
+    three = u .three;
+    is-queue = rw (u .is-first, u .is-count) is-queue;
+    others = others;
+  }
 
-  there : (i : ℕ) → i ≢ b → getD (set (s .boards) b board) i [] ≡ getD (s .boards) i []
-  there i n = getD-set-other (s .boards) b i board [] n
+  boards : Boarded t (set (s .queues) b queue) entries′ (set (c .outboxes) b q) (c .dead)
+  boards = rw (set-getD (c .dead) b false) at (boards-then h small b hb row-then)
 
-  outbox-here : outboxIn (set (s .boards) b board) entries′ b ≡ q
-  unfolding outboxIn
-  outbox-here = rw (here, u .is-first, u .is-count) is-queue
-
-  outbox-there : (i : ℕ) → i ≢ b → outboxIn (set (s .boards) b board) entries′ i ≡ outboxIn (s .boards) entries i
-  unfolding outboxIn
-  outbox-there i n = rw (there i n) (ap items (others i n))
-
-  outboxes-then : set (c .outboxes) b q ≡ listed (outboxIn (set (s .boards) b board) entries′) (t .boards)
-  outboxes-then =
-      ap (λ (l : List (List rules.Item)). set l b q) (h .outboxes)
-      ∙ ap (λ (x : List rules.Item). set (listed (outboxIn (s .boards) entries) (t .boards)) b x) (sym outbox-here)
-      ∙ sym (listed-set (outboxIn (s .boards) entries) (outboxIn (set (s .boards) b board) entries′) (t .boards) b (λ i l n. outbox-there i n))
-
-  dead-same : (i : ℕ) → deadIn (s .boards) i ≡ deadIn (set (s .boards) b board) i
-  dead-same i =
-      by-eq i b
-      (λ e. ap (λ (k : ℕ). deadIn (s .boards) k) e ∙ ap (λ (n : ℕ). not (eqb n 0)) (sym (u .is-dead)) ∙ ap (λ (r : List ℕ). not (eqb (getD r 2 0) 0)) (sym here)
-      ∙ ap (λ (k : ℕ). deadIn (set (s .boards) b board) k) (sym e))
-      (λ n. ap (λ (r : List ℕ). not (eqb (getD r 2 0) 0)) (sym (there i n)))
-
-  pub requeued : Holds t (putBoard s b board totals waits) entries′ (withOutbox b q c)
+  pub requeued : Holds t (putQueue s b rows queue totals) entries′ (withOutbox b q c)
   requeued = record {
-    processes = h .processes;
-    outboxes = outboxes-then;
-    dead = h .dead ∙ listed-same (deadIn (s .boards)) (deadIn (set (s .boards) b board)) (t .boards) (λ i l. dead-same i);
-    kept = h .kept;
-    seated = h .seated;
-    first-small = λ i l. by-eq i b (λ e. rw (e, here, u .is-first) first-fits) (λ n. rw (there i n) (h .first-small i l));
-    count-small = λ i l. by-eq i b (λ e. rw (e, here, u .is-count) count-fits) (λ n. rw (there i n) (h .count-small i l));
-    board-length = λ i l. by-eq i b (λ e. rw (e, here) (u .three)) (λ n. rw (there i n) (h .board-length i l));
+    processes = h .processes ∙ listed-same (processIn s) (processIn (putQueue s b rows queue totals)) (length (t .processes))
+        (λ p l. sym (u .flagged .alike p l .process-is _ _ _));
+    outboxes = boards .outboxes-are;
+    dead = boards .dead-are;
+    kept = λ p l. u .flagged .alike p l .kept-again _ _ _ (h .kept p l);
+    seated = λ p l. u .flagged .alike p l .seated-again _ _ (h .seated p l);
+    first-small = boards .first-small;
+    count-small = boards .count-small;
+    queue-three = boards .queue-three;
     totalled = u .totalled-then;
     waits-is = u .waiting-there;
-    rows-length = h .rows-length;
-    mails-length = h .mails-length;
-    logs-length = h .logs-length;
-    heads-length = h .heads-length;
-    boards-length = length-set (s .boards) b board ∙ h .boards-length;
-    waits-length = u .waits-long;
-    entries-length = long;
+    shape = record {
+      rows-length = u .flagged .same-length ∙ h .shape .rows-length;
+      mails-length = h .shape .mails-length;
+      logs-length = h .shape .logs-length;
+      heads-length = h .shape .heads-length;
+      queues-length = boards .queues-length;
+      entries-length = long;
+    };
   }
 
 module _ {t : Table} {s : Store} {entries : List Entry} {c : Cabinet} (h : Holds t s entries c) (small : t .boards ≤ 16) (b : ℕ) (hb : b < t .boards)
-    (board totals waits : List ℕ) where
+    (rows : List (List ℕ)) (queue totals : List ℕ) where
   -- an entry joins: at the place behind the newest
-  pub joined : (x : Entry) → countIn (s .boards) b < outboxMost
-      → QueueThen t s c b board totals waits (firstIn (s .boards) b) (suc (countIn (s .boards) b)) (outboxAt c b ++ (itemOf (x .item) ∷ []))
-      → Holds t (putBoard s b board totals waits) (set entries (32 * b + (firstIn (s .boards) b + countIn (s .boards) b) % 32) x) (enqueue b (itemOf (x .item)) c)
+  pub entry-joins : (x : Entry) → countIn (s .queues) b < outboxMost
+      → QueueThen t s c b rows queue totals (firstIn (s .queues) b) (suc (countIn (s .queues) b)) (outboxAt c b ++ (itemOf (x .item) ∷ []))
+      → Holds t (putQueue s b rows queue totals) (set entries (32 * b + (firstIn (s .queues) b + countIn (s .queues) b) % 32) x) (enqueue b (itemOf (x .item)) c)
   unfolding outboxIn
-  joined x few u =
-      let room : 32 * b + 32 ≤ length entries = (let l = h .entries-length in omega arith) in
-      requeued h small b hb board totals waits (firstIn (s .boards) b) (suc (countIn (s .boards) b)) (outboxAt c b ++ (itemOf (x .item) ∷ []))
-      (set entries (32 * b + (firstIn (s .boards) b + countIn (s .boards) b) % 32) x) u (h .first-small b hb) few (length-set entries _ x ∙ h .entries-length)
-      (ap items (ring-push blankEntry entries b (firstIn (s .boards) b) (countIn (s .boards) b) x few room)
-      ∙ map-append (λ (e : Entry). itemOf (e .item)) (ring blankEntry entries b (firstIn (s .boards) b) (countIn (s .boards) b)) (x ∷ [])
+  entry-joins x few u =
+      let room : 32 * b + 32 ≤ length entries = (let l = h .shape .entries-length in omega arith) in
+      requeued h small b hb rows queue totals (firstIn (s .queues) b) (suc (countIn (s .queues) b)) (outboxAt c b ++ (itemOf (x .item) ∷ []))
+      (set entries (32 * b + (firstIn (s .queues) b + countIn (s .queues) b) % 32) x) u (h .first-small b hb) few (length-set entries _ x ∙ h .shape .entries-length)
+      (ap items (ring-push blankEntry entries b (firstIn (s .queues) b) (countIn (s .queues) b) x few room)
+      ∙ map-append (λ (e : Entry). itemOf (e .item)) (ring blankEntry entries b (firstIn (s .queues) b) (countIn (s .queues) b)) (x ∷ [])
       ∙ ap (λ (l : List rules.Item). l ++ (itemOf (x .item) ∷ [])) (sym (at-outbox h b hb)))
-      (λ i n. ring-apart blankEntry entries b (firstIn (s .boards) b) (countIn (s .boards) b) x few room i (firstIn (s .boards) i) (countIn (s .boards) i) n)
+      (λ i n. ring-apart blankEntry entries b (firstIn (s .queues) b) (countIn (s .queues) b) x few room i (firstIn (s .queues) i) (countIn (s .queues) i) n)
 
   -- the oldest leaves
-  pub left : (count : ℕ) (rest : List rules.Item) → countIn (s .boards) b ≡ suc count
-      → outboxAt c b ≡ itemOf (getD entries (32 * b + firstIn (s .boards) b % 32) blankEntry .item) ∷ rest
-      → QueueThen t s c b board totals waits ((firstIn (s .boards) b + 1) % 32) count rest
-      → Holds t (putBoard s b board totals waits) entries (withOutbox b rest c)
+  pub entry-leaves : (count : ℕ) (rest : List rules.Item) → countIn (s .queues) b ≡ suc count
+      → outboxAt c b ≡ itemOf (getD entries (32 * b + firstIn (s .queues) b % 32) blankEntry .item) ∷ rest
+      → QueueThen t s c b rows queue totals ((firstIn (s .queues) b + 1) % 32) count rest
+      → Holds t (putQueue s b rows queue totals) entries (withOutbox b rest c)
   unfolding outboxIn
-  left count rest e o u =
-      requeued h small b hb board totals waits ((firstIn (s .boards) b + 1) % 32) count rest entries u (omega arith) (let l = h .count-small b hb in omega arith) (h .entries-length)
-      (let a : items (ring blankEntry entries b (firstIn (s .boards) b) (suc count)) ≡ itemOf (getD entries (32 * b + firstIn (s .boards) b % 32) blankEntry .item) ∷ rest =
-      ap (λ (n : ℕ). items (ring blankEntry entries b (firstIn (s .boards) b) n)) (sym e) ∙ sym (at-outbox h b hb) ∙ o in
-      let d = ap items (ring-pop blankEntry entries b (firstIn (s .boards) b) count) in
+  entry-leaves count rest e o u =
+      requeued h small b hb rows queue totals ((firstIn (s .queues) b + 1) % 32) count rest entries u (omega arith) (let l = h .count-small b hb in omega arith) (h .shape .entries-length)
+      (let a : items (ring blankEntry entries b (firstIn (s .queues) b) (suc count)) ≡ itemOf (getD entries (32 * b + firstIn (s .queues) b % 32) blankEntry .item) ∷ rest =
+      ap (λ (n : ℕ). items (ring blankEntry entries b (firstIn (s .queues) b) n)) (sym e) ∙ sym (at-outbox h b hb) ∙ o in
+      let d = ap items (ring-pop blankEntry entries b (firstIn (s .queues) b) count) in
       cc)
       (λ i n. refl)

@@ -12,7 +12,8 @@ use Rattle.rules.specs.Bounds.{Bounds, OutboxBounds, ChannelBounds}
 use Rattle.rules.proofs.Reached.{bounded, channels-bounded}
 use Rattle.rules.proofs.Outboxes.{outboxes-bounded}
 use Rattle.state.specs.declared.entry.Entry.{Entry}
-use Rattle.state.specs.Store.{outboxIn, firstIn, countIn, blankEntry}
+use Rattle.state.specs.Queue.{firstIn, countIn}
+use Rattle.state.specs.Store.{outboxIn, blankEntry}
 use Rattle.state.specs.Moved.{Reachable}
 
 module _ {t : Table} {c : Cabinet} (r : Reachable t c) where
@@ -26,6 +27,6 @@ module _ {t : Table} {c : Cabinet} (r : Reachable t c) where
   channel-bounds k = subst (λ (x : Cabinet). ChannelBounds t x k) (sym (r .is-reached)) (channels-bounded (r .accepted) (r .commands) k)
 
 -- a queue has as many entries as its board's row says
-pub queue-length : (boards : List (List ℕ)) (entries : List Entry) (b : ℕ) → length (outboxIn boards entries b) ≡ countIn boards b
+pub queue-length : (queues : List (List ℕ)) (entries : List Entry) (b : ℕ) → length (outboxIn queues entries b) ≡ countIn queues b
 unfolding outboxIn ring
-queue-length boards entries b = length-map (ring blankEntry entries b (firstIn boards b) (countIn boards b)) _ ∙ listed-length _ (countIn boards b)
+queue-length queues entries b = length-map (ring blankEntry entries b (firstIn queues b) (countIn queues b)) _ ∙ listed-length _ (countIn queues b)

@@ -119,7 +119,7 @@ module _ {t : Table} {c : Cabinet} (totals : List ℕ) (few : length (t .channel
 
 -- lists that hold a cabinet hold it with any totals that are true
 pub retotalled : {t : Table} {s : Store} {entries : List Entry} {c : Cabinet} → Holds t s entries c → (totals : List ℕ) → Totalled t totals c
-    → Holds t (storeOf (s .rows) (s .mails) (s .logs) (s .heads) (s .boards) totals (s .waits)) entries c
+    → Holds t (storeOf (s .rows) (s .mails) (s .logs) (s .heads) (s .queues) totals) entries c
 retotalled h totals u = record {
   processes = h .processes;
   outboxes = h .outboxes;
@@ -128,14 +128,15 @@ retotalled h totals u = record {
   seated = h .seated;
   first-small = h .first-small;
   count-small = h .count-small;
-  board-length = h .board-length;
+  queue-three = h .queue-three;
   totalled = u;
   waits-is = h .waits-is;
-  rows-length = h .rows-length;
-  mails-length = h .mails-length;
-  logs-length = h .logs-length;
-  heads-length = h .heads-length;
-  boards-length = h .boards-length;
-  waits-length = h .waits-length;
-  entries-length = h .entries-length;
+  shape = record {
+    rows-length = h .shape .rows-length;
+    mails-length = h .shape .mails-length;
+    logs-length = h .shape .logs-length;
+    heads-length = h .shape .heads-length;
+    queues-length = h .shape .queues-length;
+    entries-length = h .shape .entries-length;
+  };
 }

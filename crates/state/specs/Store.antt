@@ -1,14 +1,13 @@
 -- How lent arrays of numbers and one flat array of entries stand for a cabinet of the rules.
 use mathlib.Core.Path.{_≡_}
-use mathlib.Core.Bool.{Bool, not, cond}
+use mathlib.Core.Bool.{Bool, cond}
 use mathlib.Core.List.{List, [], _∷_, map}
 use Prim.Native.Nat.{ℕ, _≤_, _<_}
-use lib.Dec.{eqb}
 use lib.ListN.{length, getD}
 use Rattle.facts.specs.Lists.{listed}
 use Rattle.facts.specs.Rings.{ring}
 use Rattle.backup.specs.Place.{checkpointOf}
-use Rattle.process.specs.Row.{processOf, Kept, Seated}
+use Rattle.process.specs.Row.{processOf, waitsIn, Kept, Seated}
 use Rattle.rules.specs.Table.{Table, placementAt}
 use Rattle.rules.specs.Machine.{Mail}
 use Rattle.rules.specs.Cabinet as rules
@@ -16,37 +15,26 @@ use Rattle.rules.specs.Cabinet.{Cabinet, Process, outboxMost, occupancy, waitin
 use Rattle.state.specs.declared.entry.Entry.{Entry}
 use Rattle.state.specs.declared.entry.Item.{Item}
 use Rattle.state.specs.declared.entry.Item.the-variants.{Word, Sync, Transfer}
+use Rattle.state.specs.Queue.{firstIn, countIn, deadIn}
 
 -- ---- the lists
 
--- For each process a row, a mailbox, a log and a head; for each board a row: where its ring begins, how many entries it has, and whether the
--- board is dead; for each channel its total, its unread words and its words in queues together; for each process whether a checkpoint of it waits.
+-- For each process a row, a mailbox, a log and a head; for each board a row of its queue; for each channel its total, its unread words and its
+-- words in queues together.
 pub record Store : Type 0 where
   pub rows : List (List ℕ)
   pub mails : List (List ℕ)
   pub logs : List (List ℕ)
   pub heads : List (List ℕ)
-  pub boards : List (List ℕ)
+  pub queues : List (List ℕ)
   pub totals : List ℕ
-  pub waits : List ℕ
 
-abbrev pub storeOf : List (List ℕ) → List (List ℕ) → List (List ℕ) → List (List ℕ) → List (List ℕ) → List ℕ → List ℕ → Store
-storeOf rows mails logs heads boards totals waits =
-    record { rows = rows; mails = mails; logs = logs; heads = heads; boards = boards; totals = totals; waits = waits }
+abbrev pub storeOf : List (List ℕ) → List (List ℕ) → List (List ℕ) → List (List ℕ) → List (List ℕ) → List ℕ → Store
+storeOf rows mails logs heads queues totals = record { rows = rows; mails = mails; logs = logs; heads = heads; queues = queues; totals = totals }
 
 -- process p as the lists have it
 abbrev pub processIn : Store → ℕ → Process
 processIn s p = processOf (getD (s .rows) p []) (getD (s .mails) p []) (getD (s .logs) p []) (getD (s .heads) p [])
-
--- board b's cells
-abbrev pub firstIn : List (List ℕ) → ℕ → ℕ
-firstIn boards b = getD (getD boards b []) 0 0
-
-abbrev pub countIn : List (List ℕ) → ℕ → ℕ
-countIn boards b = getD (getD boards b []) 1 0
-
-abbrev pub deadIn : List (List ℕ) → ℕ → Bool
-deadIn boards b = not (eqb (getD (getD boards b []) 2 0) 0)
 
 -- ---- entries
 
@@ -62,7 +50,7 @@ blankEntry = record { item = Word 0 0 }
 -- board b's queue, oldest entry first
 unfoldable pub outboxIn : List (List ℕ) → List Entry → ℕ → List rules.Item
 unfolding blankEntry
-outboxIn boards entries b = map (λ (e : Entry). itemOf (e .item)) (ring blankEntry entries b (firstIn boards b) (countIn boards b))
+outboxIn queues entries b = map (λ (e : Entry). itemOf (e .item)) (ring blankEntry entries b (firstIn queues b) (countIn queues b))
 
 -- ---- the cabinet
 
@@ -76,26 +64,29 @@ pub record Totalled (t : Table) (totals : List ℕ) (c : Cabinet) : Type 0 where
   pub total-is : (k : ℕ) → k < length (t .channels) → getD totals k 0 ≡ occupancy t c k
   pub totals-length : length totals ≡ 32
 
--- The lists hold this cabinet of table t.
-pub record Holds (t : Table) (s : Store) (entries : List Entry) (c : Cabinet) : Type 0 where
-  pub processes : c .processes ≡ listed (processIn s) (length (t .processes))
-  pub outboxes : c .outboxes ≡ listed (outboxIn (s .boards) entries) (t .boards)
-  pub dead : c .dead ≡ listed (deadIn (s .boards)) (t .boards)
-  -- each process's lists are kept, and each ring is one
-  pub kept : (p : ℕ) → p < length (t .processes) → Kept (getD (s .rows) p []) (getD (s .mails) p []) (getD (s .logs) p []) (getD (s .heads) p [])
-  -- and each row has the process's two boards of the table
-  pub seated : (p : ℕ) → p < length (t .processes) → Seated (placementAt t p .primary) (placementAt t p .standby) (getD (s .rows) p [])
-  pub first-small : (b : ℕ) → b < t .boards → firstIn (s .boards) b < outboxMost
-  pub count-small : (b : ℕ) → b < t .boards → countIn (s .boards) b ≤ outboxMost
-  pub board-length : (b : ℕ) → b < t .boards → length (getD (s .boards) b []) ≡ 3
-  -- W-208: "After every move of a run, a crash included, each total equals the count made afresh."
-  pub totalled : Totalled t (s .totals) c
-  pub waits-is : (p : ℕ) → p < length (t .processes) → getD (s .waits) p 0 ≡ flag (waiting p (outboxAt c (processAt c p .board)))
-  -- lengths
+-- How long the lists are, whatever they hold.
+pub record Shaped (s : Store) (entries : List Entry) : Type 0 where
   pub rows-length : length (s .rows) ≡ 16
   pub mails-length : length (s .mails) ≡ 16
   pub logs-length : length (s .logs) ≡ 16
   pub heads-length : length (s .heads) ≡ 16
-  pub boards-length : length (s .boards) ≡ 16
-  pub waits-length : length (s .waits) ≡ 16
+  pub queues-length : length (s .queues) ≡ 16
   pub entries-length : length entries ≡ 512
+
+-- The lists hold this cabinet of table t.
+pub record Holds (t : Table) (s : Store) (entries : List Entry) (c : Cabinet) : Type 0 where
+  pub processes : c .processes ≡ listed (processIn s) (length (t .processes))
+  pub outboxes : c .outboxes ≡ listed (outboxIn (s .queues) entries) (t .boards)
+  pub dead : c .dead ≡ listed (deadIn (s .queues)) (t .boards)
+  -- each process's lists are kept, and each ring is one
+  pub kept : (p : ℕ) → p < length (t .processes) → Kept (getD (s .rows) p []) (getD (s .mails) p []) (getD (s .logs) p []) (getD (s .heads) p [])
+  -- each row has the process's two boards of the table,
+  pub seated : (p : ℕ) → p < length (t .processes) → Seated (placementAt t p .primary) (placementAt t p .standby) (getD (s .rows) p [])
+  -- and whether a checkpoint or a transfer of it waits in its board's queue
+  pub waits-is : (p : ℕ) → p < length (t .processes) → waitsIn (getD (s .rows) p []) ≡ flag (waiting p (outboxAt c (processAt c p .board)))
+  pub first-small : (b : ℕ) → b < t .boards → firstIn (s .queues) b < outboxMost
+  pub count-small : (b : ℕ) → b < t .boards → countIn (s .queues) b ≤ outboxMost
+  pub queue-three : (b : ℕ) → b < t .boards → length (getD (s .queues) b []) ≡ 3
+  -- W-208: "After every move of a run, a crash included, each total equals the count made afresh."
+  pub totalled : Totalled t (s .totals) c
+  pub shape : Shaped s entries

@@ -1,5 +1,7 @@
 // An entry of an outgoing queue: a word, which names its channel; a checkpoint, which names its process and has its numbers as single
 // fields; or a state transfer, which names its process. All queues together are one flat array of these entries, a ring of 32 for each board.
+ghost use mathlib.Core.Path.{_≡_};
+ghost use Rattle.state.specs.Store.{blankEntry};
 use backup::place::Checkpoint;
 
 // Document 01: "An entry of an outgoing queue is a word or a sync". W-210: or a resync, "its snapshot and copies of all its unread words [..]
@@ -20,4 +22,16 @@ pub enum Item {
 
 pub struct Entry {
     pub item: Item,
+}
+
+// What stands where no entry was ever put.
+pub fn blank() -> Entry
+    ensures { λ r. ⌜ r ≡ blankEntry ⌝ }
+{
+    Entry {
+        item: Item::Word {
+            channel: 0,
+            word: 0,
+        },
+    }
 }

@@ -1,10 +1,7 @@
-// What a move answers, and the entry that joins a queue by it.
+// What a move answers, and where an entry joins a queue by it.
 ghost use mathlib.Core.Path.{_≡_};
-ghost use Rattle.state.specs.Store.{blankEntry};
 ghost use Rattle.state.specs.Moved.{refusalOf, aloneOf, refusedWith};
-use crate::board::ENTRIES;
-use crate::entry::Entry;
-use crate::entry::Item;
+use crate::queue::ENTRIES;
 
 // An answer's three numbers, and its cause (W-206).
 pub struct Answer {
@@ -14,22 +11,11 @@ pub struct Answer {
     pub word: u32,
 }
 
-// An answer, and the place of an entry that joins a queue, which is no place where none does.
+// An answer, and the place of the entry that joins a queue by the move, which is no place where none does. Which entry that is the loop knows
+// from the move: it alone holds the entries.
 pub struct Moved {
     pub answer: Answer,
     pub at: usize,
-    pub entry: Entry,
-}
-
-pub fn blank() -> Entry
-    ensures { λ r. ⌜ r ≡ blankEntry ⌝ }
-{
-    Entry {
-        item: Item::Word {
-            channel: 0,
-            word: 0,
-        },
-    }
 }
 
 // A refusal repeats a with word 0.
@@ -51,7 +37,6 @@ pub fn alone(answer: Answer) -> Moved
     Moved {
         answer: answer,
         at: ENTRIES,
-        entry: blank(),
     }
 }
 

@@ -1,10 +1,10 @@
 -- A step that computes, in the lists: the refusal 37, and what a SET, an ADD or a JUMP makes of its process.
-use mathlib.Core.Path.{_≡_, refl, ap, sym, _∙_, subst}
+use mathlib.Core.Path.{_≡_, refl, ap, sym, _∙_}
 use mathlib.Core.Bool.{Bool, true, false}
 use mathlib.Core.List.{List, []}
 use Prim.Native.Nat.{ℕ, _<_}
 use native.Mathlib.Omega.{arith}
-use lib.ListN.{length, getD, set}
+use lib.ListN.{length, getD, set, length-set}
 use Rattle.process.specs.Row.{machineOf}
 use Rattle.instruction.specs.Instruction.{Intends, Computes, afterInternal}
 use Rattle.instruction.specs.declared.instruction.Intent.the-variants.{Internal}
@@ -19,9 +19,10 @@ use Rattle.state.specs.declared.moved.Moved.{Moved}
 use Rattle.state.specs.Store.{Store, storeOf, Holds}
 use Rattle.state.specs.Moved.{Reachable, answerOf, aloneOf, refusedWith}
 use Rattle.state.proofs.Changing.{row-changed}
-use Rattle.state.proofs.Refusing.{turned-down}
+use Rattle.state.proofs.Refusing.{turned-away, makes-refused}
 use Rattle.step.specs.Parts.{overrunIn, CalculateTurns}
-use Rattle.step.proofs.Stepping.{turned-to, machine-is, step-is, overrun-is, instructions-room}
+use Rattle.step.proofs.Making.{its-index, answered, lengths, makes-alone}
+use Rattle.step.proofs.Stepping.{machine-is, step-is, overrun-is, instructions-room}
 
 module _ {t : Table} {s : Store} {entries : List Entry} {c : Cabinet} (h : Holds t s entries c) (p : ℕ) (hp : p < length (t .processes))
     (n code a operand : ℕ) (i : Intends (codeOf t p) (getD (s .rows) p []) (getD (s .mails) p []) n code a operand Internal) where
@@ -48,8 +49,9 @@ module _ {t : Table} {s : Store} {entries : List Entry} {c : Cabinet} (h : Holds
   unfolding guard
   calculate-accepted e = calculates-so false e
 
+  -- the lists afterwards hold the rules' cabinet afterwards
   calculate-holds : Reachable t c → (row′ : List ℕ) → Computes row code a operand row′
-      → Holds t (storeOf (set (s .rows) p row′) (s .mails) (s .logs) (s .heads) (s .boards) (s .totals) (s .waits)) entries (withProcess p (calculated (processAt c p)) c)
+      → Holds t (storeOf (set (s .rows) p row′) (s .mails) (s .logs) (s .heads) (s .queues) (s .totals)) entries (withProcess p (calculated (processAt c p)) c)
   unfolding advanced
   calculate-holds reach row′ became =
       let went : Steps (codeOf t p) (machineOf row mail) internal (afterInternal code a operand (machineOf row mail)) = record { is = i .outcome } in
@@ -59,29 +61,22 @@ module _ {t : Table} {s : Store} {entries : List Entry} {c : Cabinet} (h : Holds
 
 -- ---- what the part promises
 
--- of a process of the table the clamped number is the number
-pub calculate-at-its-index : {rows rows′ : List (List ℕ)} {code register operand : ℕ} {r : Moved} (p a : ℕ) → (a < 16 → p ≡ a)
-    → (a ≡ p → CalculateTurns rows p code register operand rows′ r) → CalculateTurns rows a code register operand rows′ r
-calculate-at-its-index {rows} {rows′} {code} {register} {operand} {r} p a is-p given = record {
-  turned = λ t mails logs heads boards totals waits entries c command n reach i h f ha.
-      let e : p ≡ a = is-p (let z = reach .accepted .processes-high in omega arith) in
-      subst (λ (q : ℕ). CalculateTurns rows q code register operand rows′ r) e (given (sym e))
-      .turned t mails logs heads boards totals waits entries c command n reach i h f ha;
-}
-
-module _ (rows : List (List ℕ)) (p code register operand : ℕ) (r : Moved) where
-  pub calculate-37 : overrunIn (getD rows p []) ≡ true → r ≡ refusedWith 37 1 p → CalculateTurns rows p code register operand rows r
+module _ (rows : List (List ℕ)) (p a : ℕ) (is-p : a < 16 → p ≡ a) (code register operand : ℕ) (r : Moved) where
+  pub calculate-37 : overrunIn (getD rows p []) ≡ true → r ≡ refusedWith 37 1 a → CalculateTurns rows a code register operand rows r
   unfolding refusalNumber refusalCause
-  calculate-37 e g = record {
-    turned = λ t mails logs heads boards totals waits entries c command n reach i h f hp.
-        turned-down command p instructionsFull h (calculate-refused h p hp n code register operand i e) f g;
-  }
+  calculate-37 e g l mails logs heads queues totals limit n =
+      makes-refused 37 1 g (λ t entries c command reach planned h f i.
+      let ha = i .process-there in
+      turned-away command a instructionsFull h (calculate-refused h a ha n code register operand (i .intends) (rw (← its-index reach ha is-p) e)) f refl)
 
   pub calculate-done : (row′ : List ℕ) → overrunIn (getD rows p []) ≡ false → Computes (getD rows p []) code register operand row′ → r ≡ aloneOf (answerOf 0 0 0 0)
-      → CalculateTurns rows p code register operand (set rows p row′) r
+      → CalculateTurns rows a code register operand (set rows p row′) r
   unfolding numbers causeOf
-  calculate-done row′ e became g = record {
-    turned = λ t mails logs heads boards totals waits entries c command n reach i h f hp.
-        turned-to entries command (aloneOf (answerOf 0 0 0 0)) _ stepDone (calculate-accepted h p hp n code register operand i e) g refl refl
-        (calculate-holds h p hp n code register operand i reach row′ became);
-  }
+  calculate-done row′ e became g l mails logs heads queues totals limit n =
+      makes-alone (answerOf 0 0 0 0) (omega arith) (lengths (length-set rows p row′) refl refl refl) g
+      (λ t entries c command reach planned h f i.
+      let q = its-index reach (i .process-there) is-p in
+      let j = rw (← q) at i in
+      let hp = j .process-there in
+      rw (← q) (answered _ stepDone (calculate-accepted h p hp n code register operand (j .intends) e) refl refl
+      (calculate-holds h p hp n code register operand (j .intends) reach row′ became)))

@@ -10,10 +10,11 @@ use lib.Seq.{getD-set-same, getD-set-other}
 use borrow.Author.Tests.{eq-eqb, ne-eqb, lt-ltb, le-leb, lt-leb}
 use Rattle.facts.specs.Tests.{by-eq}
 use Rattle.facts.specs.Counts.{same}
-use Rattle.process.specs.Row.{machineOf, processOf}
+use Rattle.process.specs.Row.{boardIn, suppressIn, waitsIn, machineOf, processOf}
 use Rattle.instruction.specs.Instruction.{Intends, Suppresses, Queues, afterSend}
 use Rattle.instruction.specs.declared.instruction.Intent.the-variants.{Send}
-use Rattle.rules.specs.Table.{Table, environment, codeOf, limitOf, channelAt}
+use Rattle.plan.specs.Plan.{readerIn}
+use Rattle.rules.specs.Table.{Table, codeOf, limitOf, channelAt}
 use Rattle.rules.specs.Machine.{Mail, Machine, sent}
 use Rattle.rules.specs.Cabinet as rules
 use Rattle.rules.specs.Cabinet.{Cabinet, Process, outboxMost, isCheckpointOf, processAt, outboxAt, full, waiting}
@@ -25,22 +26,23 @@ use Rattle.rules.proofs.Counting.{weight, flight-joined}
 use Rattle.rules.proofs.Decoded.{owed-number}
 use Rattle.rules.proofs.Tables.{step-own}
 use Rattle.state.specs.declared.entry.Entry.{Entry}
-use Rattle.state.specs.declared.entry.Item.the-variants.{Word}
 use Rattle.state.specs.declared.moved.Moved.{Moved}
-use Rattle.state.specs.Board.{placeOf, pushedIn}
-use Rattle.state.specs.Store.{itemOf, Store, storeOf, Totalled, Holds, firstIn, countIn, flag}
-use Rattle.state.specs.Moved.{Reachable, answerOf, aloneOf, refusedWith}
+use Rattle.state.specs.Queue.{firstIn, countIn, placeOf, pushedIn}
+use Rattle.state.specs.Store.{itemOf, Store, storeOf, Totalled, Holds, flag}
+use Rattle.state.specs.Moved.{Reachable, answerOf, refusalOf, movedOf, aloneOf, refusedWith, wordOf}
 use Rattle.state.proofs.Reading.{at-process, how-many-boards}
-use Rattle.state.proofs.Queueing.{QueueThen, joined}
+use Rattle.state.proofs.Queueing.{QueueThen, entry-joins}
+use Rattle.state.proofs.Flagging.{flagged-none}
 use Rattle.state.proofs.Totals.{occupancy-outbox, totalled-more}
 use Rattle.state.proofs.Changing.{row-changed}
 use Rattle.state.proofs.Ends.{sent-inside, reader-inside}
-use Rattle.state.proofs.Refusing.{turned-down}
+use Rattle.state.proofs.Refusing.{turned-away, makes-refused}
 use Rattle.step.specs.Parts.{owingIn, blameIn, SendTurns}
-use Rattle.state.specs.Channel.{heldIn}
+use Rattle.state.specs.Channel.{fullIn}
 use Rattle.state.proofs.Held.{full-is, occupancy-small}
 use Rattle.state.proofs.Joining.{board-is, board-there, queue-has}
-use Rattle.step.proofs.Stepping.{turned-to, machine-is, step-is, owing-is, blame-is, instructions-room, events-room}
+use Rattle.step.proofs.Making.{its-index, its-board, answered, lengths, makes-alone, makes-joined}
+use Rattle.step.proofs.Stepping.{machine-is, step-is, owing-is, blame-is, instructions-room, events-room}
 
 -- a word that joins a queue is no checkpoint
 waiting-joined : (q : ℕ) (l : List rules.Item) (x : Mail) → waiting q (l ++ (rules.message x ∷ [])) ≡ waiting q l
@@ -99,7 +101,7 @@ module _ {t : Table} {s : Store} {entries : List Entry} {c : Cabinet} (reach : R
   same-mailbox = ap (λ (m : Machine). m .mailbox) (sym (machine-is h p hp))
 
   pub suppress-holds : (left : ℕ) (row′ : List ℕ) → getD row 6 0 ≡ suc left → Suppresses row row′
-      → Holds t (storeOf (set (s .rows) p row′) (s .mails) (s .logs) (s .heads) (s .boards) (s .totals) (s .waits)) entries (withProcess p (suppressing left (processAt c p)) c)
+      → Holds t (storeOf (set (s .rows) p row′) (s .mails) (s .logs) (s .heads) (s .queues) (s .totals)) entries (withProcess p (suppressing left (processAt c p)) c)
   unfolding advanced
   suppress-holds left row′ e became =
       row-changed h (reach .accepted .processes-high) p hp row′ (suppressing left)
@@ -114,7 +116,7 @@ module _ {t : Table} {s : Store} {entries : List Entry} {c : Cabinet} (reach : R
   then = withProcess p (queueing (processAt c p)) (enqueue (processAt c p .board) (rules.message x) c)
 
   module _ (none : getD row 6 0 ≡ 0) (reader : ℕ) (is-reader : reader ≡ channelAt t channel .reader) where
-    queues-so : (b1 b2 b3 : Bool) → owingIn (limitOf t p) row ≡ b1 → leb outboxMost (countIn (s .boards) b) ≡ b2 → heldIn reader (getD (s .totals) channel 0) ≡ b3
+    queues-so : (b1 b2 b3 : Bool) → owingIn (limitOf t p) row ≡ b1 → leb outboxMost (countIn (s .queues) b) ≡ b2 → fullIn reader (getD (s .totals) channel 0) ≡ b3
         → step t c p ≡ guard b1 (owedFor (limitOf t p) (processAt c p)) (guard b2 sendBlocked (guard b3 sendHeld (accept then (moves.queued x))))
     unfolding moves.send
     queues-so b1 b2 b3 e1 e2 e3 =
@@ -127,171 +129,166 @@ module _ {t : Table} {s : Store} {entries : List Entry} {c : Cabinet} (reach : R
     unfolding guard
     refused-37 e = queues-so true _ _ e refl refl
 
-    pub refused-38 : owingIn (limitOf t p) row ≡ false → leb outboxMost (countIn (s .boards) b) ≡ true → step t c p ≡ refuse sendBlocked
+    pub refused-38 : owingIn (limitOf t p) row ≡ false → leb outboxMost (countIn (s .queues) b) ≡ true → step t c p ≡ refuse sendBlocked
     unfolding guard
     refused-38 e f = queues-so false true _ e f refl
 
-    pub refused-39 : owingIn (limitOf t p) row ≡ false → leb outboxMost (countIn (s .boards) b) ≡ false → heldIn reader (getD (s .totals) channel 0) ≡ true
+    pub refused-39 : owingIn (limitOf t p) row ≡ false → leb outboxMost (countIn (s .queues) b) ≡ false → fullIn reader (getD (s .totals) channel 0) ≡ true
         → step t c p ≡ refuse sendHeld
     unfolding guard
     refused-39 e f g = queues-so false false true e f g
 
-    pub queued-so : owingIn (limitOf t p) row ≡ false → leb outboxMost (countIn (s .boards) b) ≡ false → heldIn reader (getD (s .totals) channel 0) ≡ false
+    pub queued-so : owingIn (limitOf t p) row ≡ false → leb outboxMost (countIn (s .queues) b) ≡ false → fullIn reader (getD (s .totals) channel 0) ≡ false
         → step t c p ≡ accept then (moves.queued x)
     unfolding guard
     queued-so e f g = queues-so false false false e f g
 
   -- ---- the word joins
 
-  module _ (few : countIn (s .boards) b < outboxMost) (e : Entry) (is-item : itemOf (e .item) ≡ rules.message x) where
+  module _ (few : countIn (s .queues) b < outboxMost) (e : Entry) (is-item : itemOf (e .item) ≡ rules.message x) where
     hb : b < t .boards
     hb = board-there reach h p hp
 
-    abbrev board : List ℕ
-    board = getD (s .boards) b []
+    abbrev queue : List ℕ
+    queue = getD (s .queues) b []
 
-    abbrev queue : List rules.Item
-    queue = outboxAt c b ++ (itemOf (e .item) ∷ [])
+    abbrev items : List rules.Item
+    items = outboxAt c b ++ (itemOf (e .item) ∷ [])
 
     abbrev totals′ : List ℕ
     totals′ = set (s .totals) channel ((getD (s .totals) channel 0 + 1) % 2 ^ 32)
 
     -- the flags stay
-    waits-then : (q : ℕ) → q < length (t .processes) → getD (s .waits) q 0 ≡ flag (waiting q (getD (set (c .outboxes) b queue) (processAt c q .board) []))
+    waits-then : (q : ℕ) → q < length (t .processes) → waitsIn (getD (s .rows) q []) ≡ flag (waiting q (getD (set (c .outboxes) b items) (processAt c q .board) []))
     waits-then q hq =
         let there : b < length (c .outboxes) = rw (how-many-boards h) hb in
         by-eq (processAt c q .board) b
-        (λ f. let now-is : getD (set (c .outboxes) b queue) (processAt c q .board) [] ≡ queue = rw f (getD-set-same (c .outboxes) b queue [] there) in
-        let still : waiting q queue ≡ waiting q (outboxAt c b) = ap (λ (j : rules.Item). waiting q (outboxAt c b ++ (j ∷ []))) is-item ∙ waiting-joined q (outboxAt c b) x in
+        (λ f. let now-is : getD (set (c .outboxes) b items) (processAt c q .board) [] ≡ items = rw f (getD-set-same (c .outboxes) b items [] there) in
+        let still : waiting q items ≡ waiting q (outboxAt c b) = ap (λ (j : rules.Item). waiting q (outboxAt c b ++ (j ∷ []))) is-item ∙ waiting-joined q (outboxAt c b) x in
         h .waits-is q hq ∙ ap (λ (j : ℕ). flag (waiting q (outboxAt c j))) f ∙ ap flag (sym still) ∙ ap (λ (l : List rules.Item). flag (waiting q l)) (sym now-is))
-        (λ f. h .waits-is q hq ∙ ap (λ (l : List rules.Item). flag (waiting q l)) (sym (getD-set-other (c .outboxes) b (processAt c q .board) queue [] f)))
+        (λ f. h .waits-is q hq ∙ ap (λ (l : List rules.Item). flag (waiting q l)) (sym (getD-set-other (c .outboxes) b (processAt c q .board) items [] f)))
 
     -- one word more of the channel is in the queues
-    totals-then : Totalled t totals′ (withOutbox b queue c)
+    totals-then : Totalled t totals′ (withOutbox b items c)
     totals-then =
         totalled-more (s .totals) (reach .accepted .channels-high) channel channel-inside (h .totalled .totals-length) _
         (λ k hk.
         let more = flight-joined k (c .outboxes) b (itemOf (e .item)) (rw (how-many-boards h) hb) in
         let w : weight k (itemOf (e .item)) ≡ weight k (rules.message x) = ap (weight k) is-item in
-        let now = occupancy-outbox t c b queue k 0 (same k channel) (omega arith) in
+        let now = occupancy-outbox t c b items k 0 (same k channel) (omega arith) in
         let was = h .totalled .total-is k hk in
         omega arith)
         refl
         (let was = h .totalled .total-is channel channel-inside in let few = occupancy-small reach channel in omega arith)
 
-    queue-then : QueueThen t s c b (pushedIn board) totals′ (s .waits) (firstIn (s .boards) b) (suc (countIn (s .boards) b)) queue
+    queue-then : QueueThen t s c b (s .rows) (pushedIn queue) totals′ (firstIn (s .queues) b) (suc (countIn (s .queues) b)) items
     queue-then =
-        let l = h .board-length b hb in
+        let l = h .queue-three b hb in
         record {
-          is-first = getD-set-other board 1 0 ((getD board 1 0 + 1) % 2 ^ 32) 0 (λ f. omega arith);
-          is-count = getD-set-same board 1 ((getD board 1 0 + 1) % 2 ^ 32) 0 (omega arith) ∙ omega arith;
-          is-dead = getD-set-other board 1 2 ((getD board 1 0 + 1) % 2 ^ 32) 0 (λ f. omega arith);
-          three = length-set board 1 _ ∙ l;
+          is-first = getD-set-other queue 1 0 ((getD queue 1 0 + 1) % 2 ^ 32) 0 (λ f. omega arith);
+          is-count = getD-set-same queue 1 ((getD queue 1 0 + 1) % 2 ^ 32) 0 (omega arith) ∙ omega arith;
+          is-dead = getD-set-other queue 1 2 ((getD queue 1 0 + 1) % 2 ^ 32) 0 (λ f. omega arith);
+          three = length-set queue 1 _ ∙ l;
           totalled-then = totals-then;
           waiting-there = waits-then;
-          waits-long = h .waits-length;
+          flagged = flagged-none t (s .rows);
         }
 
     -- the lists afterwards hold the rules' cabinet afterwards
     send-holds : (row′ : List ℕ) → getD row 6 0 ≡ 0 → Queues row row′
-        → Holds t (storeOf (set (s .rows) p row′) (s .mails) (s .logs) (s .heads) (set (s .boards) b (pushedIn board)) totals′ (s .waits)) (set entries (placeOf board b) e)
+        → Holds t (storeOf (set (s .rows) p row′) (s .mails) (s .logs) (s .heads) (set (s .queues) b (pushedIn queue)) totals′) (set entries (placeOf queue b) e)
         (withProcess p (queueing (processAt c p)) (enqueue b (itemOf (e .item)) c))
     unfolding advanced
     send-holds row′ none became =
-        let first = joined h (reach .accepted .boards-high) b hb (pushedIn board) totals′ (s .waits) e few queue-then in
+        let first = entry-joins h (reach .accepted .boards-high) b hb (s .rows) (pushedIn queue) totals′ e few queue-then in
         row-changed first (reach .accepted .processes-high) p hp row′ queueing
         (became (codeOf t p) n code a operand channel word mail log head (h .kept p hp) i none (events-room h p hp reach) (instructions-room h p hp reach)) refl same-mailbox
 
     pub send-holds-so : (row′ : List ℕ) → getD row 6 0 ≡ 0 → Queues row row′
-        → Holds t (storeOf (set (s .rows) p row′) (s .mails) (s .logs) (s .heads) (set (s .boards) b (pushedIn board)) totals′ (s .waits)) (set entries (placeOf board b) e) then
+        → Holds t (storeOf (set (s .rows) p row′) (s .mails) (s .logs) (s .heads) (set (s .queues) b (pushedIn queue)) totals′) (set entries (placeOf queue b) e) then
     send-holds-so row′ none became =
-        let after : Store = storeOf (set (s .rows) p row′) (s .mails) (s .logs) (s .heads) (set (s .boards) b (pushedIn board)) totals′ (s .waits) in
-        subst (λ (j : ℕ). Holds t after (set entries (placeOf board b) e) (withProcess p (queueing (processAt c p)) (enqueue j (rules.message x) c))) (sym (board-is reach h p hp))
-        (subst (λ (j : rules.Item). Holds t after (set entries (placeOf board b) e) (withProcess p (queueing (processAt c p)) (enqueue b j c))) is-item
+        let after : Store = storeOf (set (s .rows) p row′) (s .mails) (s .logs) (s .heads) (set (s .queues) b (pushedIn queue)) totals′ in
+        subst (λ (j : ℕ). Holds t after (set entries (placeOf queue b) e) (withProcess p (queueing (processAt c p)) (enqueue j (rules.message x) c))) (sym (board-is reach h p hp))
+        (subst (λ (j : rules.Item). Holds t after (set entries (placeOf queue b) e) (withProcess p (queueing (processAt c p)) (enqueue b j c))) is-item
         (send-holds row′ none became))
 
 -- ---- what the part promises
 
--- of a process of the table the clamped number is the number
-pub send-at-its-index : {reader : List ℕ} {rows boards rows′ boards′ : List (List ℕ)} {totals totals′ : List ℕ} {limit channel word : ℕ} {r : Moved} (p a : ℕ) → (a < 16 → p ≡ a)
-    → (a ≡ p → SendTurns reader rows boards totals limit p channel word rows′ boards′ totals′ r) → SendTurns reader rows boards totals limit a channel word rows′ boards′ totals′ r
-send-at-its-index {reader} {rows} {boards} {rows′} {boards′} {totals} {totals′} {limit} {channel} {word} {r} p a is-p given = record {
-  turned = λ t sender port mails logs heads waits entries c command n code register operand reach wired i h f ha l.
-      let e : p ≡ a = is-p (let z = reach .accepted .processes-high in omega arith) in
-      subst (λ (q : ℕ). SendTurns reader rows boards totals limit q channel word rows′ boards′ totals′ r) e (given (sym e))
-      .turned t sender port mails logs heads waits entries c command n code register operand reach wired i h f ha l;
-}
+module _ (wires : List ℕ) (rows queues : List (List ℕ)) (totals : List ℕ) (limit p a : ℕ) (is-p : a < 16 → p ≡ a) (channel word : ℕ) (r : Moved) where
+  abbrev its-row : List ℕ
+  its-row = getD rows p []
 
-module _ (reader : List ℕ) (rows boards : List (List ℕ)) (totals : List ℕ) (limit p channel word : ℕ) (r : Moved) where
-  pub send-suppressed : (row′ : List ℕ) → 0 < getD (getD rows p []) 6 0 → Suppresses (getD rows p []) row′ → r ≡ aloneOf (answerOf 3 0 channel word)
-      → SendTurns reader rows boards totals limit p channel word (set rows p row′) boards totals r
+  abbrev Refuses : Type 0
+  Refuses = SendTurns wires rows queues totals limit a channel word rows queues totals r
+
+  pub send-suppressed : (row′ : List ℕ) → 0 < suppressIn its-row → Suppresses its-row row′ → r ≡ aloneOf (answerOf 3 0 channel word)
+      → SendTurns wires rows queues totals limit a channel word (set rows p row′) queues totals r
   unfolding numbers causeOf
-  send-suppressed row′ l became g = record {
-    turned = λ t sender port mails logs heads waits entries c command n code register operand reach wired i h f hp limit-is.
-        let left : ℕ = getD (getD rows p []) 6 0 - 1 in
-        let e : getD (getD rows p []) 6 0 ≡ suc left = omega arith in
-        turned-to entries command (aloneOf (answerOf 3 0 channel word)) _ (suppressed (record { channel = channel; word = word }))
-        (suppressed-so reach h p hp n code register operand channel word i left e) g refl refl
-        (suppress-holds reach h p hp n code register operand channel word i left row′ e became);
-  }
+  send-suppressed row′ some became g table counts programs mails logs heads n code register operand =
+      makes-alone (answerOf 3 0 channel word) (omega arith) (lengths (length-set rows p row′) refl refl refl) g
+      (λ t entries c command reach planned h f i.
+      let q = its-index reach (i .process-there) is-p in
+      let j = rw (← q) at i in
+      let hp = j .process-there in
+      let left : ℕ = suppressIn its-row - 1 in
+      let e : suppressIn its-row ≡ suc left = omega arith in
+      rw (← q) (answered _ (suppressed (record { channel = channel; word = word })) (suppressed-so reach h p hp n code register operand channel word (j .intends) left e)
+      refl refl (suppress-holds reach h p hp n code register operand channel word (j .intends) left row′ e became)))
 
-  module _ (none : getD (getD rows p []) 6 0 ≡ 0) where
-    pub send-37 : owingIn limit (getD rows p []) ≡ true → (cause : ℕ) → cause ≡ blameIn limit (getD rows p []) → r ≡ refusedWith 37 cause p
-        → SendTurns reader rows boards totals limit p channel word rows boards totals r
-    send-37 e cause b g = record {
-      turned = λ t sender port mails logs heads waits entries c command n code register operand reach wired i h f hp limit-is.
-          turned-down command p (owedFor (limitOf t p) (processAt c p)) h (refused-37 reach h p hp n code register operand channel word i none _ refl (rw limit-is e)) f
-          (g ∙ ap₂ (λ (k z : ℕ). refusedWith k z p) (sym (owed-number (limitOf t p) (processAt c p))) (b ∙ ap (λ (m : ℕ). blameIn m (getD rows p [])) (sym limit-is) ∙ sym (blame-is h p hp)));
-    }
+  module _ (none : suppressIn its-row ≡ 0) where
+    pub send-37 : owingIn limit its-row ≡ true → (cause : ℕ) → cause ≡ blameIn limit its-row → r ≡ refusedWith 37 cause a → Refuses
+    send-37 e cause b g table counts programs mails logs heads n code register operand =
+        makes-refused 37 cause g (λ t entries c command reach planned h f i.
+        let ha = i .process-there in
+        let q = its-index reach ha is-p in
+        turned-away command a (owedFor (limitOf t a) (processAt c a)) h
+        (refused-37 reach h a ha n code register operand channel word (i .intends) (rw (← q) none) _ refl (rw (i .limit-is, ← q) e)) f
+        (ap₂ (λ (k z : ℕ). refusalOf k z a) (sym (owed-number (limitOf t a) (processAt c a))) (rw (blame-is h a ha, i .limit-is, ← q) b)))
 
-    module _ (fresh : owingIn limit (getD rows p []) ≡ false) (b : ℕ) (is-b : getD (getD rows p []) 0 0 < 16 → b ≡ getD (getD rows p []) 0 0) where
-      -- of lists that hold a cabinet the clamped board is the board
-      the-board : {t : Table} {mails logs heads : List (List ℕ)} {waits : List ℕ} {entries : List Entry} {c : Cabinet} → Reachable t c
-          → Holds t (storeOf rows mails logs heads boards totals waits) entries c → p < length (t .processes) → b ≡ getD (getD rows p []) 0 0
-      the-board reach h hp = is-b (let a = board-there reach h p hp in let z = reach .accepted .boards-high in omega arith)
-
-      pub send-38 : outboxMost ≤ countIn boards b → r ≡ refusedWith 38 0 p → SendTurns reader rows boards totals limit p channel word rows boards totals r
+    module _ (fresh : owingIn limit its-row ≡ false) (b : ℕ) (is-b : boardIn its-row < 16 → b ≡ boardIn its-row) where
+      pub send-38 : outboxMost ≤ countIn queues b → r ≡ refusedWith 38 0 a → Refuses
       unfolding refusalNumber refusalCause
-      send-38 l g = record {
-        turned = λ t sender port mails logs heads waits entries c command n code register operand reach wired i h f hp limit-is.
-            turned-down command p sendBlocked h
-            (refused-38 reach h p hp n code register operand channel word i none _ refl (rw limit-is fresh) (le-leb outboxMost (countIn boards (getD (getD rows p []) 0 0)) (rw (← the-board reach h hp) l))) f g;
-      }
+      send-38 many g table counts programs mails logs heads n code register operand =
+          makes-refused 38 0 g (λ t entries c command reach planned h f i.
+          let q = its-index reach (i .process-there) is-p in
+          let j = rw (← q) at i in
+          let hp = j .process-there in
+          let all : outboxMost ≤ countIn queues (boardIn its-row) = rw (← its-board reach h p hp is-b) many in
+          rw (← q) (turned-away command p sendBlocked h
+          (refused-38 reach h p hp n code register operand channel word (j .intends) none _ refl (rw (j .limit-is) fresh) (le-leb outboxMost _ all)) (f ∙ sym q) refl))
 
-      module _ (few : countIn boards b < outboxMost) (k : ℕ) (is-k : channel < 32 → k ≡ channel) where
-        pub send-39 : heldIn (getD reader k 0) (getD totals k 0) ≡ true → r ≡ refusedWith 39 0 p
-            → SendTurns reader rows boards totals limit p channel word rows boards totals r
+      module _ (few : countIn queues b < outboxMost) (k reader : ℕ) (is-k : channel < 32 → k ≡ channel) (is-reader : reader ≡ readerIn wires k) where
+        pub send-39 : fullIn reader (getD totals k 0) ≡ true → r ≡ refusedWith 39 0 a → Refuses
         unfolding refusalNumber refusalCause
-        send-39 e g = record {
-          turned = λ t sender port mails logs heads waits entries c command n code register operand reach wired i h f hp limit-is.
-              let l = channel-inside reach h p hp n code register operand channel word i in
-              let kk : k ≡ channel = is-k (let z = reach .accepted .channels-high in omega arith) in
-              let full-so : heldIn (getD reader channel 0) (getD totals channel 0) ≡ true = rw (← kk) e in
-              turned-down command p sendHeld h
-              (refused-39 reach h p hp n code register operand channel word i none (getD reader channel 0) (wired .reader-at channel l) (rw limit-is fresh)
-              (lt-leb outboxMost (countIn boards (getD (getD rows p []) 0 0)) (rw (← the-board reach h hp) few)) full-so) f g;
-        }
+        send-39 e g table counts programs mails logs heads n code register operand =
+            makes-refused 39 0 g (λ t entries c command reach planned h f i.
+            let q = its-index reach (i .process-there) is-p in
+            let j = rw (← q) at i in
+            let hp = j .process-there in
+            let l = channel-inside reach h p hp n code register operand channel word (j .intends) in
+            let kk : k ≡ channel = is-k (let z = reach .accepted .channels-high in omega arith) in
+            let few0 : countIn queues (boardIn its-row) < outboxMost = rw (← its-board reach h p hp is-b) few in
+            rw (← q) (turned-away command p sendHeld h
+            (refused-39 reach h p hp n code register operand channel word (j .intends) none reader (is-reader ∙ ap (readerIn wires) kk ∙ planned .reader-at channel l)
+            (rw (j .limit-is) fresh) (lt-leb outboxMost _ few0) (rw (← kk) e)) (f ∙ sym q) refl))
 
-        pub send-queued : (row′ : List ℕ) → heldIn (getD reader k 0) (getD totals k 0) ≡ false → Queues (getD rows p []) row′
-            → placeOf (getD boards b []) b < 512
-            → r ≡ record { answer = answerOf 2 0 channel word; at = placeOf (getD boards b []) b; entry = record { item = Word channel word } }
-            → SendTurns reader rows boards totals limit p channel word (set rows p row′) (set boards b (pushedIn (getD boards b []))) (set totals k ((getD totals k 0 + 1) % 2 ^ 32)) r
+        pub send-queued : (row′ : List ℕ) → fullIn reader (getD totals k 0) ≡ false → Queues its-row row′ → placeOf (getD queues b []) b < 512
+            → r ≡ movedOf (answerOf 2 0 channel word) (placeOf (getD queues b []) b)
+            → SendTurns wires rows queues totals limit a channel word (set rows p row′) (set queues b (pushedIn (getD queues b []))) (set totals k ((getD totals k 0 + 1) % 2 ^ 32)) r
         unfolding numbers causeOf
-        send-queued row′ e became below g = record {
-          turned = λ t sender port mails logs heads waits entries c command n code register operand reach wired i h f hp limit-is.
-              let l = channel-inside reach h p hp n code register operand channel word i in
-              let kk : k ≡ channel = is-k (let z = reach .accepted .channels-high in omega arith) in
-              let bb : b ≡ getD (getD rows p []) 0 0 = the-board reach h hp in
-              let b0 : ℕ = getD (getD rows p []) 0 0 in
-              let y : Entry = record { item = Word channel word } in
-              let open-so : heldIn (getD reader channel 0) (getD totals channel 0) ≡ false = rw (← kk) e in
-              let few0 : countIn boards b0 < outboxMost = rw (← bb) few in
-              let so = queued-so reach h p hp n code register operand channel word i none (getD reader channel 0) (wired .reader-at channel l) (rw limit-is fresh) (lt-leb outboxMost _ few0) open-so in
-              let there = send-holds-so reach h p hp n code register operand channel word i few0 y refl row′ none became in
-              let after : ℕ → ℕ → Store = λ q j. storeOf (set rows p row′) mails logs heads (set boards q (pushedIn (getD boards q []))) (set totals j ((getD totals j 0 + 1) % 2 ^ 32)) waits in
-              let d : Cabinet = then reach h p hp n code register operand channel word i in
-              let its-board = subst (λ (q : ℕ). Holds t (after q channel) (set entries (placeOf (getD boards q []) q) y) d) (sym bb) there in
-              let its-channel = subst (λ (j : ℕ). Holds t (after b j) (set entries (placeOf (getD boards b []) b) y) d) (sym kk) its-board in
-              turned-to entries command (record { answer = answerOf 2 0 channel word; at = placeOf (getD boards b []) b; entry = y }) _ (moves.queued (record { channel = channel; word = word })) so g refl refl
-              (rw (lt-ltb (placeOf (getD boards b []) b) 512 below) its-channel);
-        }
+        send-queued row′ e became below g table counts programs mails logs heads n code register operand =
+            makes-joined (answerOf 2 0 channel word) (omega arith) (lengths (length-set rows p row′) refl (length-set queues b _) (length-set totals k _))
+            (placeOf (getD queues b []) b) below refl g
+            (λ t entries c command reach planned h f i.
+            let q = its-index reach (i .process-there) is-p in
+            let j = rw (← q) at i in
+            let hp = j .process-there in
+            let l = channel-inside reach h p hp n code register operand channel word (j .intends) in
+            let kk : k ≡ channel = is-k (let z = reach .accepted .channels-high in omega arith) in
+            let bb = its-board reach h p hp is-b in
+            let few0 : countIn queues (boardIn its-row) < outboxMost = rw (← bb) few in
+            let so = queued-so reach h p hp n code register operand channel word (j .intends) none reader (is-reader ∙ ap (readerIn wires) kk ∙ planned .reader-at channel l)
+            (rw (j .limit-is) fresh) (lt-leb outboxMost _ few0) (rw (← kk) e) in
+            let there = send-holds-so reach h p hp n code register operand channel word (j .intends) few0 (wordOf (r .answer))
+            (ap (λ (z : Moved). itemOf (wordOf (z .answer) .item)) g) row′ none became in
+            rw (← q, bb, kk) (answered _ (moves.queued (record { channel = channel; word = word })) so refl refl there))

@@ -8,39 +8,33 @@ use lib.Dec.{leb, ltb}
 use lib.ListN.{length, getD}
 use borrow.Author.Tests.{ne-eqb, ltb-true}
 use Rattle.facts.specs.Tests.{no-way}
-use Rattle.process.specs.Row.{machineOf, processOf}
+use Rattle.process.specs.Row.{pcIn, machineOf, processOf}
+use Rattle.process.proofs.Rows.{limited-is}
 use Rattle.instruction.specs.Instruction.{Intends, Fetched, Examined, TallyRoom}
 use Rattle.instruction.specs.Laws as laws
 use Rattle.instruction.specs.declared.instruction.Intent.{Intent}
 use Rattle.instruction.specs.declared.instruction.Intent.the-variants.{Halted, NoMail, Internal, Take, Send}
 use Rattle.records.specs.Fetch.{fetched, instructionOf}
 use Rattle.records.specs.declared.fetch.Instruction.{Instruction}
+use Rattle.plan.specs.declared.Counts.{Counts}
+use Rattle.plan.specs.Plan.{Planned, planOf, startIn, lengthIn, limitIn}
 use Rattle.rules.specs.Table as rules
 use Rattle.rules.specs.Table.{Table, codeOf, limitOf}
 use Rattle.rules.specs.Machine.{Machine, Outcome, halted, noMail, execute, instructionAt, localStep}
 use Rattle.rules.specs.Cabinet.{Cabinet, Process, instructionsMost, processAt, limited, exhausted, overrun, owing}
-use Rattle.rules.specs.Moves.{Command, Result, Answer, refuse, accept, isHalted, missing, owedFor, refusalNumber, numbers, numbered, step, stepFrom}
-use Rattle.rules.specs.Reasons.{refusalCause, causeOf}
+use Rattle.rules.specs.Moves.{refuse, isHalted, missing, owedFor, refusalNumber, step, stepFrom}
+use Rattle.rules.specs.Reasons.{refusalCause}
 use Rattle.rules.proofs.Decoded.{owed-cause, missing-number, missing-cause}
 use Rattle.state.specs.declared.entry.Entry.{Entry}
 use Rattle.state.specs.declared.moved.Moved.{Moved}
 use Rattle.state.specs.Store.{Store, storeOf, Holds}
-use Rattle.state.specs.Moved.{Reachable, Turned, storedBy, refusedWith}
+use Rattle.state.specs.Moved.{Reachable, refusalOf, refusedWith, aProcess}
 use Rattle.state.proofs.Reading.{at-process}
-use Rattle.process.proofs.Rows.{limited-is}
 use Rattle.state.proofs.Counters.{instructions-few, events-few}
-use Rattle.state.proofs.Refusing.{turned-down}
-use Rattle.step.specs.Parts.{spentIn, overrunIn, owingIn, blameIn, missingOf, CalculateTurns, TakeTurns, SendTurns}
+use Rattle.state.proofs.Refusing.{turned-away, makes-refused}
+use Rattle.step.specs.Parts.{exhaustedIn, overrunIn, owingIn, blameIn, missingOf, Intending, CalculateTurns, TakeTurns, SendTurns}
 use Rattle.step.specs.Steps as specs
-
--- ---- an accepted move
-
-pub turned-to : {t : Table} {s : Store} (entries : List Entry) {c : Cabinet} (command : Command) {result : Result} {r : Moved} (m : Moved) (d : Cabinet) (x : Answer)
-    → result ≡ accept d x → r ≡ m → numbers x ≡ numbered (m .answer .code) (m .answer .a) (m .answer .word) → causeOf x ≡ m .answer .cause → Holds t s (storedBy entries m) d
-    → Turned t s entries c command result r
-turned-to {t} {s} entries {c} command {result} {r} m d x e f g cause h =
-    subst (λ (z : Moved). Turned t s entries c command result z) (sym f)
-    (subst (λ (z : Result). Turned t s entries c command z m) (sym e) (record { answer-is = g; cause-is = cause; holds = h }))
+use Rattle.step.proofs.Making.{its-index, makes-under}
 
 -- ---- the case of the rules' step
 
@@ -68,7 +62,7 @@ module _ {t : Table} {s : Store} {entries : List Entry} {c : Cabinet} (h : Holds
   unfolding step
   step-is o e = ap (λ (m : Machine). stepFrom t c p (processAt c p) (localStep (codeOf t p) m)) machine-is ∙ ap (stepFrom t c p (processAt c p)) e
 
-  pub exhausted-is : exhausted (limitOf t p) (processAt c p) ≡ spentIn (limitOf t p) row
+  pub exhausted-is : exhausted (limitOf t p) (processAt c p) ≡ exhaustedIn (limitOf t p) row
   unfolding exhausted processOf
   exhausted-is = ap (exhausted (limitOf t p)) (at-process h p hp) ∙ ap (λ (b : Bool). b && leb (limitOf t p) (getD row 7 0)) (limited-is row mail (getD (s .logs) p []) (getD (s .heads) p []))
 
@@ -124,77 +118,66 @@ module _ {t : Table} {s : Store} {entries : List Entry} {c : Cabinet} (h : Holds
 
 -- ---- what the move promises
 
--- of a process of the table the clamped number is the number
-pub step-at-its-index : {table start lengths limits reader port : List ℕ} {rows mails boards rows′ mails′ boards′ : List (List ℕ)} {totals totals′ : List ℕ} {r : Moved} (p a : ℕ)
-    → (a < 16 → p ≡ a) → (a ≡ p → specs.Steps table start lengths limits reader port rows mails boards totals p rows′ mails′ boards′ totals′ r)
-    → specs.Steps table start lengths limits reader port rows mails boards totals a rows′ mails′ boards′ totals′ r
-step-at-its-index {table} {start} {lengths} {limits} {reader} {port} {rows} {mails} {boards} {rows′} {mails′} {boards′} {totals} {totals′} {r} p a is-p given = record {
-  turned = λ t sender logs heads waits entries c command reach wired programmed limited-by h f ha.
-      let e : p ≡ a = is-p (let z = reach .accepted .processes-high in omega arith) in
-      subst (λ (q : ℕ). specs.Steps table start lengths limits reader port rows mails boards totals q rows′ mails′ boards′ totals′ r) e (given (sym e))
-      .turned t sender logs heads waits entries c command reach wired programmed limited-by h f ha;
-}
-
-module _ (table start lengths limits reader port : List ℕ) (rows mails boards : List (List ℕ)) (totals : List ℕ) (p : ℕ) (r : Moved) (j : Instruction)
-    (is-fetched : j ≡ fetched table (getD start p 0) (getD (getD rows p []) 1 0)) where
-  module _ (intent : Intent) (examined : Examined (getD rows p []) (getD mails p []) (getD lengths p 0) (j .code) (j .a) (j .operand) intent) where
-    -- the instruction fetched is the program's, so its intent is the rules'
-    intends : {t : Table} {logs heads : List (List ℕ)} {waits : List ℕ} {entries : List Entry} {c : Cabinet} → Reachable t c → specs.Programmed t table start lengths
-        → Holds t (storeOf rows mails logs heads boards totals waits) entries c → p < length (t .processes)
-        → Intends (codeOf t p) (getD rows p []) (getD mails p []) (getD lengths p 0) (j .code) (j .a) (j .operand) intent
-    intends {t} reach programmed h hp =
-        let here = laws.fetched t p (reach .accepted) hp (getD rows p []) (j .code) (j .a) (j .operand)
-        (λ l. sym (programmed .code-at p hp (getD (getD rows p []) 1 0) l) ∙ ap instructionOf (sym is-fetched)) in
-        examined (codeOf t p) (subst (λ (n : ℕ). Fetched (codeOf t p) (getD rows p []) n (j .code) (j .a) (j .operand)) (sym (programmed .length-at p hp)) here) (h .kept p hp .unread)
-
-  abbrev Promises : List (List ℕ) → List (List ℕ) → List (List ℕ) → List ℕ → Type 0
-  Promises rows′ mails′ boards′ totals′ = specs.Steps table start lengths limits reader port rows mails boards totals p rows′ mails′ boards′ totals′ r
-
+module _ (table programs wires : List ℕ) (rows mails queues : List (List ℕ)) (totals : List ℕ) (p a : ℕ) (is-p : a < 16 → p ≡ a) (r : Moved) (j : Instruction)
+    (is-fetched : j ≡ fetched table (startIn programs p) (pcIn (getD rows p []))) where
   -- what was examined is this intent
   pub record Means (intent : Intent) : Type 0 where
     pub seen : Intent
-    pub examined : Examined (getD rows p []) (getD mails p []) (getD lengths p 0) (j .code) (j .a) (j .operand) seen
+    pub examined : Examined (getD rows p []) (getD mails p []) (lengthIn programs p) (j .code) (j .a) (j .operand) seen
     pub is : seen ≡ intent
 
-  meant : (intent : Intent) → Means intent → Examined (getD rows p []) (getD mails p []) (getD lengths p 0) (j .code) (j .a) (j .operand) intent
-  meant intent m = subst (Examined (getD rows p []) (getD mails p []) (getD lengths p 0) (j .code) (j .a) (j .operand)) (m .is) (m .examined)
+  module _ (intent : Intent) (m : Means intent) (limit : ℕ) (is-limit : limit ≡ limitIn programs p) where
+    -- the instruction fetched is the program's, so its intent is the rules'
+    intending-at : {t : Table} {counts : Counts} {logs heads : List (List ℕ)} {entries : List Entry} {c : Cabinet} → Reachable t c
+        → Planned t (planOf table counts programs wires) → Holds t (storeOf rows mails logs heads queues totals) entries c → p < length (t .processes)
+        → Intending t limit p (getD rows p []) (getD mails p []) (lengthIn programs p) (j .code) (j .a) (j .operand) intent
+    intending-at {t} reach planned h hp =
+        let here = laws.fetched t p (reach .accepted) hp (getD rows p []) (j .code) (j .a) (j .operand)
+        (λ l. sym (planned .code-at p hp (pcIn (getD rows p [])) l) ∙ ap instructionOf (sym is-fetched)) in
+        let its-length = subst (λ (n : ℕ). Fetched (codeOf t p) (getD rows p []) n (j .code) (j .a) (j .operand)) (sym (planned .length-at p hp)) here in
+        record {
+          process-there = hp;
+          limit-is = sym (planned .limit-at p hp) ∙ sym is-limit;
+          intends = subst (Intends (codeOf t p) (getD rows p []) (getD mails p []) (lengthIn programs p) (j .code) (j .a) (j .operand)) (m .is)
+              (m .examined (codeOf t p) its-length);
+        }
 
-  pub steps-35 : Means Halted → r ≡ refusedWith 35 0 p → Promises rows mails boards totals
+    intending : {t : Table} {counts : Counts} {logs heads : List (List ℕ)} {entries : List Entry} {c : Cabinet} → Reachable t c
+        → Planned t (planOf table counts programs wires) → Holds t (storeOf rows mails logs heads queues totals) entries c → a < length (t .processes)
+        → Intending t limit a (getD rows a []) (getD mails a []) (lengthIn programs p) (j .code) (j .a) (j .operand) intent
+    intending reach planned h ha = let q = its-index reach ha is-p in rw (← q) (intending-at reach planned h (rw q ha))
+
+  abbrev Promises : List (List ℕ) → List (List ℕ) → List (List ℕ) → List ℕ → Type 0
+  Promises rows′ mails′ queues′ totals′ = specs.Steps table programs wires rows mails queues totals a rows′ mails′ queues′ totals′ r
+
+  pub steps-35 : Means Halted → r ≡ refusedWith 35 0 a → Promises rows mails queues totals
   unfolding refusalNumber refusalCause
-  steps-35 m g = record {
-    turned = λ t sender logs heads waits entries c command reach wired programmed limited-by h f hp.
-        turned-down command p isHalted h (refused-35 h p hp _ _ _ _ (intends Halted (meant Halted m) reach programmed h hp)) f g;
-  }
+  steps-35 m g counts logs heads =
+      makes-refused 35 0 g (λ t entries c command reach planned h f ha.
+      turned-away command a isHalted h (refused-35 h a ha _ _ _ _ (intending Halted m _ refl reach planned h ha .intends)) f refl)
 
-  pub steps-36 : Means NoMail → r ≡ refusedWith 36 (missingOf (j .code)) p → Promises rows mails boards totals
-  steps-36 m g = record {
-    turned = λ t sender logs heads waits entries c command reach wired programmed limited-by h f hp.
-        let i = intends NoMail (meant NoMail m) reach programmed h hp in
-        turned-down command p (missing (instructionAt (codeOf t p) (processAt c p .machine))) h (refused-36 h p hp _ _ _ _ i) f
-        (g ∙ ap₂ (λ (n k : ℕ). refusedWith n k p) (sym (missing-number (instructionAt (codeOf t p) (processAt c p .machine)))) (sym (missing-is h p hp _ _ _ _ i)));
-  }
+  pub steps-36 : Means NoMail → r ≡ refusedWith 36 (missingOf (j .code)) a → Promises rows mails queues totals
+  steps-36 m g counts logs heads =
+      makes-refused 36 (missingOf (j .code)) g (λ t entries c command reach planned h f ha.
+      let i = intending NoMail m _ refl reach planned h ha .intends in
+      let x = instructionAt (codeOf t a) (processAt c a .machine) in
+      turned-away command a (missing x) h (refused-36 h a ha _ _ _ _ i) f
+      (ap₂ (λ (n k : ℕ). refusalOf n k a) (sym (missing-number x)) (sym (missing-is h a ha _ _ _ _ i))))
 
-  pub steps-calculated : {rows′ : List (List ℕ)} → Means Internal → CalculateTurns rows p (j .code) (j .a) (j .operand) rows′ r
-      → Promises rows′ mails boards totals
-  steps-calculated m part = record {
-    turned = λ t sender logs heads waits entries c command reach wired programmed limited-by h f hp.
-        part .turned t mails logs heads boards totals waits entries c command _ reach (intends Internal (meant Internal m) reach programmed h hp) h f hp;
-  }
+  pub steps-calculated : {rows′ : List (List ℕ)} → Means Internal → CalculateTurns rows a (j .code) (j .a) (j .operand) rows′ r → Promises rows′ mails queues totals
+  steps-calculated m part counts logs heads =
+      makes-under (aProcess a) (λ t entries c reach planned h ha. intending Internal m _ refl reach planned h ha)
+      (part (planOf table counts programs wires) mails logs heads queues totals _ _)
 
-  pub steps-taken : (at a : ℕ) {rows′ mails′ : List (List ℕ)} {totals′ : List ℕ} → Means (Take at) → a ≡ p
-      → TakeTurns port rows mails totals (getD limits p 0) a (j .code) (j .a) at rows′ mails′ totals′ r → Promises rows′ mails′ boards totals′
-  steps-taken at a {rows′} {mails′} {totals′} m e taken =
-      let part = subst (λ (q : ℕ). TakeTurns port rows mails totals (getD limits p 0) q (j .code) (j .a) at rows′ mails′ totals′ r) e taken in
-      record {
-        turned = λ t sender logs heads waits entries c command reach wired programmed limited-by h f hp.
-            part .turned t sender reader logs heads boards waits entries c command _ _ reach wired (intends (Take at) (meant (Take at) m) reach programmed h hp) h f hp (sym (limited-by p hp));
-      }
+  module _ (limit : ℕ) (is-limit : limit ≡ limitIn programs p) where
+    pub steps-taken : (at : ℕ) {rows′ mails′ : List (List ℕ)} {totals′ : List ℕ} → Means (Take at)
+        → TakeTurns wires rows mails totals limit a (j .code) (j .a) at rows′ mails′ totals′ r → Promises rows′ mails′ queues totals′
+    steps-taken at m part counts logs heads =
+        makes-under (aProcess a) (λ t entries c reach planned h ha. intending (Take at) m limit is-limit reach planned h ha)
+        (part table counts programs logs heads queues _ _)
 
-  pub steps-sent : (channel word a : ℕ) {rows′ boards′ : List (List ℕ)} {totals′ : List ℕ} → Means (Send channel word) → a ≡ p
-      → SendTurns reader rows boards totals (getD limits p 0) a channel word rows′ boards′ totals′ r → Promises rows′ mails boards′ totals′
-  steps-sent channel word a {rows′} {boards′} {totals′} m e made =
-      let part = subst (λ (q : ℕ). SendTurns reader rows boards totals (getD limits p 0) q channel word rows′ boards′ totals′ r) e made in
-      record {
-        turned = λ t sender logs heads waits entries c command reach wired programmed limited-by h f hp.
-            part .turned t sender port mails logs heads waits entries c command _ _ _ _ reach wired (intends (Send channel word) (meant (Send channel word) m) reach programmed h hp) h f hp (sym (limited-by p hp));
-      }
+    pub steps-sent : (channel word : ℕ) {rows′ queues′ : List (List ℕ)} {totals′ : List ℕ} → Means (Send channel word)
+        → SendTurns wires rows queues totals limit a channel word rows′ queues′ totals′ r → Promises rows′ mails queues′ totals′
+    steps-sent channel word m part counts logs heads =
+        makes-under (aProcess a) (λ t entries c reach planned h ha. intending (Send channel word) m limit is-limit reach planned h ha)
+        (part table counts programs mails logs heads _ _ _ _)

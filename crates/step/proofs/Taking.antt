@@ -4,15 +4,16 @@ use mathlib.Core.Bool.{Bool, true, false}
 use mathlib.Core.List.{List, []}
 use Prim.Native.Nat.{ℕ, zero, suc, _+_, _-_, _%_, _^_, _≤_, _<_}
 use native.Mathlib.Omega.{arith}
-use lib.ListN.{length, getD, set}
+use lib.ListN.{length, getD, set, length-set}
 use lib.Seq.{set-getD}
 use Rattle.facts.specs.Tests.{by-eq}
 use Rattle.facts.specs.Counts.{same, same-yes}
-use Rattle.backup.specs.Limits.{logMost, ports}
-use Rattle.process.specs.Row.{mailIn, machineOf, processOf}
+use Rattle.backup.specs.Limits.{ports}
+use Rattle.process.specs.Row.{mailAt, machineOf, processOf}
 use Rattle.process.specs.Change.{Became}
 use Rattle.instruction.specs.Instruction.{Intends, Takes, TallyRoom, afterTake}
 use Rattle.instruction.specs.declared.instruction.Intent.the-variants.{Take}
+use Rattle.plan.specs.Plan.{portIn}
 use Rattle.rules.specs.Table.{Table, codeOf, limitOf, channelAt, portOf}
 use Rattle.rules.specs.Machine.{Mail, Machine, took}
 use Rattle.rules.specs.Cabinet.{Cabinet, Process, processAt, unreadOn}
@@ -25,16 +26,17 @@ use Rattle.rules.proofs.Tables.{input, few-ports}
 use Rattle.state.specs.declared.entry.Entry.{Entry}
 use Rattle.state.specs.declared.moved.Moved.{Moved}
 use Rattle.state.specs.Store.{Store, storeOf, Totalled, Holds}
-use Rattle.state.specs.Moved.{Reachable, Turned, answerOf, aloneOf, refusedWith}
+use Rattle.state.specs.Moved.{Reachable, answerOf, refusalOf, aloneOf, refusedWith}
 use Rattle.state.proofs.Reading.{at-process, how-many}
 use Rattle.state.proofs.Totals.{occupancy-less, totalled-less}
 use Rattle.state.proofs.Changing.{changed}
 use Rattle.state.proofs.Ends.{read-inside}
 use Rattle.state.proofs.Owners.{unread-own}
 use Rattle.state.proofs.Counters.{takes-few}
-use Rattle.state.proofs.Refusing.{turned-down}
+use Rattle.state.proofs.Refusing.{turned-away, makes-refused}
 use Rattle.step.specs.Parts.{owingIn, blameIn, TakeTurns}
-use Rattle.step.proofs.Stepping.{turned-to, machine-is, step-is, owing-is, blame-is, limited-here, instructions-room, events-room}
+use Rattle.step.proofs.Making.{its-index, answered, lengths, makes-alone}
+use Rattle.step.proofs.Stepping.{machine-is, step-is, owing-is, blame-is, limited-here, instructions-room, events-room}
 
 -- a row's receives on a port
 taken-at : (row mail log head : List ℕ) (port : ℕ) → port < ports → getD row (8 + port) 0 ≡ getD (processOf row mail log head .since .taken) port 0
@@ -61,7 +63,7 @@ module _ {t : Table} {s : Store} {entries : List Entry} {c : Cabinet} (reach : R
 
   -- the word, and the machine without it
   abbrev x : Mail
-  x = mailIn (getD mail at 0)
+  x = mailAt row mail at
 
   abbrev m1 : Machine
   m1 = afterTake code a at row mail
@@ -129,62 +131,53 @@ module _ {t : Table} {s : Store} {entries : List Entry} {c : Cabinet} (reach : R
         (λ j. less j ∙ ap (λ (y : Process). unreadOn j (y .machine .mailbox) + same j (x .channel)) (sym now-is)) k)
         is-left left-fits
 
-    pub take-holds : Holds t (storeOf (set (s .rows) p row′) (set (s .mails) p mail′) (s .logs) (s .heads) (s .boards) (set (s .totals) (x .channel) left) (s .waits)) entries (withProcess p (taking (processAt c p)) c)
+    pub take-holds : Holds t (storeOf (set (s .rows) p row′) (set (s .mails) p mail′) (s .logs) (s .heads) (s .queues) (set (s .totals) (x .channel) left)) entries (withProcess p (taking (processAt c p)) c)
     unfolding advanced
     take-holds =
         let u : List ℕ = set (s .totals) (x .channel) left in
-        let whole = changed h (reach .accepted .processes-high) p hp row′ mail′ log head u (became .kept-again) (became .seated-again) (ap (λ (y : Process). y .board) now-is) totals-then in
+        let whole = changed h (reach .accepted .processes-high) p hp row′ mail′ log head u (became .kept-again) (became .seated-again) (became .waits-again) (ap (λ (y : Process). y .board) now-is) totals-then in
         let rows′ : List (List ℕ) = set (s .rows) p row′ in
         let mails′ : List (List ℕ) = set (s .mails) p mail′ in
         let now : Process = processOf row′ mail′ log head in
-        subst (λ (y : Process). Holds t (storeOf rows′ mails′ (s .logs) (s .heads) (s .boards) u (s .waits)) entries (withProcess p y c)) now-is
-        (subst (λ (l : List (List ℕ)). Holds t (storeOf rows′ mails′ l (s .heads) (s .boards) u (s .waits)) entries (withProcess p now c)) (set-getD (s .logs) p [])
-        (subst (λ (l : List (List ℕ)). Holds t (storeOf rows′ mails′ (set (s .logs) p log) l (s .boards) u (s .waits)) entries (withProcess p now c)) (set-getD (s .heads) p [])
+        subst (λ (y : Process). Holds t (storeOf rows′ mails′ (s .logs) (s .heads) (s .queues) u) entries (withProcess p y c)) now-is
+        (subst (λ (l : List (List ℕ)). Holds t (storeOf rows′ mails′ l (s .heads) (s .queues) u) entries (withProcess p now c)) (set-getD (s .logs) p [])
+        (subst (λ (l : List (List ℕ)). Holds t (storeOf rows′ mails′ (set (s .logs) p log) l (s .queues) u) entries (withProcess p now c)) (set-getD (s .heads) p [])
         whole))
 
 -- ---- what the part promises
 
--- of a process of the table the clamped number is the number
-pub take-at-its-index : {port : List ℕ} {rows mails rows′ mails′ : List (List ℕ)} {totals totals′ : List ℕ} {limit code register at : ℕ} {r : Moved} (p a : ℕ) → (a < 16 → p ≡ a)
-    → (a ≡ p → TakeTurns port rows mails totals limit p code register at rows′ mails′ totals′ r) → TakeTurns port rows mails totals limit a code register at rows′ mails′ totals′ r
-take-at-its-index {port} {rows} {mails} {rows′} {mails′} {totals} {totals′} {limit} {code} {register} {at} {r} p a is-p given = record {
-  turned = λ t sender reader logs heads boards waits entries c command n operand reach wired i h f ha l.
-      let e : p ≡ a = is-p (let z = reach .accepted .processes-high in omega arith) in
-      subst (λ (q : ℕ). TakeTurns port rows mails totals limit q code register at rows′ mails′ totals′ r) e (given (sym e))
-      .turned t sender reader logs heads boards waits entries c command n operand reach wired i h f ha l;
-}
+module _ (wires : List ℕ) (rows mails : List (List ℕ)) (totals : List ℕ) (limit p a : ℕ) (is-p : a < 16 → p ≡ a) (code register at : ℕ) (r : Moved) where
+  pub take-37 : owingIn limit (getD rows p []) ≡ true → (cause : ℕ) → cause ≡ blameIn limit (getD rows p []) → r ≡ refusedWith 37 cause a
+      → TakeTurns wires rows mails totals limit a code register at rows mails totals r
+  take-37 e cause b g table counts programs logs heads queues n operand =
+      makes-refused 37 cause g (λ t entries c command reach planned h f i.
+      let ha = i .process-there in
+      let q = its-index reach ha is-p in
+      turned-away command a (owedFor (limitOf t a) (processAt c a)) h
+      (take-refused reach h a ha n code register operand at (i .intends) (rw (i .limit-is, ← q) e)) f
+      (ap₂ (λ (k z : ℕ). refusalOf k z a) (sym (owed-number (limitOf t a) (processAt c a))) (rw (blame-is h a ha, i .limit-is, ← q) b)))
 
-module _ (port : List ℕ) (rows mails : List (List ℕ)) (totals : List ℕ) (limit p code register at : ℕ) (r : Moved) where
-  pub take-37 : owingIn limit (getD rows p []) ≡ true → (cause : ℕ) → cause ≡ blameIn limit (getD rows p []) → r ≡ refusedWith 37 cause p → TakeTurns port rows mails totals limit p code register at rows mails totals r
-  take-37 e cause b g = record {
-    turned = λ t sender reader logs heads boards waits entries c command n operand reach wired i h f hp l.
-        turned-down command p (owedFor (limitOf t p) (processAt c p)) h (take-refused reach h p hp n code register operand at i (rw l e)) f
-        (g ∙ ap₂ (λ (k z : ℕ). refusedWith k z p) (sym (owed-number (limitOf t p) (processAt c p))) (b ∙ ap (λ (m : ℕ). blameIn m (getD rows p [])) (sym l) ∙ sym (blame-is h p hp)));
-  }
+  -- the word at the position
+  abbrev its-word : Mail
+  its-word = mailAt (getD rows p []) (getD mails p []) at
 
-  -- no word stands past the mailbox's end
-  pub take-none : logMost ≤ at → TakeTurns port rows mails totals limit p code register at rows mails totals r
-  take-none past = record {
-    turned = λ t sender reader logs heads boards waits entries c command n operand reach wired i h f hp l.
-        absurd (let a = i .inside at refl in let b = h .kept p hp .unread in omega arith);
-  }
-
-  pub take-done : (k : ℕ) (row′ mail′ : List ℕ) (left : ℕ) → owingIn limit (getD rows p []) ≡ false → (mailIn (getD (getD mails p []) at 0) .channel < 32 → k ≡ mailIn (getD (getD mails p []) at 0) .channel)
-      → Takes (getD rows p []) (getD mails p []) code register at (getD port k 0) row′ mail′ → (left + 1) % 2 ^ 32 ≡ getD totals k 0 → left < 2 ^ 32
-      → r ≡ aloneOf (answerOf 1 0 (mailIn (getD (getD mails p []) at 0) .channel) (mailIn (getD (getD mails p []) at 0) .word))
-      → TakeTurns port rows mails totals limit p code register at (set rows p row′) (set mails p mail′) (set totals k left) r
+  pub take-done : (k port left : ℕ) (row′ mail′ : List ℕ) → owingIn limit (getD rows p []) ≡ false → (its-word .channel < 32 → k ≡ its-word .channel)
+      → port ≡ portIn wires k → Takes (getD rows p []) (getD mails p []) code register at port row′ mail′ → (left + 1) % 2 ^ 32 ≡ getD totals k 0 → left < 2 ^ 32
+      → r ≡ aloneOf (answerOf 1 0 (its-word .channel) (its-word .word))
+      → TakeTurns wires rows mails totals limit a code register at (set rows p row′) (set mails p mail′) (set totals k left) r
   unfolding numbers causeOf
-  take-done k row′ mail′ left e is-k takes is-left fits g = record {
-    turned = λ t sender reader logs heads boards waits entries c command n operand reach wired i h f hp l.
-        let x : Mail = mailIn (getD (getD mails p []) at 0) in
-        let inside = channel-inside reach h p hp n code register operand at i in
-        let its = reads-it reach h p hp n code register operand at i in
-        let kk : k ≡ x .channel = is-k (let z = reach .accepted .channels-high in omega arith) in
-        let is-port : getD port k 0 ≡ portOf t p (x .channel) =
-        ap (λ (j : ℕ). getD port j 0) kk ∙ wired .port-at (x .channel) inside (rw its hp) ∙ ap (λ (q : ℕ). portOf t q (x .channel)) its in
-        let there = take-holds reach h p hp n code register operand at i row′ mail′ left
-        (subst (λ (j : ℕ). Takes (getD rows p []) (getD mails p []) code register at j row′ mail′) is-port takes) (is-left ∙ ap (λ (j : ℕ). getD totals j 0) kk) fits in
-        let after : ℕ → Store = λ j. storeOf (set rows p row′) (set mails p mail′) logs heads boards (set totals j left) waits in
-        subst (λ (j : ℕ). Turned t (after j) entries c command (step t c p) r) (sym kk)
-        (turned-to entries command (aloneOf (answerOf 1 0 (x .channel) (x .word))) _ (received x) (take-accepted reach h p hp n code register operand at i (rw l e)) g refl refl there);
-  }
+  take-done k port left row′ mail′ e is-k is-port takes is-left fits g table counts programs logs heads queues n operand =
+      makes-alone (answerOf 1 0 (its-word .channel) (its-word .word)) (omega arith) (lengths (length-set rows p row′) (length-set mails p mail′) refl (length-set totals k left)) g
+      (λ t entries c command reach planned h f i.
+      let q = its-index reach (i .process-there) is-p in
+      let j = rw (← q) at i in
+      let hp = j .process-there in
+      let x : Mail = its-word in
+      let inside = channel-inside reach h p hp n code register operand at (j .intends) in
+      let its = reads-it reach h p hp n code register operand at (j .intends) in
+      let kk : k ≡ x .channel = is-k (let z = reach .accepted .channels-high in omega arith) in
+      let its-port : port ≡ portOf t p (x .channel) =
+      is-port ∙ ap (portIn wires) kk ∙ planned .port-at (x .channel) inside (rw its hp) ∙ ap (λ (i : ℕ). portOf t i (x .channel)) its in
+      let there = take-holds reach h p hp n code register operand at (j .intends) row′ mail′ left
+      (subst (λ (i : ℕ). Takes (getD rows p []) (getD mails p []) code register at i row′ mail′) its-port takes) (is-left ∙ ap (λ (i : ℕ). getD totals i 0) kk) fits in
+      rw (← q, kk) (answered _ (received x) (take-accepted reach h p hp n code register operand at (j .intends) (rw (j .limit-is) e)) refl refl there))

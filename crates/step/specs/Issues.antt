@@ -1,18 +1,22 @@
 -- Move 2 (document 01: "sync process a").
-use mathlib.Core.Path.{_≡_}
-use mathlib.Core.List.{List}
-use Prim.Native.Nat.{ℕ, _<_}
-use lib.ListN.{length}
-use Rattle.rules.specs.Table.{Table}
-use Rattle.rules.specs.Cabinet.{Cabinet}
-use Rattle.rules.specs.Moves.{Command, issue}
+use mathlib.Core.List.{List, []}
+use Prim.Native.Nat.{ℕ}
+use lib.ListN.{getD}
+use Rattle.plan.specs.Plan.{Plan}
+use Rattle.process.specs.Row.{checkpointIn}
+use Rattle.rules.specs.Moves.{issue}
 use Rattle.state.specs.declared.entry.Entry.{Entry}
+use Rattle.state.specs.declared.entry.Item.the-variants.{Sync}
 use Rattle.state.specs.declared.moved.Moved.{Moved}
-use Rattle.state.specs.Store.{storeOf, Holds}
-use Rattle.state.specs.Moved.{Reachable, Turned}
+use Rattle.state.specs.Store.{storeOf}
+use Rattle.state.specs.Moved.{Makes, aProcess}
 
--- whatever the lists are that it isn't lent
-pub record Issues (rows boards : List (List ℕ)) (waits : List ℕ) (a : ℕ) (rows′ boards′ : List (List ℕ)) (waits′ : List ℕ) (r : Moved) : Type 0 where
-  pub turned : (t : Table) (mails logs heads : List (List ℕ)) (totals : List ℕ) (entries : List Entry) (c : Cabinet) (command : Command)
-      → Reachable t c → Holds t (storeOf rows mails logs heads boards totals waits) entries c → command .a ≡ a → a < length (t .processes)
-      → Turned t (storeOf rows′ mails logs heads boards′ totals waits′) entries c command (issue t c a) r
+-- the entry that joins: the process as a checkpoint, of its row before the move
+abbrev pub syncEntry : List (List ℕ) → ℕ → Entry
+syncEntry rows a = record { item = Sync a (checkpointIn (getD rows a [])) }
+
+-- whatever the plan and the lists are that it isn't lent; done, it answers 0
+abbrev pub Issues : List (List ℕ) → List (List ℕ) → ℕ → List (List ℕ) → List (List ℕ) → Moved → Type 0
+Issues rows queues a rows′ queues′ r =
+    (l : Plan) (mails logs heads : List (List ℕ)) (totals : List ℕ)
+    → Makes issue (aProcess a) 0 l (storeOf rows mails logs heads queues totals) a (syncEntry rows a) (storeOf rows′ mails logs heads queues′ totals) r

@@ -4,23 +4,24 @@
 use mathlib.Core.Path.{_≡_}
 use mathlib.Core.Bool.{Bool, not, cond, _&&_, _||_}
 use mathlib.Core.List.{List, []}
-use Prim.Native.Nat.{ℕ, _+_, _<_}
+use Prim.Native.Nat.{ℕ, _<_}
 use lib.Dec.{eqb, leb}
 use lib.ListN.{length, getD}
 use Rattle.instruction.specs.Instruction.{Intends}
+use Rattle.instruction.specs.declared.instruction.Intent.{Intent}
 use Rattle.instruction.specs.declared.instruction.Intent.the-variants.{Internal, Take, Send}
+use Rattle.plan.specs.declared.Counts.{Counts}
+use Rattle.plan.specs.Plan.{Plan, planOf}
 use Rattle.rules.specs.Table.{Table, codeOf, limitOf}
-use Rattle.rules.specs.Cabinet.{Cabinet, instructionsMost}
-use Rattle.rules.specs.Moves.{Command, step}
-use Rattle.state.specs.declared.entry.Entry.{Entry}
+use Rattle.rules.specs.Cabinet.{instructionsMost}
+use Rattle.rules.specs.Moves.{step}
 use Rattle.state.specs.declared.moved.Moved.{Moved}
-use Rattle.state.specs.Store.{storeOf, Holds}
-use Rattle.state.specs.Moved.{Reachable, Turned}
-use Rattle.state.specs.Wired.{Wired}
+use Rattle.state.specs.Store.{storeOf}
+use Rattle.state.specs.Moved.{Makes, wordOf}
 
 -- "if backed and acts are 8", of a process's row; W-207: with its limit for 8
-abbrev pub spentIn : ℕ → List ℕ → Bool
-spentIn limit row = not (eqb (getD row 12 0) 0) && leb limit (getD row 7 0)
+abbrev pub exhaustedIn : ℕ → List ℕ → Bool
+exhaustedIn limit row = not (eqb (getD row 12 0) 0) && leb limit (getD row 7 0)
 
 -- W-204: "64 instructions done since its last sync was issued", of a process's row
 abbrev pub overrunIn : List ℕ → Bool
@@ -28,36 +29,41 @@ overrunIn row = not (eqb (getD row 12 0) 0) && leb instructionsMost (getD row 15
 
 -- a sync is owed
 abbrev pub owingIn : ℕ → List ℕ → Bool
-owingIn limit row = spentIn limit row || overrunIn row
+owingIn limit row = exhaustedIn limit row || overrunIn row
 
 -- W-206: "Code 37: 1 when only the 64 instructions are to blame", of a row whose process owes a sync
 abbrev pub blameIn : ℕ → List ℕ → ℕ
-blameIn limit row = cond (spentIn limit row) 0 1
+blameIn limit row = cond (exhaustedIn limit row) 0 1
 
 -- W-206: "Code 36: 1 for FIRST.", by the instruction's code
 abbrev pub missingOf : ℕ → ℕ
 missingOf code = cond (eqb code 4) 1 0
 
--- Process a's instruction computes. Whatever the lists are that it isn't lent.
-pub record CalculateTurns (rows : List (List ℕ)) (a code register operand : ℕ) (rows′ : List (List ℕ)) (r : Moved) : Type 0 where
-  pub turned : (t : Table) (mails logs heads boards : List (List ℕ)) (totals waits : List ℕ) (entries : List Entry) (c : Cabinet) (command : Command)
-      (n : ℕ) → Reachable t c → Intends (codeOf t a) (getD rows a []) (getD mails a []) n code register operand Internal
-      → Holds t (storeOf rows mails logs heads boards totals waits) entries c → command .a ≡ a → a < length (t .processes)
-      → Turned t (storeOf rows′ mails logs heads boards totals waits) entries c command (step t c a) r
+-- what a part of a step is given: process a is one of the table's, its limit is this one, and the instruction at its place has this intent
+pub record Intending (t : Table) (limit a : ℕ) (row mail : List ℕ) (n code register operand : ℕ) (intent : Intent) : Type 0 where
+  pub process-there : a < length (t .processes)
+  pub limit-is : limitOf t a ≡ limit
+  pub intends : Intends (codeOf t a) row mail n code register operand intent
 
--- Process a's instruction, where a's limit is this one, takes the word at an index of its mailbox.
-pub record TakeTurns (port : List ℕ) (rows mails : List (List ℕ)) (totals : List ℕ) (limit a code register at : ℕ)
-    (rows′ mails′ : List (List ℕ)) (totals′ : List ℕ) (r : Moved) : Type 0 where
-  pub turned : (t : Table) (sender reader : List ℕ) (logs heads boards : List (List ℕ)) (waits : List ℕ) (entries : List Entry) (c : Cabinet) (command : Command)
-      (n operand : ℕ) → Reachable t c → Wired t sender reader port → Intends (codeOf t a) (getD rows a []) (getD mails a []) n code register operand (Take at)
-      → Holds t (storeOf rows mails logs heads boards totals waits) entries c → command .a ≡ a → a < length (t .processes) → limitOf t a ≡ limit
-      → Turned t (storeOf rows′ mails′ logs heads boards totals′ waits) entries c command (step t c a) r
+-- Process a's instruction computes. Whatever the plan and the lists are that it isn't lent.
+abbrev pub CalculateTurns : List (List ℕ) → ℕ → ℕ → ℕ → ℕ → List (List ℕ) → Moved → Type 0
+CalculateTurns rows a code register operand rows′ r =
+    (l : Plan) (mails logs heads queues : List (List ℕ)) (totals : List ℕ) (limit n : ℕ)
+    → Makes step (λ t entries. Intending t limit a (getD rows a []) (getD mails a []) n code register operand Internal) 2 l
+    (storeOf rows mails logs heads queues totals) a (wordOf (r .answer)) (storeOf rows′ mails logs heads queues totals) r
+
+-- Process a's instruction, where a's limit is this one, takes the word at a position of its mailbox.
+abbrev pub TakeTurns : List ℕ → List (List ℕ) → List (List ℕ) → List ℕ → ℕ → ℕ → ℕ → ℕ → ℕ → List (List ℕ) → List (List ℕ) → List ℕ → Moved → Type 0
+TakeTurns wires rows mails totals limit a code register at rows′ mails′ totals′ r =
+    (table : List ℕ) (counts : Counts) (programs : List ℕ) (logs heads queues : List (List ℕ)) (n operand : ℕ)
+    → Makes step (λ t entries. Intending t limit a (getD rows a []) (getD mails a []) n code register operand (Take at)) 2
+    (planOf table counts programs wires) (storeOf rows mails logs heads queues totals) a (wordOf (r .answer))
+    (storeOf rows′ mails′ logs heads queues totals′) r
 
 -- Process a's instruction sends a word to a channel.
-pub record SendTurns (reader : List ℕ) (rows boards : List (List ℕ)) (totals : List ℕ) (limit a channel word : ℕ)
-    (rows′ boards′ : List (List ℕ)) (totals′ : List ℕ) (r : Moved) : Type 0 where
-  pub turned : (t : Table) (sender port : List ℕ) (mails logs heads : List (List ℕ)) (waits : List ℕ) (entries : List Entry) (c : Cabinet) (command : Command)
-      (n code register operand : ℕ) → Reachable t c → Wired t sender reader port
-      → Intends (codeOf t a) (getD rows a []) (getD mails a []) n code register operand (Send channel word)
-      → Holds t (storeOf rows mails logs heads boards totals waits) entries c → command .a ≡ a → a < length (t .processes) → limitOf t a ≡ limit
-      → Turned t (storeOf rows′ mails logs heads boards′ totals′ waits) entries c command (step t c a) r
+abbrev pub SendTurns : List ℕ → List (List ℕ) → List (List ℕ) → List ℕ → ℕ → ℕ → ℕ → ℕ → List (List ℕ) → List (List ℕ) → List ℕ → Moved → Type 0
+SendTurns wires rows queues totals limit a channel word rows′ queues′ totals′ r =
+    (table : List ℕ) (counts : Counts) (programs : List ℕ) (mails logs heads : List (List ℕ)) (n code register operand : ℕ)
+    → Makes step (λ t entries. Intending t limit a (getD rows a []) (getD mails a []) n code register operand (Send channel word)) 2
+    (planOf table counts programs wires) (storeOf rows mails logs heads queues totals) a (wordOf (r .answer))
+    (storeOf rows′ mails logs heads queues′ totals′) r

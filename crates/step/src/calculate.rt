@@ -4,11 +4,11 @@ ghost use Rattle.step.specs.Parts.{CalculateTurns};
 use crate::guards::overrun;
 use instruction::instruction::compute;
 use process::row::ROW;
-use state::board::index16;
 use state::moved::Answer;
 use state::moved::Moved;
 use state::moved::alone;
 use state::moved::refused;
+use words::index16;
 
 // Process a does the instruction with this code, register and operand.
 pub fn calculate(

@@ -1,7 +1,7 @@
-// Whether a process owes a sync. "37 if backed and acts are 8", its limit since W-207; W-204: "A backed process now also owes a sync after 64 instructions done
-// since its last sync was issued."
+// Whether a process owes a sync. "37 if backed and acts are 8", its limit since W-207; W-204: "A backed process now also owes a sync after
+// 64 instructions done since its last sync was issued."
 ghost use mathlib.Core.Path.{_≡_};
-ghost use Rattle.step.specs.Parts.{spentIn, overrunIn, owingIn, blameIn};
+ghost use Rattle.step.specs.Parts.{exhaustedIn, overrunIn, owingIn, blameIn};
 use process::row::EVENTS;
 use process::row::INSTRUCTIONS;
 use process::row::PROTECTED;
@@ -11,8 +11,8 @@ use process::row::ROW;
 const INSTRUCTIONS_MOST: u32 = 64;
 
 // Whether a process is protected and its events are used up.
-fn spent(row: &[u32; ROW], limit: u32) -> bool
-    ensures { λ r. ⌜ r ≡ spentIn limit (now (row .entry)) ⌝ }
+fn exhausted(row: &[u32; ROW], limit: u32) -> bool
+    ensures { λ r. ⌜ r ≡ exhaustedIn limit (now (row .entry)) ⌝ }
 {
     row[PROTECTED] != 0 && row[EVENTS] >= limit
 }
@@ -28,12 +28,12 @@ pub fn overrun(row: &[u32; ROW]) -> bool
 pub fn owing(row: &[u32; ROW], limit: u32) -> bool
     ensures { λ r. ⌜ r ≡ owingIn limit (now (row .entry)) ⌝ }
 {
-    spent(row, limit) || overrun(row)
+    exhausted(row, limit) || overrun(row)
 }
 
 // W-206, of a process that owes a sync: "1 when only the 64 instructions are to blame".
 pub fn blame(row: &[u32; ROW], limit: u32) -> u32
     ensures { λ r. ⌜ r ≡ blameIn limit (now (row .entry)) ⌝ }
 {
-    if spent(row, limit) { 0 } else { 1 }
+    if exhausted(row, limit) { 0 } else { 1 }
 }

@@ -5,36 +5,37 @@ use crate::guards::blame;
 use crate::guards::owing;
 use instruction::instruction::queue_send;
 use instruction::instruction::suppress_send;
+use plan::WIRES;
+use plan::reader;
 use process::row::BOARD;
 use process::row::ROW;
 use process::row::SUPPRESS;
-use state::board::BOARD_ROW;
-use state::board::COUNT;
-use state::board::QUEUE;
-use state::board::index16;
-use state::board::place;
-use state::board::push;
-use state::channel::held;
-use state::channel::index32;
-use state::entry::Entry;
-use state::entry::Item;
+use state::channel::full;
 use state::moved::Answer;
 use state::moved::Moved;
 use state::moved::alone;
 use state::moved::refused;
+use state::queue::COUNT;
+use state::queue::QUEUE;
+use state::queue::QUEUE_ROW;
+use state::queue::place;
+use state::queue::push;
+use words::index16;
+use words::index32;
 
 // Process a sends a word to a channel of its own.
 pub fn send(
-    reader: &[u32; 32],
+    wires: &[u32; WIRES],
     rows: &mut [[u32; ROW]; 16],
-    boards: &mut [[u32; BOARD_ROW]; 16],
+    queues: &mut [[u32; QUEUE_ROW]; 16],
     totals: &mut [u32; 32],
     limit: u32,
     a: u32,
     channel: u32,
     word: u32,
 ) -> Moved
-    ensures { λ r. ⌜ SendTurns (now (reader .entry)) (now (rows .entry)) (now (boards .entry)) (now (totals .entry)) limit a channel word (now (rows .exit)) (now (boards .exit)) (now (totals .exit)) r ⌝ }
+    ensures { λ r. ⌜ SendTurns (now (wires .entry)) (now (rows .entry)) (now (queues .entry)) (now (totals .entry)) limit a channel word
+        (now (rows .exit)) (now (queues .exit)) (now (totals .exit)) r ⌝ }
 {
     let p = index16(a);
     if rows[p][SUPPRESS] > 0 {
@@ -50,16 +51,16 @@ pub fn send(
         return refused(37, blame(&rows[p], limit), a);
     }
     let b = index16(rows[p][BOARD]);
-    if boards[b][COUNT] >= QUEUE {
+    if queues[b][COUNT] >= QUEUE {
         return refused(38, 0, a);
     }
     let k = index32(channel);
-    if held(reader[k], totals[k]) {
+    if full(reader(wires, k), totals[k]) {
         return refused(39, 0, a);
     }
-    let at = place(&boards[b], b);
+    let at = place(&queues[b], b);
     queue_send(&mut rows[p]);
-    push(&mut boards[b]);
+    push(&mut queues[b]);
     totals[k] = std::num::wrapping_add_u32(totals[k], 1);
     Moved {
         answer: Answer {
@@ -69,11 +70,5 @@ pub fn send(
             word: word,
         },
         at: at,
-        entry: Entry {
-            item: Item::Word {
-                channel: channel,
-                word: word,
-            },
-        },
     }
 }

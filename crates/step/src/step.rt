@@ -8,14 +8,19 @@ use crate::take::take;
 use backup::limits::LOG;
 use instruction::instruction::Intent;
 use instruction::instruction::examine;
+use plan::PROGRAMS;
+use plan::WIRES;
+use plan::length;
+use plan::limit;
+use plan::start;
 use process::row::PC;
 use process::row::ROW;
 use records::fetch::fetch;
-use state::board::BOARD_ROW;
-use state::board::index16;
-use state::board::wide;
 use state::moved::Moved;
 use state::moved::refused;
+use state::queue::QUEUE_ROW;
+use words::index16;
+use words::wide;
 
 // W-206: "Code 36: 1 for FIRST."
 fn missing(code: u8) -> u32
@@ -26,32 +31,39 @@ fn missing(code: u8) -> u32
 
 pub fn step(
     table: &[u8],
-    start: &[u32; 16],
-    lengths: &[u32; 16],
-    limits: &[u32; 16],
-    reader: &[u32; 32],
-    port: &[u32; 32],
+    programs: &[u32; PROGRAMS],
+    wires: &[u32; WIRES],
     rows: &mut [[u32; ROW]; 16],
     mails: &mut [[u64; LOG]; 16],
-    boards: &mut [[u32; BOARD_ROW]; 16],
+    queues: &mut [[u32; QUEUE_ROW]; 16],
     totals: &mut [u32; 32],
     a: u32,
 ) -> Moved
-    ensures { λ r. ⌜ Steps (now (table .entry)) (now (start .entry)) (now (lengths .entry)) (now (limits .entry)) (now (reader .entry)) (now (port .entry)) (now (rows .entry)) (now (mails .entry)) (now (boards .entry)) (now (totals .entry)) a (now (rows .exit)) (now (mails .exit)) (now (boards .exit)) (now (totals .exit)) r ⌝ }
+    ensures { λ r. ⌜ Steps (now (table .entry)) (now (programs .entry)) (now (wires .entry)) (now (rows .entry)) (now (mails .entry))
+        (now (queues .entry))
+        (now (totals .entry)) a (now (rows .exit)) (now (mails .exit)) (now (queues .exit)) (now (totals .exit)) r ⌝ }
 {
     let p = index16(a);
-    let i = fetch(table, wide(start[p]), wide(rows[p][PC]));
-    match examine(&rows[p], &mails[p], lengths[p], i.code, i.a, i.operand) {
+    let limit = limit(programs, p);
+    let i = fetch(table, wide(start(programs, p)), wide(rows[p][PC]));
+    match examine(
+        &rows[p],
+        &mails[p],
+        length(programs, p),
+        i.code,
+        i.a,
+        i.operand,
+    ) {
         Intent::Halted => refused(35, 0, a),
         Intent::NoMail => refused(36, missing(i.code), a),
         Intent::Internal => calculate(rows, a, i.code, i.a, i.operand),
-        Intent::Take { at } => take(port, rows, mails, totals, limits[p], a, i.code, i.a, at),
+        Intent::Take { at } => take(wires, rows, mails, totals, limit, a, i.code, i.a, at),
         Intent::Send { channel, word } => send(
-            reader,
+            wires,
             rows,
-            boards,
+            queues,
             totals,
-            limits[p],
+            limit,
             a,
             channel,
             word,

@@ -1,23 +1,26 @@
-// A step that takes a word: "For TAKE and FIRST: [..] 37 if backed and acts are 8", its limit since W-207, or 64 instructions (W-204). The word leaves the
-// mailbox, and its channel's total is one less.
+// A step that takes a word: "For TAKE and FIRST: [..] 37 if backed and acts are 8", its limit since W-207, or 64 instructions (W-204). The
+// word leaves the mailbox, and its channel's total is one less.
 ghost use Rattle.step.specs.Parts.{TakeTurns};
 use crate::guards::blame;
 use crate::guards::owing;
 use backup::limits::LOG;
 use instruction::instruction::take_word;
+use plan::WIRES;
+use plan::port;
 use process::mail::channel_of;
+use process::mail::word_at;
 use process::mail::word_of;
 use process::row::ROW;
-use state::board::index16;
-use state::channel::index32;
 use state::moved::Answer;
 use state::moved::Moved;
 use state::moved::alone;
 use state::moved::refused;
+use words::index16;
+use words::index32;
 
-// Process a takes the word at an index of its mailbox into a register; no word stands past the mailbox's end.
+// Process a takes the word at a position of its mailbox into a register.
 pub fn take(
-    port: &[u32; 32],
+    wires: &[u32; WIRES],
     rows: &mut [[u32; ROW]; 16],
     mails: &mut [[u64; LOG]; 16],
     totals: &mut [u32; 32],
@@ -27,19 +30,24 @@ pub fn take(
     register: u32,
     at: usize,
 ) -> Moved
-    ensures { λ r. ⌜ TakeTurns (now (port .entry)) (now (rows .entry)) (now (mails .entry)) (now (totals .entry)) limit a code register at (now (rows .exit)) (now (mails .exit)) (now (totals .exit)) r ⌝ }
+    ensures { λ r. ⌜ TakeTurns (now (wires .entry)) (now (rows .entry)) (now (mails .entry)) (now (totals .entry)) limit a code register at
+        (now (rows .exit)) (now (mails .exit)) (now (totals .exit)) r ⌝ }
 {
     let p = index16(a);
     if owing(&rows[p], limit) {
         return refused(37, blame(&rows[p], limit), a);
     }
-    if at >= LOG {
-        return refused(36, 0, a);
-    }
-    let x = mails[p][at];
+    let x = word_at(&rows[p], &mails[p], at);
     let channel = channel_of(x);
     let k = index32(channel);
-    take_word(&mut rows[p], &mut mails[p], code, register, at, port[k]);
+    take_word(
+        &mut rows[p],
+        &mut mails[p],
+        code,
+        register,
+        at,
+        port(wires, k),
+    );
     totals[k] = std::num::wrapping_sub_u32(totals[k], 1);
     alone(Answer {
         code: 1,

@@ -1,24 +1,23 @@
 -- The decoder: the numbers in order, and the plan of a table that all of them pass.
-use mathlib.Core.Path.{_≡_, refl, ap, ap₂, sym, _∙_, subst₂, subst}
-use mathlib.Core.Bool.{Bool, true, false}
+use mathlib.Core.Path.{_≡_, refl, ap, sym, _∙_, subst}
+use mathlib.Core.Bool.{Bool, true, false, not}
 use mathlib.Core.List.{List}
-use Prim.Native.Nat.{ℕ, _+_, _*_, _≤_, _<_}
+use Prim.Native.Nat.{ℕ, _+_, _<_}
 use native.Mathlib.Omega.{arith}
-use lib.Dec.{eqb}
-use lib.ListN.{length, getD, drop}
-use lib.Seq.{drop-drop}
+use lib.ListN.{length}
+use borrow.Author.Tests.{not-true, not-false}
 use Rattle.rules.specs.Judge.{endsOk, inputsOk, boardsOk, instructionsOk, limitsOk}
-use Rattle.rules.specs.Bytes.{sixes}
-use Rattle.rules.specs.Format.{versionIn, recordHead, versionOk, processesIn, programLength, instruction, decodeTable, orNumber, lengthOk, countsOk, extentOk, tableNumber, validateTable}
-use Rattle.rules.proofs.Valid.{length-sixes, processes-counted, channels-counted}
-use Rattle.table.specs.Records.{recordStart, programStart}
-use Rattle.table.specs.Parts.{framing, Framed, EndsRead, PortsRead, PlacementsRead, planFrom}
-use Rattle.table.specs.Plan.{Plans, noPlan, Decodes}
+use Rattle.rules.specs.Format.{versionIn, versionOk, processesIn, channelsIn, decodeTable, orNumber, lengthOk, countsOk, extentOk, tableNumber, validateTable}
+use Rattle.rules.proofs.Valid.{processes-counted, channels-counted}
+use Rattle.records.specs.Fetch.{fetched, instructionOf}
+use Rattle.plan.specs.Plan.{planOf, Planned}
+use Rattle.plan.specs.declared.Counts.{Counts}
+use Rattle.table.specs.Parts.{countsIn, framing, Framed, PortsRead, PlacementsRead, planFrom}
+use Rattle.table.specs.Plan.{noPlan, Decodes}
 use Rattle.table.specs.declared.Decoded.{Decoded}
-use Rattle.table.specs.declared.ends.Ends.{Ends}
 use Rattle.table.specs.declared.ends.Ports.{Ports}
 use Rattle.table.specs.declared.boards.Placements.{Placements}
-use Rattle.table.proofs.Programs.{record-within, code-is}
+use Rattle.table.proofs.Programs.{fetched-code}
 
 -- ---- the numbers in order
 
@@ -40,11 +39,18 @@ four-go true true false d further h = absurd (omega arith)
 four-go true true true false further h = absurd (omega arith)
 four-go true true true true further h = (refl, refl, refl, refl)
 
+-- what a test that was computed says of the rules'
+pub passed : {r b : Bool} → not r ≡ false → r ≡ b → true ≡ b
+passed h e = sym (not-false _ h) ∙ e
+
+pub failed : {r b : Bool} → not r ≡ true → r ≡ b → false ≡ b
+failed h e = sym (not-true _ h) ∙ e
+
 -- numbers 5 to 8 and 47 in order
 pub judging : List ℕ → ℕ
 judging bytes = tableNumber (decodeTable bytes)
 
-pub judging-from : (bytes : List ℕ) {a b c d e : Bool} → a ≡ endsOk (decodeTable bytes) → b ≡ inputsOk (decodeTable bytes) → c ≡ boardsOk (decodeTable bytes)
+judging-from : (bytes : List ℕ) {a b c d e : Bool} → a ≡ endsOk (decodeTable bytes) → b ≡ inputsOk (decodeTable bytes) → c ≡ boardsOk (decodeTable bytes)
     → d ≡ instructionsOk (decodeTable bytes) → e ≡ limitsOk (decodeTable bytes)
     → orNumber a 5 (orNumber b 6 (orNumber c 7 (orNumber d 8 (orNumber e 47 0)))) ≡ judging bytes
 unfolding judging
@@ -66,48 +72,54 @@ module _ (bytes : List ℕ) where
       let r = four-go (lengthOk bytes) (versionOk (versionIn bytes)) (countsOk bytes) (extentOk bytes) (judging bytes) h in
       record { framed = record { length-ok = r .0; counts-ok = r .1; extent-ok = r .2 }; further = r .3 }
 
+  -- and then the tests of the others decide
+  pub number-from : framing bytes ≡ 0 → {a b c d e : Bool} → a ≡ endsOk (decodeTable bytes) → b ≡ inputsOk (decodeTable bytes) → c ≡ boardsOk (decodeTable bytes)
+      → d ≡ instructionsOk (decodeTable bytes) → e ≡ limitsOk (decodeTable bytes)
+      → validateTable bytes ≡ orNumber a 5 (orNumber b 6 (orNumber c 7 (orNumber d 8 (orNumber e 47 0))))
+  number-from h ha hb hc hd he = framing-passes h .further ∙ sym (judging-from bytes ha hb hc hd he)
+
   -- ---- a table refused
 
-  pub decodes-refused : (n : ℕ) (r : Decoded) → validateTable bytes ≡ n → (n ≡ 0 → ⊥) → r .number ≡ n → r .plan ≡ noPlan → Decodes bytes r
-  decodes-refused n r v h e f = record { number-is = e ∙ sym v; accepted = λ z. absurd (h (sym e ∙ z)); refused = λ _. f }
+  pub decodes-refused : (n : ℕ) (r : Decoded) → validateTable bytes ≡ n → (n ≡ 0 → ⊥) → (r .number ≡ n) × (r .plan ≡ noPlan) → Decodes bytes r
+  decodes-refused n r v h e = record { number-is = e .0 ∙ sym v; accepted = λ z. absurd (h (sym (e .0) ∙ z)); refused = λ _. e .1 }
 
   -- ---- a table accepted
 
-  module _ (e : Ends) (w : Ports) (b : Placements) (ends : EndsRead bytes e) (ports : PortsRead bytes w) (placements : PlacementsRead bytes b)
-      (e-ok : e .ok ≡ true) (w-ok : w .ok ≡ true) (b-ok : b .ok ≡ true) (extent : extentOk bytes ≡ true) where
+  module _ (w : Ports) (b : Placements) (read : PortsRead bytes w) (placed : PlacementsRead bytes (w .programs) b)
+      (w-ok : w .ok ≡ true) (b-ok : b .ok ≡ true) (extent : extentOk bytes ≡ true) where
     process : {p : ℕ} → p < length (decodeTable bytes .processes) → p < processesIn bytes
     process h = let z = processes-counted bytes in omega arith
 
-    start : (p : ℕ) → p < length (decodeTable bytes .processes) → getD (b .start) p 0 ≡ programStart bytes p
-    start p h = placements .start-at b-ok p (process h)
+    channel : {k : ℕ} → k < length (decodeTable bytes .channels) → k < channelsIn bytes
+    channel h = let z = channels-counted bytes in omega arith
 
-    size : (p : ℕ) → p < length (decodeTable bytes .processes) → getD (b .length) p 0 ≡ programLength (versionIn bytes) (drop (recordStart bytes p) bytes)
-    size p h =
-        placements .length-at b-ok p (process h) ∙ ap length (code-is bytes p (process h))
-        ∙ length-sixes instruction (programLength (versionIn bytes) (drop (recordStart bytes p) bytes)) (drop (recordHead (versionIn bytes)) (drop (recordStart bytes p) bytes))
-
-    plans : Plans bytes (planFrom bytes e w b)
+    planned : Planned (decodeTable bytes) (planOf bytes (countsIn bytes) (b .programs) (w .wires))
     unfolding decodeTable
-    plans = record {
+    planned = record {
       boards-is = refl;
       processes-is = sym (processes-counted bytes);
       channels-is = sym (channels-counted bytes);
-      primary-at = λ p h. placements .primary-at b-ok p (process h);
-      standby-at = λ p h. placements .standby-at b-ok p (process h);
-      limit-at = λ p h. placements .limit-at b-ok p (process h);
-      start-at = start;
-      length-at = λ p h. placements .length-at b-ok p (process h);
-      code-within = λ p h. subst₂ (λ (i n : ℕ). i + 6 * n ≤ length bytes) (sym (start p h)) (sym (size p h)) (let z = record-within bytes extent p (process h) .fits in omega arith);
-      code-at = λ p h.
-          ap₂ (λ (n i : ℕ). sixes instruction n (drop i bytes)) (size p h) (start p h)
-          ∙ ap (sixes instruction (programLength (versionIn bytes) (drop (recordStart bytes p) bytes))) (sym (drop-drop (recordHead (versionIn bytes)) (recordStart bytes p) bytes))
-          ∙ sym (code-is bytes p (process h));
-      arity-at = λ p h. ports .arity-at w-ok p (process h);
-      input-at = λ p h. ports .input-at w-ok p (process h);
-      sender-at = λ k h. ends .sender-at e-ok k (let z = channels-counted bytes in omega arith);
-      reader-at = λ k h. ends .reader-at e-ok k (let z = channels-counted bytes in omega arith);
-      port-at = λ k h l. ports .port-at w-ok k (let z = channels-counted bytes in omega arith) (process l);
+      code-at = λ p h k l.
+          ap (λ (at : ℕ). instructionOf (fetched bytes at k)) (placed .start-at b-ok p (process h)) ∙ fetched-code bytes extent p (process h) k l;
+      length-at = λ p h. placed .length-at b-ok p (process h);
+      limit-at = λ p h. placed .limit-at b-ok p (process h);
+      arity-at = λ p h. placed .kept b-ok p 3 (omega arith) (omega arith) ∙ read .arity-at w-ok p (process h);
+      input-at = λ p h s l.
+          placed .kept b-ok p (4 + s) (omega arith) (let z = read .few w-ok p (process h) in omega arith) ∙ read .input-at w-ok p (process h) s l;
+      sender-at = λ k h. read .sender-at w-ok k (channel h);
+      reader-at = λ k h. read .reader-at w-ok k (channel h);
+      port-at = λ k h l. read .port-at w-ok k (channel h) (process l);
     }
 
-    pub decodes-accepted : (r : Decoded) → validateTable bytes ≡ 0 → r .number ≡ 0 → r .plan ≡ planFrom bytes e w b → Decodes bytes r
-    decodes-accepted r v n f = record { number-is = n ∙ sym v; accepted = λ _. subst (Plans bytes) (sym f) plans; refused = λ h. absurd (h n) }
+    pub decodes-accepted : (counts : Counts) (r : Decoded) → validateTable bytes ≡ 0 → counts ≡ countsIn bytes → r ≡ planFrom counts w b → Decodes bytes r
+    decodes-accepted counts r v e f =
+        subst (Decodes bytes) (sym (f ∙ ap (λ (n : Counts). planFrom n w b) e))
+        (record {
+          number-is = sym v;
+          accepted = λ _. record {
+            planned = planned;
+            primary-at = λ p h. placed .primary-at b-ok p (process h);
+            standby-at = λ p h. placed .standby-at b-ok p (process h);
+          };
+          refused = λ h. absurd (h refl);
+        })

@@ -20,10 +20,11 @@ use Rattle.rules.specs.Bytes.{byteAt}
 use Rattle.rules.specs.Format.{processesIn, channelsIn, pairs, decodeTable}
 use Rattle.rules.proofs.Valid.{length-pairs, processes-counted}
 use Rattle.rules.proofs.Tables.{port-of-channel}
-use Rattle.table.specs.Parts.{PortsRead}
+use Rattle.plan.specs.Plan.{arityIn, inputIn, senderIn, readerIn, portIn}
+use Rattle.table.specs.Parts.{withEnds, withPort, withInput, PortsRead}
 use Rattle.table.specs.declared.ends.Ports.{Ports}
 use Rattle.table.proofs.OneChannel.{pairAt, pair-drop}
-use Rattle.table.proofs.EndsPass.{readerIn, reader-in}
+use Rattle.table.proofs.EndsPass.{senderByte, readerByte, sender-in, reader-in}
 
 -- ---- one channel more
 
@@ -56,7 +57,7 @@ inputs-read bytes p = refl
 
 -- what channel k adds
 added : List ℕ → ℕ → ℕ → List ℕ
-added bytes k p = cond (eqb (readerIn bytes k) p) (k ∷ []) []
+added bytes k p = cond (eqb (readerByte bytes k) p) (k ∷ []) []
 
 read-more : (bytes : List ℕ) (k p : ℕ) → readIn bytes (k + 1) p ≡ readIn bytes k p ++ added bytes k p
 unfolding readIn added
@@ -66,13 +67,13 @@ read-more bytes k p =
     ∙ ap₂ (λ (r n : ℕ). readFrom 0 (pairs k (drop 6 bytes)) p ++ cond (eqb r p) (n ∷ []) [])
     (getD-drop 6 bytes (2 * k + 1) 0 ∙ ap (byteAt bytes) (omega arith)) (let e = length-pairs k (drop 6 bytes) in omega arith))
 
-read-own : (bytes : List ℕ) (k p : ℕ) → readerIn bytes k ≡ p → readIn bytes (k + 1) p ≡ readIn bytes k p ++ (k ∷ [])
+read-own : (bytes : List ℕ) (k p : ℕ) → readerByte bytes k ≡ p → readIn bytes (k + 1) p ≡ readIn bytes k p ++ (k ∷ [])
 unfolding added
-read-own bytes k p e = read-more bytes k p ∙ ap (λ (b : Bool). readIn bytes k p ++ cond b (k ∷ []) []) (eq-eqb (readerIn bytes k) p e)
+read-own bytes k p e = read-more bytes k p ∙ ap (λ (b : Bool). readIn bytes k p ++ cond b (k ∷ []) []) (eq-eqb (readerByte bytes k) p e)
 
-read-other : (bytes : List ℕ) (k p : ℕ) → readerIn bytes k ≢ p → readIn bytes (k + 1) p ≡ readIn bytes k p
+read-other : (bytes : List ℕ) (k p : ℕ) → readerByte bytes k ≢ p → readIn bytes (k + 1) p ≡ readIn bytes k p
 unfolding added
-read-other bytes k p n = read-more bytes k p ∙ ap (λ (b : Bool). readIn bytes k p ++ cond b (k ∷ []) []) (ne-eqb (readerIn bytes k) p n) ∙ append-nil (readIn bytes k p)
+read-other bytes k p n = read-more bytes k p ∙ ap (λ (b : Bool). readIn bytes k p ++ cond b (k ∷ []) []) (ne-eqb (readerByte bytes k) p n) ∙ append-nil (readIn bytes k p)
 
 -- what has been read stays
 grows : (bytes : List ℕ) (k p : ℕ) → length (readIn bytes k p) ≤ length (readIn bytes (k + 1) p)
@@ -89,59 +90,129 @@ grows-by bytes k p (suc m) =
     let e = ap (λ (n : ℕ). length (readIn bytes n p)) (let z : k + suc m ≡ k + m + 1 = omega arith in z) in
     omega arith
 
--- ---- the pass
+-- ---- the pass: the ends
+
+-- the ends of the first k channels stand in their rows
+pub record Ended (bytes wires : List ℕ) (k : ℕ) : Type 0 where
+  pub senders : (j : ℕ) → j < k → senderIn wires j ≡ senderByte bytes j
+  pub readers : (j : ℕ) → j < k → readerIn wires j ≡ readerByte bytes j
+
+pub ended-start : (bytes wires : List ℕ) → Ended bytes wires 0
+ended-start bytes wires = record { senders = λ j l. absurd (not-suc-le-zero l); readers = λ j l. absurd (not-suc-le-zero l) }
+
+-- any other cell than a channel's ends
+ends-other : (wires : List ℕ) (k sender reader i : ℕ) → i ≢ 3 * k + 0 → i ≢ 3 * k + 1 → getD (withEnds wires k sender reader) i 0 ≡ getD wires i 0
+ends-other wires k sender reader i a b =
+    getD-set-other (set wires (3 * k + 0) sender) (3 * k + 1) i reader 0 b ∙ getD-set-other wires (3 * k + 0) i sender 0 a
+
+module _ {bytes wires : List ℕ} {k : ℕ} (x : Ended bytes wires k) where
+  pub ended-on : (sender reader : ℕ) → 3 * k + 2 < length wires → sender ≡ senderByte bytes k → reader ≡ readerByte bytes k
+      → Ended bytes (withEnds wires k sender reader) (k + 1)
+  ended-on sender reader room s r = record {
+    senders = λ j l.
+        by-eq j k
+        (λ e. rw e
+        (getD-set-other (set wires (3 * k + 0) sender) (3 * k + 1) (3 * k + 0) reader 0 (λ f. omega arith)
+        ∙ getD-set-same wires (3 * k + 0) sender 0 (omega arith) ∙ s))
+        (λ e. ends-other wires k sender reader (3 * j + 0) (λ f. e (omega arith)) (λ f. omega arith) ∙ x .senders j (omega arith));
+    readers = λ j l.
+        by-eq j k
+        (λ e. rw e (getD-set-same (set wires (3 * k + 0) sender) (3 * k + 1) reader 0 (simp length-set (omega arith)) ∙ r))
+        (λ e. ends-other wires k sender reader (3 * j + 1) (λ f. omega arith) (λ f. e (omega arith)) ∙ x .readers j (omega arith));
+  }
+
+  -- a port is written
+  pub ended-port : (j n : ℕ) → Ended bytes (withPort wires j n) k
+  ended-port j n = record {
+    senders = λ i l. getD-set-other wires (3 * j + 2) (3 * i + 0) n 0 (λ f. omega arith) ∙ x .senders i l;
+    readers = λ i l. getD-set-other wires (3 * j + 2) (3 * i + 1) n 0 (λ f. omega arith) ∙ x .readers i l;
+  }
+
+-- ---- the pass: the ports
 
 -- k channels have been looked at: how many each process reads of them, which they are, and where each stands with its reader
-pub record Porting (bytes : List ℕ) (port ins arity : List ℕ) (k : ℕ) : Type 0 where
+pub record Porting (bytes wires programs : List ℕ) (k : ℕ) : Type 0 where
   pub passed : k ≤ channelsIn bytes
-  pub port-long : length port ≡ 32
-  pub ins-long : length ins ≡ 64
-  pub arity-long : length arity ≡ 16
-  pub arities : (p : ℕ) → p < processesIn bytes → getD arity p 0 ≡ length (readIn bytes k p)
+  pub wires-long : length wires ≡ 96
+  pub programs-long : length programs ≡ 128
+  pub arities : (p : ℕ) → p < processesIn bytes → arityIn programs p ≡ length (readIn bytes k p)
   pub few : (p : ℕ) → p < processesIn bytes → length (readIn bytes k p) ≤ ports
-  pub channels-at : (p : ℕ) → p < processesIn bytes → (s : ℕ) → s < length (readIn bytes k p) → getD ins (4 * p + s) 0 ≡ getD (readIn bytes k p) s 0
-  pub ports-low : (j : ℕ) → j < k → readerIn bytes j < processesIn bytes → getD port j 0 < length (readIn bytes k (readerIn bytes j))
-  pub ports-back : (j : ℕ) → j < k → readerIn bytes j < processesIn bytes → getD (readIn bytes k (readerIn bytes j)) (getD port j 0) 0 ≡ j
+  pub channels-at : (p : ℕ) → p < processesIn bytes → (s : ℕ) → s < length (readIn bytes k p) → inputIn programs p s ≡ getD (readIn bytes k p) s 0
+  pub ports-low : (j : ℕ) → j < k → readerByte bytes j < processesIn bytes → portIn wires j < length (readIn bytes k (readerByte bytes j))
+  pub ports-back : (j : ℕ) → j < k → readerByte bytes j < processesIn bytes → getD (readIn bytes k (readerByte bytes j)) (portIn wires j) 0 ≡ j
 
-pub porting-start : (bytes port ins arity : List ℕ) → length port ≡ 32 → length ins ≡ 64 → length arity ≡ 16 → ((p : ℕ) → getD arity p 0 ≡ 0) → Porting bytes port ins arity 0
+pub porting-start : (bytes wires programs : List ℕ) → length wires ≡ 96 → length programs ≡ 128 → ((i : ℕ) → getD programs i 0 ≡ 0) → Porting bytes wires programs 0
 unfolding readIn
-porting-start bytes port ins arity a b c z = record {
+porting-start bytes wires programs a b z = record {
   passed = omega arith;
-  port-long = a;
-  ins-long = b;
-  arity-long = c;
-  arities = λ p h. z p;
+  wires-long = a;
+  programs-long = b;
+  arities = λ p h. z (8 * p + 3);
   few = λ p h. omega arith;
   channels-at = λ p h s l. absurd (not-suc-le-zero l);
   ports-low = λ j l. absurd (not-suc-le-zero l);
   ports-back = λ j l. absurd (not-suc-le-zero l);
 }
 
--- different ports of different processes have different places
-apart : (p q s n : ℕ) → p ≢ q → s < 4 → n < 4 → 4 * p + s ≢ 4 * q + n
-apart p q s n h a b e = by-lt p q (λ l. omega arith) (λ l. omega arith)
+-- the ends of a channel are written
+pub porting-ends : {bytes wires programs : List ℕ} {k : ℕ} → Porting bytes wires programs k → (i sender reader : ℕ)
+    → Porting bytes (withEnds wires i sender reader) programs k
+porting-ends {bytes} {wires} {programs} {k} x i sender reader = record {
+  passed = x .passed;
+  wires-long = length-set (set wires (3 * i + 0) sender) (3 * i + 1) reader ∙ length-set wires (3 * i + 0) sender ∙ x .wires-long;
+  programs-long = x .programs-long;
+  arities = x .arities;
+  few = x .few;
+  channels-at = x .channels-at;
+  ports-low = λ j l r. rw (kept j) (x .ports-low j l r);
+  ports-back = λ j l r. ap (λ (n : ℕ). getD (readIn bytes k (readerByte bytes j)) n 0) (kept j) ∙ x .ports-back j l r;
+}
+  where
+    kept : (j : ℕ) → portIn (withEnds wires i sender reader) j ≡ portIn wires j
+    kept j = ends-other wires i sender reader (3 * j + 2) (λ f. omega arith) (λ f. omega arith)
 
-module _ (bytes port ins arity : List ℕ) (k : ℕ) (x : Porting bytes port ins arity k) (here : k < channelsIn bytes) where
+-- an input of process b is written
+module _ (programs : List ℕ) (b n k : ℕ) (low : n < 4) where
+  input-other : (p s : ℕ) → s < 4 → (p ≡ b → s ≢ n) → inputIn (withInput programs b n k) p s ≡ inputIn programs p s
+  input-other p s l e =
+      getD-set-other (set programs (8 * b + (4 + n)) k) (8 * b + 3) (8 * p + (4 + s)) (n + 1) 0 (λ f. omega arith)
+      ∙ getD-set-other programs (8 * b + (4 + n)) (8 * p + (4 + s)) k 0
+      (λ f. by-lt p b (λ g. omega arith) (λ g. by-lt b p (λ h. omega arith) (λ h. e (omega arith) (omega arith))))
+
+  arity-other : (p : ℕ) → p ≢ b → arityIn (withInput programs b n k) p ≡ arityIn programs p
+  arity-other p e =
+      getD-set-other (set programs (8 * b + (4 + n)) k) (8 * b + 3) (8 * p + 3) (n + 1) 0 (λ f. e (omega arith))
+      ∙ getD-set-other programs (8 * b + (4 + n)) (8 * p + 3) k 0 (λ f. omega arith)
+
+  module _ (room : 8 * b + 8 ≤ length programs) where
+    input-same : inputIn (withInput programs b n k) b n ≡ k
+    input-same =
+        getD-set-other (set programs (8 * b + (4 + n)) k) (8 * b + 3) (8 * b + (4 + n)) (n + 1) 0 (λ f. omega arith)
+        ∙ getD-set-same programs (8 * b + (4 + n)) k 0 (omega arith)
+
+    arity-same : arityIn (withInput programs b n k) b ≡ n + 1
+    arity-same = getD-set-same (set programs (8 * b + (4 + n)) k) (8 * b + 3) (n + 1) 0 (simp length-set (omega arith))
+
+module _ (bytes wires programs : List ℕ) (k : ℕ) (x : Porting bytes wires programs k) (here : k < channelsIn bytes) where
   -- a channel that no process reads
-  pub porting-past : processesIn bytes ≤ readerIn bytes k → Porting bytes port ins arity (k + 1)
+  pub porting-past : processesIn bytes ≤ readerByte bytes k → Porting bytes wires programs (k + 1)
   porting-past h =
       let same : (p : ℕ) → p < processesIn bytes → readIn bytes (k + 1) p ≡ readIn bytes k p = λ p l. read-other bytes k p (λ e. omega arith) in
       record {
         passed = omega arith;
-        port-long = x .port-long;
-        ins-long = x .ins-long;
-        arity-long = x .arity-long;
+        wires-long = x .wires-long;
+        programs-long = x .programs-long;
         arities = λ p l. x .arities p l ∙ ap length (sym (same p l));
         few = λ p l. rw (same p l) (x .few p l);
         channels-at = λ p l. rw (same p l) (x .channels-at p l);
-        ports-low = λ j l r. rw (same (readerIn bytes j) r) (x .ports-low j (below j l r) r);
-        ports-back = λ j l r. rw (same (readerIn bytes j) r) (x .ports-back j (below j l r) r);
+        ports-low = λ j l r. rw (same (readerByte bytes j) r) (x .ports-low j (below j l r) r);
+        ports-back = λ j l r. rw (same (readerByte bytes j) r) (x .ports-back j (below j l r) r);
       }
     where
-      below : (j : ℕ) → j < k + 1 → readerIn bytes j < processesIn bytes → j < k
-      below j l r = by-eq j k (λ e. absurd (let f = ap (readerIn bytes) e in omega arith)) (λ n. omega arith)
+      below : (j : ℕ) → j < k + 1 → readerByte bytes j < processesIn bytes → j < k
+      below j l r = by-eq j k (λ e. absurd (let f = ap (readerByte bytes) e in omega arith)) (λ n. omega arith)
 
-  module _ (b n : ℕ) (own : b ≡ readerIn bytes k) (reads : b < processesIn bytes) (was : n ≡ getD arity b 0) where
+  module _ (b n : ℕ) (own : b ≡ readerByte bytes k) (reads : b < processesIn bytes) (was : n ≡ arityIn programs b) where
     so-many : n ≡ length (readIn bytes k b)
     so-many = was ∙ x .arities b reads
 
@@ -153,7 +224,10 @@ module _ (bytes port ins arity : List ℕ) (k : ℕ) (x : Porting bytes port ins
     unfolding inputsOk
     porting-refused h r e = record {
       says = e ∙ sym refused;
+      sender-at = λ y. absurd (no-way (cc));
+      reader-at = λ y. absurd (no-way (cc));
       port-at = λ y. absurd (no-way (cc));
+      few = λ y. absurd (no-way (cc));
       arity-at = λ y. absurd (no-way (cc));
       input-at = λ y. absurd (no-way (cc));
     }
@@ -172,16 +246,15 @@ module _ (bytes port ins arity : List ℕ) (k : ℕ) (x : Porting bytes port ins
             (let z = processes-counted bytes in omega arith) (lt-leb (length (inputs (decodeTable bytes) b)) ports many)
 
     -- it is one of four
-    pub porting-on : n < 4 → processesIn bytes ≤ 16 → channelsIn bytes ≤ 32 → Porting bytes (set port k n) (set ins (4 * b + n) k) (set arity b (n + 1)) (k + 1)
+    pub porting-on : n < 4 → processesIn bytes ≤ 16 → channelsIn bytes ≤ 32 → Porting bytes (withPort wires k n) (withInput programs b n k) (k + 1)
     porting-on h most wide = record {
       passed = omega arith;
-      port-long = length-set port k n ∙ x .port-long;
-      ins-long = length-set ins (4 * b + n) k ∙ x .ins-long;
-      arity-long = length-set arity b (n + 1) ∙ x .arity-long;
+      wires-long = length-set wires (3 * k + 2) n ∙ x .wires-long;
+      programs-long = length-set (set programs (8 * b + (4 + n)) k) (8 * b + 3) (n + 1) ∙ length-set programs (8 * b + (4 + n)) k ∙ x .programs-long;
       arities = λ p l.
           by-eq p b
-          (λ e. rw e (getD-set-same arity b (n + 1) 0 (let z = x .arity-long in omega arith) ∙ sym now-more))
-          (λ e. getD-set-other arity b p (n + 1) 0 e ∙ x .arities p l ∙ ap length (sym (same p e)));
+          (λ e. rw e (arity-same programs b n k h room ∙ sym now-more))
+          (λ e. arity-other programs b n k h p e ∙ x .arities p l ∙ ap length (sym (same p e)));
       few = λ p l.
           by-eq p b
           (λ e. rw e (let a = now-more in omega arith))
@@ -189,33 +262,43 @@ module _ (bytes port ins arity : List ℕ) (k : ℕ) (x : Porting bytes port ins
       channels-at = λ p l s m.
           by-eq p b
           (λ e. rw e (own-at s (let z = now-more in let y = ap (λ (q : ℕ). length (readIn bytes (k + 1) q)) e in omega arith)))
-          (λ e. getD-set-other ins (4 * b + n) (4 * p + s) k 0 (apart p b s n e (let z = x .few p l in let y = ap length (same p e) in omega arith) h)
+          (λ e. input-other programs b n k h p s (let z = x .few p l in let y = ap length (same p e) in omega arith) (λ f. absurd (e f))
           ∙ x .channels-at p l s (let y = ap length (same p e) in omega arith) ∙ sym (ap (λ (q : List ℕ). getD q s 0) (same p e)));
       ports-low = λ j l r.
           by-eq j k
-          (λ e. rw e (rw (getD-set-same port k n 0 (let z = x .port-long in omega arith)) (let a = now-more in let f = ap (λ (q : ℕ). length (readIn bytes (k + 1) q)) own in omega arith)))
-          (λ e. rw (getD-set-other port k j n 0 e) (let a = x .ports-low j (omega arith) r in let g = grows bytes k (readerIn bytes j) in omega arith));
+          (λ e. rw e (rw port-same (let a = now-more in let f = ap (λ (q : ℕ). length (readIn bytes (k + 1) q)) own in omega arith)))
+          (λ e. rw (port-other j e) (let a = x .ports-low j (omega arith) r in let g = grows bytes k (readerByte bytes j) in omega arith));
       ports-back = λ j l r.
           by-eq j k
-          (λ e. rw e (rw (getD-set-same port k n 0 (let z = x .port-long in omega arith)) (ap (λ (q : ℕ). getD (readIn bytes (k + 1) q) n 0) (sym own) ∙ last-at)))
-          (λ e. rw (getD-set-other port k j n 0 e) (stays bytes k (readerIn bytes j) (getD port j 0) (x .ports-low j (omega arith) r) ∙ x .ports-back j (omega arith) r));
+          (λ e. rw e (rw port-same (ap (λ (q : ℕ). getD (readIn bytes (k + 1) q) n 0) (sym own) ∙ last-at)))
+          (λ e. rw (port-other j e) (stays bytes k (readerByte bytes j) (portIn wires j) (x .ports-low j (omega arith) r) ∙ x .ports-back j (omega arith) r));
     }
       where
+        room : 8 * b + 8 ≤ length programs
+        room = let z = x .programs-long in omega arith
+
+        port-same : portIn (withPort wires k n) k ≡ n
+        port-same = getD-set-same wires (3 * k + 2) n 0 (let z = x .wires-long in omega arith)
+
+        port-other : (j : ℕ) → j ≢ k → portIn (withPort wires k n) j ≡ portIn wires j
+        port-other j e = getD-set-other wires (3 * k + 2) (3 * j + 2) n 0 (λ f. e (omega arith))
+
         same : (p : ℕ) → p ≢ b → readIn bytes (k + 1) p ≡ readIn bytes k p
         same p e = read-other bytes k p (λ f. e (sym (own ∙ f)))
 
         last-at : getD (readIn bytes (k + 1) b) n 0 ≡ k
         last-at = ap (λ (l : List ℕ). getD l n 0) (read-own bytes k b (sym own)) ∙ rw so-many (getD-append-seam (readIn bytes k b) k [] 0)
 
-        own-at : (s : ℕ) → s < n + 1 → getD (set ins (4 * b + n) k) (4 * b + s) 0 ≡ getD (readIn bytes (k + 1) b) s 0
+        own-at : (s : ℕ) → s < n + 1 → inputIn (withInput programs b n k) b s ≡ getD (readIn bytes (k + 1) b) s 0
         own-at s l =
             by-eq s n
-            (λ e. rw e (getD-set-same ins (4 * b + n) k 0 (let z = x .ins-long in omega arith) ∙ sym last-at))
-            (λ e. getD-set-other ins (4 * b + n) (4 * b + s) k 0 (λ f. e (omega arith))
+            (λ e. rw e (input-same programs b n k h room ∙ sym last-at))
+            (λ e. input-other programs b n k h b s (omega arith) (λ f. e)
             ∙ x .channels-at b reads s (let z = so-many in omega arith) ∙ sym (stays bytes k b s (let z = so-many in omega arith)))
 
 -- all channels have been looked at
-module _ (bytes : List ℕ) (k : ℕ) (r : Ports) (yes-ok : r .ok ≡ true) (x : Porting bytes (r .port) (r .inputs) (r .arity) k) (done : channelsIn bytes ≤ k) where
+module _ (bytes : List ℕ) (k : ℕ) (r : Ports) (yes-ok : r .ok ≡ true) (ended : Ended bytes (r .wires) k) (x : Porting bytes (r .wires) (r .programs) k)
+    (done : channelsIn bytes ≤ k) where
   all-read : (p : ℕ) → readIn bytes k p ≡ inputs (decodeTable bytes) p
   all-read p = ap (λ (m : ℕ). readIn bytes m p) (let a = x .passed in let z : k ≡ channelsIn bytes = omega arith in z) ∙ sym (inputs-read bytes p)
 
@@ -228,16 +311,19 @@ module _ (bytes : List ℕ) (k : ℕ) (r : Ports) (yes-ok : r .ok ≡ true) (x :
   pub porting-end : PortsRead bytes r
   porting-end = record {
     says = yes-ok ∙ sym accepted;
+    sender-at = λ _ j l. ended .senders j (omega arith) ∙ sender-in bytes j l;
+    reader-at = λ _ j l. ended .readers j (omega arith) ∙ reader-in bytes j l;
     port-at = λ _ j l reads.
         let e = reader-in bytes j l in
-        let q = readerIn bytes j in
+        let q = readerByte bytes j in
         let low = x .ports-low j (omega arith) (omega arith) in
         let back = x .ports-back j (omega arith) (omega arith) in
-        let i = getD (r .port) j 0 in
+        let i = portIn (r .wires) j in
         let on : channelOn (decodeTable bytes) q i ≡ j = ap (λ (c : List ℕ). getD c i 0) (sym (all-read q)) ∙ back in
         let this : portOf (decodeTable bytes) q j ≡ i =
         ap (portOf (decodeTable bytes) q) (sym on) ∙ port-of-channel (decodeTable bytes) q i (let z = ap length (all-read q) in omega arith) in
         sym this ∙ ap (λ (c : ℕ). portOf (decodeTable bytes) c j) e;
+    few = λ _ p l. rw (← all-read p) (x .few p l);
     arity-at = λ _ p l. x .arities p l ∙ ap length (all-read p);
     input-at = λ _ p l s m.
         x .channels-at p l s (let z = ap length (all-read p) in omega arith) ∙ ap (λ (c : List ℕ). getD c s 0) (all-read p);

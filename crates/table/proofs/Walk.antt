@@ -10,9 +10,9 @@ use Rattle.facts.specs.Tests.{allOf, allBelow}
 use Rattle.facts.specs.Lists.{part-rest}
 use Rattle.facts.specs.Walks.{Walked, walk-start, walk-on, walk-fails, walk-end}
 use Rattle.facts.specs.Ranges.{all-same, all-listed}
-use Rattle.rules.specs.Table.{Table, Instruction, SET, codeOf}
+use Rattle.rules.specs.Table.{Table, SET, codeOf}
 use Rattle.rules.specs.Bytes.{sixes}
-use Rattle.rules.specs.Format.{versionIn, recordHead, processesIn, channelsIn, programLength, recordLength, instruction, decodeTable, extentOk}
+use Rattle.rules.specs.Format.{versionIn, recordHead, processesIn, programLength, recordsStart, recordLength, instruction, decodeTable, extentOk}
 use Rattle.rules.specs.Judge.{instructionOk, instructionsOk}
 use Rattle.rules.proofs.Valid.{length-sixes, processes-counted}
 use Rattle.records.specs.Fetch.{fetched}
@@ -87,8 +87,8 @@ pub record Going (bytes : List ℕ) (at p : ℕ) : Type 0 where
   pub place : at ≡ recordStart bytes p
   pub walked : Walked (processPasses bytes) (processesIn bytes) p
 
-pub going-start : (bytes : List ℕ) (channels : ℕ) → channels ≡ channelsIn bytes → Going bytes (6 + 2 * channels) 0
-going-start bytes channels e = record { place = ap (λ (c : ℕ). 6 + 2 * c) e; walked = walk-start (processPasses bytes) (processesIn bytes) }
+pub going-start : (bytes : List ℕ) (at : ℕ) → at ≡ recordsStart bytes → Going bytes at 0
+going-start bytes at e = record { place = e; walked = walk-start (processPasses bytes) (processesIn bytes) }
 
 module _ (bytes : List ℕ) (ok : extentOk bytes ≡ true) where
   pub going-end : (at p : ℕ) → Going bytes at p → processesIn bytes ≤ p → true ≡ instructionsOk (decodeTable bytes)

@@ -11,16 +11,19 @@ use crate::format::LIMIT_LEAST;
 use crate::format::LIMIT_MOST;
 use crate::format::PRIMARY;
 use crate::format::PROCESSES;
-use crate::format::PROCESSES_MOST;
 use crate::format::STANDBY;
 use crate::record::limit_of;
 use crate::record::program_length;
 use crate::record::record_head;
 use crate::record::record_length;
 use crate::record::version_of;
+use crate::rows::put_program;
+use plan::PROCESSES as PROCESSES_MOST;
+use plan::PROGRAMS;
+use plan::limit;
 use records::bytes::byte;
-use records::bytes::wide;
-use records::bytes::word;
+use words::byte_wide;
+use words::byte_word;
 
 // The record of one process: whether its boards are right, and its numbers.
 struct Placed {
@@ -33,15 +36,13 @@ struct Placed {
     size: usize,
 }
 
-// What number 7 finds: whether the boards are right, and then for each process its boards, its limit, its number of instructions,
-// and the place in the table where they begin.
+// What number 7 finds: whether the boards are right, and then both boards of each process, and in its row of the plan where in the table its
+// instructions begin, how many there are, and its limit.
 pub struct Placements {
     pub ok: bool,
-    pub start: [u32; PROCESSES_MOST],
-    pub length: [u32; PROCESSES_MOST],
+    pub programs: [u32; PROGRAMS],
     pub primary: [u32; PROCESSES_MOST],
     pub standby: [u32; PROCESSES_MOST],
-    pub limit: [u32; PROCESSES_MOST],
 }
 
 // Two different boards of the table.
@@ -59,28 +60,27 @@ fn placement_of(version: u32, rest: &[u8], boards: u8) -> Placed
     let standby = byte(rest, STANDBY);
     Placed {
         ok: boards_ok(boards, primary, standby),
-        primary: word(primary),
-        standby: word(standby),
-        limit: word(limit_of(version, rest)),
-        n: word(program_length(version, rest)),
+        primary: byte_word(primary),
+        standby: byte_word(standby),
+        limit: byte_word(limit_of(version, rest)),
+        n: byte_word(program_length(version, rest)),
         program: record_head(version),
         size: record_length(version, rest),
     }
 }
 
-// 7: each process has two different boards. Each record is judged by itself, from the table's rest that begins with it.
-pub fn judge_boards(table: &[u8]) -> Placements
+// 7: each process has two different boards. Each record is judged by itself, from the table's rest that begins with it. The rows are those that
+// number 6 left, and what it wrote there stays.
+pub fn judge_boards(table: &[u8], rows: [u32; PROGRAMS]) -> Placements
     requires { ⌜ Framed (now table) ⌝ }
-    ensures { λ r. ⌜ PlacementsRead (now (table .entry)) r ⌝ }
+    ensures { λ r. ⌜ PlacementsRead (now (table .entry)) rows r ⌝ }
 {
     let version = version_of(table);
     let boards = byte(table, BOARDS);
-    let processes = wide(byte(table, PROCESSES));
-    let mut start = [0u32; PROCESSES_MOST];
-    let mut length = [0u32; PROCESSES_MOST];
+    let processes = byte_wide(byte(table, PROCESSES));
+    let mut programs = rows;
     let mut primary = [0u32; PROCESSES_MOST];
     let mut standby = [0u32; PROCESSES_MOST];
-    let mut limit = [0u32; PROCESSES_MOST];
     let mut at = records_start(table);
     let mut p = 0;
     while p < processes {
@@ -88,28 +88,22 @@ pub fn judge_boards(table: &[u8]) -> Placements
         if !r.ok {
             return Placements {
                 ok: false,
-                start: start,
-                length: length,
+                programs: programs,
                 primary: primary,
                 standby: standby,
-                limit: limit,
             };
         }
-        start[p] = (at + r.program) as u32;
-        length[p] = r.n;
+        put_program(&mut programs, p, at + r.program, r.n, r.limit);
         primary[p] = r.primary;
         standby[p] = r.standby;
-        limit[p] = r.limit;
         at += r.size;
         p += 1;
     }
     Placements {
         ok: true,
-        start: start,
-        length: length,
+        programs: programs,
         primary: primary,
         standby: standby,
-        limit: limit,
     }
 }
 
@@ -121,13 +115,13 @@ fn limit_ok(limit: u32) -> bool
 }
 
 // 47: the limits of so many processes.
-pub fn limits_ok(limits: &[u32; PROCESSES_MOST], processes: usize) -> bool
+pub fn limits_ok(programs: &[u32; PROGRAMS], processes: usize) -> bool
     requires { ⌜ processes ≤ processesMost ⌝ }
-    ensures { λ r. ⌜ r ≡ limitsPass (now (limits .entry)) processes ⌝ }
+    ensures { λ r. ⌜ r ≡ limitsPass (now (programs .entry)) processes ⌝ }
 {
     let mut p = 0;
     while p < processes {
-        if !limit_ok(limits[p]) {
+        if !limit_ok(limit(programs, p)) {
             return false;
         }
         p += 1;

@@ -1,14 +1,32 @@
-// Numbers 2 and 3, as the reader of a table and the writer judge them.
+// The counts of a table, and numbers 2 and 3, as the reader of a table and the writer judge them.
 ghost use mathlib.Core.Path.{_≡_};
 ghost use mathlib.Core.Bool.{_&&_};
 ghost use lib.Dec.{leb};
 ghost use Rattle.rules.specs.Format.{versionOk, countsFit};
+ghost use Rattle.table.specs.Parts.{countsIn};
+use crate::format::BOARDS;
 use crate::format::BOARDS_LEAST;
 use crate::format::BOARDS_MOST;
-use crate::format::CHANNELS_MOST;
-use crate::format::PROCESSES_MOST;
+use crate::format::CHANNELS;
+use crate::format::PROCESSES;
 use crate::format::WITH_LIMITS;
 use crate::format::WITHOUT_LIMITS;
+use plan::CHANNELS as CHANNELS_MOST;
+use plan::Counts;
+use plan::PROCESSES as PROCESSES_MOST;
+use records::bytes::byte;
+use words::byte_wide;
+
+// How many boards, processes and channels a table has.
+pub fn counts_of(table: &[u8]) -> Counts
+    ensures { λ r. ⌜ r ≡ countsIn (now (table .entry)) ⌝ }
+{
+    Counts {
+        boards: byte_wide(byte(table, BOARDS)),
+        processes: byte_wide(byte(table, PROCESSES)),
+        channels: byte_wide(byte(table, CHANNELS)),
+    }
+}
 
 // 2: the version.
 pub fn version_ok(version: u32) -> bool

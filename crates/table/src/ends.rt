@@ -1,37 +1,30 @@
-// Numbers 5 and 6 of a table whose counts are right: the ends of its channels, and how many a process reads. Each pass over the pairs
-// leaves its part of the plan.
+// Numbers 5 and 6 of a table: the ends of its channels, and how many a process reads. The pass over the pairs for 6 leaves its part of the plan.
 ghost use mathlib.Core.Path.{_≡_};
 ghost use mathlib.Core.Bool.{true};
-ghost use Rattle.rules.specs.Judge.{endOk};
-ghost use Rattle.rules.specs.Format.{countsOk};
-ghost use Rattle.table.specs.Parts.{pairOk, EndsRead, PortsRead};
+ghost use Rattle.rules.specs.Judge.{endOk, endsOk};
+ghost use Rattle.rules.specs.Format.{countsOk, decodeTable};
+ghost use Rattle.table.specs.Parts.{pairOk, PortsRead};
 use crate::format::CHANNELS;
-use crate::format::CHANNELS_MOST;
 use crate::format::ENVIRONMENT;
-use crate::format::INPUTS_MOST;
+use crate::format::PAIR_READER;
+use crate::format::PAIR_SENDER;
 use crate::format::PORTS;
 use crate::format::PROCESSES;
-use crate::format::PROCESSES_MOST;
-use crate::format::READER;
-use crate::format::SENDER;
+use crate::rows::put_ends;
+use crate::rows::put_input;
+use crate::rows::put_port;
+use plan::PROGRAMS;
+use plan::WIRES;
+use plan::arity;
 use records::bytes::byte;
-use records::bytes::wide;
-use records::bytes::word;
+use words::byte_wide;
 
-// What number 5 finds: whether the ends are right, and then both ends of each channel.
-pub struct Ends {
-    pub ok: bool,
-    pub sender: [u32; CHANNELS_MOST],
-    pub reader: [u32; CHANNELS_MOST],
-}
-
-// What number 6 finds: whether no process reads too many channels, and then the port of each channel within its reader, the channel
-// of each port (port s of process p at 4 p + s), and how many ports each process has.
+// What number 6 finds: whether no process reads too many channels, and then both ends of each channel and its port within its reader, and for
+// each process how many channels it reads and which.
 pub struct Ports {
     pub ok: bool,
-    pub port: [u32; CHANNELS_MOST],
-    pub inputs: [u32; INPUTS_MOST],
-    pub arity: [u32; PROCESSES_MOST],
+    pub wires: [u32; WIRES],
+    pub programs: [u32; PROGRAMS],
 }
 
 // An end is a process or the environment.
@@ -50,34 +43,21 @@ fn pair_ok(processes: u8, sender: u8, reader: u8) -> bool
 }
 
 // 5: the ends of every channel.
-pub fn judge_ends(table: &[u8]) -> Ends
-    requires { ⌜ countsOk (now table) ≡ true ⌝ }
-    ensures { λ r. ⌜ EndsRead (now (table .entry)) r ⌝ }
+pub fn ends_ok(table: &[u8]) -> bool
+    ensures { λ r. ⌜ r ≡ endsOk (decodeTable (now (table .entry))) ⌝ }
 {
     let processes = byte(table, PROCESSES);
-    let channels = wide(byte(table, CHANNELS));
-    let mut sender = [0u32; CHANNELS_MOST];
-    let mut reader = [0u32; CHANNELS_MOST];
+    let channels = byte_wide(byte(table, CHANNELS));
     let mut k = 0;
     while k < channels {
-        let from = byte(table, 2 * k + SENDER);
-        let to = byte(table, 2 * k + READER);
-        if !pair_ok(processes, from, to) {
-            return Ends {
-                ok: false,
-                sender: sender,
-                reader: reader,
-            };
+        let sender = byte(table, 2 * k + PAIR_SENDER);
+        let reader = byte(table, 2 * k + PAIR_READER);
+        if !pair_ok(processes, sender, reader) {
+            return false;
         }
-        sender[k] = word(from);
-        reader[k] = word(to);
         k += 1;
     }
-    Ends {
-        ok: true,
-        sender: sender,
-        reader: reader,
-    }
+    true
 }
 
 // 6: a process reads at most four channels, which are its ports in ascending order.
@@ -86,34 +66,31 @@ pub fn judge_ports(table: &[u8]) -> Ports
     ensures { λ r. ⌜ PortsRead (now (table .entry)) r ⌝ }
 {
     let processes = byte(table, PROCESSES);
-    let channels = wide(byte(table, CHANNELS));
-    let mut port = [0u32; CHANNELS_MOST];
-    let mut inputs = [0u32; INPUTS_MOST];
-    let mut arity = [0u32; PROCESSES_MOST];
+    let channels = byte_wide(byte(table, CHANNELS));
+    let mut wires = [0u32; WIRES];
+    let mut programs = [0u32; PROGRAMS];
     let mut k = 0;
     while k < channels {
-        let reader = byte(table, 2 * k + READER);
+        let reader = byte(table, 2 * k + PAIR_READER);
+        put_ends(&mut wires, k, byte(table, 2 * k + PAIR_SENDER), reader);
         if reader < processes {
-            let p = wide(reader);
-            let n = arity[p];
+            let p = byte_wide(reader);
+            let n = arity(&programs, p);
             if n >= PORTS {
                 return Ports {
                     ok: false,
-                    port: port,
-                    inputs: inputs,
-                    arity: arity,
+                    wires: wires,
+                    programs: programs,
                 };
             }
-            port[k] = n;
-            inputs[4 * p + n as usize] = k as u32;
-            arity[p] = n + 1;
+            put_port(&mut wires, k, n);
+            put_input(&mut programs, p, n, k);
         }
         k += 1;
     }
     Ports {
         ok: true,
-        port: port,
-        inputs: inputs,
-        arity: arity,
+        wires: wires,
+        programs: programs,
     }
 }

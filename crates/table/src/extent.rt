@@ -3,8 +3,8 @@ ghost use mathlib.Core.Path.{_≡_};
 ghost use Rattle.rules.specs.Format.{recordsStart, lengthOk, countsOk, extentOk};
 ghost use Rattle.table.specs.Parts.{recordIn, framing};
 use crate::counts::counts_fit;
+use crate::counts::counts_of;
 use crate::counts::version_ok;
-use crate::format::BOARDS;
 use crate::format::CHANNELS;
 use crate::format::HEAD;
 use crate::format::PROCESSES;
@@ -15,7 +15,7 @@ use crate::record::record_length;
 use crate::record::version_of;
 use records::bytes::byte;
 use records::bytes::pair;
-use records::bytes::wide;
+use words::byte_wide;
 
 // 1: at least a head, and a length field that is at most 6,276 and the true one.
 fn length_ok(table: &[u8]) -> bool
@@ -35,25 +35,22 @@ fn length_ok(table: &[u8]) -> bool
 fn counts_ok(table: &[u8]) -> bool
     ensures { λ r. ⌜ r ≡ countsOk (now (table .entry)) ⌝ }
 {
-    counts_fit(
-        wide(byte(table, BOARDS)),
-        wide(byte(table, PROCESSES)),
-        wide(byte(table, CHANNELS)),
-    )
+    let n = counts_of(table);
+    counts_fit(n.boards, n.processes, n.channels)
 }
 
 // Where the first record begins, behind the pairs.
 pub fn records_start(table: &[u8]) -> usize
     ensures { λ r. ⌜ r ≡ recordsStart (now (table .entry)) ⌝ }
 {
-    HEAD + 2 * wide(byte(table, CHANNELS))
+    HEAD + 2 * byte_wide(byte(table, CHANNELS))
 }
 
 // The length of the record that begins a rest, or 0 where it has over 64 instructions or the rest ends within it.
 fn record_in(version: u32, rest: &[u8]) -> usize
     ensures { λ r. ⌜ r ≡ recordIn version (now (rest .entry)) ⌝ }
 {
-    if wide(program_length(version, rest)) > PROGRAM_MOST {
+    if byte_wide(program_length(version, rest)) > PROGRAM_MOST {
         return 0;
     }
     let length = record_length(version, rest);
@@ -72,7 +69,7 @@ fn extent_ok(table: &[u8]) -> bool
         return false;
     }
     let version = version_of(table);
-    let processes = wide(byte(table, PROCESSES));
+    let processes = byte_wide(byte(table, PROCESSES));
     let mut p = 0;
     while p < processes {
         let length = record_in(version, &table[at..]);

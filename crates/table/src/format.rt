@@ -1,4 +1,5 @@
-// A table's layout and sizes, each named once; rules/specs/Format.antt names the same numbers for the definitions.
+// A table's layout and sizes; rules/specs/Format.antt names the same numbers for the definitions. How many processes and channels a table has
+// at most is named by crate `plan`.
 
 // Of the head, behind the length's two bytes and the version (records/src/head.rt): boards, processes, channels.
 pub const BOARDS: usize = 3;
@@ -10,9 +11,9 @@ pub const CHANNELS: usize = 5;
 pub const HEAD: usize = 6;
 
 // Of the pair of channel 0: sender and reader. Those of channel k stand 2 k further.
-pub const SENDER: usize = 6;
+pub const PAIR_SENDER: usize = 6;
 
-pub const READER: usize = 7;
+pub const PAIR_READER: usize = 7;
 
 // Of a record: primary board, backup board, and in version 2 the limit; n and its instructions stand behind them (record.rt).
 pub const PRIMARY: usize = 0;
@@ -26,16 +27,12 @@ pub const WITHOUT_LIMITS: u32 = 1;
 
 pub const WITH_LIMITS: u32 = 2;
 
-// The largest length field, the counts' bounds, and the most instructions of a process.
+// The largest length field, the bounds of the boards, and the most instructions of a process.
 pub const TABLE_MOST: usize = 6276;
 
 pub const BOARDS_LEAST: usize = 2;
 
 pub const BOARDS_MOST: usize = 16;
-
-pub const PROCESSES_MOST: usize = 16;
-
-pub const CHANNELS_MOST: usize = 32;
 
 pub const PROGRAM_MOST: usize = 64;
 
@@ -46,10 +43,8 @@ pub const LIMIT_MOST: u32 = 16;
 
 pub const LIMIT_BEFORE: u8 = 8;
 
-// The most channels that one process reads, and that all of them read together.
+// The most channels that one process reads.
 pub const PORTS: u32 = 4;
-
-pub const INPUTS_MOST: usize = 64;
 
 // An end of a channel that is no process: the environment (document 01: the outside).
 pub const ENVIRONMENT: u8 = 255;

@@ -6,31 +6,27 @@ ghost use mathlib.Core.Bool.{true};
 ghost use Rattle.rules.specs.Judge.{instructionsOk};
 ghost use Rattle.rules.specs.Format.{recordsStart, recordLength, decodeTable, extentOk};
 ghost use Rattle.table.specs.Judging.{endIs, channelsPass, maskOk, passes, programOk, recordOk};
+use crate::extent::records_start;
 use crate::format::CHANNELS;
+use crate::format::PAIR_READER;
+use crate::format::PAIR_SENDER;
 use crate::format::PROCESSES;
-use crate::format::READER;
-use crate::format::SENDER;
 use crate::record::program_length;
 use crate::record::record_head;
 use crate::record::record_length;
 use crate::record::version_of;
-use records::bytes::wide;
 use records::fetch::Instruction;
 use records::fetch::fetch;
-
-fn wider(x: u32) -> usize
-    ensures { λ r. ⌜ r ≡ x ⌝ }
-{
-    x as usize
-}
+use words::byte_wide;
+use words::wide;
 
 // Whether k is a channel of the table whose sender (side 6) or reader (side 7) is process p.
 fn end_is(table: &[u8], side: usize, k: u32, p: u8) -> bool
     requires { ⌜ (recordsStart (now table) ≤ length (now table)) × (side ≤ 7) ⌝ }
     ensures { λ r. ⌜ r ≡ endIs (now (table .entry)) side k p ⌝ }
 {
-    let channel = wider(k);
-    if channel >= wide(table[CHANNELS]) {
+    let channel = wide(k);
+    if channel >= byte_wide(table[CHANNELS]) {
         return false;
     }
     table[2 * channel + side] == p
@@ -44,7 +40,7 @@ fn channels_pass(table: &[u8], p: u8, mask: u32) -> bool
     let mut left = mask;
     while left != 0 {
         let k = u32::trailing_zeros(left);
-        if !end_is(table, READER, k, p) {
+        if !end_is(table, PAIR_READER, k, p) {
             return false;
         }
         left -= 1 << k;
@@ -76,10 +72,10 @@ fn instruction_ok(table: &[u8], p: u8, n: usize, i: Instruction) -> bool
     match code {
         1 => i.a < 4,
         2 => i.a < 4 && i.operand < 4,
-        3 => i.a < 4 && end_is(table, READER, i.operand, p),
+        3 => i.a < 4 && end_is(table, PAIR_READER, i.operand, p),
         4 => i.a < 3 && mask_ok(table, p, i.operand),
-        5 => i.a < 4 && end_is(table, SENDER, i.operand, p),
-        6 => i.a < 4 && wider(i.operand) <= n,
+        5 => i.a < 4 && end_is(table, PAIR_SENDER, i.operand, p),
+        6 => i.a < 4 && wide(i.operand) <= n,
         _ => false,
     }
 }
@@ -104,7 +100,7 @@ fn record_ok(table: &[u8], version: u32, p: u8, rest: &[u8]) -> bool
     requires { ⌜ (recordsStart (now table) ≤ length (now table)) × (recordLength version (now rest) ≤ length (now rest)) ⌝ }
     ensures { λ r. ⌜ r ≡ recordOk (decodeTable (now (table .entry))) version p (now (rest .entry)) ⌝ }
 {
-    let n = wide(program_length(version, rest));
+    let n = byte_wide(program_length(version, rest));
     let head = record_head(version);
     program_ok(table, p, n, &rest[head..])
 }
@@ -116,7 +112,7 @@ pub fn instructions_ok(table: &[u8]) -> bool
 {
     let version = version_of(table);
     let processes = table[PROCESSES];
-    let mut at = SENDER + 2 * wide(table[CHANNELS]);
+    let mut at = records_start(table);
     let mut p = 0;
     while p < processes {
         let rest = &table[at..];

@@ -1,5 +1,6 @@
 // Tables: bytes are read, judged and turned into a plan by proved code.
 ghost use mathlib.Core.Path.{_≡_};
+ghost use Rattle.table.specs.Parts.{planFrom};
 ghost use Rattle.table.specs.Plan.{noPlan, Decodes};
 
 mod boards;
@@ -8,21 +9,32 @@ mod ends;
 mod extent;
 pub mod format;
 mod instructions;
-pub mod plan;
 pub mod record;
+mod rows;
 
+use crate::boards::Placements;
 use crate::boards::judge_boards;
 use crate::boards::limits_ok;
-use crate::ends::judge_ends;
+use crate::counts::counts_of;
+use crate::ends::Ports;
+use crate::ends::ends_ok;
 use crate::ends::judge_ports;
 use crate::extent::judge_extent;
-use crate::format::PROCESSES;
 use crate::instructions::instructions_ok;
-use crate::plan::Plan;
-use crate::plan::no_plan;
-use crate::plan::plan_of;
-use records::bytes::byte;
-use records::bytes::wide;
+use plan::Counts;
+use plan::PROCESSES;
+use plan::PROGRAMS;
+use plan::WIRES;
+
+// What a table's bytes say: its counts, the rows of its processes and of its channels as crate `plan` lays them out, and both boards of each
+// process.
+pub struct Plan {
+    pub counts: Counts,
+    pub programs: [u32; PROGRAMS],
+    pub wires: [u32; WIRES],
+    pub primary: [u32; PROCESSES],
+    pub standby: [u32; PROCESSES],
+}
 
 // What decoding gives: 0 and the table's plan, or the number that refuses the table and no plan.
 pub struct Decoded {
@@ -35,7 +47,37 @@ fn refused(number: u8) -> Decoded
 {
     Decoded {
         number: number,
-        plan: no_plan(),
+        plan: Plan {
+            counts: Counts {
+                boards: 0,
+                processes: 0,
+                channels: 0,
+            },
+            programs: [0; PROGRAMS],
+            wires: [0; WIRES],
+            primary: [0; PROCESSES],
+            standby: [0; PROCESSES],
+        },
+    }
+}
+
+// 0 and the plan of a table, from what numbers 6 and 7 found.
+fn accepted(counts: Counts, w: Ports, b: Placements) -> Decoded
+    ensures { λ r. ⌜ r ≡ planFrom counts w b ⌝ }
+{
+    let programs = b.programs;
+    let wires = w.wires;
+    let primary = b.primary;
+    let standby = b.standby;
+    Decoded {
+        number: 0,
+        plan: Plan {
+            counts: counts,
+            programs: programs,
+            wires: wires,
+            primary: primary,
+            standby: standby,
+        },
     }
 }
 
@@ -47,27 +89,25 @@ pub fn decode(table: &[u8]) -> Decoded
     if number != 0 {
         return refused(number);
     }
-    let e = judge_ends(table);
-    if !e.ok {
+    if !ends_ok(table) {
         return refused(5);
     }
     let w = judge_ports(table);
     if !w.ok {
         return refused(6);
     }
-    let b = judge_boards(table);
+    let rows = w.programs;
+    let b = judge_boards(table, rows);
     if !b.ok {
         return refused(7);
     }
     if !instructions_ok(table) {
         return refused(8);
     }
-    let limits = b.limit;
-    if !limits_ok(&limits, wide(byte(table, PROCESSES))) {
+    let counts = counts_of(table);
+    let programs = b.programs;
+    if !limits_ok(&programs, counts.processes) {
         return refused(47);
     }
-    Decoded {
-        number: 0,
-        plan: plan_of(table, e, w, b),
-    }
+    accepted(counts, w, b)
 }

@@ -7,15 +7,15 @@ use crate::format::LIMIT;
 use crate::format::LIMIT_BEFORE;
 use crate::format::WITH_LIMITS;
 use records::bytes::byte;
-use records::bytes::wide;
-use records::bytes::word;
 use records::head::VERSION;
+use words::byte_wide;
+use words::byte_word;
 
 // The version of a table.
 pub fn version_of(table: &[u8]) -> u32
     ensures { λ r. ⌜ r ≡ versionIn (now (table .entry)) ⌝ }
 {
-    word(byte(table, VERSION))
+    byte_word(byte(table, VERSION))
 }
 
 // The place of n in a record; the instructions stand behind it.
@@ -43,7 +43,7 @@ pub fn program_length(version: u32, rest: &[u8]) -> u8
 pub fn record_length(version: u32, rest: &[u8]) -> usize
     ensures { λ r. ⌜ r ≡ recordLength version (now (rest .entry)) ⌝ }
 {
-    record_head(version) + 6 * wide(program_length(version, rest))
+    record_head(version) + 6 * byte_wide(program_length(version, rest))
 }
 
 // Its limit; where the version has none, that of every process of version 1.

@@ -84,7 +84,8 @@ pub fn write(
     instructions: &[u32],
     out: &mut [u8],
 ) -> Written
-    ensures { λ r. ⌜ Writes (given head (now (ends .entry)) (now (placements .entry)) (now (limits .entry)) (now (instructions .entry))) (now (out .entry)) r (now (out .exit)) ⌝ }
+    ensures { λ r. ⌜ Writes (given head (now (ends .entry)) (now (placements .entry)) (now (limits .entry)) (now (instructions .entry)))
+        (now (out .entry)) r (now (out .exit)) ⌝ }
 {
     let framing = judge_lists(head, ends, placements, limits, instructions);
     if framing != 0 {

@@ -1,8 +1,8 @@
 //! How long a sync of the backup record takes, in place and by value, beside a plain one in Rust: `sync_speed [--repetitions N] [--seed N]
 //! [--row N]`. `tools/sync-speed` builds what it links.
 //!
-//! Each repetition makes all records anew, so that no branch can be learnt, and calls the three in turn on the same records in one process;
-//! who is first changes. The replies and the records afterwards are compared.
+//! Each repetition makes all records anew, so that no branch can be learnt, and calls the three in turn on the same records in one process,
+//! each order as often as any other. The replies and the records afterwards are compared.
 mod plain;
 
 use outside::random::Random;
@@ -12,6 +12,9 @@ use std::time::Instant;
 const SEED: u64 = 0xA076_1D64_78BD_642F;
 const REPETITIONS: u64 = 2000;
 const RECORDS: usize = 64;
+
+/// In place 0, plain 1, by value 2. Whoever comes after by value finds its records out of the nearest cache.
+const ORDERS: [[usize; 3]; 6] = [[0, 1, 2], [1, 2, 0], [2, 0, 1], [0, 2, 1], [2, 1, 0], [1, 0, 2]];
 
 /// Saved words at most; a head in place, and one by value: length, count, place and registers, and in place also the words on each slot.
 const LOG: usize = 64;
@@ -207,8 +210,7 @@ fn time(random: &mut Random, row: &Row, repetitions: u64) -> [[f64; 2]; 3] {
     let mut times: [Vec<u64>; 3] = Default::default();
     for i in 0..repetitions + 10 {
         let mut samples = Samples::new(random, row);
-        for k in 0..3 {
-            let who = (k + i as usize) % 3;
+        for who in ORDERS[i as usize % 6] {
             let took = samples.turn(who);
             if i >= 10 {
                 times[who].push(took);

@@ -7,52 +7,56 @@ use Rattle.bus.proofs.inject.inject.Tie as tie
 use Rattle.bus.proofs.inject.inject.Reads as reads
 use Rattle.bus.proofs.inject.inject.Lts as lts
 use Rattle.bus.proofs.delivery.deliver.Reads as deliver-reads
-use Rattle.std.proofs.num.wrapping_add_u32.Reads as wrapping-add-u32-reads
-use Rattle.state.proofs.channel.held.Reads as held-reads
-use Rattle.state.proofs.channel.index32.Reads as index32-reads
+use Rattle.plan.proofs.reader.Reads as reader-reads
+use Rattle.plan.proofs.sender.Reads as sender-reads
+use Rattle.state.proofs.channel.full.Reads as full-reads
 use Rattle.state.proofs.moved.refusal.Reads as refusal-reads
+use Rattle.std.proofs.num.wrapping_add_u32.Reads as wrapping-add-u32-reads
+use Rattle.words.proofs.index32.Reads as index32-reads
 
 index32-requires : tie.Need-index32-requires
 index32-requires c κs = search needs
 
-mul-if1 : tie.Need-mul-if1
-mul-if1 c = search needs
-
-element-copy-out-if1 : tie.Need-element-copy-out-if1
-element-copy-out-if1 c = search needs
+sender-requires : tie.Need-sender-requires
+sender-requires c κs = search needs
 
 refusal-requires : tie.Need-refusal-requires
 refusal-requires c κs = search needs
 
 returns : tie.Need-returns
 returns c =
-    let s = c .before .before .before .before in
-    let k = c .before .before .before .index32 in
-    injects-43 (s .args .sender .now) (s .args .reader .now) (s .args .port .now) (s .args .rows .now) (s .args .mails .now) (s .args .logs .now) (s .args .heads .now) (s .args .totals .now) (s .args .a) (s .args .word) (k .result) _ (k .ensures .1) (c .before .if1 .taken) (c .refusal .ensures)
+    let first = c .before in
+    let s = first .before .before .before .args in
+    let k = first .before .before .index32 in
+    let sender = first .before .sender in
+    injects-43 (s .wires .now) (s .rows .now) (s .mails .now) (s .logs .now) (s .heads .now) (s .totals .now) (s .a) (s .word)
+    (k .result) _ (k .ensures .1) (sender .result) (sender .ensures (k .ensures .0)) (first .if1 .taken) (c .refusal .ensures)
 
-mul-held : tie.Need-mul-held
-mul-held c = search needs
+reader-requires : tie.Need-reader-requires
+reader-requires c κs = search needs
 
-element-copy-out-held : tie.Need-element-copy-out-held
-element-copy-out-held c = search needs
+mul-full : tie.Need-mul-full
+mul-full c = search needs
 
-mul-held-2 : tie.Need-mul-held-2
-mul-held-2 c = search needs
+element-copy-out-full : tie.Need-element-copy-out-full
+element-copy-out-full c = search needs
 
-element-copy-out-held-2 : tie.Need-element-copy-out-held-2
-element-copy-out-held-2 c = search needs
-
-held-requires : tie.Need-held-requires
-held-requires c κs = search needs
+full-requires : tie.Need-full-requires
+full-requires c κs = search needs
 
 refusal-requires-2 : tie.Need-refusal-requires-2
 refusal-requires-2 c κs = search needs
 
 returns-2 : tie.Need-returns-2
 returns-2 c =
-    let s = c .before .before .before .before .before .before .before .before in
-    let k = c .before .before .before .before .before .before .before .index32 in
-    injects-39 (s .args .sender .now) (s .args .reader .now) (s .args .port .now) (s .args .rows .now) (s .args .mails .now) (s .args .logs .now) (s .args .heads .now) (s .args .totals .now) (s .args .a) (s .args .word) (k .result) _ (k .ensures .1) (c .before .before .before .before .before .if1 .left) (sym (c .before .before .held .ensures) ∙ c .before .if2 .taken) (c .refusal2 .ensures)
+    let first = c .before .before .before .before .before in
+    let s = first .before .before .before .args in
+    let k = first .before .before .index32 in
+    let sender = first .before .sender in
+    let reader = c .before .before .before .before .reader in
+    injects-39 (s .wires .now) (s .rows .now) (s .mails .now) (s .logs .now) (s .heads .now) (s .totals .now) (s .a) (s .word)
+    (k .result) _ (k .ensures .1) (sender .result) (sender .ensures (k .ensures .0)) (first .if1 .left)
+    (reader .result) (reader .ensures (k .ensures .0)) (sym (c .before .before .full .ensures) ∙ c .before .if2 .taken) (c .refusal2 .ensures)
 
 deliver-requires : tie.Need-deliver-requires
 deliver-requires c κs = search needs
@@ -74,28 +78,32 @@ element-write-totals c = search needs
 
 returns-3 : tie.Need-returns-3
 returns-3 c =
-    let s = c .before .before .before .before .before .before .before .before .before .before .before .before .before .before in
-    let k = c .before .before .before .before .before .before .before .before .before .before .before .before .before .index32 in
+    let first = c .before .before .before .before .before .before .before .before .before .before .before in
+    let s = first .before .before .before .args in
+    let k = first .before .before .index32 in
+    let sender = first .before .sender in
+    let second = c .before .before .before .before .before .before .before in
+    let reader = second .before .before .before .reader in
     let d = c .before .before .deliver in
     let more = c .wrapping-add-u32 in
-    injects-done (s .args .sender .now) (s .args .reader .now) (s .args .port .now) (s .args .rows .now) (s .args .mails .now) (s .args .logs .now) (s .args .heads .now) (s .args .totals .now) (s .args .a) (s .args .word) (k .result) _ (k .ensures .1)
-    (d .last .1 .1 .0) (d .last .1 .1 .1 .0) (d .last .1 .1 .1 .1 .0) (d .last .1 .1 .1 .1 .1 .0) (more .result)
-    (c .before .before .before .before .before .before .before .before .before .before .before .if1 .left) (sym (c .before .before .before .before .before .before .before .before .held .ensures) ∙ c .before .before .before .before .before .before .before .if2 .left) (more .ensures) refl (d .ensures)
+    injects-done (s .wires .now) (s .rows .now) (s .mails .now) (s .logs .now) (s .heads .now) (s .totals .now) (s .a) (s .word)
+    (k .result) _ (k .ensures .1) (sender .result) (sender .ensures (k .ensures .0)) (first .if1 .left)
+    (reader .result) (reader .ensures (k .ensures .0))
+    (d .last .1 .0) (d .last .1 .1 .0) (d .last .1 .1 .1 .0) (d .last .1 .1 .1 .1 .0) (more .result)
+    (sym (second .before .full .ensures) ∙ second .if2 .left) (more .ensures) refl (d .ensures)
 
 pub inject-spec : {M : Type 1} → statement M
 inject-spec =
     tie.close
     (tie.spec
     index32-requires
-    mul-if1
-    element-copy-out-if1
+    sender-requires
     refusal-requires
     returns
-    mul-held
-    element-copy-out-held
-    mul-held-2
-    element-copy-out-held-2
-    held-requires
+    reader-requires
+    mul-full
+    element-copy-out-full
+    full-requires
     refusal-requires-2
     returns-2
     deliver-requires

@@ -14,8 +14,8 @@ element-copy-out-wrapping-add-u32 c = search needs
 wrapping-add-u32-requires : tie.Need-wrapping-add-u32-requires
 wrapping-add-u32-requires c κs = search needs
 
-element-write-board : tie.Need-element-write-board
-element-write-board c = search needs
+element-write-queue : tie.Need-element-write-queue
+element-write-queue c = search needs
 
 element-copy-out-wrapping-sub-u32 : tie.Need-element-copy-out-wrapping-sub-u32
 element-copy-out-wrapping-sub-u32 c = search needs
@@ -23,13 +23,14 @@ element-copy-out-wrapping-sub-u32 c = search needs
 wrapping-sub-u32-requires : tie.Need-wrapping-sub-u32-requires
 wrapping-sub-u32-requires c κs = search needs
 
-element-write-board-2 : tie.Need-element-write-board-2
-element-write-board-2 c = search needs
+element-write-queue-2 : tie.Need-element-write-queue-2
+element-write-queue-2 c = search needs
 
 returns : tie.Need-returns
 returns c =
-    let s = c .before .before .before .before in
-    popped (s .args .board .now) (c .before .before .wrapping-add-u32 .result) (c .wrapping-sub-u32 .result) (c .before .before .wrapping-add-u32 .ensures) (c .wrapping-sub-u32 .ensures) (c .wrapping-sub-u32 .ok)
+    let more = c .before .before .wrapping-add-u32 in
+    let less = c .wrapping-sub-u32 in
+    popped (c .before .before .before .before .args .queue .now) (more .result) (less .result) (more .ensures) (less .ensures) (less .ok)
 
 pub pop-spec : {M : Type 1} → statement M
 pop-spec =
@@ -37,8 +38,8 @@ pop-spec =
     (tie.spec
     element-copy-out-wrapping-add-u32
     wrapping-add-u32-requires
-    element-write-board
+    element-write-queue
     element-copy-out-wrapping-sub-u32
     wrapping-sub-u32-requires
-    element-write-board-2
+    element-write-queue-2
     returns)

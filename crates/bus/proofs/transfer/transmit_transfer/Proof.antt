@@ -6,7 +6,7 @@ use Rattle.bus.proofs.transfer.transmit_transfer.Tie as tie
 use Rattle.bus.proofs.transfer.transmit_transfer.Reads as reads
 use Rattle.bus.proofs.transfer.transmit_transfer.Lts as lts
 use Rattle.process.proofs.transfer.complete.Reads as complete-reads
-use Rattle.state.proofs.board.index16.Reads as index16-reads
+use Rattle.words.proofs.index16.Reads as index16-reads
 
 index16-requires : tie.Need-index16-requires
 index16-requires c κs = search needs
@@ -20,17 +20,20 @@ index-1-complete c = search needs
 complete-requires : tie.Need-complete-requires
 complete-requires c κs = search needs
 
-mul-waits : tie.Need-mul-waits
-mul-waits c = search needs
+mul-rows : tie.Need-mul-rows
+mul-rows c = search needs
 
-element-write-waits : tie.Need-element-write-waits
-element-write-waits c = search needs
+index-1-rows : tie.Need-index-1-rows
+index-1-rows c = search needs
+
+index-2-rows : tie.Need-index-2-rows
+index-2-rows c = search needs
 
 returns : tie.Need-returns
 returns c =
-    let a = c .before .before .before .args in
+    let s = c .before .before .before .args in
     let p = c .before .before .index16 in
-    transfers-so (a .rows .now) (a .waits .now) (a .process) (p .result) (p .ensures .1) (c .complete .last .0) (c .complete .ensures)
+    transfers-so (s .rows .now) (s .process) (p .result) (p .ensures .1) (c .complete .last .0) (c .complete .ensures)
 
 pub transmit-transfer-spec : {M : Type 1} → statement M
 transmit-transfer-spec =
@@ -40,6 +43,7 @@ transmit-transfer-spec =
     mul-complete
     index-1-complete
     complete-requires
-    mul-waits
-    element-write-waits
+    mul-rows
+    index-1-rows
+    index-2-rows
     returns)

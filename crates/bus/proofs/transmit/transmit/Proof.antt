@@ -1,5 +1,5 @@
 use mathlib.Core.Path.{sym, _∙_}
-use Rattle.bus.proofs.Transmitting.{at-its-board, transmits-34, transmits-42, transmits-word, transmits-sync, transmits-transfer}
+use Rattle.bus.proofs.Transmitting.{transmits-34, transmits-42, transmits-word, transmits-sync, transmits-transfer}
 use native.Mathlib.Omega.{arith}
 use borrow.Author.Needs.{needs}
 use Rattle.bus.proofs.transmit.transmit.Statement.{statement}
@@ -11,8 +11,8 @@ use Rattle.bus.proofs.queue.pop.Reads as pop-reads
 use Rattle.bus.proofs.sync.transmit_sync.Reads as transmit-sync-reads
 use Rattle.bus.proofs.transfer.transmit_transfer.Reads as transmit-transfer-reads
 use Rattle.bus.proofs.word.transmit_word.Reads as transmit-word-reads
-use Rattle.state.proofs.board.index16.Reads as index16-reads
 use Rattle.state.proofs.moved.refusal.Reads as refusal-reads
+use Rattle.words.proofs.index16.Reads as index16-reads
 
 index16-requires : tie.Need-index16-requires
 index16-requires c κs = search needs
@@ -31,10 +31,11 @@ refusal-requires c κs = search needs
 
 returns : tie.Need-returns
 returns c =
-    let s = c .before .before .before .before in
-    let b = c .before .before .before .index16 in
-    at-its-board (b .result) (s .args .a) (b .ensures .1)
-    (λ e. transmits-34 (s .args .sender .now) (s .args .reader .now) (s .args .port .now) (s .args .rows .now) (s .args .mails .now) (s .args .logs .now) (s .args .heads .now) (s .args .boards .now) (s .args .totals .now) (s .args .waits .now) (b .result) (s .args .oldest) _ (c .before .if1 .taken) (rw (← e) (c .refusal .ensures)))
+    let test = c .before in
+    let s = test .before .before .before .args in
+    let b = test .before .before .index16 in
+    transmits-34 (s .wires .now) (s .rows .now) (s .mails .now) (s .logs .now) (s .heads .now) (s .queues .now) (s .totals .now)
+    (s .a) (b .result) (s .oldest) _ (b .ensures .1) (test .if1 .taken) (c .refusal .ensures)
 
 mul-peek : tie.Need-mul-peek
 mul-peek c = search needs
@@ -56,10 +57,12 @@ refusal-requires-2 c κs = search needs
 
 returns-2 : tie.Need-returns-2
 returns-2 c =
-    let s = c .before .before .before .before .before .before .before .before in
-    let b = c .before .before .before .before .before .before .before .index16 in
-    at-its-board (b .result) (s .args .a) (b .ensures .1)
-    (λ e. transmits-42 (s .args .sender .now) (s .args .reader .now) (s .args .port .now) (s .args .rows .now) (s .args .mails .now) (s .args .logs .now) (s .args .heads .now) (s .args .boards .now) (s .args .totals .now) (s .args .waits .now) (b .result) (s .args .oldest) _ (c .before .before .before .before .before .if1 .left) (sym (c .before .before .before .peek .ensures) ∙ c .before .enum-told .given .1) (rw (← e) (c .refusal2 .ensures)))
+    let test = c .before .before .before .before .before in
+    let s = test .before .before .before .args in
+    let b = test .before .before .index16 in
+    transmits-42 (s .wires .now) (s .rows .now) (s .mails .now) (s .logs .now) (s .heads .now) (s .queues .now) (s .totals .now)
+    (s .a) (b .result) (s .oldest) _ (b .ensures .1) (test .if1 .left)
+    (sym (c .before .before .before .peek .ensures) ∙ c .before .enum-told .given .1) (c .refusal2 .ensures)
 
 mul-pop : tie.Need-mul-pop
 mul-pop c = search needs
@@ -90,39 +93,50 @@ transmit-transfer-requires c κs = search needs
 
 returns-3 : tie.Need-returns-3
 returns-3 c =
-    let s = c .before .before .before .before .before .before .before .before .before .before .before .before .before .before .before .before .before .before .before in
-    let b = c .before .before .before .before .before .before .before .before .before .before .before .before .before .before .before .before .before .before .index16 in
-    let i = c .before .before .before .before .before .before .before .before .before .before .before .before .item .given in
+    let left = c .before .before .before .before .before .before .before .before .before in
+    let front = left .before .before .before in
+    let seen = front .before .before in
+    let test = seen .before .before in
+    let s = test .before .before .before .args in
+    let b = test .before .before .index16 in
+    let i = front .item .given in
     let x = c .before .before .before .before .before .before .before .item2 .given in
     let y = c .transmit-word in
-    at-its-board (b .result) (s .args .a) (b .ensures .1)
-    (λ e. transmits-word (s .args .sender .now) (s .args .reader .now) (s .args .port .now) (s .args .rows .now) (s .args .mails .now) (s .args .logs .now) (s .args .heads .now) (s .args .boards .now) (s .args .totals .now) (s .args .waits .now) (b .result) (s .args .oldest) _
-    (c .before .before .before .before .before .before .before .before .before .before .before .before .before .before .before .before .if1 .left) (i .0 .0) (sym (c .before .before .before .before .before .before .before .before .before .before .before .before .before .before .peek .ensures) ∙ i .1) (c .before .before .before .before .before .before .before .before .before .pop .last .0) (c .before .before .before .before .before .before .before .before .before .pop .ensures)
-    (x .0 .0) (x .0 .1 .0) (x .1) (y .last .1 .1 .1 .0) (y .last .1 .1 .1 .1 .0) (y .last .1 .1 .1 .1 .1 .0) (y .last .1 .1 .1 .1 .1 .1 .0) (y .last .1 .1 .1 .1 .1 .1 .1 .0) (y .ensures))
+    transmits-word (s .wires .now) (s .rows .now) (s .mails .now) (s .logs .now) (s .heads .now) (s .queues .now) (s .totals .now)
+    (s .a) (b .result) (s .oldest) _ (b .ensures .1) (test .if1 .left) (i .0 .0) (sym (seen .peek .ensures) ∙ i .1)
+    (left .pop .last .0) (left .pop .ensures) (x .0 .0) (x .0 .1 .0) (x .1)
+    (y .last .1 .0) (y .last .1 .1 .0) (y .last .1 .1 .1 .0) (y .last .1 .1 .1 .1 .0) (y .last .1 .1 .1 .1 .1 .0) (y .ensures)
 
 returns-4 : tie.Need-returns-4
 returns-4 c =
-    let s = c .before .before .before .before .before .before .before .before .before .before .before .before .before .before .before .before .before .before in
-    let b = c .before .before .before .before .before .before .before .before .before .before .before .before .before .before .before .before .before .index16 in
-    let i = c .before .before .before .before .before .before .before .before .before .before .before .item .given in
-    let x = c .before .before .before .before .before .before .item3 .given in
+    let left = c .before .before .before .before .before .before .before in
+    let front = left .before .before .before in
+    let seen = front .before .before in
+    let test = seen .before .before in
+    let s = test .before .before .before .args in
+    let b = test .before .before .index16 in
+    let i = front .item .given in
+    let x = c .before .before .before .before .before .item3 .given in
     let y = c .transmit-sync in
-    at-its-board (b .result) (s .args .a) (b .ensures .1)
-    (λ e. transmits-sync (s .args .sender .now) (s .args .reader .now) (s .args .port .now) (s .args .rows .now) (s .args .mails .now) (s .args .logs .now) (s .args .heads .now) (s .args .boards .now) (s .args .totals .now) (s .args .waits .now) (b .result) (s .args .oldest) _
-    (c .before .before .before .before .before .before .before .before .before .before .before .before .before .before .before .if1 .left) (i .0 .0) (sym (c .before .before .before .before .before .before .before .before .before .before .before .before .before .peek .ensures) ∙ i .1) (c .before .before .before .before .before .before .before .before .pop .last .0) (c .before .before .before .before .before .before .before .before .pop .ensures)
-    (x .0 .0) (x .0 .1 .0) (x .1) (y .last .1 .0) (y .last .1 .1 .0) (y .last .1 .1 .1 .0) (y .ensures))
+    transmits-sync (s .wires .now) (s .rows .now) (s .mails .now) (s .logs .now) (s .heads .now) (s .queues .now) (s .totals .now)
+    (s .a) (b .result) (s .oldest) _ (b .ensures .1) (test .if1 .left) (i .0 .0) (sym (seen .peek .ensures) ∙ i .1)
+    (left .pop .last .0) (left .pop .ensures) (x .0 .0) (x .0 .1 .0) (x .1)
+    (y .last .0) (y .last .1 .0) (y .last .1 .1 .0) (y .ensures)
 
 returns-5 : tie.Need-returns-5
 returns-5 c =
-    let s = c .before .before .before .before .before .before .before .before .before .before .before .before .before .before .before .before in
-    let b = c .before .before .before .before .before .before .before .before .before .before .before .before .before .before .before .index16 in
-    let i = c .before .before .before .before .before .before .before .before .before .item .given in
-    let x = c .before .before .before .before .item4 .given in
+    let left = c .before .before .before .before .before in
+    let front = left .before .before .before in
+    let seen = front .before .before in
+    let test = seen .before .before in
+    let s = test .before .before .before .args in
+    let b = test .before .before .index16 in
+    let i = front .item .given in
+    let x = c .before .before .before .item4 .given in
     let y = c .transmit-transfer in
-    at-its-board (b .result) (s .args .a) (b .ensures .1)
-    (λ e. transmits-transfer (s .args .sender .now) (s .args .reader .now) (s .args .port .now) (s .args .rows .now) (s .args .mails .now) (s .args .logs .now) (s .args .heads .now) (s .args .boards .now) (s .args .totals .now) (s .args .waits .now) (b .result) (s .args .oldest) _
-    (c .before .before .before .before .before .before .before .before .before .before .before .before .before .if1 .left) (i .0 .0) (sym (c .before .before .before .before .before .before .before .before .before .before .before .peek .ensures) ∙ i .1) (c .before .before .before .before .before .before .pop .last .0) (c .before .before .before .before .before .before .pop .ensures)
-    (x .0 .0) (x .1) (y .last .0) (y .last .1 .0) (y .ensures))
+    transmits-transfer (s .wires .now) (s .rows .now) (s .mails .now) (s .logs .now) (s .heads .now) (s .queues .now) (s .totals .now)
+    (s .a) (b .result) (s .oldest) _ (b .ensures .1) (test .if1 .left) (i .0 .0) (sym (seen .peek .ensures) ∙ i .1)
+    (left .pop .last .0) (left .pop .ensures) (x .0 .0) (x .1) (y .last .0) (y .ensures)
 
 pub transmit-spec : {M : Type 1} → statement M
 transmit-spec =

@@ -7,7 +7,7 @@ use Rattle.cabinet.proofs.run.conduct.Statement.{statement}
 use Rattle.cabinet.proofs.run.conduct.Tie as tie
 use Rattle.cabinet.proofs.run.conduct.Reads as reads
 use Rattle.cabinet.proofs.run.conduct.Lts as lts
-use Rattle.cabinet.proofs.play.play.Reads as play-reads
+use Rattle.play.proofs.play.play.Reads as play-reads
 use Rattle.outcome.proofs.quiet.quiescent.Reads as quiescent-reads
 use Rattle.outcome.proofs.report.write_report.Reads as write-report-reads
 use Rattle.outcome.proofs.start.seat.Reads as seat-reads
@@ -16,7 +16,7 @@ seat-requires : tie.Need-seat-requires
 seat-requires c κs = search needs
 
 play-requires : tie.Need-play-requires
-play-requires c κs = search needs
+play-requires c κs = c .before .before .before .before .before .before .before .before .before .before .before .before .before .before .before .before .before .before .before .before .before .before .before .before .pre
 
 write-report-requires : tie.Need-write-report-requires
 write-report-requires c κs = search needs
@@ -35,9 +35,9 @@ same-length-3 c = search needs
 
 returns : tie.Need-returns
 returns c =
-    let s = c .before .before .before .before .before .before .before .before .before .before .before .before .before .before .before .before .before .before .before .before .before .before .before .before .before .before .before .before .before .before .before .before .before .before .before .before .before .before .before .before .before .before .before .before .before .before .before .before .before .before .before .before .args in
-    conducts (s .table .now) (s .schedule .now) (s .records) (s .plan) (s .answers .now) (s .reasons .now) (s .report .now) _ _ _ _ _ _ _ _ _ _ _ _ (c .quiescent .result)
-    (fresh-made _ refl) (c .before .before .before .before .before .before .before .before .before .before .before .before .before .before .before .before .before .before .before .before .before .before .before .before .before .before .before .before .before .before .before .before .before .seat .ensures) (c .before .before .before .before .before .before .before .before .before .before .before .before .before .before .before .play .ensures) (c .before .before .before .before .before .before .before .before .write-report .ensures) (c .quiescent .ensures)
+    let s = c .before .before .before .before .before .before .before .before .before .before .before .before .before .before .before .before .before .before .before .before .before .before .before .before .before .before .before .before .before .before .before .before .before .before .before .before .before .before .before .args in
+    conducts (s .table .now) (s .schedule .now) (s .records) (s .plan) (s .answers .now) (s .reasons .now) (s .report .now) _ _ _ _ _ _ _ _ _ _ _ (c .quiescent .result)
+    (fresh-made _ refl) (c .before .before .before .before .before .before .before .before .before .before .before .before .before .before .before .before .before .before .before .before .before .before .before .before .before .seat .ensures) (c .before .before .before .before .before .before .before .before .before .before .before .before .before .before .play .ensures) (c .before .before .before .before .before .before .before .write-report .ensures) (c .quiescent .ensures)
 
 pub conduct-spec : {M : Type 1} → statement M
 conduct-spec =

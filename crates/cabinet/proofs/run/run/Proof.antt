@@ -1,5 +1,5 @@
 use Rattle.rules.specs.Run.{buffersOf}
-use Rattle.cabinet.proofs.Running.{refuses, accepts}
+use Rattle.cabinet.proofs.Running.{refuses, roomy, accepts}
 use native.Mathlib.Omega.{arith}
 use borrow.Author.Needs.{needs}
 use Rattle.cabinet.proofs.run.run.Statement.{statement}
@@ -22,12 +22,21 @@ judge-run-requires c κs = search needs
 
 returns : tie.Need-returns
 returns c =
-    let s = c .before .before .before .before .before .before .before .before .before .before .args in
-    refuses (s .table .now) (s .schedule .now) (buffersOf (s .answers .now) (s .reasons .now) (s .report .now)) (c .before .before .before .before .decode .result) (c .before .before .before .judge-schedule .result) (c .before .before .before .before .decode .ensures) (c .before .before .before .judge-schedule .ensures)
-    (c .before .judge-run .result) (c .before .judge-run .ensures) (c .if1 .taken)
+    let s = c .before .before .before .before .before .before .before .before .before .before .before .args in
+    let d = c .before .before .before .before .before .decode in
+    let j = c .before .before .before .before .judge-schedule in
+    let n = c .before .judge-run in
+    refuses (s .table .now) (s .schedule .now) (buffersOf (s .answers .now) (s .reasons .now) (s .report .now)) (d .result) (j .result) (d .ensures) (j .ensures)
+    (n .result) (n .ensures) (c .if1 .taken)
 
 conduct-requires : tie.Need-conduct-requires
-conduct-requires c κs = search needs
+conduct-requires c κs =
+    let s = c .before .before .before .before .before .before .before .before .before .before .before .before .before .before .args in
+    let d = c .before .before .before .before .before .before .before .before .decode in
+    let j = c .before .before .before .before .before .before .before .judge-schedule in
+    let n = c .before .before .before .before .judge-run in
+    roomy (s .table .now) (s .schedule .now) (buffersOf (s .answers .now) (s .reasons .now) (s .report .now)) (d .result) (j .result) (d .ensures) (j .ensures)
+    (n .result) (n .ensures) (c .before .before .before .if1 .left)
 
 same-length : tie.Need-same-length
 same-length c = search needs
@@ -40,9 +49,12 @@ same-length-3 c = search needs
 
 returns-2 : tie.Need-returns-2
 returns-2 c =
-    let s = c .before .before .before .before .before .before .before .before .before .before .before .before .before .before .before .before .before .before .before .before .args in
-    accepts (s .table .now) (s .schedule .now) (buffersOf (s .answers .now) (s .reasons .now) (s .report .now)) (c .before .before .before .before .before .before .before .before .before .before .before .before .before .before .decode .result) (c .before .before .before .before .before .before .before .before .before .before .before .before .before .judge-schedule .result) (c .before .before .before .before .before .before .before .before .before .before .before .before .before .before .decode .ensures) (c .before .before .before .before .before .before .before .before .before .before .before .before .before .judge-schedule .ensures)
-    (c .before .before .before .before .before .before .before .before .before .before .before .judge-run .result) (c .before .before .before .before .before .before .before .before .before .before .before .judge-run .ensures) (c .before .before .before .before .before .before .before .before .before .before .if1 .left) (c .before .before .before .before .before .before .conduct .result) _ (c .before .before .before .before .before .before .conduct .ensures)
+    let s = c .before .before .before .before .before .before .before .before .before .before .before .before .before .before .before .before .before .before .before .before .before .args in
+    let d = c .before .before .before .before .before .before .before .before .before .before .before .before .before .before .before .decode in
+    let j = c .before .before .before .before .before .before .before .before .before .before .before .before .before .before .judge-schedule in
+    let n = c .before .before .before .before .before .before .before .before .before .before .before .judge-run in
+    accepts (s .table .now) (s .schedule .now) (buffersOf (s .answers .now) (s .reasons .now) (s .report .now)) (d .result) (j .result) (d .ensures) (j .ensures)
+    (n .result) (n .ensures) (c .before .before .before .before .before .before .before .before .before .before .if1 .left) (c .before .before .before .before .before .before .conduct .result) _ (c .before .before .before .before .before .before .conduct .ensures)
 
 pub run-spec : {M : Type 1} → statement M
 run-spec =

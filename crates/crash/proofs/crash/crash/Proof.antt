@@ -1,4 +1,3 @@
-use mathlib.Core.Path.{refl}
 use Rattle.crash.proofs.Crashing.{crashes-34, crashes-44, crashes-done}
 use native.Mathlib.Omega.{arith}
 use borrow.Author.Needs.{needs}
@@ -6,17 +5,16 @@ use Rattle.crash.proofs.crash.crash.Statement.{statement}
 use Rattle.crash.proofs.crash.crash.Tie as tie
 use Rattle.crash.proofs.crash.crash.Reads as reads
 use Rattle.crash.proofs.crash.crash.Lts as lts
-use Rattle.crash.proofs.bounds.most16.Reads as most16-reads
-use Rattle.crash.proofs.bounds.most32.Reads as most32-reads
 use Rattle.crash.proofs.losses.die.Reads as die-reads
-use Rattle.crash.proofs.losses.lose_flags.Reads as lose-flags-reads
 use Rattle.crash.proofs.losses.lose_words.Reads as lose-words-reads
 use Rattle.crash.proofs.losses.some_unbacked.Reads as some-unbacked-reads
 use Rattle.crash.proofs.processes.crash_all.Reads as crash-all-reads
 use Rattle.crash.proofs.recount.add_unread.Reads as add-unread-reads
 use Rattle.crash.proofs.recount.drop_unread.Reads as drop-unread-reads
-use Rattle.state.proofs.board.index16.Reads as index16-reads
 use Rattle.state.proofs.moved.refusal.Reads as refusal-reads
+use Rattle.words.proofs.index16.Reads as index16-reads
+use Rattle.words.proofs.most16.Reads as most16-reads
+use Rattle.words.proofs.most32.Reads as most32-reads
 
 index16-requires : tie.Need-index16-requires
 index16-requires c κs = search needs
@@ -35,10 +33,10 @@ refusal-requires c κs = search needs
 
 returns : tie.Need-returns
 returns c =
-    let a = c .before .before .before .before .args in
-    let b = c .before .before .before .index16 in
-    crashes-34 (a .processes) (a .channels) (a .sender .now) (a .reader .now) (a .ins .now) (a .arity .now) (a .rows .now) (a .mails .now) (a .logs .now) (a .heads .now) (a .boards .now) (a .totals .now) (a .waits .now) (a .a) (b .result) (b .ensures .1) _
-    (c .before .if1 .taken) (c .refusal .ensures)
+    let b = c .before .before .before in
+    let a = b .before .args in
+    crashes-34 (a .counts) (a .programs .now) (a .wires .now) (a .rows .now) (a .mails .now) (a .logs .now) (a .heads .now) (a .queues .now) (a .totals .now) (a .a)
+    (b .index16 .result) (b .index16 .ensures .1) _ (c .before .if1 .taken) (c .refusal .ensures)
 
 most16-requires : tie.Need-most16-requires
 most16-requires c κs = search needs
@@ -51,12 +49,14 @@ refusal-requires-2 c κs = search needs
 
 returns-2 : tie.Need-returns-2
 returns-2 c =
-    let a = c .before .before .before .before .before .before .before .before .args in
-    let b = c .before .before .before .before .before .before .before .index16 in
-    let p = c .before .before .before .before .most16 in
-    let u = c .before .before .some-unbacked in
-    crashes-44 (a .processes) (a .channels) (a .sender .now) (a .reader .now) (a .ins .now) (a .arity .now) (a .rows .now) (a .mails .now) (a .logs .now) (a .heads .now) (a .boards .now) (a .totals .now) (a .waits .now) (a .a) (b .result) (b .ensures .1) _
-    (p .result) (p .ensures .1) (c .before .before .before .before .before .if1 .left) (u .result) (u .ensures) (c .before .if2 .taken) (c .refusal2 .ensures)
+    let u = c .before .before in
+    let p = u .before .before in
+    let live = p .before in
+    let b = live .before .before in
+    let a = b .before .args in
+    crashes-44 (a .counts) (a .programs .now) (a .wires .now) (a .rows .now) (a .mails .now) (a .logs .now) (a .heads .now) (a .queues .now) (a .totals .now) (a .a)
+    (b .index16 .result) (b .index16 .ensures .1) (p .most16 .result) (p .most16 .ensures .1) (live .if1 .left) (u .some-unbacked .result) (u .some-unbacked .ensures)
+    (c .before .if2 .taken) _ (c .refusal2 .ensures)
 
 most32-requires : tie.Need-most32-requires
 most32-requires c κs = search needs
@@ -67,9 +67,6 @@ drop-unread-requires c κs = search needs
 lose-words-requires : tie.Need-lose-words-requires
 lose-words-requires c κs = search needs
 
-lose-flags-requires : tie.Need-lose-flags-requires
-lose-flags-requires c κs = search needs
-
 crash-all-requires : tie.Need-crash-all-requires
 crash-all-requires c κs = search needs
 
@@ -77,24 +74,30 @@ add-unread-requires : tie.Need-add-unread-requires
 add-unread-requires c κs = search needs
 
 mul-die : tie.Need-mul-die
-mul-die c = let l = c .before .before .before .before .before .before .before .before .before .before .before .before .before .before .before .before .before .before .before .before .before .before .before .before .index16 .ensures .0 in search needs
+mul-die c = search needs
 
 index-1-die : tie.Need-index-1-die
-index-1-die c = let l = c .before .before .before .before .before .before .before .before .before .before .before .before .before .before .before .before .before .before .before .before .before .before .before .before .index16 .ensures .0 in search needs
+index-1-die c = search needs
 
 die-requires : tie.Need-die-requires
 die-requires c κs = search needs
 
 returns-3 : tie.Need-returns-3
 returns-3 c =
-    let a = c .before .before .before .before .before .before .before .before .before .before .before .before .before .before .before .before .before .before .before .before .before .before .before .before .before .before .before .args in
-    let b = c .before .before .before .before .before .before .before .before .before .before .before .before .before .before .before .before .before .before .before .before .before .before .before .before .before .before .index16 in
-    let p = c .before .before .before .before .before .before .before .before .before .before .before .before .before .before .before .before .before .before .before .before .before .before .before .most16 in
-    let k = c .before .before .before .before .before .before .before .before .before .before .before .before .before .before .before .before .before .before .before .most32 in
-    let u = c .before .before .before .before .before .before .before .before .before .before .before .before .before .before .before .before .before .before .before .before .before .some-unbacked in
-    crashes-done (a .processes) (a .channels) (a .sender .now) (a .reader .now) (a .ins .now) (a .arity .now) (a .rows .now) (a .mails .now) (a .logs .now) (a .heads .now) (a .boards .now) (a .totals .now) (a .waits .now) (a .a) (b .result) (b .ensures .1) _
-    (p .result) (p .ensures .1) (c .before .before .before .before .before .before .before .before .before .before .before .before .before .before .before .before .before .before .before .before .before .before .before .before .if1 .left) (k .result) (k .ensures .1) (u .result) (u .ensures) (c .before .before .before .before .before .before .before .before .before .before .before .before .before .before .before .before .before .before .before .before .if2 .left)
-    _ _ _ _ _ _ _ (c .before .before .before .before .before .before .before .before .before .before .before .before .before .before .before .drop-unread .ensures) (c .before .before .before .before .before .before .before .before .before .before .before .before .lose-words .ensures) (c .before .before .before .before .before .before .before .before .before .lose-flags .ensures) (c .before .before .before .before .before .before .crash-all .ensures) (c .before .before .add-unread .ensures) (c .die .ensures) refl
+    let added = c .before .before in
+    let all = added .before .before .before .before in
+    let words = all .before .before .before in
+    let dropped = words .before .before .before in
+    let k = dropped .before .before .before .before in
+    let u = k .before .before in
+    let p = u .before .before in
+    let live = p .before in
+    let b = live .before .before in
+    let a = b .before .args in
+    crashes-done (a .counts) (a .programs .now) (a .wires .now) (a .rows .now) (a .mails .now) (a .logs .now) (a .heads .now) (a .queues .now) (a .totals .now) (a .a)
+    (b .index16 .result) (b .index16 .ensures .1) (p .most16 .result) (p .most16 .ensures .1) (live .if1 .left) (u .some-unbacked .result) (u .some-unbacked .ensures)
+    (k .before .if2 .left) (k .most32 .result) (k .most32 .ensures .1) _ _ _ _ _ _
+    (dropped .drop-unread .ensures) (words .lose-words .ensures) (all .crash-all .ensures) (added .add-unread .ensures) (c .die .ensures)
 
 pub crash-spec : {M : Type 1} → statement M
 crash-spec =
@@ -113,7 +116,6 @@ crash-spec =
     most32-requires
     drop-unread-requires
     lose-words-requires
-    lose-flags-requires
     crash-all-requires
     add-unread-requires
     mul-die

@@ -1,6 +1,6 @@
 use mathlib.Core.Logic.{⊎-elim}
 use mathlib.Core.Path.{ap, _∙_, sym}
-use Prim.Native.Nat.{_-_}
+use Prim.Native.Nat.{_-_, _<_}
 use Rattle.crash.specs.Losses.{runsOn, lostWords}
 use Rattle.crash.proofs.Losing.{Zeroing, zeroing-start, zeroing-hit, zeroing-miss, zeroing-end}
 use borrow.Author.Needs.{needs}
@@ -10,22 +10,20 @@ use Rattle.crash.proofs.losses.lose_words.Tie as tie
 use Rattle.crash.proofs.losses.lose_words.Reads as reads
 use Rattle.crash.proofs.losses.lose_words.Lts as lts
 use Rattle.crash.proofs.losses.runs_on.Reads as runs-on-reads
-use Rattle.state.proofs.board.wide.Reads as wide-reads
+use Rattle.plan.proofs.sender.Reads as sender-reads
+use Rattle.words.proofs.wide.Reads as wide-reads
 
 abbrev Inv-loop : tie.InvT-loop
-Inv-loop n sender rows a totals₀ k₀ totals k = Zeroing (lostWords sender rows a) n totals₀ totals k
+Inv-loop n wires rows a totals₀ k₀ totals k = Zeroing (lostWords wires rows a) n totals₀ totals k
 
 abbrev μ-loop : tie.MeasureT-loop
-μ-loop n sender rows a totals₀ k₀ totals k = n - k
+μ-loop n wires rows a totals₀ k₀ totals k = n - k
 
 loop-holds : tie.Need-loop-holds Inv-loop μ-loop
-loop-holds c = let a = c .args in zeroing-start (lostWords (a .sender .now) (a .rows .now) (a .a)) _ _
+loop-holds c = let a = c .args in zeroing-start (lostWords (a .wires .now) (a .rows .now) (a .a)) _ _
 
-mul-wide : tie.Need-mul-wide Inv-loop μ-loop
-mul-wide c = search needs
-
-element-copy-out-wide : tie.Need-element-copy-out-wide Inv-loop μ-loop
-element-copy-out-wide c = search needs
+sender-requires : tie.Need-sender-requires Inv-loop μ-loop
+sender-requires c κs = search needs
 
 wide-requires : tie.Need-wide-requires Inv-loop μ-loop
 wide-requires c κs = search needs
@@ -50,14 +48,19 @@ loop-again c =
     let a = c .before .before .before .before .before .before .args in
     let l = c .before .before .before .before .before .loop in
     let t = c .before .before .before .before .loop-test .taken in
-    let d = c .before .runs-on .ensures ∙ ap (runsOn (a .rows .now) (a .a)) (c .before .before .wide .ensures .0) in
+    let small : l .k < 32 = omega arith in
+    let named = lostWords (a .wires .now) (a .rows .now) (a .a) in
+    let d = c .before .runs-on .ensures ∙ ap (runsOn (a .rows .now) (a .a)) (c .before .before .wide .ensures .0 ∙ c .before .before .before .sender .ensures small) in
     ⊎-elim
-    (λ w. rw (w .1) (zeroing-hit (lostWords (a .sender .now) (a .rows .now) (a .a)) (a .n) (a .totals .now) (l .totals) (l .k) (l .inv) t (sym d ∙ w .0 .taken)))
-    (λ w. rw (w .1) (zeroing-miss (lostWords (a .sender .now) (a .rows .now) (a .a)) (a .n) (a .totals .now) (l .totals) (l .k) (l .inv) t (sym d ∙ w .0 .left)))
+    (λ w. rw (w .1) (zeroing-hit named (a .n) (a .totals .now) (l .totals) (l .k) (l .inv) t (sym d ∙ w .0 .taken)))
+    (λ w. rw (w .1) (zeroing-miss named (a .n) (a .totals .now) (l .totals) (l .k) (l .inv) t (sym d ∙ w .0 .left)))
     (c .if1 .came)
 
 returns : tie.Need-returns Inv-loop μ-loop
-returns c = let a = c .before .before .args in let l = c .before .loop in zeroing-end (lostWords (a .sender .now) (a .rows .now) (a .a)) (a .n) (a .totals .now) (l .totals) (l .k) (l .inv) (c .loop-test .left)
+returns c =
+    let a = c .before .before .args in
+    let l = c .before .loop in
+    zeroing-end (lostWords (a .wires .now) (a .rows .now) (a .a)) (a .n) (a .totals .now) (l .totals) (l .k) (l .inv) (c .loop-test .left)
 
 pub lose-words-spec : {M : Type 1} → statement M
 lose-words-spec =
@@ -66,8 +69,7 @@ lose-words-spec =
     Inv-loop
     μ-loop
     loop-holds
-    mul-wide
-    element-copy-out-wide
+    sender-requires
     wide-requires
     runs-on-requires
     mul-totals

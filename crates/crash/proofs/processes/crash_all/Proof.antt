@@ -10,13 +10,13 @@ use Rattle.crash.proofs.processes.input_at.Reads as input-at-reads
 use Rattle.process.proofs.crash.crash.Reads as crash-reads
 
 abbrev Inv-loop : tie.InvT-loop
-Inv-loop n ins arity rows₀ mails₀ logs heads a p₀ rows mails p = Promoting n ins arity rows₀ mails₀ logs heads a rows mails p
+Inv-loop n programs rows₀ mails₀ logs heads a p₀ rows mails p = Promoting n programs rows₀ mails₀ logs heads a rows mails p
 
 abbrev μ-loop : tie.MeasureT-loop
-μ-loop n ins arity rows₀ mails₀ logs heads a p₀ rows mails p = n - p
+μ-loop n programs rows₀ mails₀ logs heads a p₀ rows mails p = n - p
 
 loop-holds : tie.Need-loop-holds Inv-loop μ-loop
-loop-holds c = promoting-start _ _ _ _ _ _ _ _
+loop-holds c = promoting-start _ _ _ _ _ _ _
 
 input-at-requires : tie.Need-input-at-requires Inv-loop μ-loop
 input-at-requires c κs = search needs
@@ -72,14 +72,14 @@ loop-again c =
     let i1 = c .before .before .before .before .before .before .before .input-at2 in
     let i2 = c .before .before .before .before .before .before .input-at3 in
     let i3 = c .before .before .before .before .before .input-at4 in
-    promoting-on (a .n) (a .ins .now) (a .arity .now) (a .rows .now) (a .mails .now) (a .logs .now) (a .heads .now) (a .a) (l .rows) (l .mails) (l .p) (l .inv)
+    promoting-on (a .n) (a .programs .now) (a .rows .now) (a .mails .now) (a .logs .now) (a .heads .now) (a .a) (l .rows) (l .mails) (l .p) (l .inv)
     (i0 .result) (i1 .result) (i2 .result) (i3 .result) (c .crash .last .0) (c .crash .last .1 .0) t (i0 .ensures) (i1 .ensures) (i2 .ensures) (i3 .ensures) (c .crash .ensures)
 
 returns : tie.Need-returns Inv-loop μ-loop
 returns c =
     let a = c .before .before .args in
     let l = c .before .loop in
-    promoting-end (a .n) (a .ins .now) (a .arity .now) (a .rows .now) (a .mails .now) (a .logs .now) (a .heads .now) (a .a) (l .rows) (l .mails) (l .p) (l .inv) (c .loop-test .left)
+    promoting-end (a .n) (a .programs .now) (a .rows .now) (a .mails .now) (a .logs .now) (a .heads .now) (a .a) (l .rows) (l .mails) (l .p) (l .inv) (c .loop-test .left)
 
 pub crash-all-spec : {M : Type 1} → statement M
 crash-all-spec =

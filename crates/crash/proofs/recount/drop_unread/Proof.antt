@@ -1,7 +1,6 @@
 use mathlib.Core.Path.{ap, _∙_}
-use Prim.Native.Nat.{ℕ, _-_}
-use lib.ListN.{getD}
-use Rattle.crash.specs.Recount.{unreadIn, lessBy}
+use Prim.Native.Nat.{ℕ, _-_, _<_}
+use Rattle.crash.specs.Recount.{unreadAt, lessBy, lessUnread}
 use Rattle.crash.proofs.Passing.{Passing, passing-start, passing-on, passing-end}
 use Rattle.crash.proofs.Recounting.{less-by}
 use borrow.Author.Needs.{needs}
@@ -11,23 +10,21 @@ use Rattle.crash.proofs.recount.drop_unread.Tie as tie
 use Rattle.crash.proofs.recount.drop_unread.Reads as reads
 use Rattle.crash.proofs.recount.drop_unread.Lts as lts
 use Rattle.crash.proofs.recount.unread_at.Reads as unread-at-reads
-use Rattle.state.proofs.board.wide.Reads as wide-reads
+use Rattle.plan.proofs.reader.Reads as reader-reads
 use Rattle.std.proofs.num.wrapping_sub_u32.Reads as wrapping-sub-u32-reads
+use Rattle.words.proofs.wide.Reads as wide-reads
 
 abbrev Inv-loop : tie.InvT-loop
-Inv-loop n reader rows mails totals₀ k₀ totals k = Passing (λ i x. lessBy x (unreadIn rows mails (getD reader i 0) i)) n totals₀ totals k
+Inv-loop n wires rows mails totals₀ k₀ totals k = Passing (lessUnread wires rows mails) n totals₀ totals k
 
 abbrev μ-loop : tie.MeasureT-loop
-μ-loop n reader rows mails totals₀ k₀ totals k = n - k
+μ-loop n wires rows mails totals₀ k₀ totals k = n - k
 
 loop-holds : tie.Need-loop-holds Inv-loop μ-loop
 loop-holds c = passing-start _ _ _
 
-mul-wide : tie.Need-mul-wide Inv-loop μ-loop
-mul-wide c = search needs
-
-element-copy-out-wide : tie.Need-element-copy-out-wide Inv-loop μ-loop
-element-copy-out-wide c = search needs
+reader-requires : tie.Need-reader-requires Inv-loop μ-loop
+reader-requires c κs = search needs
 
 wide-requires : tie.Need-wide-requires Inv-loop μ-loop
 wide-requires c κs = search needs
@@ -61,17 +58,18 @@ loop-again c =
     let a = c .before .before .before .before .before .before .before .args in
     let l = c .before .before .before .before .before .before .loop in
     let t = c .before .before .before .before .before .loop-test .taken in
-    let r = c .before .before .before .wide in
+    let small : l .k < 32 = omega arith in
+    let r = c .before .before .before .wide .ensures .0 ∙ c .before .before .before .before .reader .ensures small in
     let u = c .before .before .unread-at in
     let w = c .wrapping-sub-u32 in
-    passing-on (λ k x. lessBy x (unreadIn (a .rows .now) (a .mails .now) (getD (a .reader .now) k 0) k)) (a .n) (a .totals .now) (l .totals) (l .k) (l .inv) t (w .result)
-    (less-by _ (u .result) (w .result) (w .ensures) (w .ok) (u .ok) ∙ ap (lessBy _) (u .ensures ∙ ap (λ (p : ℕ). unreadIn (a .rows .now) (a .mails .now) p (l .k)) (r .ensures .0)))
+    passing-on (lessUnread (a .wires .now) (a .rows .now) (a .mails .now)) (a .n) (a .totals .now) (l .totals) (l .k) (l .inv) t (w .result)
+    (less-by _ (u .result) (w .result) (w .ensures) (w .ok) (u .ok) ∙ ap (lessBy _) (u .ensures ∙ ap (λ (p : ℕ). unreadAt (a .rows .now) (a .mails .now) p (l .k)) r))
 
 returns : tie.Need-returns Inv-loop μ-loop
 returns c =
     let a = c .before .before .args in
     let l = c .before .loop in
-    passing-end (λ k x. lessBy x (unreadIn (a .rows .now) (a .mails .now) (getD (a .reader .now) k 0) k)) (a .n) (a .totals .now) (l .totals) (l .k) (l .inv) (c .loop-test .left)
+    passing-end (lessUnread (a .wires .now) (a .rows .now) (a .mails .now)) (a .n) (a .totals .now) (l .totals) (l .k) (l .inv) (c .loop-test .left)
 
 pub drop-unread-spec : {M : Type 1} → statement M
 drop-unread-spec =
@@ -80,8 +78,7 @@ drop-unread-spec =
     Inv-loop
     μ-loop
     loop-holds
-    mul-wide
-    element-copy-out-wide
+    reader-requires
     wide-requires
     unread-at-requires
     mul-wrapping-sub-u32

@@ -8,7 +8,7 @@ use Rattle.instruction.proofs.instruction.examine.Reads as reads
 use Rattle.instruction.proofs.instruction.examine.Lts as lts
 use Rattle.instruction.proofs.instruction.register.Reads as register-reads
 use Rattle.instruction.proofs.instruction.seek.Reads as seek-reads
-use Rattle.process.proofs.row.wide.Reads as wide-reads
+use Rattle.words.proofs.wide.Reads as wide-reads
 
 element-copy-out-if1 : tie.Need-element-copy-out-if1
 element-copy-out-if1 c = search needs
@@ -25,6 +25,12 @@ element-copy-out-wide c = search needs
 wide-requires : tie.Need-wide-requires
 wide-requires c κs = search needs
 
+element-copy-out-wide-2 : tie.Need-element-copy-out-wide-2
+element-copy-out-wide-2 c = search needs
+
+wide-requires-2 : tie.Need-wide-requires-2
+wide-requires-2 c κs = search needs
+
 seek-requires : tie.Need-seek-requires
 seek-requires c κs = search needs
 
@@ -33,9 +39,9 @@ returns-2 c = examined-send _ _ _ _ _ _ (c .before .before .if1 .left) (c .befor
 
 returns-3 : tie.Need-returns-3
 returns-3 c =
-    let g = c .before .before .before .before .if3 .left in
-    let l = c .before .before .before .if4 .taken in
-    examined-sought _ _ _ _ _ _ (c .before .before .before .before .before .before .before .if1 .left) (three-or-four _ g l) (c .seek .result) (rw (c .before .wide .ensures) at (c .seek .ensures))
+    let t = c .before .before .before .before .before in
+    examined-sought _ _ _ _ _ _ (t .before .before .before .before .if1 .left) (three-or-four _ (t .before .if3 .left) (t .if4 .taken)) (c .seek .result)
+    (rw (c .before .wide2 .ensures .0, c .before .before .before .wide .ensures .0) at (c .seek .ensures))
 
 returns-4 : tie.Need-returns-4
 returns-4 c =
@@ -63,6 +69,8 @@ examine-spec =
     register-requires
     element-copy-out-wide
     wide-requires
+    element-copy-out-wide-2
+    wide-requires-2
     seek-requires
     returns-2
     returns-3

@@ -10,10 +10,10 @@ look-requires : tie.Need-look-requires
 look-requires c κs = search needs
 
 returns : tie.Need-returns
-returns c = (c .if1 .taken, λ s. c .before .look .ensures .finds s (c .if1 .taken))
+returns c = (c .if1 .taken, c .before .look .ensures .finds (c .if1 .taken))
 
 returns-2 : tie.Need-returns-2
-returns-2 c = λ s. c .before .look .ensures .misses s (c .if1 .left)
+returns-2 c = c .before .look .ensures .misses (c .if1 .left)
 
 pub seek-spec : {M : Type 1} → statement M
 seek-spec = tie.close (tie.spec look-requires returns returns-2)

@@ -1,5 +1,3 @@
-use mathlib.Core.Path.{ap}
-use lib.ListN.{set}
 use borrow.Author.Needs.{needs}
 use Rattle.instruction.proofs.instruction.tally.Statement.{statement}
 use Rattle.instruction.proofs.instruction.tally.Tie as tie

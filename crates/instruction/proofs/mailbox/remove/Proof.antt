@@ -1,29 +1,26 @@
-use Prim.Native.Nat.{_-_}
-use Rattle.instruction.proofs.Mailboxes.{Shifting, removed-none, shifting-start, shifting-on, shifting-end}
+use Rattle.instruction.proofs.Mailboxes.{Shifting, shifting-start, shifting-on, shifting-end}
 use borrow.Author.Needs.{needs}
 use native.Mathlib.Omega.{arith}
 use Rattle.instruction.proofs.mailbox.remove.Statement.{statement}
 use Rattle.instruction.proofs.mailbox.remove.Tie as tie
 use Rattle.instruction.proofs.mailbox.remove.Reads as reads
 use Rattle.instruction.proofs.mailbox.remove.Lts as lts
+use Rattle.process.proofs.mail.place.Reads as place-reads
 
 abbrev Inv-loop : tie.InvT-loop
-Inv-loop mail₀ unread at i₀ mail i = Shifting mail₀ unread at mail i
+Inv-loop mail₀ first at i₀ mail i = Shifting mail₀ first at mail i
 
 abbrev μ-loop : tie.MeasureT-loop
-μ-loop mail₀ unread at i₀ mail i = unread - i
-
-returns : tie.Need-returns Inv-loop μ-loop
-returns c = removed-none _ _ _ (λ h k. let z = c .if1 .taken in omega arith)
-
-returns-2 : tie.Need-returns-2 Inv-loop μ-loop
-returns-2 c = removed-none _ _ _ (λ h k. let z = c .if2 .taken in omega arith)
-
-add-i : tie.Need-add-i Inv-loop μ-loop
-add-i c = search needs
+μ-loop mail₀ first at i₀ mail i = i
 
 loop-holds : tie.Need-loop-holds Inv-loop μ-loop
-loop-holds c = shifting-start _ _ _ (c .before .if1 .left) (c .if2 .left)
+loop-holds c = shifting-start _ _ _ (c .pre)
+
+sub-place : tie.Need-sub-place Inv-loop μ-loop
+sub-place c = search needs
+
+place-requires : tie.Need-place-requires Inv-loop μ-loop
+place-requires c κs = search needs
 
 mul-mail : tie.Need-mul-mail Inv-loop μ-loop
 mul-mail c = search needs
@@ -31,8 +28,8 @@ mul-mail c = search needs
 element-copy-out-mail : tie.Need-element-copy-out-mail Inv-loop μ-loop
 element-copy-out-mail c = search needs
 
-sub-mail : tie.Need-sub-mail Inv-loop μ-loop
-sub-mail c = search needs
+place-requires-2 : tie.Need-place-requires-2 Inv-loop μ-loop
+place-requires-2 c κs = search needs
 
 mul-mail-2 : tie.Need-mul-mail-2 Inv-loop μ-loop
 mul-mail-2 c = search needs
@@ -40,17 +37,19 @@ mul-mail-2 c = search needs
 element-write-mail : tie.Need-element-write-mail Inv-loop μ-loop
 element-write-mail c = search needs
 
-add-i-2 : tie.Need-add-i-2 Inv-loop μ-loop
-add-i-2 c = search needs
+sub-i : tie.Need-sub-i Inv-loop μ-loop
+sub-i c = search needs
 
 loop-less : tie.Need-loop-less Inv-loop μ-loop
 loop-less c = search needs
 
 loop-again : tie.Need-loop-again Inv-loop μ-loop
-loop-again c = shifting-on _ _ _ _ _ (c .before .before .loop .inv) (c .before .loop-test .taken)
+loop-again c =
+    let s = c .before .before .before .before .before .pre in
+    rw (c .place2 .ensures, c .before .before .place .ensures) (shifting-on _ _ _ s _ _ (c .before .before .before .before .loop .inv) (c .before .before .before .loop-test .taken))
 
-returns-3 : tie.Need-returns-3 Inv-loop μ-loop
-returns-3 c = shifting-end _ _ _ _ _ (c .before .loop .inv) (c .loop-test .left)
+returns : tie.Need-returns Inv-loop μ-loop
+returns c = shifting-end _ _ _ (c .before .before .pre) _ _ (c .before .loop .inv) (c .loop-test .left)
 
 pub remove-spec : {M : Type 1} → statement M
 remove-spec =
@@ -58,16 +57,15 @@ remove-spec =
     (tie.spec
     Inv-loop
     μ-loop
-    returns
-    returns-2
-    add-i
     loop-holds
+    sub-place
+    place-requires
     mul-mail
     element-copy-out-mail
-    sub-mail
+    place-requires-2
     mul-mail-2
     element-write-mail
-    add-i-2
+    sub-i
     loop-less
     loop-again
-    returns-3)
+    returns)

@@ -18,8 +18,8 @@ cast-result c = search needs
 
 returns : tie.Need-returns
 returns c =
-    let x = c .before .before .before .before .before .args in
-    let d = c .before .before .decode in
+    let x = c .before .before .before .before .before .before .before .args in
+    let d = c .before .before .before .before .decode in
     let s = c .before .judge-schedule in
     rw (c .judge-run .ensures)
     (together (x .table .now) (x .schedule .now) (d .result) (s .result) _ (d .ensures) (s .ensures))

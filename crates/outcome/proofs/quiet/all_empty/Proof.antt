@@ -8,19 +8,19 @@ use Rattle.outcome.proofs.quiet.all_empty.Statement.{statement}
 use Rattle.outcome.proofs.quiet.all_empty.Tie as tie
 use Rattle.outcome.proofs.quiet.all_empty.Reads as reads
 use Rattle.outcome.proofs.quiet.all_empty.Lts as lts
-use Rattle.outcome.proofs.report.at_most_16.Reads as at-most-16-reads
+use Rattle.words.proofs.most16.Reads as most16-reads
 
 abbrev Inv-loop : tie.InvT-loop
-Inv-loop boards-many boards n b₀ b = (n ≤ 16) × Walked (emptyIn boards) n b
+Inv-loop boards queues n b₀ b = (n ≤ 16) × Walked (emptyIn queues) n b
 
 abbrev μ-loop : tie.MeasureT-loop
-μ-loop boards-many boards n b₀ b = n - b
+μ-loop boards queues n b₀ b = n - b
 
-at-most-16-requires : tie.Need-at-most-16-requires Inv-loop μ-loop
-at-most-16-requires c κs = search needs
+most16-requires : tie.Need-most16-requires Inv-loop μ-loop
+most16-requires c κs = search needs
 
 loop-holds : tie.Need-loop-holds Inv-loop μ-loop
-loop-holds c = (c .at-most-16 .ensures .0, walk-start _ _)
+loop-holds c = (c .most16 .ensures .0, walk-start _ _)
 
 mul-if1 : tie.Need-mul-if1 Inv-loop μ-loop
 mul-if1 c = search needs
@@ -32,7 +32,10 @@ index-2-if1 : tie.Need-index-2-if1 Inv-loop μ-loop
 index-2-if1 c = search needs
 
 returns : tie.Need-returns Inv-loop μ-loop
-returns c = let l = c .before .before .before .loop in empty-fails _ (c .before .before .before .before .before .args .boards .now) _ (l .b) (c .before .before .before .before .at-most-16 .ensures .1) (c .before .before .loop-test .taken) (c .if1 .taken)
+returns c =
+    let queues = c .before .before .before .before .before .args .queues .now in
+    let l = c .before .before .before .loop in
+    empty-fails queues _ _ (l .b) (c .before .before .before .before .most16 .ensures .1) (c .before .before .loop-test .taken) (c .if1 .taken)
 
 add-b : tie.Need-add-b Inv-loop μ-loop
 add-b c = search needs
@@ -41,10 +44,16 @@ loop-less : tie.Need-loop-less Inv-loop μ-loop
 loop-less c = search needs
 
 loop-again : tie.Need-loop-again Inv-loop μ-loop
-loop-again c = let l = c .before .before .before .loop in (l .inv .0, empty-on (c .before .before .before .before .before .args .boards .now) _ (l .b) (l .inv .1) (c .before .before .loop-test .taken) (c .if1 .left))
+loop-again c =
+    let queues = c .before .before .before .before .before .args .queues .now in
+    let l = c .before .before .before .loop in
+    (l .inv .0, empty-on queues _ (l .b) (l .inv .1) (c .before .before .loop-test .taken) (c .if1 .left))
 
 returns-2 : tie.Need-returns-2 Inv-loop μ-loop
-returns-2 c = let l = c .before .loop in empty-end _ (c .before .before .before .args .boards .now) _ (l .b) (c .before .before .at-most-16 .ensures .1) (l .inv .1) (c .loop-test .left)
+returns-2 c =
+    let queues = c .before .before .before .args .queues .now in
+    let l = c .before .loop in
+    empty-end queues _ _ (l .b) (c .before .before .most16 .ensures .1) (l .inv .1) (c .loop-test .left)
 
 pub all-empty-spec : {M : Type 1} → statement M
 all-empty-spec =
@@ -52,7 +61,7 @@ all-empty-spec =
     (tie.spec
     Inv-loop
     μ-loop
-    at-most-16-requires
+    most16-requires
     loop-holds
     mul-if1
     index-1-if1

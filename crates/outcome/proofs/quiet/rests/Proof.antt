@@ -9,7 +9,7 @@ use Rattle.outcome.proofs.quiet.rests.Reads as reads
 use Rattle.outcome.proofs.quiet.rests.Lts as lts
 use Rattle.outcome.proofs.quiet.idle.Reads as idle-reads
 use Rattle.instruction.proofs.instruction.examine.Reads as examine-reads
-use Rattle.state.proofs.board.wide.Reads as wide-reads
+use Rattle.words.proofs.wide.Reads as wide-reads
 use Rattle.records.proofs.fetch.fetch.Reads as fetch-reads
 
 wide-requires : tie.Need-wide-requires
@@ -31,7 +31,14 @@ idle-requires : tie.Need-idle-requires
 idle-requires c κs = search needs
 
 returns : tie.Need-returns
-returns c = let s = c .before .before .before .before .before .before .before .args in let f = c .before .before .fetch in let x = c .before .examine in rests-so (s .table .now) (s .at) (s .length) (s .row .now) (s .mail .now) (f .result) (x .result) _ (f .ensures ∙ (λ j. fetched (s .table .now) (c .before .before .before .before .before .wide .ensures .0 j) (c .before .before .before .wide2 .ensures .0 j))) (x .ensures) (c .idle .ensures)
+returns c =
+    let s = c .before .before .before .before .before .before .before .args in
+    let at = c .before .before .before .before .before .wide in
+    let pc = c .before .before .before .wide2 in
+    let f = c .before .before .fetch in
+    let x = c .before .examine in
+    rests-so (s .table .now) (s .at) (s .length) (s .row .now) (s .mail .now) (f .result) (x .result) _
+    (f .ensures ∙ (λ j. fetched (s .table .now) (at .ensures .0 j) (pc .ensures .0 j))) (x .ensures) (c .idle .ensures)
 
 pub rests-spec : {M : Type 1} → statement M
 rests-spec =

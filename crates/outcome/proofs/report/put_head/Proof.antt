@@ -6,22 +6,22 @@ use Rattle.outcome.proofs.report.put_head.Statement.{statement}
 use Rattle.outcome.proofs.report.put_head.Tie as tie
 use Rattle.outcome.proofs.report.put_head.Reads as reads
 use Rattle.outcome.proofs.report.put_head.Lts as lts
-use Rattle.outcome.proofs.report.low.Reads as low-reads
+use Rattle.words.proofs.low_byte.Reads as low-byte-reads
 
-element-copy-out-low : tie.Need-element-copy-out-low
-element-copy-out-low c = search needs
+element-copy-out-low-byte : tie.Need-element-copy-out-low-byte
+element-copy-out-low-byte c = search needs
 
-low-requires : tie.Need-low-requires
-low-requires c κs = search needs
+low-byte-requires : tie.Need-low-byte-requires
+low-byte-requires c κs = search needs
 
 slice-write-report : tie.Need-slice-write-report
 slice-write-report c = search needs
 
-element-copy-out-low-2 : tie.Need-element-copy-out-low-2
-element-copy-out-low-2 c = search needs
+element-copy-out-low-byte-2 : tie.Need-element-copy-out-low-byte-2
+element-copy-out-low-byte-2 c = search needs
 
-low-requires-2 : tie.Need-low-requires-2
-low-requires-2 c κs = search needs
+low-byte-requires-2 : tie.Need-low-byte-requires-2
+low-byte-requires-2 c κs = search needs
 
 add-report : tie.Need-add-report
 add-report c = search needs
@@ -29,11 +29,11 @@ add-report c = search needs
 slice-write-report-2 : tie.Need-slice-write-report-2
 slice-write-report-2 c = simp length-set (omega arith)
 
-element-copy-out-low-3 : tie.Need-element-copy-out-low-3
-element-copy-out-low-3 c = search needs
+element-copy-out-low-byte-3 : tie.Need-element-copy-out-low-byte-3
+element-copy-out-low-byte-3 c = search needs
 
-low-requires-3 : tie.Need-low-requires-3
-low-requires-3 c κs = search needs
+low-byte-requires-3 : tie.Need-low-byte-requires-3
+low-byte-requires-3 c κs = search needs
 
 add-report-2 : tie.Need-add-report-2
 add-report-2 c = search needs
@@ -41,11 +41,11 @@ add-report-2 c = search needs
 slice-write-report-3 : tie.Need-slice-write-report-3
 slice-write-report-3 c = simp length-set (omega arith)
 
-element-copy-out-low-4 : tie.Need-element-copy-out-low-4
-element-copy-out-low-4 c = search needs
+element-copy-out-low-byte-4 : tie.Need-element-copy-out-low-byte-4
+element-copy-out-low-byte-4 c = search needs
 
-low-requires-4 : tie.Need-low-requires-4
-low-requires-4 c κs = search needs
+low-byte-requires-4 : tie.Need-low-byte-requires-4
+low-byte-requires-4 c κs = search needs
 
 add-report-3 : tie.Need-add-report-3
 add-report-3 c = search needs
@@ -57,25 +57,30 @@ same-length : tie.Need-same-length
 same-length c = search needs
 
 returns : tie.Need-returns
-returns c = let s = c .before .before .before .before .before .before .before .before .before .args in head-put (s .row .now) (s .report .now) (s .at) _ _ _ _ (c .before .before .before .before .before .before .low .ensures) (c .before .before .before .before .low2 .ensures) (c .before .before .low3 .ensures) (c .low4 .ensures)
+returns c =
+    let s = c .before .before .before .before .before .before .before .before .before .args in
+    let b0 = c .before .before .before .before .before .before .low-byte in
+    let b1 = c .before .before .before .before .low-byte2 in
+    let b2 = c .before .before .low-byte3 in
+    head-put (s .row .now) (s .report .now) (s .at) _ _ _ _ (b0 .ensures) (b1 .ensures) (b2 .ensures) (c .low-byte4 .ensures)
 
 pub put-head-spec : {M : Type 1} → statement M
 put-head-spec =
     tie.close
     (tie.spec
-    element-copy-out-low
-    low-requires
+    element-copy-out-low-byte
+    low-byte-requires
     slice-write-report
-    element-copy-out-low-2
-    low-requires-2
+    element-copy-out-low-byte-2
+    low-byte-requires-2
     add-report
     slice-write-report-2
-    element-copy-out-low-3
-    low-requires-3
+    element-copy-out-low-byte-3
+    low-byte-requires-3
     add-report-2
     slice-write-report-3
-    element-copy-out-low-4
-    low-requires-4
+    element-copy-out-low-byte-4
+    low-byte-requires-4
     add-report-3
     slice-write-report-4
     same-length

@@ -57,7 +57,14 @@ same-length : tie.Need-same-length
 same-length c = search needs
 
 returns-2 : tie.Need-returns-2
-returns-2 c = let s = c .before .before .before .before .before .before .before .before .before .before .before .before .before .before .before .before .before .before .before .before .before .before .before .before .before .before .args in line-put (s .row .now) (s .report .now) _ _ _ _ _ (s .p) (c .before .before .before .before .before .before .before .before .before .before .before .before .before .before .before .before .before .before .before .before .before .before .put-head .ensures) (c .before .before .before .before .before .before .before .before .before .before .before .before .before .before .before .before .before .put-word .ensures) (c .before .before .before .before .before .before .before .before .before .before .before .before .put-word2 .ensures) (c .before .before .before .before .before .before .before .put-word3 .ensures) (c .before .before .put-word4 .ensures)
+returns-2 c =
+    let d = c .before .before .before .before .before .before .before in
+    let e = d .before .before .before .before .before in
+    let f = e .before .before .before .before .before in
+    let g = f .before .before .before .before .before in
+    let s = g .before .before .before .before .args in
+    line-put (s .row .now) (s .report .now) _ _ _ _ _ (s .p) (g .put-head .ensures) (f .put-word .ensures) (e .put-word2 .ensures) (d .put-word3 .ensures)
+    (c .before .before .put-word4 .ensures)
 
 pub put-line-spec : {M : Type 1} → statement M
 put-line-spec =

@@ -6,7 +6,7 @@ use Rattle.outcome.proofs.report.write_report.Statement.{statement}
 use Rattle.outcome.proofs.report.write_report.Tie as tie
 use Rattle.outcome.proofs.report.write_report.Reads as reads
 use Rattle.outcome.proofs.report.write_report.Lts as lts
-use Rattle.outcome.proofs.report.at_most_16.Reads as at-most-16-reads
+use Rattle.words.proofs.most16.Reads as most16-reads
 use Rattle.outcome.proofs.report.put_line.Reads as put-line-reads
 
 abbrev Inv-loop : tie.InvT-loop
@@ -15,11 +15,11 @@ Inv-loop rows processes report₀ n p₀ report p = (n ≤ 16) × Reporting rows
 abbrev μ-loop : tie.MeasureT-loop
 μ-loop rows processes report₀ n p₀ report p = n - p
 
-at-most-16-requires : tie.Need-at-most-16-requires Inv-loop μ-loop
-at-most-16-requires c κs = search needs
+most16-requires : tie.Need-most16-requires Inv-loop μ-loop
+most16-requires c κs = search needs
 
 loop-holds : tie.Need-loop-holds Inv-loop μ-loop
-loop-holds c = (c .at-most-16 .ensures .0, reporting-start _ _ _)
+loop-holds c = (c .most16 .ensures .0, reporting-start _ _ _)
 
 mul-put-line : tie.Need-mul-put-line Inv-loop μ-loop
 mul-put-line c = search needs
@@ -37,13 +37,16 @@ loop-less : tie.Need-loop-less Inv-loop μ-loop
 loop-less c = search needs
 
 loop-again : tie.Need-loop-again Inv-loop μ-loop
-loop-again c = let l = c .before .before .before .before .before .before .loop in (l .inv .0, reporting-on _ _ _ (l .report) _ (l .p) (l .inv .1) (c .before .before .before .before .before .loop-test .taken) (c .before .before .put-line .ensures))
+loop-again c =
+    let l = c .before .before .before .before .before .before .loop in
+    let put = c .before .before .put-line in
+    (l .inv .0, reporting-on _ _ _ (l .report) _ (l .p) (l .inv .1) (c .before .before .before .before .before .loop-test .taken) (put .ensures))
 
 same-length : tie.Need-same-length Inv-loop μ-loop
 same-length c = c .before .loop .inv .1 .same-length
 
 returns : tie.Need-returns Inv-loop μ-loop
-returns c = let l = c .before .loop in reporting-end _ _ _ _ _ (l .p) (c .before .before .at-most-16 .ensures .1) (l .inv .1) (c .loop-test .left)
+returns c = let l = c .before .loop in reporting-end _ _ _ _ _ (l .p) (c .before .before .most16 .ensures .1) (l .inv .1) (c .loop-test .left)
 
 pub write-report-spec : {M : Type 1} → statement M
 write-report-spec =
@@ -51,7 +54,7 @@ write-report-spec =
     (tie.spec
     Inv-loop
     μ-loop
-    at-most-16-requires
+    most16-requires
     loop-holds
     mul-put-line
     index-1-put-line

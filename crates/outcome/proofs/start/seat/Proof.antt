@@ -6,7 +6,7 @@ use Rattle.outcome.proofs.start.seat.Statement.{statement}
 use Rattle.outcome.proofs.start.seat.Tie as tie
 use Rattle.outcome.proofs.start.seat.Reads as reads
 use Rattle.outcome.proofs.start.seat.Lts as lts
-use Rattle.outcome.proofs.start.at_most_16.Reads as at-most-16-reads
+use Rattle.words.proofs.least.Reads as least-reads
 use Rattle.outcome.proofs.start.seat_row.Reads as seat-row-reads
 
 abbrev Inv-loop : tie.InvT-loop
@@ -15,8 +15,8 @@ Inv-loop rows₀ primary standby processes most p₀ rows p = Seating rows₀ pr
 abbrev μ-loop : tie.MeasureT-loop
 μ-loop rows₀ primary standby processes most p₀ rows p = most - p
 
-at-most-16-requires : tie.Need-at-most-16-requires Inv-loop μ-loop
-at-most-16-requires c κs = search needs
+least-requires : tie.Need-least-requires Inv-loop μ-loop
+least-requires c κs = search needs
 
 loop-holds : tie.Need-loop-holds Inv-loop μ-loop
 loop-holds c = seating-start _ _ _ _
@@ -51,16 +51,16 @@ loop-less c = search needs
 loop-again : tie.Need-loop-again Inv-loop μ-loop
 loop-again c =
     let a = c .before .before .before .before .before .before .before .args in
-    let m = c .before .before .before .before .before .before .at-most-16 in
+    let m = c .before .before .before .before .before .before .least in
     let l = c .before .before .before .before .before .loop in
     seating-on (a .rows .now) (a .primary .now) (a .standby .now) (m .result) (l .rows) (l .p) (l .inv) _ (c .before .before .before .before .loop-test .taken) (c .seat-row .ensures)
 
 returns : tie.Need-returns Inv-loop μ-loop
 returns c =
     let a = c .before .before .before .args in
-    let m = c .before .before .at-most-16 in
+    let m = c .before .before .least in
     let l = c .before .loop in
-    seating-end (a .rows .now) (a .primary .now) (a .standby .now) (m .result) (l .rows) (l .p) (l .inv) (a .processes) (c .loop-test .left) (m .ensures .0) (m .ensures .1 .1)
+    seating-end (a .rows .now) (a .primary .now) (a .standby .now) (m .result) (l .rows) (l .p) (l .inv) (a .processes) (m .ensures) (c .loop-test .left)
 
 pub seat-spec : {M : Type 1} → statement M
 seat-spec =
@@ -68,7 +68,7 @@ seat-spec =
     (tie.spec
     Inv-loop
     μ-loop
-    at-most-16-requires
+    least-requires
     loop-holds
     mul-seat-row
     index-1-seat-row

@@ -1,5 +1,5 @@
 use mathlib.Core.Path.{refl}
-use Rattle.process.specs.Row.{processOf, machineOf}
+use Rattle.process.specs.Row.{checkpointIn}
 use native.Mathlib.Omega.{arith}
 use borrow.Author.Needs.{needs}
 use Rattle.process.proofs.checkpoint.snapshot.Statement.{statement}
@@ -35,8 +35,8 @@ element-copy-out-t28 : tie.Need-element-copy-out-t28
 element-copy-out-t28 c = search needs
 
 returns : tie.Need-returns
-unfolding processOf machineOf
-returns c = λ mail log head. refl
+unfolding checkpointIn
+returns c = refl
 
 pub snapshot-spec : {M : Type 1} → statement M
 snapshot-spec =

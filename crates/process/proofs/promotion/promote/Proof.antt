@@ -1,6 +1,5 @@
-use mathlib.Core.Path.{_≡_, ap, subst, _∙_}
+use mathlib.Core.Path.{ap, subst, _∙_}
 use Prim.Native.Nat.{ℕ}
-use lib.ListN.{getD}
 use Rattle.backup.specs.declared.place.Promotion.{Promotion}
 use Rattle.process.specs.Promotion.{Readdressed, Restored}
 use Rattle.process.proofs.Promoting.{promoted-none, promoted-so}
@@ -13,7 +12,7 @@ use Rattle.process.proofs.promotion.promote.Lts as lts
 use Rattle.backup.proofs.place.fail_over_in.Reads as fail-over-in-reads
 use Rattle.process.proofs.promotion.readdress.Reads as readdress-reads
 use Rattle.process.proofs.promotion.restore.Reads as restore-reads
-use Rattle.process.proofs.row.wide.Reads as wide-reads
+use Rattle.words.proofs.wide.Reads as wide-reads
 
 fail-over-in-requires : tie.Need-fail-over-in-requires
 fail-over-in-requires c κs = search needs
@@ -25,7 +24,7 @@ returns : tie.Need-returns
 returns c =
     let a = c .before .before .before .args in
     let n = ap (λ (p : Promotion). p .len) (c .before .before .fail-over-in .ensures .0) in
-    promoted-none (a .row .now) (a .mail .now) (a .log .now) (a .head .now) (a .channels) (let w = c .before .wide .ensures in let t = c .if1 .taken in omega arith)
+    promoted-none (a .row .now) (a .mail .now) (a .log .now) (a .head .now) (a .channels) (let w = c .before .wide .ensures .0 in let t = c .if1 .taken in omega arith)
 
 readdress-requires : tie.Need-readdress-requires
 readdress-requires c κs = search needs
@@ -37,7 +36,7 @@ returns-2 : tie.Need-returns-2
 returns-2 c =
     let a = c .before .before .before .before .before .before .before .args in
     let e = c .before .before .before .before .before .before .fail-over-in .ensures .0 in
-    let n = c .before .before .before .before .before .wide .ensures ∙ ap (λ (p : Promotion). p .len) e in
+    let n = c .before .before .before .before .before .wide .ensures .0 ∙ ap (λ (p : Promotion). p .len) e in
     let mail = c .before .before .readdress in
     let row = c .restore in
     promoted-so (a .row .now) (a .mail .now) (a .log .now) (a .head .now) (a .channels) (mail .last .0) (row .last .0)

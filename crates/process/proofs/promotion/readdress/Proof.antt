@@ -10,7 +10,7 @@ use Rattle.process.proofs.promotion.readdress.Lts as lts
 use Rattle.backup.proofs.place.port_in.Reads as port-in-reads
 use Rattle.backup.proofs.place.word_in.Reads as word-in-reads
 use Rattle.process.proofs.mailbox.append.Reads as append-reads
-use Rattle.process.proofs.row.wide.Reads as wide-reads
+use Rattle.words.proofs.wide.Reads as wide-reads
 
 abbrev Inv-loop : tie.InvT-loop
 Inv-loop mail₀ log len channels i₀ mail i = Filling mail₀ log len channels mail i
@@ -52,7 +52,7 @@ loop-again c =
     let t = c .before .before .before .before .before .loop-test .taken in
     let s = c .before .before .before .before .before .before .before .pre in
     filling-on (a .mail .now) (a .log .now) (a .len) (a .t4) (l .mail) (l .i) (l .inv) (c .before .before .before .wide .result) (c .before .before .word-in .result) (c .append .last .0) t s
-    (c .before .before .before .wide .ensures ∙ ap (λ (n : ℕ). n % 4) (c .before .before .before .before .port-in .ensures .0 (omega arith)))
+    (c .before .before .before .wide .ensures .0 ∙ ap (λ (n : ℕ). n % 4) (c .before .before .before .before .port-in .ensures .0 (omega arith)))
     (c .before .before .word-in .ensures .0 (omega arith)) (c .append .ensures)
 
 returns : tie.Need-returns Inv-loop μ-loop

@@ -62,6 +62,12 @@ element-write-row-15 c = search needs
 element-write-row-16 : tie.Need-element-write-row-16
 element-write-row-16 c = search needs
 
+element-write-row-17 : tie.Need-element-write-row-17
+element-write-row-17 c = search needs
+
+element-write-row-18 : tie.Need-element-write-row-18
+element-write-row-18 c = search needs
+
 returns : tie.Need-returns
 unfolding restoredIn
 returns c =
@@ -93,4 +99,6 @@ restore-spec =
     element-write-row-14
     element-write-row-15
     element-write-row-16
+    element-write-row-17
+    element-write-row-18
     returns)

@@ -3,7 +3,8 @@ use Prim.Native.Nat.{ℕ, _-_, _%_}
 use lib.ListN.{getD}
 use Rattle.backup.specs.Replica.{arrive}
 use Rattle.backup.specs.Place.{Called}
-use Rattle.process.specs.Row.{mailIn}
+use Rattle.plan.specs.Plan.{portIn}
+use Rattle.process.specs.Row.{mailIn, packedAt}
 use Rattle.process.proofs.Rebacking.{Copying, copying-start, copying-on, copying-end}
 use borrow.Author.Needs.{needs}
 use native.Mathlib.Omega.{arith}
@@ -13,17 +14,22 @@ use Rattle.process.proofs.transfer.copy.Reads as reads
 use Rattle.process.proofs.transfer.copy.Lts as lts
 use Rattle.backup.proofs.place.arrive_in.Reads as arrive-in-reads
 use Rattle.process.proofs.mail.channel_of.Reads as channel-of-reads
+use Rattle.process.proofs.mail.place.Reads as place-reads
 use Rattle.process.proofs.mail.word_of.Reads as word-of-reads
-use Rattle.process.proofs.row.wide.Reads as wide-reads
+use Rattle.plan.proofs.port.Reads as port-reads
+use Rattle.words.proofs.wide.Reads as wide-reads
 
 abbrev Inv-loop : tie.InvT-loop
-Inv-loop mail len port log₀ head₀ i₀ log head i = Copying mail len port log₀ head₀ log head i
+Inv-loop mail first len wires log₀ head₀ i₀ log head i = Copying mail first len wires log₀ head₀ log head i
 
 abbrev μ-loop : tie.MeasureT-loop
-μ-loop mail len port log₀ head₀ i₀ log head i = len - i
+μ-loop mail first len wires log₀ head₀ i₀ log head i = len - i
 
 loop-holds : tie.Need-loop-holds Inv-loop μ-loop
-loop-holds c = copying-start _ _ _ _ _
+loop-holds c = copying-start _ _ _ _ _ _
+
+place-requires : tie.Need-place-requires Inv-loop μ-loop
+place-requires c κs = search needs
 
 mul-x : tie.Need-mul-x Inv-loop μ-loop
 mul-x c = search needs
@@ -37,11 +43,8 @@ channel-of-requires c κs = search needs
 wide-requires : tie.Need-wide-requires Inv-loop μ-loop
 wide-requires c κs = search needs
 
-mul-arrive-in : tie.Need-mul-arrive-in Inv-loop μ-loop
-mul-arrive-in c = search needs
-
-element-copy-out-arrive-in : tie.Need-element-copy-out-arrive-in Inv-loop μ-loop
-element-copy-out-arrive-in c = search needs
+port-requires : tie.Need-port-requires Inv-loop μ-loop
+port-requires c κs = search needs
 
 word-of-requires : tie.Need-word-of-requires Inv-loop μ-loop
 word-of-requires c κs = search needs
@@ -57,20 +60,23 @@ loop-less c = search needs
 
 loop-again : tie.Need-loop-again Inv-loop μ-loop
 loop-again c =
-    let a = c .before .before .before .before .before .before .before .before .before .before .args in
-    let l = c .before .before .before .before .before .before .before .before .before .loop in
+    let a = c .before .before .before .before .before .before .before .before .before .before .before .args in
+    let l = c .before .before .before .before .before .before .before .before .before .before .loop in
     let k = c .arrive-in in
-    let port = ap (λ (n : ℕ). getD (a .port .now) (n % 32) 0) (c .before .before .before .before .before .wide .ensures ∙ c .before .before .before .before .before .before .channel-of .ensures) in
-    copying-on (a .mail .now) (a .len) (a .port .now) (a .log .now) (a .head .now) (l .log) (l .head) (l .i) (l .inv) (k .result) (k .last .0) (k .last .1 .0)
-    (c .before .before .before .before .before .before .before .before .loop-test .taken)
-    (subst (λ (q : ℕ). Called (l .log) (l .head) (k .last .0) (k .last .1 .0) (k .result) (λ v. arrive v q (mailIn (getD (a .mail .now) (l .i) 0) .word))) port
-    (subst (λ (w : ℕ). Called (l .log) (l .head) (k .last .0) (k .last .1 .0) (k .result) (λ v. arrive v (getD (a .port .now) (c .before .before .before .before .before .wide .result % 32) 0) w)) (c .before .word-of .ensures) (k .ensures .0)))
+    let at = c .before .before .before .before .before .before .before .before .place .ensures in
+    let channel = c .before .before .before .before .before .wide .ensures .0 ∙ c .before .before .before .before .before .before .channel-of .ensures ∙ ap (λ (j : ℕ). mailIn (getD (a .mail .now) j 0) .channel) at in
+    let port = c .before .before .port .ensures (omega arith) ∙ ap (λ (n : ℕ). portIn (a .wires .now) (n % 32)) channel in
+    let word = c .before .word-of .ensures ∙ ap (λ (j : ℕ). mailIn (getD (a .mail .now) j 0) .word) at in
+    copying-on (a .mail .now) (a .first) (a .len) (a .wires .now) (a .log .now) (a .head .now) (l .log) (l .head) (l .i) (l .inv) (k .result) (k .last .0) (k .last .1 .0)
+    (c .before .before .before .before .before .before .before .before .before .loop-test .taken)
+    (subst (λ (q : ℕ). Called (l .log) (l .head) (k .last .0) (k .last .1 .0) (k .result) (λ v. arrive v q (mailIn (packedAt (a .first) (a .mail .now) (l .i)) .word))) port
+    (subst (λ (w : ℕ). Called (l .log) (l .head) (k .last .0) (k .last .1 .0) (k .result) (λ v. arrive v (c .before .before .port .result) w)) word (k .ensures .0)))
 
 returns : tie.Need-returns Inv-loop μ-loop
 returns c =
     let a = c .before .before .args in
     let l = c .before .loop in
-    copying-end (a .mail .now) (a .len) (a .port .now) (a .log .now) (a .head .now) (l .log) (l .head) (l .i) (l .inv) (c .loop-test .left)
+    copying-end (a .mail .now) (a .first) (a .len) (a .wires .now) (a .log .now) (a .head .now) (l .log) (l .head) (l .i) (l .inv) (c .loop-test .left)
 
 pub copy-spec : {M : Type 1} → statement M
 copy-spec =
@@ -79,12 +85,12 @@ copy-spec =
     Inv-loop
     μ-loop
     loop-holds
+    place-requires
     mul-x
     element-copy-out-x
     channel-of-requires
     wide-requires
-    mul-arrive-in
-    element-copy-out-arrive-in
+    port-requires
     word-of-requires
     arrive-in-requires
     add-i

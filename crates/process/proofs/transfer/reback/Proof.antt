@@ -1,6 +1,3 @@
-use mathlib.Core.Path.{subst}
-use Prim.Native.Nat.{ℕ}
-use Rattle.process.specs.Transfer.{Copied}
 use Rattle.process.proofs.Rebacking.{rebacks-none, rebacks-so}
 use native.Mathlib.Omega.{arith}
 use borrow.Author.Needs.{needs}
@@ -12,8 +9,8 @@ use Rattle.backup.proofs.place.new_in.Reads as new-in-reads
 use Rattle.backup.proofs.place.sync_in.Reads as sync-in-reads
 use Rattle.process.proofs.checkpoint.issue.Reads as issue-reads
 use Rattle.process.proofs.checkpoint.snapshot.Reads as snapshot-reads
-use Rattle.process.proofs.row.wide.Reads as wide-reads
 use Rattle.process.proofs.transfer.copy.Reads as copy-reads
+use Rattle.words.proofs.wide.Reads as wide-reads
 
 element-copy-out-wide : tie.Need-element-copy-out-wide
 element-copy-out-wide c = search needs
@@ -21,10 +18,16 @@ element-copy-out-wide c = search needs
 wide-requires : tie.Need-wide-requires
 wide-requires c κs = search needs
 
+element-copy-out-wide-2 : tie.Need-element-copy-out-wide-2
+element-copy-out-wide-2 c = search needs
+
+wide-requires-2 : tie.Need-wide-requires-2
+wide-requires-2 c κs = search needs
+
 returns : tie.Need-returns
 returns c =
-    let a = c .before .before .before .args in
-    rebacks-none (a .row .now) (a .mail .now) (a .log .now) (a .head .now) (a .port .now) (let w = c .before .wide .ensures in let t = c .if1 .taken in omega arith)
+    let a = c .before .before .before .before .before .args in
+    rebacks-none (a .row .now) (a .mail .now) (a .log .now) (a .head .now) (a .wires .now) (let w = c .before .wide2 .ensures .0 in let t = c .if1 .taken in omega arith)
 
 issue-requires : tie.Need-issue-requires
 issue-requires c κs = search needs
@@ -46,15 +49,17 @@ element-write-row c = search needs
 
 returns-2 : tie.Need-returns-2
 returns-2 c =
-    let a = c .before .before .before .before .before .before .before .before .before .before .before .before .before .before .before .args in
-    let i = c .before .before .before .before .before .before .before .before .before .before .issue in
+    let z = c .before .before .before .before .before .before .before .before .before .before in
+    let y = z .before .before .before in
+    let a = y .before .before .before .before .args in
+    let i = z .issue in
     let n = c .before .before .before .before .before .before .before .before .new-in in
     let k = c .before .before .before .before .snapshot in
     let s = c .before .before .before .sync-in in
     let q = c .copy in
-    rebacks-so (a .row .now) (a .mail .now) (a .log .now) (a .head .now) (a .port .now) (i .last .0) (i .ensures) (n .last .0) (λ l h. n .ensures .1 (a .log .now) l h)
-    (k .result) (k .ensures) (s .result .number) (s .last .0) (s .last .1 .0) (s .ensures .0) (q .last .1 .1 .1 .0) (q .last .1 .1 .1 .1 .0)
-    (subst (λ (len : ℕ). Copied (a .mail .now) len (a .port .now) (s .last .0) (s .last .1 .0) (q .last .1 .1 .1 .0) (q .last .1 .1 .1 .1 .0)) (c .before .before .before .before .before .before .before .before .before .before .before .before .before .wide .ensures) (q .ensures))
+    rebacks-so (a .row .now) (a .mail .now) (a .log .now) (a .head .now) (a .wires .now) (i .last .0) (i .ensures) (n .last .0) (λ l h. n .ensures .1 (a .log .now) l h)
+    (k .result) (k .ensures) (s .result .number) (s .last .0) (s .last .1 .0) (s .ensures .0) (q .last .1 .1 .1 .1 .0) (q .last .1 .1 .1 .1 .1 .0)
+    (rw (← y .wide2 .ensures .0, ← y .before .before .wide .ensures .0) (q .ensures))
 
 pub reback-spec : {M : Type 1} → statement M
 reback-spec =
@@ -62,6 +67,8 @@ reback-spec =
     (tie.spec
     element-copy-out-wide
     wide-requires
+    element-copy-out-wide-2
+    wide-requires-2
     returns
     issue-requires
     new-in-requires

@@ -1,7 +1,8 @@
 use mathlib.Core.Logic.{⊎-elim}
 use mathlib.Core.Path.{_∙_, ap, sym}
-use Prim.Native.Nat.{_-_}
+use Prim.Native.Nat.{ℕ, _-_, min}
 use Rattle.facts.specs.Tests.{anyBelow}
+use Rattle.backup.specs.Limits.{ports}
 use Rattle.rejoin.specs.Rebackups.{crowdedOn}
 use Rattle.state.proofs.Searching.{Searching, searching-start, searching-hit, searching-miss, searching-end}
 use borrow.Author.Needs.{needs}
@@ -10,23 +11,25 @@ use Rattle.rejoin.proofs.rebackup.crowded.Statement.{statement}
 use Rattle.rejoin.proofs.rebackup.crowded.Tie as tie
 use Rattle.rejoin.proofs.rebackup.crowded.Reads as reads
 use Rattle.rejoin.proofs.rebackup.crowded.Lts as lts
+use Rattle.plan.proofs.arity.Reads as arity-reads
 use Rattle.rejoin.proofs.rebackup.crowds.Reads as crowds-reads
-use Rattle.rejoin.proofs.rebackup.most4.Reads as most4-reads
+use Rattle.words.proofs.least.Reads as least-reads
+use Rattle.words.proofs.wide.Reads as wide-reads
 
 abbrev Inv-loop : tie.InvT-loop
-Inv-loop ins arity totals p n found₀ port₀ found port = Searching (crowdedOn ins totals p) n found port
+Inv-loop programs totals p n found₀ port₀ found port = Searching (crowdedOn programs totals p) n found port
 
 abbrev μ-loop : tie.MeasureT-loop
-μ-loop ins arity totals p n found₀ port₀ found port = n - port
+μ-loop programs totals p n found₀ port₀ found port = n - port
 
-mul-most4 : tie.Need-mul-most4 Inv-loop μ-loop
-mul-most4 c = search needs
+arity-requires : tie.Need-arity-requires Inv-loop μ-loop
+arity-requires c κs = search needs
 
-element-copy-out-most4 : tie.Need-element-copy-out-most4 Inv-loop μ-loop
-element-copy-out-most4 c = search needs
+wide-requires : tie.Need-wide-requires Inv-loop μ-loop
+wide-requires c κs = search needs
 
-most4-requires : tie.Need-most4-requires Inv-loop μ-loop
-most4-requires c κs = search needs
+least-requires : tie.Need-least-requires Inv-loop μ-loop
+least-requires c κs = search needs
 
 loop-holds : tie.Need-loop-holds Inv-loop μ-loop
 loop-holds c = searching-start _ _
@@ -42,22 +45,25 @@ loop-less c = search needs
 
 loop-again : tie.Need-loop-again Inv-loop μ-loop
 loop-again c =
-    let a = c .before .before .before .before .before .before .args in
-    let l = c .before .before .before .loop in
-    let n = c .before .before .before .before .most4 .result in
+    let l = c .before .before .before in
+    let n = l .before .least .result in
+    let a = l .before .before .before .before .args in
     let t = c .before .before .loop-test .taken in
     let d = c .before .crowds .ensures in
+    let test = crowdedOn (a .programs .now) (a .totals .now) (a .p) in
     ⊎-elim
-    (λ w. rw (w .1) (searching-hit (crowdedOn (a .ins .now) (a .totals .now) (a .p)) n (l .found) (l .port) (l .inv) t (sym d ∙ w .0 .taken)))
-    (λ w. rw (w .1) (searching-miss (crowdedOn (a .ins .now) (a .totals .now) (a .p)) n (l .found) (l .port) (l .inv) t (sym d ∙ w .0 .left)))
+    (λ w. rw (w .1) (searching-hit test n (l .loop .found) (l .loop .port) (l .loop .inv) t (sym d ∙ w .0 .taken)))
+    (λ w. rw (w .1) (searching-miss test n (l .loop .found) (l .loop .port) (l .loop .inv) t (sym d ∙ w .0 .left)))
     (c .if1 .came)
 
 returns : tie.Need-returns Inv-loop μ-loop
 returns c =
-    let a = c .before .before .before .before .args in
     let l = c .before .loop in
-    searching-end (crowdedOn (a .ins .now) (a .totals .now) (a .p)) _ (l .found) (l .port) (l .inv) (c .loop-test .left)
-    ∙ ap (anyBelow (crowdedOn (a .ins .now) (a .totals .now) (a .p))) (c .before .before .most4 .ensures)
+    let n = c .before .before in
+    let s = n .before .before .before in
+    let test = crowdedOn (s .args .programs .now) (s .args .totals .now) (s .args .p) in
+    searching-end test _ (l .found) (l .port) (l .inv) (c .loop-test .left)
+    ∙ ap (anyBelow test) (n .least .ensures ∙ ap (λ (i : ℕ). min i ports) (n .before .wide .ensures .0 ∙ n .before .before .arity .ensures (s .pre)))
 
 pub crowded-spec : {M : Type 1} → statement M
 crowded-spec =
@@ -65,9 +71,9 @@ crowded-spec =
     (tie.spec
     Inv-loop
     μ-loop
-    mul-most4
-    element-copy-out-most4
-    most4-requires
+    arity-requires
+    wide-requires
+    least-requires
     loop-holds
     crowds-requires
     add-port

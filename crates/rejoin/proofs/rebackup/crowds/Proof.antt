@@ -1,4 +1,4 @@
-use mathlib.Core.Path.{ap}
+use mathlib.Core.Path.{ap, _∙_}
 use Prim.Native.Nat.{ℕ, _%_}
 use lib.Dec.{ltb}
 use lib.ListN.{getD}
@@ -9,19 +9,11 @@ use Rattle.rejoin.proofs.rebackup.crowds.Statement.{statement}
 use Rattle.rejoin.proofs.rebackup.crowds.Tie as tie
 use Rattle.rejoin.proofs.rebackup.crowds.Reads as reads
 use Rattle.rejoin.proofs.rebackup.crowds.Lts as lts
-use Rattle.state.proofs.board.wide.Reads as wide-reads
+use Rattle.plan.proofs.input.Reads as input-reads
+use Rattle.words.proofs.wide.Reads as wide-reads
 
-mul-wide : tie.Need-mul-wide
-mul-wide c = search needs
-
-add-wide : tie.Need-add-wide
-add-wide c = search needs
-
-mul-wide-2 : tie.Need-mul-wide-2
-mul-wide-2 c = search needs
-
-element-copy-out-wide : tie.Need-element-copy-out-wide
-element-copy-out-wide c = search needs
+input-requires : tie.Need-input-requires
+input-requires c κs = search needs
 
 wide-requires : tie.Need-wide-requires
 wide-requires c κs = search needs
@@ -34,18 +26,9 @@ element-copy-out-result c = search needs
 
 returns : tie.Need-returns
 returns c =
-    let a = c .before .before .before .args in
-    ap (λ (k : ℕ). ltb occupancyMost (getD (a .totals .now) (k % 32) 0)) (c .before .wide .ensures .0)
+    let s = c .before .before .before in
+    ap (λ (k : ℕ). ltb occupancyMost (getD (s .args .totals .now) (k % 32) 0)) (c .before .wide .ensures .0 ∙ c .before .before .input .ensures (s .pre .0) (s .pre .1))
 
 pub crowds-spec : {M : Type 1} → statement M
 crowds-spec =
-    tie.close
-    (tie.spec
-    mul-wide
-    add-wide
-    mul-wide-2
-    element-copy-out-wide
-    wide-requires
-    mul-result
-    element-copy-out-result
-    returns)
+    tie.close (tie.spec input-requires wide-requires mul-result element-copy-out-result returns)

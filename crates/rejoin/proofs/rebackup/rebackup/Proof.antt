@@ -1,5 +1,5 @@
-use Rattle.state.specs.declared.entry.Item.the-variants.{Transfer}
-use Rattle.rejoin.proofs.Rebacking.{at-its-index, rebackups-50, rebackups-50-dead, rebackups-49-held, rebackups-49-full, rebackups-41, rebackups-38, rebackups-done}
+use mathlib.Core.Path.{refl}
+use Rattle.rejoin.proofs.Rebacking.{rebackups-50, rebackups-50-dead, rebackups-49-held, rebackups-49-full, rebackups-41, rebackups-38, rebackups-done}
 use native.Mathlib.Omega.{arith}
 use borrow.Author.Needs.{needs}
 use Rattle.rejoin.proofs.rebackup.rebackup.Statement.{statement}
@@ -8,10 +8,10 @@ use Rattle.rejoin.proofs.rebackup.rebackup.Reads as reads
 use Rattle.rejoin.proofs.rebackup.rebackup.Lts as lts
 use Rattle.process.proofs.transfer.reback.Reads as reback-reads
 use Rattle.rejoin.proofs.rebackup.crowded.Reads as crowded-reads
-use Rattle.state.proofs.board.index16.Reads as index16-reads
-use Rattle.state.proofs.board.place.Reads as place-reads
-use Rattle.state.proofs.board.push.Reads as push-reads
 use Rattle.state.proofs.moved.refused.Reads as refused-reads
+use Rattle.state.proofs.queue.place.Reads as place-reads
+use Rattle.state.proofs.queue.push.Reads as push-reads
+use Rattle.words.proofs.index16.Reads as index16-reads
 
 index16-requires : tie.Need-index16-requires
 index16-requires c κs = search needs
@@ -30,10 +30,11 @@ refused-requires c κs = search needs
 
 returns : tie.Need-returns
 returns c =
-    let a = c .before .before .before .before .args in
-    let p = c .before .before .before .index16 in
-    at-its-index (p .result) (a .a) (p .ensures .1)
-    (λ e. rebackups-50 (a .port .now) (a .ins .now) (a .arity .now) (a .rows .now) (a .mails .now) (a .logs .now) (a .heads .now) (a .boards .now) (a .totals .now) (a .waits .now) (p .result) _ (c .before .if1 .taken) (rw (← e) (c .refused .ensures)))
+    let p = c .before .before .before in
+    let a = p .before .args in
+    rebackups-50 (a .programs .now) (a .wires .now) (a .rows .now) (a .mails .now) (a .logs .now) (a .heads .now) (a .queues .now) (a .totals .now)
+    (p .index16 .result) (a .a) (p .index16 .ensures .1) _
+    (c .before .if1 .taken) (c .refused .ensures)
 
 mul-index16 : tie.Need-mul-index16
 mul-index16 c = search needs
@@ -61,11 +62,14 @@ refused-requires-2 c κs = search needs
 
 returns-2 : tie.Need-returns-2
 returns-2 c =
-    let a = c .before .before .before .before .before .before .before .before .args in
-    let p = c .before .before .before .before .before .before .before .index16 in
-    at-its-index (p .result) (a .a) (p .ensures .1)
-    (λ e. rebackups-50-dead (a .port .now) (a .ins .now) (a .arity .now) (a .rows .now) (a .mails .now) (a .logs .now) (a .heads .now) (a .boards .now) (a .totals .now) (a .waits .now) (p .result) _
-    (c .before .before .before .before .before .if1 .left) (c .before .before .before .index162 .result) (c .before .before .before .index162 .ensures .1) (c .before .if2 .taken) (rw (← e) (c .refused2 .ensures)))
+    let o = c .before .before .before in
+    let bare = o .before .before in
+    let p = bare .before .before in
+    let a = p .before .args in
+    rebackups-50-dead (a .programs .now) (a .wires .now) (a .rows .now) (a .mails .now) (a .logs .now) (a .heads .now) (a .queues .now) (a .totals .now)
+    (p .index16 .result) (a .a) (p .index16 .ensures .1) _
+    (bare .if1 .left) (o .index162 .result) (o .index162 .ensures .1)
+    (c .before .if2 .taken) (c .refused2 .ensures)
 
 mul-if3 : tie.Need-mul-if3
 mul-if3 c = search needs
@@ -81,11 +85,15 @@ refused-requires-3 c κs = search needs
 
 returns-3 : tie.Need-returns-3
 returns-3 c =
-    let a = c .before .before .before .before .before .before .before .before .before .before .args in
-    let p = c .before .before .before .before .before .before .before .before .before .index16 in
-    at-its-index (p .result) (a .a) (p .ensures .1)
-    (λ e. rebackups-49-held (a .port .now) (a .ins .now) (a .arity .now) (a .rows .now) (a .mails .now) (a .logs .now) (a .heads .now) (a .boards .now) (a .totals .now) (a .waits .now) (p .result) _
-    (c .before .before .before .before .before .before .before .if1 .left) (c .before .before .before .before .before .index162 .result) (c .before .before .before .before .before .index162 .ensures .1) (c .before .before .before .if2 .left) (c .before .if3 .taken) (rw (← e) (c .refused3 .ensures)))
+    let live = c .before .before .before in
+    let o = live .before .before in
+    let bare = o .before .before in
+    let p = bare .before .before in
+    let a = p .before .args in
+    rebackups-49-held (a .programs .now) (a .wires .now) (a .rows .now) (a .mails .now) (a .logs .now) (a .heads .now) (a .queues .now) (a .totals .now)
+    (p .index16 .result) (a .a) (p .index16 .ensures .1) _
+    (bare .if1 .left) (o .index162 .result) (o .index162 .ensures .1) (live .if2 .left)
+    (c .before .if3 .taken) (c .refused3 .ensures)
 
 crowded-requires : tie.Need-crowded-requires
 crowded-requires c κs = search needs
@@ -95,28 +103,44 @@ refused-requires-4 c κs = search needs
 
 returns-4 : tie.Need-returns-4
 returns-4 c =
-    let a = c .before .before .before .before .before .before .before .before .before .before .before .before .args in
-    let p = c .before .before .before .before .before .before .before .before .before .before .before .index16 in
-    at-its-index (p .result) (a .a) (p .ensures .1)
-    (λ e. rebackups-49-full (a .port .now) (a .ins .now) (a .arity .now) (a .rows .now) (a .mails .now) (a .logs .now) (a .heads .now) (a .boards .now) (a .totals .now) (a .waits .now) (p .result) _
-    (c .before .before .before .before .before .before .before .before .before .if1 .left) (c .before .before .before .before .before .before .before .index162 .result) (c .before .before .before .before .before .before .before .index162 .ensures .1) (c .before .before .before .before .before .if2 .left) (c .before .before .before .if3 .left) (c .before .before .crowded .result) (c .before .before .crowded .ensures) (c .before .if4 .taken) (rw (← e) (c .refused4 .ensures)))
+    let u = c .before .before in
+    let free = u .before in
+    let live = free .before .before in
+    let o = live .before .before in
+    let bare = o .before .before in
+    let p = bare .before .before in
+    let a = p .before .args in
+    rebackups-49-full (a .programs .now) (a .wires .now) (a .rows .now) (a .mails .now) (a .logs .now) (a .heads .now) (a .queues .now) (a .totals .now)
+    (p .index16 .result) (a .a) (p .index16 .ensures .1) _
+    (bare .if1 .left) (o .index162 .result) (o .index162 .ensures .1) (live .if2 .left) (free .if3 .left) (u .crowded .result) (u .crowded .ensures)
+    (c .before .if4 .taken) (c .refused4 .ensures)
 
 mul-if5 : tie.Need-mul-if5
 mul-if5 c = search needs
 
-element-copy-out-if5 : tie.Need-element-copy-out-if5
-element-copy-out-if5 c = search needs
+index-1-if5 : tie.Need-index-1-if5
+index-1-if5 c = search needs
+
+index-2-if5 : tie.Need-index-2-if5
+index-2-if5 c = search needs
 
 refused-requires-5 : tie.Need-refused-requires-5
 refused-requires-5 c κs = search needs
 
 returns-5 : tie.Need-returns-5
 returns-5 c =
-    let a = c .before .before .before .before .before .before .before .before .before .before .before .before .before .before .args in
-    let p = c .before .before .before .before .before .before .before .before .before .before .before .before .before .index16 in
-    at-its-index (p .result) (a .a) (p .ensures .1)
-    (λ e. rebackups-41 (a .port .now) (a .ins .now) (a .arity .now) (a .rows .now) (a .mails .now) (a .logs .now) (a .heads .now) (a .boards .now) (a .totals .now) (a .waits .now) (p .result) _
-    (c .before .before .before .before .before .before .before .before .before .before .before .if1 .left) (c .before .before .before .before .before .before .before .before .before .index162 .result) (c .before .before .before .before .before .before .before .before .before .index162 .ensures .1) (c .before .before .before .before .before .before .before .if2 .left) (c .before .before .before .before .before .if3 .left) (c .before .before .before .before .crowded .result) (c .before .before .before .before .crowded .ensures) (c .before .before .before .if4 .left) (c .before .if5 .taken) (rw (← e) (c .refused5 .ensures)))
+    let few = c .before .before .before in
+    let u = few .before in
+    let free = u .before in
+    let live = free .before .before in
+    let o = live .before .before in
+    let bare = o .before .before in
+    let p = bare .before .before in
+    let a = p .before .args in
+    rebackups-41 (a .programs .now) (a .wires .now) (a .rows .now) (a .mails .now) (a .logs .now) (a .heads .now) (a .queues .now) (a .totals .now)
+    (p .index16 .result) (a .a) (p .index16 .ensures .1) _
+    (bare .if1 .left) (o .index162 .result) (o .index162 .ensures .1) (live .if2 .left) (free .if3 .left) (u .crowded .result) (u .crowded .ensures) (few .if4 .left)
+    (c .before .if5 .taken) (c .refused5 .ensures)
 
 mul-index16-2 : tie.Need-mul-index16-2
 mul-index16-2 c = search needs
@@ -144,11 +168,20 @@ refused-requires-6 c κs = search needs
 
 returns-6 : tie.Need-returns-6
 returns-6 c =
-    let a = c .before .before .before .before .before .before .before .before .before .before .before .before .before .before .before .before .before .before .args in
-    let p = c .before .before .before .before .before .before .before .before .before .before .before .before .before .before .before .before .before .index16 in
-    at-its-index (p .result) (a .a) (p .ensures .1)
-    (λ e. rebackups-38 (a .port .now) (a .ins .now) (a .arity .now) (a .rows .now) (a .mails .now) (a .logs .now) (a .heads .now) (a .boards .now) (a .totals .now) (a .waits .now) (p .result) _
-    (c .before .before .before .before .before .before .before .before .before .before .before .before .before .before .before .if1 .left) (c .before .before .before .before .before .before .before .before .before .before .before .before .before .index162 .result) (c .before .before .before .before .before .before .before .before .before .before .before .before .before .index162 .ensures .1) (c .before .before .before .before .before .before .before .before .before .before .before .if2 .left) (c .before .before .before .before .before .before .before .before .before .if3 .left) (c .before .before .before .before .before .before .before .before .crowded .result) (c .before .before .before .before .before .before .before .before .crowded .ensures) (c .before .before .before .before .before .before .before .if4 .left) (c .before .before .before .before .before .if5 .left) (c .before .before .before .index163 .result) (c .before .before .before .index163 .ensures .1) (c .before .if6 .taken) (rw (← e) (c .refused6 .ensures)))
+    let b = c .before .before .before in
+    let waits = b .before .before in
+    let few = waits .before .before in
+    let u = few .before in
+    let free = u .before in
+    let live = free .before .before in
+    let o = live .before .before in
+    let bare = o .before .before in
+    let p = bare .before .before in
+    let a = p .before .args in
+    rebackups-38 (a .programs .now) (a .wires .now) (a .rows .now) (a .mails .now) (a .logs .now) (a .heads .now) (a .queues .now) (a .totals .now)
+    (p .index16 .result) (a .a) (p .index16 .ensures .1) _
+    (bare .if1 .left) (o .index162 .result) (o .index162 .ensures .1) (live .if2 .left) (free .if3 .left) (u .crowded .result) (u .crowded .ensures) (few .if4 .left)
+    (waits .if5 .left) (b .index163 .result) (b .index163 .ensures .1) (c .before .if6 .taken) (c .refused6 .ensures)
 
 mul-place : tie.Need-mul-place
 mul-place c = search needs
@@ -158,6 +191,15 @@ index-1-place c = search needs
 
 place-requires : tie.Need-place-requires
 place-requires c κs = search needs
+
+mul-rows : tie.Need-mul-rows
+mul-rows c = search needs
+
+index-1-rows : tie.Need-index-1-rows
+index-1-rows c = search needs
+
+index-2-rows : tie.Need-index-2-rows
+index-2-rows c = search needs
 
 mul-reback : tie.Need-mul-reback
 mul-reback c = search needs
@@ -195,25 +237,28 @@ index-1-push c = search needs
 push-requires : tie.Need-push-requires
 push-requires c κs = search needs
 
-mul-waits : tie.Need-mul-waits
-mul-waits c = search needs
-
-element-write-waits : tie.Need-element-write-waits
-element-write-waits c = search needs
-
 returns-7 : tie.Need-returns-7
 returns-7 c =
-    let a = c .before .before .before .before .before .before .before .before .before .before .before .before .before .before .before .before .before .before .before .before .before .before .before .before .before .before .args in
-    let p = c .before .before .before .before .before .before .before .before .before .before .before .before .before .before .before .before .before .before .before .before .before .before .before .before .before .index16 in
-    at-its-index (p .result) (a .a) (p .ensures .1)
-    (λ e. let b = c .before .before .before .before .before .before .before .before .before .before .before .index163 in
-    let at = c .before .before .before .before .before .before .before .place in
-    let k = c .before .before .reback in
-    rw (c .push .ensures)
-    (rebackups-done (a .port .now) (a .ins .now) (a .arity .now) (a .rows .now) (a .mails .now) (a .logs .now) (a .heads .now) (a .boards .now) (a .totals .now) (a .waits .now) (p .result) _
-    (c .before .before .before .before .before .before .before .before .before .before .before .before .before .before .before .before .before .before .before .before .before .before .before .if1 .left) (c .before .before .before .before .before .before .before .before .before .before .before .before .before .before .before .before .before .before .before .before .before .index162 .result) (c .before .before .before .before .before .before .before .before .before .before .before .before .before .before .before .before .before .before .before .before .before .index162 .ensures .1) (c .before .before .before .before .before .before .before .before .before .before .before .before .before .before .before .before .before .before .before .if2 .left) (c .before .before .before .before .before .before .before .before .before .before .before .before .before .before .before .before .before .if3 .left) (c .before .before .before .before .before .before .before .before .before .before .before .before .before .before .before .before .crowded .result) (c .before .before .before .before .before .before .before .before .before .before .before .before .before .before .before .before .crowded .ensures) (c .before .before .before .before .before .before .before .before .before .before .before .before .before .before .before .if4 .left) (c .before .before .before .before .before .before .before .before .before .before .before .before .before .if5 .left) (c .before .before .before .before .before .before .before .before .before .before .before .index163 .result) (c .before .before .before .before .before .before .before .before .before .before .before .index163 .ensures .1) (k .last .0) (k .last .1 .1 .0) (k .last .1 .1 .1 .0) (c .before .before .before .before .before .before .before .before .before .if6 .left) (k .ensures)
-    (rw (← at .ensures .1 (b .ensures .0)) (at .ensures .0))
-    (λ i. record { answer = record { code = 0; cause = 3; a = 0; word = 0 }; at = at .ensures .1 (b .ensures .0) i; entry = record { item = Transfer (e i) } })))
+    let made = c .before .before in
+    let at = made .before .before .before .before .before in
+    let room = at .before .before in
+    let b = room .before .before in
+    let waits = b .before .before in
+    let few = waits .before .before in
+    let u = few .before in
+    let free = u .before in
+    let live = free .before .before in
+    let o = live .before .before in
+    let bare = o .before .before in
+    let p = bare .before .before in
+    let a = p .before .args in
+    let k = made .reback in
+    rebackups-done (a .programs .now) (a .wires .now) (a .rows .now) (a .mails .now) (a .logs .now) (a .heads .now) (a .queues .now) (a .totals .now)
+    (p .index16 .result) (a .a) (p .index16 .ensures .1) _
+    (bare .if1 .left) (o .index162 .result) (o .index162 .ensures .1) (live .if2 .left) (free .if3 .left) (u .crowded .result) (u .crowded .ensures) (few .if4 .left)
+    (waits .if5 .left) (b .index163 .result) (b .index163 .ensures .1)
+    (k .last .0) (k .last .1 .1 .0) (k .last .1 .1 .1 .0) _ (at .place .result) (room .if6 .left) (k .ensures) (c .push .ensures)
+    (at .place .ensures .0) (at .place .ensures .1 (b .index163 .ensures .0)) refl
 
 pub rebackup-spec : {M : Type 1} → statement M
 rebackup-spec =
@@ -243,7 +288,8 @@ rebackup-spec =
     refused-requires-4
     returns-4
     mul-if5
-    element-copy-out-if5
+    index-1-if5
+    index-2-if5
     refused-requires-5
     returns-5
     mul-index16-2
@@ -258,6 +304,9 @@ rebackup-spec =
     mul-place
     index-1-place
     place-requires
+    mul-rows
+    index-1-rows
+    index-2-rows
     mul-reback
     index-1-reback
     mul-reback-2
@@ -270,6 +319,4 @@ rebackup-spec =
     mul-push
     index-1-push
     push-requires
-    mul-waits
-    element-write-waits
     returns-7)

@@ -1,4 +1,3 @@
-use mathlib.Core.Path.{refl}
 use Rattle.rejoin.proofs.Rejoining.{rejoins-48, rejoins-done}
 use native.Mathlib.Omega.{arith}
 use borrow.Author.Needs.{needs}
@@ -7,8 +6,8 @@ use Rattle.rejoin.proofs.rejoin.rejoin.Tie as tie
 use Rattle.rejoin.proofs.rejoin.rejoin.Reads as reads
 use Rattle.rejoin.proofs.rejoin.rejoin.Lts as lts
 use Rattle.rejoin.proofs.rejoin.revive.Reads as revive-reads
-use Rattle.state.proofs.board.index16.Reads as index16-reads
 use Rattle.state.proofs.moved.refusal.Reads as refusal-reads
+use Rattle.words.proofs.index16.Reads as index16-reads
 
 index16-requires : tie.Need-index16-requires
 index16-requires c κs = search needs
@@ -27,9 +26,8 @@ refusal-requires c κs = search needs
 
 returns : tie.Need-returns
 returns c =
-    let a = c .before .before .before .before .args in
-    let b = c .before .before .before .index16 in
-    rejoins-48 (a .boards .now) (a .a) (b .result) (b .ensures .1) _ (c .before .if1 .taken) (c .refusal .ensures)
+    let b = c .before .before .before in
+    rejoins-48 (b .before .args .queues .now) (b .before .args .a) (b .index16 .result) (b .index16 .ensures .1) _ (c .before .if1 .taken) (c .refusal .ensures)
 
 mul-revive : tie.Need-mul-revive
 mul-revive c = search needs
@@ -42,9 +40,8 @@ revive-requires c κs = search needs
 
 returns-2 : tie.Need-returns-2
 returns-2 c =
-    let a = c .before .before .before .before .before .args in
-    let b = c .before .before .before .before .index16 in
-    rejoins-done (a .boards .now) (a .a) (b .result) (b .ensures .1) _ _ (c .before .before .if1 .left) (c .revive .ensures) refl
+    let b = c .before .before .before .before in
+    rejoins-done (b .before .args .queues .now) (b .before .args .a) (b .index16 .result) (b .index16 .ensures .1) _ (c .before .before .if1 .left) (c .revive .ensures)
 
 pub rejoin-spec : {M : Type 1} → statement M
 rejoin-spec =

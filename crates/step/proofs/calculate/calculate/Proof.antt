@@ -1,11 +1,15 @@
 use mathlib.Core.Path.{sym, _∙_}
-use Rattle.step.proofs.Calculating.{calculate-at-its-index, calculate-37, calculate-done}
-use native.Mathlib.Omega.{arith}
+use Rattle.step.proofs.Calculating.{calculate-37, calculate-done}
 use borrow.Author.Needs.{needs}
 use Rattle.step.proofs.calculate.calculate.Statement.{statement}
 use Rattle.step.proofs.calculate.calculate.Tie as tie
 use Rattle.step.proofs.calculate.calculate.Reads as reads
 use Rattle.step.proofs.calculate.calculate.Lts as lts
+use Rattle.instruction.proofs.instruction.compute.Reads as compute-reads
+use Rattle.state.proofs.moved.alone.Reads as alone-reads
+use Rattle.state.proofs.moved.refused.Reads as refused-reads
+use Rattle.step.proofs.guards.overrun.Reads as overrun-reads
+use Rattle.words.proofs.index16.Reads as index16-reads
 
 index16-requires : tie.Need-index16-requires
 index16-requires c κs = search needs
@@ -24,10 +28,10 @@ refused-requires c κs = search needs
 
 returns : tie.Need-returns
 returns c =
-    let s = c .before .before .before .before .before in
+    let s = c .before .before .before .before .before .args in
     let p = c .before .before .before .before .index16 in
-    calculate-at-its-index (p .result) (s .args .a) (p .ensures .1)
-    (λ e. calculate-37 (s .args .rows .now) (p .result) (s .args .code) (s .args .register) (s .args .operand) _ (sym (c .before .before .overrun .ensures) ∙ c .before .if1 .taken) (rw (← e) (c .refused .ensures)))
+    calculate-37 (s .rows .now) (p .result) (s .a) (p .ensures .1) (s .code) (s .register) (s .operand) _
+    (sym (c .before .before .overrun .ensures) ∙ c .before .if1 .taken) (c .refused .ensures)
 
 mul-compute : tie.Need-mul-compute
 mul-compute c = search needs
@@ -43,10 +47,10 @@ alone-requires c κs = search needs
 
 returns-2 : tie.Need-returns-2
 returns-2 c =
-    let s = c .before .before .before .before .before .before .before in
+    let s = c .before .before .before .before .before .before .before .args in
     let p = c .before .before .before .before .before .before .index16 in
-    calculate-at-its-index (p .result) (s .args .a) (p .ensures .1)
-    (λ e. calculate-done (s .args .rows .now) (p .result) (s .args .code) (s .args .register) (s .args .operand) _ (c .before .compute .last .0) (sym (c .before .before .before .before .overrun .ensures) ∙ c .before .before .before .if1 .left) (c .before .compute .ensures) (c .alone .ensures))
+    calculate-done (s .rows .now) (p .result) (s .a) (p .ensures .1) (s .code) (s .register) (s .operand) _ (c .before .compute .last .0)
+    (sym (c .before .before .before .before .overrun .ensures) ∙ c .before .before .before .if1 .left) (c .before .compute .ensures) (c .alone .ensures)
 
 pub calculate-spec : {M : Type 1} → statement M
 calculate-spec =

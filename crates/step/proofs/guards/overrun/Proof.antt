@@ -1,5 +1,4 @@
 use borrow.Author.Tests.{eq-eqb, ne-eqb}
-use native.Mathlib.Omega.{arith}
 use borrow.Author.Needs.{needs}
 use Rattle.step.proofs.guards.overrun.Statement.{statement}
 use Rattle.step.proofs.guards.overrun.Tie as tie

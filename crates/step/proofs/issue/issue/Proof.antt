@@ -1,17 +1,14 @@
-use Rattle.state.specs.declared.entry.Item.the-variants.{Sync}
-use Rattle.step.proofs.Issuing.{at-its-index, issues-40, issues-41, issues-38, issues-done}
-use native.Mathlib.Omega.{arith}
+use Rattle.step.proofs.Issuing.{issues-40, issues-41, issues-38, issues-done}
 use borrow.Author.Needs.{needs}
 use Rattle.step.proofs.issue.issue.Statement.{statement}
 use Rattle.step.proofs.issue.issue.Tie as tie
 use Rattle.step.proofs.issue.issue.Reads as reads
 use Rattle.step.proofs.issue.issue.Lts as lts
 use Rattle.process.proofs.checkpoint.issue.Reads as issue-reads
-use Rattle.process.proofs.checkpoint.snapshot.Reads as snapshot-reads
-use Rattle.state.proofs.board.index16.Reads as index16-reads
-use Rattle.state.proofs.board.place.Reads as place-reads
-use Rattle.state.proofs.board.push.Reads as push-reads
 use Rattle.state.proofs.moved.refused.Reads as refused-reads
+use Rattle.state.proofs.queue.place.Reads as place-reads
+use Rattle.state.proofs.queue.push.Reads as push-reads
+use Rattle.words.proofs.index16.Reads as index16-reads
 
 index16-requires : tie.Need-index16-requires
 index16-requires c κs = search needs
@@ -30,26 +27,27 @@ refused-requires c κs = search needs
 
 returns : tie.Need-returns
 returns c =
-    let s = c .before .before .before .before in
+    let s = c .before .before .before .before .args in
     let p = c .before .before .before .index16 in
-    at-its-index (p .result) (s .args .a) (p .ensures .1)
-    (λ e. issues-40 (s .args .rows .now) (s .args .boards .now) (s .args .waits .now) (p .result) _ (c .before .if1 .taken) (rw (← e) (c .refused .ensures)))
+    issues-40 (s .rows .now) (s .queues .now) (p .result) (s .a) (p .ensures .1) _ (c .before .if1 .taken) (c .refused .ensures)
 
 mul-if2 : tie.Need-mul-if2
 mul-if2 c = search needs
 
-element-copy-out-if2 : tie.Need-element-copy-out-if2
-element-copy-out-if2 c = search needs
+index-1-if2 : tie.Need-index-1-if2
+index-1-if2 c = search needs
+
+index-2-if2 : tie.Need-index-2-if2
+index-2-if2 c = search needs
 
 refused-requires-2 : tie.Need-refused-requires-2
 refused-requires-2 c κs = search needs
 
 returns-2 : tie.Need-returns-2
 returns-2 c =
-    let s = c .before .before .before .before .before .before in
+    let s = c .before .before .before .before .before .before .args in
     let p = c .before .before .before .before .before .index16 in
-    at-its-index (p .result) (s .args .a) (p .ensures .1)
-    (λ e. issues-41 (s .args .rows .now) (s .args .boards .now) (s .args .waits .now) (p .result) _ (c .before .before .before .if1 .left) (c .before .if2 .taken) (rw (← e) (c .refused2 .ensures)))
+    issues-41 (s .rows .now) (s .queues .now) (p .result) (s .a) (p .ensures .1) _ (c .before .before .before .if1 .left) (c .before .if2 .taken) (c .refused2 .ensures)
 
 mul-index16 : tie.Need-mul-index16
 mul-index16 c = search needs
@@ -77,11 +75,10 @@ refused-requires-3 c κs = search needs
 
 returns-3 : tie.Need-returns-3
 returns-3 c =
-    let b = c .before .before .before .index162 in
-    let s = c .before .before .before .before .before .before .before .before .before .before in
+    let s = c .before .before .before .before .before .before .before .before .before .before .args in
     let p = c .before .before .before .before .before .before .before .before .before .index16 in
-    at-its-index (p .result) (s .args .a) (p .ensures .1)
-    (λ e. issues-38 (s .args .rows .now) (s .args .boards .now) (s .args .waits .now) (p .result) _ (b .result) (b .ensures .1) (c .before .before .before .before .before .before .before .if1 .left) (c .before .before .before .before .before .if2 .left) (c .before .if3 .taken) (rw (← e) (c .refused3 .ensures)))
+    let b = c .before .before .before .index162 in
+    issues-38 (s .rows .now) (s .queues .now) (p .result) (s .a) (p .ensures .1) _ (c .before .before .before .before .before .before .before .if1 .left) (c .before .before .before .before .before .if2 .left) (b .result) (b .ensures .1) (c .before .if3 .taken) (c .refused3 .ensures)
 
 mul-place : tie.Need-mul-place
 mul-place c = search needs
@@ -92,14 +89,14 @@ index-1-place c = search needs
 place-requires : tie.Need-place-requires
 place-requires c κs = search needs
 
-mul-snapshot : tie.Need-mul-snapshot
-mul-snapshot c = search needs
+mul-rows : tie.Need-mul-rows
+mul-rows c = search needs
 
-index-1-snapshot : tie.Need-index-1-snapshot
-index-1-snapshot c = search needs
+index-1-rows : tie.Need-index-1-rows
+index-1-rows c = search needs
 
-snapshot-requires : tie.Need-snapshot-requires
-snapshot-requires c κs = search needs
+index-2-rows : tie.Need-index-2-rows
+index-2-rows c = search needs
 
 mul-issue : tie.Need-mul-issue
 mul-issue c = search needs
@@ -119,25 +116,17 @@ index-1-push c = search needs
 push-requires : tie.Need-push-requires
 push-requires c κs = search needs
 
-mul-waits : tie.Need-mul-waits
-mul-waits c = search needs
-
-element-write-waits : tie.Need-element-write-waits
-element-write-waits c = search needs
-
 returns-4 : tie.Need-returns-4
 returns-4 c =
-    let b = c .before .before .before .before .before .before .before .before .before .before .index162 in
-    let at = c .before .before .before .before .before .before .place in
-    let k = c .before .before .before .before .snapshot in
-    let s = c .before .before .before .before .before .before .before .before .before .before .before .before .before .before .before .before .before in
-    let p = c .before .before .before .before .before .before .before .before .before .before .before .before .before .before .before .before .index16 in
-    at-its-index (p .result) (s .args .a) (p .ensures .1)
-    (λ e. rw (c .push .ensures)
-    (issues-done (s .args .rows .now) (s .args .boards .now) (s .args .waits .now) (p .result) _ (b .result) (b .ensures .1)
-    (c .before .before .issue .last .0) (k .result) (c .before .before .before .before .before .before .before .before .before .before .before .before .before .before .if1 .left) (c .before .before .before .before .before .before .before .before .before .before .before .before .if2 .left) (c .before .before .before .before .before .before .before .before .if3 .left) (c .before .before .issue .ensures) (k .ensures)
-    (rw (← at .ensures .1 (b .ensures .0)) (at .ensures .0))
-    (λ i. record { answer = record { code = 0; cause = 1; a = 0; word = 0 }; at = at .ensures .1 (b .ensures .0) i; entry = record { item = Sync (e i) (k .result) } })))
+    let s = c .before .before .before .before .before .before .before .before .before .before .before .before .before .before .before .args in
+    let p = c .before .before .before .before .before .before .before .before .before .before .before .before .before .before .index16 in
+    let b = c .before .before .before .before .before .before .before .before .index162 in
+    let at = c .before .before .before .before .place in
+    let row = c .before .before .issue in
+    rw (c .push .ensures)
+    (issues-done (s .rows .now) (s .queues .now) (p .result) (s .a) (p .ensures .1) _ (c .before .before .before .before .before .before .before .before .before .before .before .before .if1 .left) (c .before .before .before .before .before .before .before .before .before .before .if2 .left) (b .result) (b .ensures .1) (row .last .0)
+    (c .before .before .before .before .before .before .if3 .left) (row .ensures) (rw (← at .ensures .1 (b .ensures .0)) (at .ensures .0))
+    (λ i. record { answer = record { code = 0; cause = 1; a = 0; word = 0 }; at = at .ensures .1 (b .ensures .0) i }))
 
 pub issue-spec : {M : Type 1} → statement M
 issue-spec =
@@ -150,7 +139,8 @@ issue-spec =
     refused-requires
     returns
     mul-if2
-    element-copy-out-if2
+    index-1-if2
+    index-2-if2
     refused-requires-2
     returns-2
     mul-index16
@@ -165,15 +155,13 @@ issue-spec =
     mul-place
     index-1-place
     place-requires
-    mul-snapshot
-    index-1-snapshot
-    snapshot-requires
+    mul-rows
+    index-1-rows
+    index-2-rows
     mul-issue
     index-1-issue
     issue-requires
     mul-push
     index-1-push
     push-requires
-    mul-waits
-    element-write-waits
     returns-4)

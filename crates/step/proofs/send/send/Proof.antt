@@ -1,6 +1,5 @@
 use mathlib.Core.Path.{sym, _∙_}
-use Rattle.state.specs.declared.entry.Item.the-variants.{Word}
-use Rattle.step.proofs.Sending.{send-at-its-index, send-suppressed, send-37, send-38, send-39, send-queued}
+use Rattle.step.proofs.Sending.{send-suppressed, send-37, send-38, send-39, send-queued}
 use native.Mathlib.Omega.{arith}
 use borrow.Author.Needs.{needs}
 use Rattle.step.proofs.send.send.Statement.{statement}
@@ -9,15 +8,17 @@ use Rattle.step.proofs.send.send.Reads as reads
 use Rattle.step.proofs.send.send.Lts as lts
 use Rattle.instruction.proofs.instruction.queue_send.Reads as queue-send-reads
 use Rattle.instruction.proofs.instruction.suppress_send.Reads as suppress-send-reads
-use Rattle.std.proofs.num.wrapping_add_u32.Reads as wrapping-add-u32-reads
-use Rattle.state.proofs.channel.held.Reads as held-reads
-use Rattle.state.proofs.channel.index32.Reads as index32-reads
-use Rattle.step.proofs.guards.owing.Reads as owing-reads
-use Rattle.state.proofs.board.index16.Reads as index16-reads
-use Rattle.state.proofs.board.place.Reads as place-reads
-use Rattle.state.proofs.board.push.Reads as push-reads
+use Rattle.plan.proofs.reader.Reads as reader-reads
+use Rattle.state.proofs.channel.full.Reads as full-reads
 use Rattle.state.proofs.moved.alone.Reads as alone-reads
 use Rattle.state.proofs.moved.refused.Reads as refused-reads
+use Rattle.state.proofs.queue.place.Reads as place-reads
+use Rattle.state.proofs.queue.push.Reads as push-reads
+use Rattle.std.proofs.num.wrapping_add_u32.Reads as wrapping-add-u32-reads
+use Rattle.step.proofs.guards.blame.Reads as blame-reads
+use Rattle.step.proofs.guards.owing.Reads as owing-reads
+use Rattle.words.proofs.index16.Reads as index16-reads
+use Rattle.words.proofs.index32.Reads as index32-reads
 
 index16-requires : tie.Need-index16-requires
 index16-requires c κs = search needs
@@ -45,10 +46,11 @@ alone-requires c κs = search needs
 
 returns : tie.Need-returns
 returns c =
-    let s = c .before .before .before .before .before .before in
+    let s = c .before .before .before .before .before .before .args in
     let p = c .before .before .before .before .before .index16 in
-    send-at-its-index (p .result) (s .args .a) (p .ensures .1)
-    (λ e. send-suppressed (s .args .reader .now) (s .args .rows .now) (s .args .boards .now) (s .args .totals .now) (s .args .limit) (p .result) (s .args .channel) (s .args .word) _ (c .before .suppress-send .last .0) (c .before .before .before .if1 .taken) (c .before .suppress-send .ensures) (c .alone .ensures))
+    let t = c .before .suppress-send in
+    send-suppressed (s .wires .now) (s .rows .now) (s .queues .now) (s .totals .now) (s .limit) (p .result) (s .a) (p .ensures .1) (s .channel) (s .word) _
+    (t .last .0) (c .before .before .before .if1 .taken) (t .ensures) (c .alone .ensures)
 
 mul-owing : tie.Need-mul-owing
 mul-owing c = search needs
@@ -73,11 +75,11 @@ refused-requires c κs = search needs
 
 returns-2 : tie.Need-returns-2
 returns-2 c =
-    let s = c .before .before .before .before .before .before .before .before .before in
+    let s = c .before .before .before .before .before .before .before .before .before .args in
     let p = c .before .before .before .before .before .before .before .before .index16 in
     let none = c .before .before .before .before .before .before .if1 .left in
-    send-at-its-index (p .result) (s .args .a) (p .ensures .1)
-    (λ e. send-37 (s .args .reader .now) (s .args .rows .now) (s .args .boards .now) (s .args .totals .now) (s .args .limit) (p .result) (s .args .channel) (s .args .word) _ (omega arith) (sym (c .before .before .before .before .owing .ensures) ∙ c .before .before .before .if2 .taken) _ (c .before .blame .ensures) (rw (← e) (c .refused .ensures)))
+    send-37 (s .wires .now) (s .rows .now) (s .queues .now) (s .totals .now) (s .limit) (p .result) (s .a) (p .ensures .1) (s .channel) (s .word) _
+    (omega arith) (sym (c .before .before .before .before .owing .ensures) ∙ c .before .before .before .if2 .taken) _ (c .before .blame .ensures) (c .refused .ensures)
 
 mul-index16 : tie.Need-mul-index16
 mul-index16 c = search needs
@@ -105,43 +107,42 @@ refused-requires-2 c κs = search needs
 
 returns-3 : tie.Need-returns-3
 returns-3 c =
-    let s = c .before .before .before .before .before .before .before .before .before .before .before in
+    let s = c .before .before .before .before .before .before .before .before .before .before .before .args in
     let p = c .before .before .before .before .before .before .before .before .before .before .index16 in
     let b = c .before .before .before .index162 in
     let none = c .before .before .before .before .before .before .before .before .if1 .left in
-    send-at-its-index (p .result) (s .args .a) (p .ensures .1)
-    (λ e. send-38 (s .args .reader .now) (s .args .rows .now) (s .args .boards .now) (s .args .totals .now) (s .args .limit) (p .result) (s .args .channel) (s .args .word) _ (omega arith) (sym (c .before .before .before .before .before .before .owing .ensures) ∙ c .before .before .before .before .before .if2 .left) (b .result) (b .ensures .1) (c .before .if3 .taken) (rw (← e) (c .refused2 .ensures)))
+    send-38 (s .wires .now) (s .rows .now) (s .queues .now) (s .totals .now) (s .limit) (p .result) (s .a) (p .ensures .1) (s .channel) (s .word) _
+    (omega arith) (sym (c .before .before .before .before .before .before .owing .ensures) ∙ c .before .before .before .before .before .if2 .left) (b .result) (b .ensures .1) (c .before .if3 .taken) (c .refused2 .ensures)
 
 index32-requires : tie.Need-index32-requires
 index32-requires c κs = search needs
 
-mul-held : tie.Need-mul-held
-mul-held c = search needs
+reader-requires : tie.Need-reader-requires
+reader-requires c κs = search needs
 
-element-copy-out-held : tie.Need-element-copy-out-held
-element-copy-out-held c = search needs
+mul-full : tie.Need-mul-full
+mul-full c = search needs
 
-mul-held-2 : tie.Need-mul-held-2
-mul-held-2 c = search needs
+element-copy-out-full : tie.Need-element-copy-out-full
+element-copy-out-full c = search needs
 
-element-copy-out-held-2 : tie.Need-element-copy-out-held-2
-element-copy-out-held-2 c = search needs
-
-held-requires : tie.Need-held-requires
-held-requires c κs = search needs
+full-requires : tie.Need-full-requires
+full-requires c κs = search needs
 
 refused-requires-3 : tie.Need-refused-requires-3
 refused-requires-3 c κs = search needs
 
 returns-4 : tie.Need-returns-4
 returns-4 c =
-    let s = c .before .before .before .before .before .before .before .before .before .before .before .before .before .before .before .before in
+    let s = c .before .before .before .before .before .before .before .before .before .before .before .before .before .before .before .before .args in
     let p = c .before .before .before .before .before .before .before .before .before .before .before .before .before .before .before .index16 in
     let b = c .before .before .before .before .before .before .before .before .index162 in
     let k = c .before .before .before .before .before .index32 in
+    let reader = c .before .before .before .before .reader in
     let none = c .before .before .before .before .before .before .before .before .before .before .before .before .before .if1 .left in
-    send-at-its-index (p .result) (s .args .a) (p .ensures .1)
-    (λ e. send-39 (s .args .reader .now) (s .args .rows .now) (s .args .boards .now) (s .args .totals .now) (s .args .limit) (p .result) (s .args .channel) (s .args .word) _ (omega arith) (sym (c .before .before .before .before .before .before .before .before .before .before .before .owing .ensures) ∙ c .before .before .before .before .before .before .before .before .before .before .if2 .left) (b .result) (b .ensures .1) (c .before .before .before .before .before .before .if3 .left) (k .result) (k .ensures .1) (sym (c .before .before .held .ensures) ∙ c .before .if4 .taken) (rw (← e) (c .refused3 .ensures)))
+    send-39 (s .wires .now) (s .rows .now) (s .queues .now) (s .totals .now) (s .limit) (p .result) (s .a) (p .ensures .1) (s .channel) (s .word) _
+    (omega arith) (sym (c .before .before .before .before .before .before .before .before .before .before .before .owing .ensures) ∙ c .before .before .before .before .before .before .before .before .before .before .if2 .left) (b .result) (b .ensures .1) (c .before .before .before .before .before .before .if3 .left) (k .result) (reader .result) (k .ensures .1)
+    (reader .ensures (k .ensures .0)) (sym (c .before .before .full .ensures) ∙ c .before .if4 .taken) (c .refused3 .ensures)
 
 mul-place : tie.Need-mul-place
 mul-place c = search needs
@@ -187,17 +188,19 @@ element-write-totals c = search needs
 
 returns-5 : tie.Need-returns-5
 returns-5 c =
-    let s = c .before .before .before .before .before .before .before .before .before .before .before .before .before .before .before .before .before .before .before .before .before .before .before in
+    let s = c .before .before .before .before .before .before .before .before .before .before .before .before .before .before .before .before .before .before .before .before .before .before .before .args in
     let p = c .before .before .before .before .before .before .before .before .before .before .before .before .before .before .before .before .before .before .before .before .before .before .index16 in
     let b = c .before .before .before .before .before .before .before .before .before .before .before .before .before .before .before .index162 in
     let k = c .before .before .before .before .before .before .before .before .before .before .before .before .index32 in
+    let reader = c .before .before .before .before .before .before .before .before .before .before .before .reader in
     let at = c .before .before .before .before .before .before .place in
+    let t = c .before .before .before .before .queue-send in
     let none = c .before .before .before .before .before .before .before .before .before .before .before .before .before .before .before .before .before .before .before .before .if1 .left in
-    send-at-its-index (p .result) (s .args .a) (p .ensures .1)
-    (λ e. rw (c .before .before .push .ensures, c .wrapping-add-u32 .ensures)
-    (send-queued (s .args .reader .now) (s .args .rows .now) (s .args .boards .now) (s .args .totals .now) (s .args .limit) (p .result) (s .args .channel) (s .args .word) _ (omega arith) (sym (c .before .before .before .before .before .before .before .before .before .before .before .before .before .before .before .before .before .before .owing .ensures) ∙ c .before .before .before .before .before .before .before .before .before .before .before .before .before .before .before .before .before .if2 .left) (b .result) (b .ensures .1) (c .before .before .before .before .before .before .before .before .before .before .before .before .before .if3 .left) (k .result) (k .ensures .1) (c .before .before .before .before .queue-send .last .0) (sym (c .before .before .before .before .before .before .before .before .before .held .ensures) ∙ c .before .before .before .before .before .before .before .before .if4 .left) (c .before .before .before .before .queue-send .ensures)
-    (rw (← at .ensures .1 (b .ensures .0)) (at .ensures .0))
-    (λ i. record { answer = record { code = 2; cause = 0; a = s .args .channel; word = s .args .word }; at = at .ensures .1 (b .ensures .0) i; entry = record { item = Word (s .args .channel) (s .args .word) } })))
+    rw (c .before .before .push .ensures, c .wrapping-add-u32 .ensures)
+    (send-queued (s .wires .now) (s .rows .now) (s .queues .now) (s .totals .now) (s .limit) (p .result) (s .a) (p .ensures .1) (s .channel) (s .word) _
+    (omega arith) (sym (c .before .before .before .before .before .before .before .before .before .before .before .before .before .before .before .before .before .before .owing .ensures) ∙ c .before .before .before .before .before .before .before .before .before .before .before .before .before .before .before .before .before .if2 .left) (b .result) (b .ensures .1) (c .before .before .before .before .before .before .before .before .before .before .before .before .before .if3 .left) (k .result) (reader .result) (k .ensures .1)
+    (reader .ensures (k .ensures .0)) (t .last .0) (sym (c .before .before .before .before .before .before .before .before .before .full .ensures) ∙ c .before .before .before .before .before .before .before .before .if4 .left) (t .ensures) (rw (← at .ensures .1 (b .ensures .0)) (at .ensures .0))
+    (λ i. record { answer = record { code = 2; cause = 0; a = s .channel; word = s .word }; at = at .ensures .1 (b .ensures .0) i }))
 
 pub send-spec : {M : Type 1} → statement M
 send-spec =
@@ -230,11 +233,10 @@ send-spec =
     refused-requires-2
     returns-3
     index32-requires
-    mul-held
-    element-copy-out-held
-    mul-held-2
-    element-copy-out-held-2
-    held-requires
+    reader-requires
+    mul-full
+    element-copy-out-full
+    full-requires
     refused-requires-3
     returns-4
     mul-place

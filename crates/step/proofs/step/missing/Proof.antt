@@ -1,5 +1,4 @@
 use borrow.Author.Tests.{eq-eqb, ne-eqb}
-use native.Mathlib.Omega.{arith}
 use Rattle.step.proofs.step.missing.Statement.{statement}
 use Rattle.step.proofs.step.missing.Tie as tie
 use Rattle.step.proofs.step.missing.Reads as reads

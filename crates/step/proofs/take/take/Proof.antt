@@ -1,20 +1,22 @@
 use mathlib.Core.Path.{sym, _∙_}
-use Rattle.step.proofs.Taking.{take-at-its-index, take-37, take-none, take-done}
-use native.Mathlib.Omega.{arith}
+use Rattle.step.proofs.Taking.{take-37, take-done}
 use borrow.Author.Needs.{needs}
 use Rattle.step.proofs.take.take.Statement.{statement}
 use Rattle.step.proofs.take.take.Tie as tie
 use Rattle.step.proofs.take.take.Reads as reads
 use Rattle.step.proofs.take.take.Lts as lts
 use Rattle.instruction.proofs.instruction.take_word.Reads as take-word-reads
+use Rattle.plan.proofs.port.Reads as port-reads
 use Rattle.process.proofs.mail.channel_of.Reads as channel-of-reads
+use Rattle.process.proofs.mail.word_at.Reads as word-at-reads
 use Rattle.process.proofs.mail.word_of.Reads as word-of-reads
-use Rattle.std.proofs.num.wrapping_sub_u32.Reads as wrapping-sub-u32-reads
-use Rattle.state.proofs.channel.index32.Reads as index32-reads
-use Rattle.step.proofs.guards.owing.Reads as owing-reads
-use Rattle.state.proofs.board.index16.Reads as index16-reads
 use Rattle.state.proofs.moved.alone.Reads as alone-reads
 use Rattle.state.proofs.moved.refused.Reads as refused-reads
+use Rattle.std.proofs.num.wrapping_sub_u32.Reads as wrapping-sub-u32-reads
+use Rattle.step.proofs.guards.blame.Reads as blame-reads
+use Rattle.step.proofs.guards.owing.Reads as owing-reads
+use Rattle.words.proofs.index16.Reads as index16-reads
+use Rattle.words.proofs.index32.Reads as index32-reads
 
 index16-requires : tie.Need-index16-requires
 index16-requires c κs = search needs
@@ -42,32 +44,25 @@ refused-requires c κs = search needs
 
 returns : tie.Need-returns
 returns c =
-    let s = c .before .before .before .before .before .before .before in
+    let s = c .before .before .before .before .before .before .before .args in
     let p = c .before .before .before .before .before .before .index16 in
-    take-at-its-index (p .result) (s .args .a) (p .ensures .1)
-    (λ e. take-37 (s .args .port .now) (s .args .rows .now) (s .args .mails .now) (s .args .totals .now) (s .args .limit) (p .result) (s .args .code) (s .args .register) (s .args .at) _ (sym (c .before .before .before .before .owing .ensures) ∙ c .before .before .before .if1 .taken) _ (c .before .blame .ensures) (rw (← e) (c .refused .ensures)))
+    take-37 (s .wires .now) (s .rows .now) (s .mails .now) (s .totals .now) (s .limit) (p .result) (s .a) (p .ensures .1) (s .code) (s .register) (s .at) _
+    (sym (c .before .before .before .before .owing .ensures) ∙ c .before .before .before .if1 .taken) _ (c .before .blame .ensures) (c .refused .ensures)
 
-refused-requires-2 : tie.Need-refused-requires-2
-refused-requires-2 c κs = search needs
+mul-word-at : tie.Need-mul-word-at
+mul-word-at c = search needs
 
-returns-2 : tie.Need-returns-2
-returns-2 c =
-    let s = c .before .before .before .before .before .before in
-    let p = c .before .before .before .before .before .index16 in
-    take-at-its-index (p .result) (s .args .a) (p .ensures .1)
-    (λ e. take-none (s .args .port .now) (s .args .rows .now) (s .args .mails .now) (s .args .totals .now) (s .args .limit) (p .result) (s .args .code) (s .args .register) (s .args .at) _ (c .before .if2 .taken))
+index-1-word-at : tie.Need-index-1-word-at
+index-1-word-at c = search needs
 
-mul-x : tie.Need-mul-x
-mul-x c = search needs
+mul-word-at-2 : tie.Need-mul-word-at-2
+mul-word-at-2 c = search needs
 
-mul-x-2 : tie.Need-mul-x-2
-mul-x-2 c = search needs
+index-1-word-at-2 : tie.Need-index-1-word-at-2
+index-1-word-at-2 c = search needs
 
-index-1-x : tie.Need-index-1-x
-index-1-x c = search needs
-
-index-2-x : tie.Need-index-2-x
-index-2-x c = search needs
+word-at-requires : tie.Need-word-at-requires
+word-at-requires c κs = search needs
 
 channel-of-requires : tie.Need-channel-of-requires
 channel-of-requires c κs = search needs
@@ -87,11 +82,8 @@ mul-take-word-2 c = search needs
 index-1-take-word-2 : tie.Need-index-1-take-word-2
 index-1-take-word-2 c = search needs
 
-mul-take-word-3 : tie.Need-mul-take-word-3
-mul-take-word-3 c = search needs
-
-element-copy-out-take-word : tie.Need-element-copy-out-take-word
-element-copy-out-take-word c = search needs
+port-requires : tie.Need-port-requires
+port-requires c κs = search needs
 
 take-word-requires : tie.Need-take-word-requires
 take-word-requires c κs = search needs
@@ -117,18 +109,20 @@ word-of-requires c κs = search needs
 alone-requires : tie.Need-alone-requires
 alone-requires c κs = search needs
 
-returns-3 : tie.Need-returns-3
-returns-3 c =
-    let s = c .before .before .before .before .before .before .before .before .before .before .before .before .before .before .before .before in
-    let t = c .before .before .before .before .take-word in
-    let k = c .before .before .before .before .before .before .before .before .index32 in
+returns-2 : tie.Need-returns-2
+returns-2 c =
+    let s = c .before .before .before .before .before .before .before .before .before .before .before .before .before .before .before .before .before .args in
+    let p = c .before .before .before .before .before .before .before .before .before .before .before .before .before .before .before .before .index16 in
+    let x = c .before .before .before .before .before .before .before .before .before .before .word-at in
     let w = c .before .before .before .before .before .before .before .before .before .channel-of in
-    let v = c .before .word-of in
+    let k = c .before .before .before .before .before .before .before .before .index32 in
+    let port = c .before .before .before .before .before .port in
+    let t = c .before .before .before .before .take-word in
     let u = c .before .before .wrapping-sub-u32 in
-    let p = c .before .before .before .before .before .before .before .before .before .before .before .before .before .before .before .index16 in
-    take-at-its-index (p .result) (s .args .a) (p .ensures .1)
-    (λ e. take-done (s .args .port .now) (s .args .rows .now) (s .args .mails .now) (s .args .totals .now) (s .args .limit) (p .result) (s .args .code) (s .args .register) (s .args .at) _ (k .result) (t .last .0) (t .last .1 .0) (u .result) (sym (c .before .before .before .before .before .before .before .before .before .before .before .before .before .owing .ensures) ∙ c .before .before .before .before .before .before .before .before .before .before .before .before .if1 .left) (rw (w .ensures) at (k .ensures .1)) (t .ensures) (u .ensures) (u .ok)
-    (rw (← w .ensures, ← v .ensures) (c .alone .ensures)))
+    take-done (s .wires .now) (s .rows .now) (s .mails .now) (s .totals .now) (s .limit) (p .result) (s .a) (p .ensures .1) (s .code) (s .register) (s .at) _
+    (k .result) (port .result) (u .result) (t .last .0) (t .last .1 .0) (sym (c .before .before .before .before .before .before .before .before .before .before .before .before .before .before .owing .ensures) ∙ c .before .before .before .before .before .before .before .before .before .before .before .before .before .if1 .left)
+    (rw (w .ensures, x .ensures) at (k .ensures .1)) (port .ensures (k .ensures .0)) (t .ensures) (u .ensures) (u .ok)
+    (rw (← x .ensures, ← w .ensures, ← c .before .word-of .ensures) (c .alone .ensures))
 
 pub take-spec : {M : Type 1} → statement M
 take-spec =
@@ -143,20 +137,18 @@ take-spec =
     blame-requires
     refused-requires
     returns
-    refused-requires-2
-    returns-2
-    mul-x
-    mul-x-2
-    index-1-x
-    index-2-x
+    mul-word-at
+    index-1-word-at
+    mul-word-at-2
+    index-1-word-at-2
+    word-at-requires
     channel-of-requires
     index32-requires
     mul-take-word
     index-1-take-word
     mul-take-word-2
     index-1-take-word-2
-    mul-take-word-3
-    element-copy-out-take-word
+    port-requires
     take-word-requires
     mul-wrapping-sub-u32
     element-copy-out-wrapping-sub-u32
@@ -165,4 +157,4 @@ take-spec =
     element-write-totals
     word-of-requires
     alone-requires
-    returns-3)
+    returns-2)

@@ -1,5 +1,4 @@
 use borrow.Author.Tests.{le-leb, lt-leb}
-use borrow.Author.Needs.{needs}
 use Rattle.table.proofs.boards.limit_ok.Statement.{statement}
 use Rattle.table.proofs.boards.limit_ok.Tie as tie
 

@@ -26,8 +26,8 @@ version-of-requires c κs = search needs
 byte-requires : tie.Need-byte-requires Inv-loop μ-loop
 byte-requires c κs = search needs
 
-wide-requires : tie.Need-wide-requires Inv-loop μ-loop
-wide-requires c κs = search needs
+byte-wide-requires : tie.Need-byte-wide-requires Inv-loop μ-loop
+byte-wide-requires c κs = search needs
 
 loop-holds : tie.Need-loop-holds Inv-loop μ-loop
 loop-holds c = extending-start _ _ _ (c .before .before .before .before .records-start .ensures) (c .before .before .before .if1 .left)
@@ -49,8 +49,8 @@ returns-2 c =
     let t = c .before .before .before .before .before .before .before .before .before .before .before .args .table .now in
     let l = c .before .before .before .before .loop in
     let s = c .before .before .before .before .before .before .before .before .before .records-start in
-    let n = c .before .before .before .before .before .wide in
-    sym (extent-says t (s .result) (n .result) (s .ensures) (c .before .before .before .before .before .before .before .before .if1 .left) (n .ensures ∙ c .before .before .before .before .before .before .byte .ensures)
+    let n = c .before .before .before .before .before .byte-wide in
+    sym (extent-says t (s .result) (n .result) (s .ensures) (c .before .before .before .before .before .before .before .before .if1 .left) (n .ensures .0 ∙ c .before .before .before .before .before .before .byte .ensures)
     ∙ extending-refused t (n .result) (l .at) (l .p) (c .before .record-in .result) (l .inv) (c .before .before .before .loop-test .taken)
     (c .before .record-in .ensures ∙ ap₂ recordIn (c .before .before .before .before .before .before .before .version-of .ensures) (part-rest t (l .at))) (c .if2 .taken))
 
@@ -81,8 +81,8 @@ returns-3 c =
     let t = c .before .before .before .before .before .before .before .before .args .table .now in
     let l = c .before .loop in
     let s = c .before .before .before .before .before .before .records-start in
-    let n = c .before .before .wide in
-    sym (extent-says t (s .result) (n .result) (s .ensures) (c .before .before .before .before .before .if1 .left) (n .ensures ∙ c .before .before .before .byte .ensures)
+    let n = c .before .before .byte-wide in
+    sym (extent-says t (s .result) (n .result) (s .ensures) (c .before .before .before .before .before .if1 .left) (n .ensures .0 ∙ c .before .before .before .byte .ensures)
     ∙ extending-end t (n .result) (l .at) (l .p) (l .inv) (c .loop-test .left))
 
 pub extent-ok-spec : {M : Type 1} → statement M
@@ -95,7 +95,7 @@ extent-ok-spec =
     returns
     version-of-requires
     byte-requires
-    wide-requires
+    byte-wide-requires
     loop-holds
     sub-record-in
     part-record-in-start

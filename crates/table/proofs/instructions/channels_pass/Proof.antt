@@ -1,12 +1,8 @@
-use Rattle.table.proofs.Masks.{Left, left-all, left-none, low, can-clear, clears, left-fails, left-passes}
-use Rattle.rules.specs.Format.{decodeTable}
 use borrow.Author.Needs.{needs}
-use native.Mathlib.Omega.{arith}
+use Rattle.rules.specs.Format.{decodeTable}
+use Rattle.table.proofs.Masks.{Left, left-all, left-none, low, can-clear, clears, left-fails, left-passes}
 use Rattle.table.proofs.instructions.channels_pass.Statement.{statement}
 use Rattle.table.proofs.instructions.channels_pass.Tie as tie
-use Rattle.table.proofs.instructions.channels_pass.Reads as reads
-use Rattle.table.proofs.instructions.channels_pass.Lts as lts
-use Rattle.table.proofs.instructions.end_is.Reads as end-is-reads
 
 abbrev Inv-loop : tie.InvT-loop
 Inv-loop table p mask left₀ left = Left (decodeTable table) p mask left

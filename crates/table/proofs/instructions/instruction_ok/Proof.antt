@@ -1,16 +1,10 @@
 use mathlib.Core.Path.{refl, ap, _∙_}
 use Prim.Native.Nat.{ℕ}
 use lib.Dec.{leb}
-use Rattle.table.proofs.OneInstruction.{second, failed, set-is, add-is, take-is, first-is, send-is, jump-is, none-is}
-use native.Mathlib.Omega.{arith}
 use borrow.Author.Needs.{needs}
+use Rattle.table.proofs.OneInstruction.{second, failed, set-is, add-is, take-is, first-is, send-is, jump-is, none-is}
 use Rattle.table.proofs.instructions.instruction_ok.Statement.{statement}
 use Rattle.table.proofs.instructions.instruction_ok.Tie as tie
-use Rattle.table.proofs.instructions.instruction_ok.Reads as reads
-use Rattle.table.proofs.instructions.instruction_ok.Lts as lts
-use Rattle.table.proofs.instructions.end_is.Reads as end-is-reads
-use Rattle.table.proofs.instructions.mask_ok.Reads as mask-ok-reads
-use Rattle.table.proofs.instructions.wider.Reads as wider-reads
 
 end-is-requires : tie.Need-end-is-requires
 end-is-requires c κs = search needs
@@ -21,8 +15,8 @@ mask-ok-requires c κs = search needs
 end-is-requires-2 : tie.Need-end-is-requires-2
 end-is-requires-2 c κs = search needs
 
-wider-requires : tie.Need-wider-requires
-wider-requires c κs = search needs
+wide-requires : tie.Need-wide-requires
+wide-requires c κs = search needs
 
 returns : tie.Need-returns
 returns c = set-is _ _ _ _ (c .before .match .keys1)
@@ -52,7 +46,7 @@ returns-9 : tie.Need-returns-9
 returns-9 c = failed _ 4 _ (c .if4 .left) ∙ send-is _ _ _ _ (c .before .before .match .keys5)
 
 returns-10 : tie.Need-returns-10
-returns-10 c = second _ 4 _ _ (c .before .if5 .taken) (ap (λ (x : ℕ). leb x (c .before .before .before .before .before .args .n)) (c .wider .ensures)) ∙ jump-is _ _ _ _ (c .before .before .before .match .keys6)
+returns-10 c = second _ 4 _ _ (c .before .if5 .taken) (ap (λ (x : ℕ). leb x (c .before .before .before .before .before .args .n)) (c .wide .ensures .0)) ∙ jump-is _ _ _ _ (c .before .before .before .match .keys6)
 
 returns-11 : tie.Need-returns-11
 returns-11 c = failed _ 4 _ (c .if5 .left) ∙ jump-is _ _ _ _ (c .before .before .match .keys6)
@@ -67,7 +61,7 @@ instruction-ok-spec =
     end-is-requires
     mask-ok-requires
     end-is-requires-2
-    wider-requires
+    wide-requires
     returns
     returns-2
     returns-3

@@ -1,11 +1,7 @@
-use Rattle.table.proofs.Masks.{too-few, too-many, by-channels}
-use native.Mathlib.Omega.{arith}
 use borrow.Author.Needs.{needs}
+use Rattle.table.proofs.Masks.{too-few, too-many, by-channels}
 use Rattle.table.proofs.instructions.mask_ok.Statement.{statement}
 use Rattle.table.proofs.instructions.mask_ok.Tie as tie
-use Rattle.table.proofs.instructions.mask_ok.Reads as reads
-use Rattle.table.proofs.instructions.mask_ok.Lts as lts
-use Rattle.table.proofs.instructions.channels_pass.Reads as channels-pass-reads
 
 returns : tie.Need-returns
 returns c = too-few _ _ _ (c .before .before .fits .mask .fits) (c .if1 .taken)

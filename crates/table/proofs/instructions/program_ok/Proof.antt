@@ -1,17 +1,12 @@
 use mathlib.Core.Path.{ap, _∙_}
 use Prim.Native.Nat.{_-_}
+use borrow.Author.Needs.{needs}
+use Rattle.facts.specs.Walks.{Walked, walk-start, walk-on, walk-fails, walk-end}
 use Rattle.rules.specs.Format.{decodeTable}
 use Rattle.table.specs.Judging.{passes, programOk}
-use Rattle.facts.specs.Walks.{Walked, walk-start, walk-on, walk-fails, walk-end}
 use Rattle.table.proofs.Walk.{placePasses}
-use borrow.Author.Needs.{needs}
-use native.Mathlib.Omega.{arith}
 use Rattle.table.proofs.instructions.program_ok.Statement.{statement}
 use Rattle.table.proofs.instructions.program_ok.Tie as tie
-use Rattle.table.proofs.instructions.program_ok.Reads as reads
-use Rattle.table.proofs.instructions.program_ok.Lts as lts
-use Rattle.records.proofs.fetch.fetch.Reads as fetch-reads
-use Rattle.table.proofs.instructions.instruction_ok.Reads as instruction-ok-reads
 
 abbrev Inv-loop : tie.InvT-loop
 Inv-loop table p n program k₀ k = Walked (placePasses (decodeTable table) p n program) n k

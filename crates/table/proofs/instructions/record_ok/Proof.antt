@@ -1,16 +1,15 @@
 use mathlib.Core.Path.{_∙_}
-use Rattle.facts.specs.Lists.{part-rest}
-use Rattle.table.proofs.Walk.{lent-program}
 use native.Mathlib.Omega.{arith}
 use borrow.Author.Needs.{needs}
+use Rattle.table.proofs.Walk.{lent-program}
 use Rattle.table.proofs.instructions.record_ok.Statement.{statement}
 use Rattle.table.proofs.instructions.record_ok.Tie as tie
 
 program-length-requires : tie.Need-program-length-requires
 program-length-requires c κs = search needs
 
-wide-requires : tie.Need-wide-requires
-wide-requires c κs = search needs
+byte-wide-requires : tie.Need-byte-wide-requires
+byte-wide-requires c κs = search needs
 
 record-head-requires : tie.Need-record-head-requires
 record-head-requires c κs = search needs
@@ -30,14 +29,14 @@ program-ok-requires c κs = search needs
 returns : tie.Need-returns
 returns c =
     let s = c .before .before .before .before .before .before .before .args in
-    c .program-ok .ensures ∙ lent-program _ (s .version) (s .p) _ _ (s .rest .now) (c .before .before .before .wide .ensures ∙ c .before .before .before .before .program-length .ensures) (c .before .before .record-head .ensures .0)
+    c .program-ok .ensures ∙ lent-program _ (s .version) (s .p) _ _ (s .rest .now) (c .before .before .before .byte-wide .ensures .0 ∙ c .before .before .before .before .program-length .ensures) (c .before .before .record-head .ensures .0)
 
 pub record-ok-spec : {M : Type 1} → statement M
 record-ok-spec =
     tie.close
     (tie.spec
     program-length-requires
-    wide-requires
+    byte-wide-requires
     record-head-requires
     sub-program-ok
     part-program-ok-start

@@ -1,0 +1,70 @@
+// 32 and 33, which any record may be answered before its move is made, and their causes.
+ghost use mathlib.Core.Path.{_≡_};
+ghost use Rattle.rules.specs.Moves.{moveOf};
+ghost use Rattle.command.specs.Judges.{beyondOf, numberOf, wordedOf, judgeOf, faultOf, causeBy};
+use plan::Counts;
+use records::schedule::Command;
+use words::byte_wide;
+
+// 33 where a is none of so many.
+fn beyond(a: u8, most: usize) -> u32
+    ensures { λ r. ⌜ r ≡ beyondOf a most ⌝ }
+{
+    if byte_wide(a) >= most { 33 } else { 0 }
+}
+
+// "33 if a is no process, board or channel of this table", by the move; 32 for an unknown one, and 0 for neither.
+fn number(counts: Counts, mv: u8, a: u8) -> u32
+    ensures { λ r. ⌜ r ≡ numberOf counts a (moveOf mv) ⌝ }
+{
+    match mv {
+        1 => beyond(a, counts.processes),
+        2 => beyond(a, counts.processes),
+        3 => beyond(a, counts.boards),
+        4 => beyond(a, counts.channels),
+        5 => beyond(a, counts.boards),
+        6 => beyond(a, counts.boards),
+        7 => beyond(a, counts.processes),
+        _ => 32,
+    }
+}
+
+// "The word is 0 except in a feed."
+fn worded(mv: u8, word: u32) -> bool
+    ensures { λ r. ⌜ r ≡ wordedOf mv word ⌝ }
+{
+    mv != 4 && word != 0
+}
+
+// "Any record: 32 for an unknown move or a word that should be 0", then 33; 0 for neither.
+pub fn judge(counts: Counts, c: Command) -> u32
+    ensures { λ r. ⌜ r ≡ judgeOf counts c ⌝ }
+{
+    if worded(c.mv, c.word) {
+        return 32;
+    }
+    number(counts, c.mv, c.a)
+}
+
+// W-206, of a known move: "Code 32: 1 when the move is known and the word is at fault"; of a 33 what it says there.
+fn fault(number: u32, of_33: u32) -> u32
+    ensures { λ r. ⌜ r ≡ faultOf number of_33 ⌝ }
+{
+    if number == 32 { 1 } else { of_33 }
+}
+
+// The cause of a 32 or a 33, by the move: "Code 33: 1 for a board, 2 for a channel."
+pub fn cause(number: u32, mv: u8) -> u32
+    ensures { λ r. ⌜ r ≡ causeBy number (moveOf mv) ⌝ }
+{
+    match mv {
+        1 => fault(number, 0),
+        2 => fault(number, 0),
+        3 => fault(number, 1),
+        4 => fault(number, 2),
+        5 => fault(number, 1),
+        6 => fault(number, 1),
+        7 => fault(number, 0),
+        _ => 0,
+    }
+}

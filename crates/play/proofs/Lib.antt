@@ -1,0 +1,5 @@
+-- An answer's bytes:
+pub mod Putting
+pub mod Answers
+-- and why what the records leave is what the rules leave:
+pub mod Playing

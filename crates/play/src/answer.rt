@@ -1,0 +1,38 @@
+// Answers in bytes: "One six-byte answer a record: code, a, word.", and why (W-206): "one byte a record: the answer's code times 4, plus a
+// cause". That the buffers have room for all records is asked once, before the first.
+ghost use mathlib.Core.Path.{_≡_};
+ghost use Prim.Native.Nat.{_+_, _*_, _≤_, _<_};
+ghost use lib.ListN.{length, set};
+ghost use lib.Seq.{sets};
+ghost use Rattle.play.specs.Written.{sixBytes, reasonByte};
+use state::moved::Answer;
+use words::low_byte;
+
+// The i-th answer of a buffer.
+pub fn put(answers: &mut [u8], i: usize, r: Answer)
+    requires { ⌜ 6 * i + 6 ≤ length (now answers) ⌝ }
+    ensures { λ _. ⌜ now (answers .exit) ≡ sets (now (answers .entry)) (6 * i) (sixBytes r) ⌝ }
+{
+    let at = 6 * i;
+    answers[at] = low_byte(r.code);
+    answers[at + 1] = low_byte(r.a);
+    answers[at + 2] = low_byte(r.word / 16777216);
+    answers[at + 3] = low_byte(r.word / 65536);
+    answers[at + 4] = low_byte(r.word / 256);
+    answers[at + 5] = low_byte(r.word);
+}
+
+// A code is below 64, and a cause below 4.
+fn reason(code: u32, cause: u32) -> u8
+    ensures { λ r. ⌜ r ≡ reasonByte code cause ⌝ }
+{
+    ((code % 64) * 4 + cause % 4) as u8
+}
+
+// The i-th reason of a buffer.
+pub fn put_reason(reasons: &mut [u8], i: usize, code: u32, cause: u32)
+    requires { ⌜ i < length (now reasons) ⌝ }
+    ensures { λ _. ⌜ now (reasons .exit) ≡ set (now (reasons .entry)) i (reasonByte code cause) ⌝ }
+{
+    reasons[i] = reason(code, cause);
+}

@@ -1,0 +1,162 @@
+// The loop over a schedule's records: each is judged, its move made, and its answer written. The loop alone holds the entries of all queues, one
+// flat array: it hands a carry the oldest entry of a board, and makes the entry by which a step, a sync or a resync ends.
+ghost use mathlib.Core.Path.{_≡_};
+ghost use Prim.Native.Nat.{_*_, _+_, _≤_, _<_};
+ghost use lib.ListN.{length};
+ghost use Rattle.plan.specs.Plan.{planOf};
+ghost use Rattle.state.specs.Store.{storeOf};
+ghost use Rattle.play.specs.Plays.{sheetsOf, Writes, Roomy, Plays};
+use crate::answer::put;
+use crate::answer::put_reason;
+use backup::limits::LOG;
+use backup::place::HEAD;
+use bus::inject::inject;
+use bus::transmit::oldest;
+use bus::transmit::transmit;
+use command::judge::cause;
+use command::judge::judge;
+use crash::crash::crash;
+use plan::Counts;
+use plan::PROGRAMS;
+use plan::WIRES;
+use process::checkpoint::snapshot;
+use process::row::ROW;
+use records::schedule::command_at;
+use rejoin::rebackup::rebackup;
+use rejoin::rejoin::rejoin;
+use state::entry::Entry;
+use state::entry::Item;
+use state::entry::blank;
+use state::moved::Answer;
+use state::moved::refusal;
+use state::queue::ENTRIES;
+use state::queue::QUEUE_ROW;
+use step::issue::issue;
+use step::step::step;
+use words::byte_word;
+use words::index16;
+
+// The i-th answer, and why.
+fn write(answers: &mut [u8], reasons: &mut [u8], i: usize, r: Answer)
+    requires { ⌜ (6 * i + 6 ≤ length (now answers)) × (i < length (now reasons)) ⌝ }
+    ensures { λ _. ⌜ Writes (sheetsOf (now (answers .entry)) (now (reasons .entry))) i r
+        (sheetsOf (now (answers .exit)) (now (reasons .exit))) ⌝ }
+{
+    put_reason(reasons, i, r.code, r.cause);
+    put(answers, i, r);
+}
+
+// So many records of a schedule, on lists that hold the cabinet as it starts. The buffers have room for them.
+pub fn play(
+    table: &[u8],
+    schedule: &[u8],
+    records: usize,
+    counts: Counts,
+    programs: &[u32; PROGRAMS],
+    wires: &[u32; WIRES],
+    rows: &mut [[u32; ROW]; 16],
+    mails: &mut [[u64; LOG]; 16],
+    logs: &mut [[u64; LOG]; 16],
+    heads: &mut [[u32; HEAD]; 16],
+    queues: &mut [[u32; QUEUE_ROW]; 16],
+    totals: &mut [u32; 32],
+    answers: &mut [u8],
+    reasons: &mut [u8],
+)
+    requires { ⌜ Roomy records (sheetsOf (now answers) (now reasons)) ⌝ }
+    ensures { λ _. ⌜ Plays (planOf (now (table .entry)) counts (now (programs .entry)) (now (wires .entry))) (now (schedule .entry)) records
+        (storeOf (now (rows .entry)) (now (mails .entry)) (now (logs .entry)) (now (heads .entry)) (now (queues .entry)) (now (totals .entry)))
+        (sheetsOf (now (answers .entry)) (now (reasons .entry)))
+        (storeOf (now (rows .exit)) (now (mails .exit)) (now (logs .exit)) (now (heads .exit)) (now (queues .exit)) (now (totals .exit)))
+        (sheetsOf (now (answers .exit)) (now (reasons .exit))) ⌝ }
+{
+    let none = blank();
+    let mut entries = [none; ENTRIES];
+    let mut i = 0;
+    while i < records {
+        let k = i;
+        i += 1;
+        let c = command_at(schedule, k);
+        let mv = c.mv;
+        let word = c.word;
+        let a = byte_word(c.a);
+        let number = judge(counts, c);
+        if number != 0 {
+            write(answers, reasons, k, refusal(number, cause(number, mv), a));
+            continue;
+        }
+        match mv {
+            1 => {
+                let m = step(table, programs, wires, rows, mails, queues, totals, a);
+                let at = m.at;
+                let r = m.answer;
+                write(answers, reasons, k, r);
+                if at < ENTRIES {
+                    entries[at] = Entry {
+                        item: Item::Word {
+                            channel: r.a,
+                            word: r.word,
+                        },
+                    };
+                }
+            }
+            2 => {
+                let p = index16(a);
+                let checkpoint = snapshot(&rows[p]);
+                let m = issue(rows, queues, a);
+                let at = m.at;
+                let r = m.answer;
+                write(answers, reasons, k, r);
+                if at < ENTRIES {
+                    entries[at] = Entry {
+                        item: Item::Sync {
+                            process: a,
+                            checkpoint: checkpoint,
+                        },
+                    };
+                }
+            }
+            3 => {
+                let b = index16(a);
+                let e = entries[oldest(&queues[b], b)];
+                let r = transmit(wires, rows, mails, logs, heads, queues, totals, a, e);
+                write(answers, reasons, k, r);
+            }
+            4 => {
+                let r = inject(wires, rows, mails, logs, heads, totals, a, word);
+                write(answers, reasons, k, r);
+            }
+            5 => {
+                let r = crash(
+                    counts,
+                    programs,
+                    wires,
+                    rows,
+                    mails,
+                    logs,
+                    heads,
+                    queues,
+                    totals,
+                    a,
+                );
+                write(answers, reasons, k, r);
+            }
+            6 => {
+                let r = rejoin(queues, a);
+                write(answers, reasons, k, r);
+            }
+            7 => {
+                let m = rebackup(programs, wires, rows, mails, logs, heads, queues, totals, a);
+                let at = m.at;
+                let r = m.answer;
+                write(answers, reasons, k, r);
+                if at < ENTRIES {
+                    entries[at] = Entry {
+                        item: Item::Transfer { process: a },
+                    };
+                }
+            }
+            _ => write(answers, reasons, k, refusal(32, 0, a)),
+        }
+    }
+}
