@@ -1,10 +1,12 @@
 // 32 and 33, which any record may be answered before its move is made, and their causes.
 ghost use mathlib.Core.Path.{_≡_};
 ghost use Rattle.rules.specs.Moves.{moveOf};
-ghost use Rattle.command.specs.Judges.{beyondOf, numberOf, wordedOf, judgeOf, faultOf, causeBy};
+ghost use Rattle.command.specs.Judges.{beyondOf, numberOf, judgeOf, faultOf, causeBy};
 use plan::Counts;
 use records::schedule::Command;
 use words::byte_wide;
+
+const FEED: u8 = 4;
 
 // 33 where a is none of so many.
 fn beyond(a: u8, most: usize) -> u32
@@ -29,18 +31,15 @@ fn number(counts: Counts, mv: u8, a: u8) -> u32
     }
 }
 
-// "The word is 0 except in a feed."
-fn worded(mv: u8, word: u32) -> bool
-    ensures { λ r. ⌜ r ≡ wordedOf mv word ⌝ }
-{
-    mv != 4 && word != 0
-}
-
-// "Any record: 32 for an unknown move or a word that should be 0", then 33; 0 for neither.
+// "Any record: 32 for an unknown move or a word that should be 0", then 33; 0 for neither. "The word is 0 except in a feed": so a feed is
+// told from the others once, and first.
 pub fn judge(counts: Counts, c: Command) -> u32
     ensures { λ r. ⌜ r ≡ judgeOf counts c ⌝ }
 {
-    if worded(c.mv, c.word) {
+    if c.mv == FEED {
+        return number(counts, FEED, c.a);
+    }
+    if c.word != 0 {
         return 32;
     }
     number(counts, c.mv, c.a)

@@ -2,12 +2,12 @@
 -- Document 01: "For TAKE and FIRST: 36 no such word, then 37 if backed and acts are 8. For a SEND not held back: 37 likewise, 38 queue
 -- full, 39 held." W-204: "a sync after 64 instructions [..]. Every kind of instruction then answers 37".
 use mathlib.Core.Path.{_≡_}
-use mathlib.Core.Bool.{Bool, not, cond, _&&_, _||_}
+use mathlib.Core.Bool.{Bool, true, false, not, cond, _&&_, _||_}
 use mathlib.Core.List.{List, []}
 use Prim.Native.Nat.{ℕ, _<_}
 use lib.Dec.{eqb, leb}
 use lib.ListN.{length, getD}
-use Rattle.instruction.specs.Instruction.{Intends}
+use Rattle.instruction.specs.Instruction.{Intends, Computes}
 use Rattle.instruction.specs.declared.instruction.Intent.{Intent}
 use Rattle.instruction.specs.declared.instruction.Intent.the-variants.{Internal, Take, Send}
 use Rattle.plan.specs.declared.Counts.{Counts}
@@ -17,7 +17,7 @@ use Rattle.rules.specs.Cabinet.{instructionsMost}
 use Rattle.rules.specs.Moves.{step}
 use Rattle.state.specs.declared.moved.Moved.{Moved}
 use Rattle.state.specs.Store.{storeOf}
-use Rattle.state.specs.Moved.{Makes, wordOf}
+use Rattle.state.specs.Moved.{Makes, wordOf, answerOf, aloneOf, refusedWith}
 
 -- "if backed and acts are 8", of a process's row; W-207: with its limit for 8
 abbrev pub exhaustedIn : ℕ → List ℕ → Bool
@@ -45,7 +45,15 @@ pub record Intending (t : Table) (limit a : ℕ) (row mail : List ℕ) (n code r
   pub limit-is : limitOf t a ≡ limit
   pub intends : Intends (codeOf t a) row mail n code register operand intent
 
--- Process a's instruction computes. Whatever the plan and the lists are that it isn't lent.
+-- Process a, which has this row, computes; where its instructions are used up it is refused, and the row stays as it is.
+abbrev pub Calculated : Bool → List ℕ → ℕ → ℕ → ℕ → ℕ → List ℕ → Moved → Type 0
+Calculated true row a code register operand row′ r = (row′ ≡ row) × (r ≡ refusedWith 37 1 a)
+Calculated false row a code register operand row′ r = Computes row code register operand row′ × (r ≡ aloneOf (answerOf 0 0 0 0))
+
+abbrev pub Calculates : List ℕ → ℕ → ℕ → ℕ → ℕ → List ℕ → Moved → Type 0
+Calculates row = Calculated (overrunIn row) row
+
+-- What that makes of the lists, whatever the plan and the lists are that it isn't lent.
 abbrev pub CalculateTurns : List (List ℕ) → ℕ → ℕ → ℕ → ℕ → List (List ℕ) → Moved → Type 0
 CalculateTurns rows a code register operand rows′ r =
     (l : Plan) (mails logs heads queues : List (List ℕ)) (totals : List ℕ) (limit n : ℕ)

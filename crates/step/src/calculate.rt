@@ -1,6 +1,6 @@
 // A step that computes: a SET, an ADD or a JUMP. "SET, ADD and JUMP always succeed", but for W-204: "a sync after 64 instructions [..]. Every
 // kind of instruction then answers 37", and W-206: the instructions are always to blame for it.
-ghost use Rattle.step.specs.Parts.{CalculateTurns};
+ghost use Rattle.step.specs.Parts.{Calculates};
 use crate::guards::overrun;
 use instruction::instruction::compute;
 use process::row::ROW;
@@ -8,23 +8,15 @@ use state::moved::Answer;
 use state::moved::Moved;
 use state::moved::alone;
 use state::moved::refused;
-use words::index16;
 
-// Process a does the instruction with this code, register and operand.
-pub fn calculate(
-    rows: &mut [[u32; ROW]; 16],
-    a: u32,
-    code: u8,
-    register: u32,
-    operand: u32,
-) -> Moved
-    ensures { λ r. ⌜ CalculateTurns (now (rows .entry)) a code register operand (now (rows .exit)) r ⌝ }
+// Process a, which has this row, does the instruction with this code, register and operand.
+pub fn calculate(row: &mut [u32; ROW], a: u32, code: u8, register: u32, operand: u32) -> Moved
+    ensures { λ r. ⌜ Calculates (now (row .entry)) a code register operand (now (row .exit)) r ⌝ }
 {
-    let p = index16(a);
-    if overrun(&rows[p]) {
+    if overrun(row) {
         return refused(37, 1, a);
     }
-    compute(&mut rows[p], code, register, operand);
+    compute(row, code, register, operand);
     alone(Answer {
         code: 0,
         cause: 0,

@@ -56,7 +56,7 @@ pub fn step(
     ) {
         Intent::Halted => refused(35, 0, a),
         Intent::NoMail => refused(36, missing(i.code), a),
-        Intent::Internal => calculate(rows, a, i.code, i.a, i.operand),
+        Intent::Internal => calculate(&mut rows[p], a, i.code, i.a, i.operand),
         Intent::Take { at } => take(wires, rows, mails, totals, limit, a, i.code, i.a, at),
         Intent::Send { channel, word } => send(
             wires,

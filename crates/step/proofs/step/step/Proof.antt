@@ -1,4 +1,5 @@
 use mathlib.Core.Path.{_∙_}
+use Rattle.step.proofs.Calculating.{calculate-turns}
 use Rattle.step.proofs.Stepping.{steps-35, steps-36, steps-calculated, steps-taken, steps-sent}
 use borrow.Author.Needs.{needs}
 use Rattle.step.proofs.step.step.Statement.{statement}
@@ -81,6 +82,12 @@ refused-requires-2 c κs = search needs
 enum-told-3 : tie.Need-enum-told-3
 enum-told-3 c = search needs
 
+mul-calculate : tie.Need-mul-calculate
+mul-calculate c = search needs
+
+index-1-calculate : tie.Need-index-1-calculate
+index-1-calculate c = search needs
+
 calculate-requires : tie.Need-calculate-requires
 calculate-requires c κs = search needs
 
@@ -130,7 +137,8 @@ returns-3 c =
     let is-start = c .before .before .before .before .before .before .before .before .before .before .before .wide .ensures .0 ∙ c .before .before .before .before .before .before .before .before .before .before .before .before .start .ensures small in
     steps-calculated (s .table .now) (s .programs .now) (s .wires .now) (s .rows .now) (s .mails .now) (s .queues .now) (s .totals .now) (p .result) (s .a) (p .ensures .1) _
     (j .result) (rw (← is-start, ← c .before .before .before .before .before .before .before .before .before .wide2 .ensures .0) (j .ensures))
-    (record { seen = x .result; examined = rw (← c .before .before .before .before .before .length .ensures small) (x .ensures); is = c .before .before .enum-told3 .given .1 }) (c .calculate .ensures)
+    (record { seen = x .result; examined = rw (← c .before .before .before .before .before .length .ensures small) (x .ensures); is = c .before .before .enum-told3 .given .1 })
+    (calculate-turns (s .rows .now) (p .result) (s .a) (p .ensures .1) _ _ _ _ (c .calculate .last .0) (c .calculate .ensures))
 
 returns-4 : tie.Need-returns-4
 returns-4 c =
@@ -181,6 +189,8 @@ step-spec =
     missing-requires
     refused-requires-2
     enum-told-3
+    mul-calculate
+    index-1-calculate
     calculate-requires
     enum-known-at
     take-requires
