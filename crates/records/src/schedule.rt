@@ -3,9 +3,9 @@ ghost use mathlib.Core.Path.{_≡_};
 ghost use Rattle.rules.specs.Schedule.{decodeSchedule, command};
 ghost use Rattle.records.specs.Commands.{commandOf, ScheduleJudged, judgedRun};
 ghost use lib.ListN.{getD};
-use crate::bytes::pair;
 use crate::head::VERSION;
 use crate::six::six_at;
+use words::pair;
 
 // Where the commands begin: behind the length's two bytes and the version.
 const FIRST_COMMAND: usize = 3;

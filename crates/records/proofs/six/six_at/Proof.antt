@@ -1,83 +1,43 @@
-use Rattle.records.proofs.Sixes.{no-six, whole-six}
+use mathlib.Core.Path.{_∙_}
+use Rattle.records.proofs.Sixes.{no-part, six-of-part}
 use native.Mathlib.Omega.{arith}
 use borrow.Author.Needs.{needs}
 use Rattle.records.proofs.six.six_at.Statement.{statement}
 use Rattle.records.proofs.six.six_at.Tie as tie
 use Rattle.records.proofs.six.six_at.Reads as reads
 use Rattle.records.proofs.six.six_at.Lts as lts
-use Rattle.records.proofs.six.number32_of.Reads as number32-of-reads
+use Rattle.records.proofs.six.six_of.Reads as six-of-reads
+use Rattle.records.proofs.six.zeros.Reads as zeros-reads
+
+zeros-requires : tie.Need-zeros-requires
+zeros-requires c κs = search needs
 
 returns : tie.Need-returns
-returns c = no-six _ (c .before .before .args .at) (c .before .before .args .k) (omega arith)
+returns c = let s = c .before .before .before .args in no-part _ (s .at) (s .k) _ (c .before .if1 .taken) (c .zeros .ensures)
+
+sub-six-of : tie.Need-sub-six-of
+sub-six-of c = search needs
+
+part-six-of-start : tie.Need-part-six-of-start
+part-six-of-start c = search needs
+
+part-six-of-end : tie.Need-part-six-of-end
+part-six-of-end c = search needs
+
+six-of-requires : tie.Need-six-of-requires
+six-of-requires c κs = search needs
 
 returns-2 : tie.Need-returns-2
-returns-2 c = no-six _ (c .before .before .before .args .at) (c .before .before .before .args .k) (c .if2 .taken)
-
-mul-i : tie.Need-mul-i
-mul-i c = search needs
-
-add-i : tie.Need-add-i
-add-i c = search needs
-
-shared-slice-read-t10 : tie.Need-shared-slice-read-t10
-shared-slice-read-t10 c = search needs
-
-add-t8 : tie.Need-add-t8
-add-t8 c = search needs
-
-shared-slice-read-t12 : tie.Need-shared-slice-read-t12
-shared-slice-read-t12 c = search needs
-
-add-number32-of : tie.Need-add-number32-of
-add-number32-of c = search needs
-
-shared-slice-read-number32-of : tie.Need-shared-slice-read-number32-of
-shared-slice-read-number32-of c = search needs
-
-add-number32-of-2 : tie.Need-add-number32-of-2
-add-number32-of-2 c = search needs
-
-shared-slice-read-number32-of-2 : tie.Need-shared-slice-read-number32-of-2
-shared-slice-read-number32-of-2 c = search needs
-
-add-number32-of-3 : tie.Need-add-number32-of-3
-add-number32-of-3 c = search needs
-
-shared-slice-read-number32-of-3 : tie.Need-shared-slice-read-number32-of-3
-shared-slice-read-number32-of-3 c = search needs
-
-add-number32-of-4 : tie.Need-add-number32-of-4
-add-number32-of-4 c = search needs
-
-shared-slice-read-number32-of-4 : tie.Need-shared-slice-read-number32-of-4
-shared-slice-read-number32-of-4 c = search needs
-
-number32-of-requires : tie.Need-number32-of-requires
-number32-of-requires c κs = search needs
-
-returns-3 : tie.Need-returns-3
-returns-3 c = let b = c .before .before .before .before .before .before .before in
-    let s = b .before .before .before .args in
-    whole-six _ (s .at) (s .k) _ (b .if2 .left) (c .number32-of .ensures)
+returns-2 c = let s = c .before .before .before .before .args in c .six-of .ensures ∙ six-of-part (s .bytes .now) (s .at) (s .k)
 
 pub six-at-spec : {M : Type 1} → statement M
 six-at-spec =
     tie.close
     (tie.spec
+    zeros-requires
     returns
-    returns-2
-    mul-i
-    add-i
-    shared-slice-read-t10
-    add-t8
-    shared-slice-read-t12
-    add-number32-of
-    shared-slice-read-number32-of
-    add-number32-of-2
-    shared-slice-read-number32-of-2
-    add-number32-of-3
-    shared-slice-read-number32-of-3
-    add-number32-of-4
-    shared-slice-read-number32-of-4
-    number32-of-requires
-    returns-3)
+    sub-six-of
+    part-six-of-start
+    part-six-of-end
+    six-of-requires
+    returns-2)
