@@ -11,8 +11,6 @@ ghost use Rattle.rules.specs.Encode.{programIn, placementsIn, limitsIn, instruc
 ghost use Rattle.writer.specs.Taken.{TakesApart, none, lent};
 ghost use Rattle.writer.specs.Taking.{Records, Room, roomFor, ListsTaken};
 use records::bytes::byte;
-use records::bytes::wide;
-use records::bytes::word;
 use records::fetch::fetch;
 use records::head::VERSION;
 use table::decode;
@@ -25,6 +23,8 @@ use table::format::WITH_LIMITS;
 use table::record::length_place;
 use table::record::record_length;
 use table::record::version_of;
+use words::byte_wide;
+use words::byte_word;
 
 // 0, the version, the counts, and how many instructions there are; or the number that refuses the table or the lists lent for it, and zeros.
 pub struct Taken {
@@ -56,7 +56,7 @@ fn take_bytes(table: &[u8], at: usize, n: usize, out: &mut [u32])
 {
     let mut k = 0;
     while k < n {
-        out[k] = word(table[at + k]);
+        out[k] = byte_word(table[at + k]);
         k += 1;
     }
 }
@@ -70,7 +70,7 @@ fn take_program(table: &[u8], at: usize, n: usize, out: &mut [u32], i: usize)
     while k < n {
         let j = 3 * (i + k);
         let s = fetch(table, at, k);
-        out[j] = word(s.code);
+        out[j] = byte_word(s.code);
         out[j + 1] = s.a;
         out[j + 2] = s.operand;
         k += 1;
@@ -83,9 +83,9 @@ fn take_placement(table: &[u8], at: usize, place: usize, out: &mut [u32], p: usi
     ensures { λ _. ⌜ now (out .exit) ≡ sets (now (out .entry)) (3 * p) (byteAt (now (table .entry)) at
         ∷ byteAt (now (table .entry)) (at + 1) ∷ byteAt (now (table .entry)) place ∷ []) ⌝ }
 {
-    out[3 * p] = word(table[at]);
-    out[3 * p + 1] = word(table[at + 1]);
-    out[3 * p + 2] = word(table[place]);
+    out[3 * p] = byte_word(table[at]);
+    out[3 * p + 1] = byte_word(table[at + 1]);
+    out[3 * p + 2] = byte_word(table[place]);
 }
 
 // The records from `at` on, one for each process.
@@ -100,15 +100,17 @@ fn take_records(
     requires { ⌜ Records version processes (drop at (now table)) ⌝ }
     requires { ⌜ length (placementsIn version processes (drop at (now table))) ≤ length (now placements) ⌝ }
     requires { ⌜ length (instructionsIn version processes (drop at (now table))) ≤ length (now instructions) ⌝ }
-    ensures { λ _. ⌜ (now (placements .exit) ≡ sets (now (placements .entry)) 0 (placementsIn version processes (drop at (now (table .entry)))))
-        × (now (instructions .exit) ≡ sets (now (instructions .entry)) 0 (instructionsIn version processes (drop at (now (table .entry))))) ⌝ }
+    ensures { λ _. ⌜ (now (placements .exit)
+        ≡ sets (now (placements .entry)) 0 (placementsIn version processes (drop at (now (table .entry)))))
+        × (now (instructions .exit)
+        ≡ sets (now (instructions .entry)) 0 (instructionsIn version processes (drop at (now (table .entry))))) ⌝ }
 {
     let place = length_place(version);
     let mut next = at;
     let mut i = 0;
     let mut p = 0;
     while p < processes {
-        let n = wide(table[next + place]);
+        let n = byte_wide(table[next + place]);
         take_placement(table, next, next + place, placements, p);
         take_program(table, next + (1 + place), n, instructions, i);
         next += 1 + place + 6 * n;
@@ -129,7 +131,7 @@ fn take_limits(table: &[u8], at: usize, version: u32, processes: usize, limits: 
     let mut next = at;
     let mut p = 0;
     while p < processes {
-        limits[p] = word(table[next + LIMIT]);
+        limits[p] = byte_word(table[next + LIMIT]);
         next += record_length(version, &table[next..]);
         p += 1;
     }
@@ -140,7 +142,7 @@ fn limits_in(table: &[u8]) -> usize
     ensures { λ r. ⌜ r ≡ limitBytes (versionIn (now (table .entry))) * processesIn (now (table .entry)) ⌝ }
 {
     if version_of(table) == WITH_LIMITS {
-        wide(byte(table, PROCESSES))
+        byte_wide(byte(table, PROCESSES))
     } else {
         0
     }
@@ -153,8 +155,8 @@ fn instructions_in(table: &[u8]) -> usize
 {
     (table.len()
         - HEAD
-        - 2 * wide(byte(table, CHANNELS))
-        - 3 * wide(byte(table, PROCESSES))
+        - 2 * byte_wide(byte(table, CHANNELS))
+        - 3 * byte_wide(byte(table, PROCESSES))
         - limits_in(table))
         / 6
 }
@@ -174,8 +176,8 @@ fn take_lists(
         (lent (now (ends .exit)) (now (placements .exit)) (now (limits .exit)) (now (instructions .exit))) ⌝ }
 {
     let version = version_of(table);
-    let processes = wide(byte(table, PROCESSES));
-    let pairs = 2 * wide(byte(table, CHANNELS));
+    let processes = byte_wide(byte(table, PROCESSES));
+    let pairs = 2 * byte_wide(byte(table, CHANNELS));
     take_bytes(table, HEAD, pairs, ends);
     take_limits(table, HEAD + pairs, version, processes, limits);
     take_records(
@@ -201,8 +203,8 @@ fn has_room(
     requires { ⌜ (validateTable (now table) ≡ 0) × ((3 * total ≡ length (apart (now table) .instructions)) × (total ≤ 2 + tableMost)) ⌝ }
     ensures { λ r. ⌜ r ≡ roomFor (now (table .entry)) ends placements limits instructions ⌝ }
 {
-    2 * wide(byte(table, CHANNELS)) <= ends
-        && (3 * wide(byte(table, PROCESSES)) <= placements
+    2 * byte_wide(byte(table, CHANNELS)) <= ends
+        && (3 * byte_wide(byte(table, PROCESSES)) <= placements
             && (limits_in(table) <= limits && 3 * total <= instructions))
 }
 

@@ -12,8 +12,8 @@ sub-result c = let k = length-apart (c .before .args .table .now) (c .before .pr
 byte-requires : tie.Need-byte-requires
 byte-requires c κs = search needs
 
-wide-requires : tie.Need-wide-requires
-wide-requires c κs = search needs
+byte-wide-requires : tie.Need-byte-wide-requires
+byte-wide-requires c κs = search needs
 
 mul-result : tie.Need-mul-result
 mul-result c = search needs
@@ -24,8 +24,8 @@ sub-result-2 c = let k = length-apart (c .before .before .before .args .table .n
 byte-requires-2 : tie.Need-byte-requires-2
 byte-requires-2 c κs = search needs
 
-wide-requires-2 : tie.Need-wide-requires-2
-wide-requires-2 c κs = search needs
+byte-wide-requires-2 : tie.Need-byte-wide-requires-2
+byte-wide-requires-2 c κs = search needs
 
 mul-result-2 : tie.Need-mul-result-2
 mul-result-2 c = search needs
@@ -45,8 +45,8 @@ sub-result-4 c =
 
 returns : tie.Need-returns
 returns c =
-    counted-instructions (c .before .before .before .before .before .before .args .table .now) _ (c .before .before .before .wide .result) (c .before .wide2 .result) (c .limits-in .result) (c .before .before .before .before .before .before .pre)
-    (c .before .before .before .wide .ensures ∙ c .before .before .before .before .byte .ensures) (c .before .wide2 .ensures ∙ c .before .before .byte2 .ensures) (c .limits-in .ensures) refl
+    counted-instructions (c .before .before .before .before .before .before .args .table .now) _ (c .before .before .before .byte-wide .result) (c .before .byte-wide2 .result) (c .limits-in .result) (c .before .before .before .before .before .before .pre)
+    (c .before .before .before .byte-wide .ensures .0 ∙ c .before .before .before .before .byte .ensures) (c .before .byte-wide2 .ensures .0 ∙ c .before .before .byte2 .ensures) (c .limits-in .ensures) refl
 
 pub instructions-in-spec : {M : Type 1} → statement M
 instructions-in-spec =
@@ -54,11 +54,11 @@ instructions-in-spec =
     (tie.spec
     sub-result
     byte-requires
-    wide-requires
+    byte-wide-requires
     mul-result
     sub-result-2
     byte-requires-2
-    wide-requires-2
+    byte-wide-requires-2
     mul-result-2
     sub-result-3
     limits-in-requires

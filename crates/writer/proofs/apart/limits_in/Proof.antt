@@ -15,15 +15,15 @@ version-of-requires c κs = search needs
 byte-requires : tie.Need-byte-requires
 byte-requires c κs = search needs
 
-wide-requires : tie.Need-wide-requires
-wide-requires c κs = search needs
+byte-wide-requires : tie.Need-byte-wide-requires
+byte-wide-requires c κs = search needs
 
 returns : tie.Need-returns
 returns c =
     let t = c .before .before .before .before .before .args .table .now in
     let e = c .before .before .before .version-of .ensures in
     let a = ap (λ (w : Bool). cond w 1 0 * processesIn t) (sym (ap (λ (k : ℕ). eqb k 2) e) ∙ eq-eqb (c .before .before .before .version-of .result) 2 (c .before .before .if1 .taken)) in
-    let b = c .wide .ensures ∙ c .before .byte .ensures in
+    let b = c .byte-wide .ensures .0 ∙ c .before .byte .ensures in
     omega arith
 
 returns-2 : tie.Need-returns-2
@@ -35,4 +35,4 @@ returns-2 c =
 
 pub limits-in-spec : {M : Type 1} → statement M
 limits-in-spec =
-    tie.close (tie.spec version-of-requires byte-requires wide-requires returns returns-2)
+    tie.close (tie.spec version-of-requires byte-requires byte-wide-requires returns returns-2)

@@ -6,7 +6,7 @@ use Rattle.writer.proofs.apart.take_bytes.Statement.{statement}
 use Rattle.writer.proofs.apart.take_bytes.Tie as tie
 use Rattle.writer.proofs.apart.take_bytes.Reads as reads
 use Rattle.writer.proofs.apart.take_bytes.Lts as lts
-use Rattle.records.proofs.bytes.word.Reads as word-reads
+use Rattle.words.proofs.byte_word.Reads as byte-word-reads
 
 abbrev Inv-loop : tie.InvT-loop
 Inv-loop table at n out₀ k₀ out k = BytesTaken out₀ table at n out k
@@ -17,14 +17,14 @@ abbrev μ-loop : tie.MeasureT-loop
 loop-holds : tie.Need-loop-holds Inv-loop μ-loop
 loop-holds c = let s = c .before .before .args in bytes-start (s .out .now) (s .table .now) (s .at) (s .n) (c .before .before .pre .0)
 
-add-word : tie.Need-add-word Inv-loop μ-loop
-add-word c = search needs
+add-byte-word : tie.Need-add-byte-word Inv-loop μ-loop
+add-byte-word c = search needs
 
-shared-slice-read-word : tie.Need-shared-slice-read-word Inv-loop μ-loop
-shared-slice-read-word c = search needs
+shared-slice-read-byte-word : tie.Need-shared-slice-read-byte-word Inv-loop μ-loop
+shared-slice-read-byte-word c = search needs
 
-word-requires : tie.Need-word-requires Inv-loop μ-loop
-word-requires c κs = search needs
+byte-word-requires : tie.Need-byte-word-requires Inv-loop μ-loop
+byte-word-requires c κs = search needs
 
 mul-out : tie.Need-mul-out Inv-loop μ-loop
 mul-out c = search needs
@@ -42,7 +42,7 @@ loop-again : tie.Need-loop-again Inv-loop μ-loop
 loop-again c =
     let s = c .before .before .before .before .before .before .args in
     let l = c .before .before .before .loop in
-    bytes-more (s .out .now) (s .table .now) (s .at) (s .n) (c .before .before .before .before .before .before .pre .0) _ (l .k) (l .inv) _ (c .before .before .loop-test .taken) (c .word .ensures)
+    bytes-more (s .out .now) (s .table .now) (s .at) (s .n) (c .before .before .before .before .before .before .pre .0) _ (l .k) (l .inv) _ (c .before .before .loop-test .taken) (c .byte-word .ensures .0)
 
 same-length : tie.Need-same-length Inv-loop μ-loop
 same-length c = search needs
@@ -60,9 +60,9 @@ take-bytes-spec =
     Inv-loop
     μ-loop
     loop-holds
-    add-word
-    shared-slice-read-word
-    word-requires
+    add-byte-word
+    shared-slice-read-byte-word
+    byte-word-requires
     mul-out
     slice-write-out
     add-k

@@ -24,24 +24,24 @@ loop-holds c =
     let s = c .before .before .before .args in
     limits-start (s .table .now) (s .at) (s .version) (s .processes) (s .limits .now) (c .before .before .before .pre .0 .records-ok)
 
-add-word : tie.Need-add-word Inv-loop μ-loop
-add-word c =
+add-byte-word : tie.Need-add-byte-word Inv-loop μ-loop
+add-byte-word c =
     let s = c .before .before .before .before .before .args in
     let l = c .before .loop in
     let x = limit-within (s .table .now) (s .at) (s .version) (s .processes) (s .limits .now) (eq-eqb (s .version) 2 (c .before .before .if1 .left)) _ (l .next) (l .p) (l .inv) (c .loop-test .taken) in
     let y = limit-room (s .table .now) (s .at) (s .version) (s .processes) (s .limits .now) (eq-eqb (s .version) 2 (c .before .before .if1 .left)) _ (l .next) (l .p) (l .inv) (c .loop-test .taken) (c .before .before .before .before .before .pre .1) in
     omega arith
 
-shared-slice-read-word : tie.Need-shared-slice-read-word Inv-loop μ-loop
-shared-slice-read-word c =
+shared-slice-read-byte-word : tie.Need-shared-slice-read-byte-word Inv-loop μ-loop
+shared-slice-read-byte-word c =
     let s = c .before .before .before .before .before .before .args in
     let l = c .before .before .loop in
     let x = limit-within (s .table .now) (s .at) (s .version) (s .processes) (s .limits .now) (eq-eqb (s .version) 2 (c .before .before .before .if1 .left)) _ (l .next) (l .p) (l .inv) (c .before .loop-test .taken) in
     let y = limit-room (s .table .now) (s .at) (s .version) (s .processes) (s .limits .now) (eq-eqb (s .version) 2 (c .before .before .before .if1 .left)) _ (l .next) (l .p) (l .inv) (c .before .loop-test .taken) (c .before .before .before .before .before .before .pre .1) in
     omega arith
 
-word-requires : tie.Need-word-requires Inv-loop μ-loop
-word-requires c κs = search needs
+byte-word-requires : tie.Need-byte-word-requires Inv-loop μ-loop
+byte-word-requires c κs = search needs
 
 mul-limits : tie.Need-mul-limits Inv-loop μ-loop
 mul-limits c = search needs
@@ -96,7 +96,7 @@ loop-again : tie.Need-loop-again Inv-loop μ-loop
 loop-again c =
     let s = c .before .before .before .before .before .before .before .before .before .args in
     let l = c .before .before .before .before .before .loop in
-    limits-more (s .table .now) (s .at) (s .version) (s .processes) (s .limits .now) (eq-eqb (s .version) 2 (c .before .before .before .before .before .before .if1 .left)) _ (l .next) (l .p) (l .inv) (c .before .before .before .before .loop-test .taken) _ _ (c .before .before .word .ensures)
+    limits-more (s .table .now) (s .at) (s .version) (s .processes) (s .limits .now) (eq-eqb (s .version) 2 (c .before .before .before .before .before .before .if1 .left)) _ (l .next) (l .p) (l .inv) (c .before .before .before .before .loop-test .taken) _ _ (c .before .before .byte-word .ensures .0)
     (ap (λ (k : ℕ). l .next + k) (c .record-length .ensures ∙ recordLength-lent (s .version) (s .table .now) (l .next)))
 
 same-length : tie.Need-same-length Inv-loop μ-loop
@@ -116,9 +116,9 @@ take-limits-spec =
     μ-loop
     returns
     loop-holds
-    add-word
-    shared-slice-read-word
-    word-requires
+    add-byte-word
+    shared-slice-read-byte-word
+    byte-word-requires
     mul-limits
     slice-write-limits
     sub-record-length

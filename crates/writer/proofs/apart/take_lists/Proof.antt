@@ -14,14 +14,14 @@ version-of-requires c κs = search needs
 byte-requires : tie.Need-byte-requires
 byte-requires c κs = search needs
 
-wide-requires : tie.Need-wide-requires
-wide-requires c κs = search needs
+byte-wide-requires : tie.Need-byte-wide-requires
+byte-wide-requires c κs = search needs
 
 byte-requires-2 : tie.Need-byte-requires-2
 byte-requires-2 c κs = search needs
 
-wide-requires-2 : tie.Need-wide-requires-2
-wide-requires-2 c κs = search needs
+byte-wide-requires-2 : tie.Need-byte-wide-requires-2
+byte-wide-requires-2 c κs = search needs
 
 mul-pairs : tie.Need-mul-pairs
 mul-pairs c = search needs
@@ -34,7 +34,7 @@ take-bytes-requires c κs =
     let w = pairs-within (s .table .now) (g .0) in
     let r = ends-room (s .table .now) (g .0) m (g .1) in
     let l = ends-long (s .table .now) (g .0) in
-    let e = c .before .wide2 .ensures ∙ c .before .before .byte2 .ensures in
+    let e = c .before .byte-wide2 .ensures .0 ∙ c .before .before .byte2 .ensures in
     (omega arith, omega arith)
 
 add-take-limits : tie.Need-add-take-limits
@@ -46,9 +46,9 @@ take-limits-requires c κs =
     let g = c .before .before .before .before .before .before .before .before .before .before .before .before .before .before .before .pre in
     let m = lent (s .ends .now) (s .placements .now) (s .limits .now) (s .instructions .now) in
     let v = c .before .before .before .before .before .before .before .before .before .version-of .ensures in
-    let p = ap (λ (k : ℕ). 2 * k) (c .before .before .before .before .before .wide2 .ensures ∙ c .before .before .before .before .before .before .byte2 .ensures) in
-    let q = c .before .before .before .before .before .before .before .wide .ensures ∙ c .before .before .before .before .before .before .before .before .byte .ensures in
-    (whole-records (s .table .now) (g .0) m (g .1) (c .before .before .before .before .before .before .before .before .before .version-of .result) (2 * c .before .before .before .before .before .wide2 .result) (c .before .before .before .before .before .before .before .wide .result) v p q, limits-fit (s .table .now) (g .0) m (g .1) (c .before .before .before .before .before .before .before .before .before .version-of .result) (2 * c .before .before .before .before .before .wide2 .result) (c .before .before .before .before .before .before .before .wide .result) v p q)
+    let p = ap (λ (k : ℕ). 2 * k) (c .before .before .before .before .before .byte-wide2 .ensures .0 ∙ c .before .before .before .before .before .before .byte2 .ensures) in
+    let q = c .before .before .before .before .before .before .before .byte-wide .ensures .0 ∙ c .before .before .before .before .before .before .before .before .byte .ensures in
+    (whole-records (s .table .now) (g .0) m (g .1) (c .before .before .before .before .before .before .before .before .before .version-of .result) (2 * c .before .before .before .before .before .byte-wide2 .result) (c .before .before .before .before .before .before .before .byte-wide .result) v p q, limits-fit (s .table .now) (g .0) m (g .1) (c .before .before .before .before .before .before .before .before .before .version-of .result) (2 * c .before .before .before .before .before .byte-wide2 .result) (c .before .before .before .before .before .before .before .byte-wide .result) v p q)
 
 add-take-records : tie.Need-add-take-records
 add-take-records c = search needs
@@ -59,9 +59,9 @@ take-records-requires c κs =
     let g = c .before .before .before .before .before .before .before .before .before .before .before .before .before .before .before .before .before .before .before .before .pre in
     let m = lent (s .ends .now) (s .placements .now) (s .limits .now) (s .instructions .now) in
     let v = c .before .before .before .before .before .before .before .before .before .before .before .before .before .before .version-of .ensures in
-    let p = ap (λ (k : ℕ). 2 * k) (c .before .before .before .before .before .before .before .before .before .before .wide2 .ensures ∙ c .before .before .before .before .before .before .before .before .before .before .before .byte2 .ensures) in
-    let q = c .before .before .before .before .before .before .before .before .before .before .before .before .wide .ensures ∙ c .before .before .before .before .before .before .before .before .before .before .before .before .before .byte .ensures in
-    (whole-records (s .table .now) (g .0) m (g .1) (c .before .before .before .before .before .before .before .before .before .before .before .before .before .before .version-of .result) (2 * c .before .before .before .before .before .before .before .before .before .before .wide2 .result) (c .before .before .before .before .before .before .before .before .before .before .before .before .wide .result) v p q, (placements-fit (s .table .now) (g .0) m (g .1) (c .before .before .before .before .before .before .before .before .before .before .before .before .before .before .version-of .result) (2 * c .before .before .before .before .before .before .before .before .before .before .wide2 .result) (c .before .before .before .before .before .before .before .before .before .before .before .before .wide .result) v p q, instructions-fit (s .table .now) (g .0) m (g .1) (c .before .before .before .before .before .before .before .before .before .before .before .before .before .before .version-of .result) (2 * c .before .before .before .before .before .before .before .before .before .before .wide2 .result) (c .before .before .before .before .before .before .before .before .before .before .before .before .wide .result) v p q))
+    let p = ap (λ (k : ℕ). 2 * k) (c .before .before .before .before .before .before .before .before .before .before .byte-wide2 .ensures .0 ∙ c .before .before .before .before .before .before .before .before .before .before .before .byte2 .ensures) in
+    let q = c .before .before .before .before .before .before .before .before .before .before .before .before .byte-wide .ensures .0 ∙ c .before .before .before .before .before .before .before .before .before .before .before .before .before .byte .ensures in
+    (whole-records (s .table .now) (g .0) m (g .1) (c .before .before .before .before .before .before .before .before .before .before .before .before .before .before .version-of .result) (2 * c .before .before .before .before .before .before .before .before .before .before .byte-wide2 .result) (c .before .before .before .before .before .before .before .before .before .before .before .before .byte-wide .result) v p q, (placements-fit (s .table .now) (g .0) m (g .1) (c .before .before .before .before .before .before .before .before .before .before .before .before .before .before .version-of .result) (2 * c .before .before .before .before .before .before .before .before .before .before .byte-wide2 .result) (c .before .before .before .before .before .before .before .before .before .before .before .before .byte-wide .result) v p q, instructions-fit (s .table .now) (g .0) m (g .1) (c .before .before .before .before .before .before .before .before .before .before .before .before .before .before .version-of .result) (2 * c .before .before .before .before .before .before .before .before .before .before .byte-wide2 .result) (c .before .before .before .before .before .before .before .before .before .before .before .before .byte-wide .result) v p q))
 
 same-length : tie.Need-same-length
 same-length c = search needs
@@ -81,9 +81,9 @@ returns c =
     let g = c .before .before .before .before .before .before .before .before .before .before .before .before .before .before .before .before .before .before .before .before .before .before .before .before .before .pre in
     let m = lent (s .ends .now) (s .placements .now) (s .limits .now) (s .instructions .now) in
     let v = c .before .before .before .before .before .before .before .before .before .before .before .before .before .before .before .before .before .before .before .version-of .ensures in
-    let p = ap (λ (k : ℕ). 2 * k) (c .before .before .before .before .before .before .before .before .before .before .before .before .before .before .before .wide2 .ensures ∙ c .before .before .before .before .before .before .before .before .before .before .before .before .before .before .before .before .byte2 .ensures) in
-    let q = c .before .before .before .before .before .before .before .before .before .before .before .before .before .before .before .before .before .wide .ensures ∙ c .before .before .before .before .before .before .before .before .before .before .before .before .before .before .before .before .before .before .byte .ensures in
-    lists-taken (s .table .now) (g .0) m (g .1) (c .before .before .before .before .before .before .before .before .before .before .before .before .before .before .before .before .before .before .before .version-of .result) (2 * c .before .before .before .before .before .before .before .before .before .before .before .before .before .before .before .wide2 .result) (c .before .before .before .before .before .before .before .before .before .before .before .before .before .before .before .before .before .wide .result) v p q _ (c .before .before .before .before .before .before .before .before .before .before .before .before .before .take-bytes .ensures) (c .before .before .before .before .take-records .ensures .0) (c .before .before .before .before .before .before .before .before .before .take-limits .ensures) (c .before .before .before .before .take-records .ensures .1)
+    let p = ap (λ (k : ℕ). 2 * k) (c .before .before .before .before .before .before .before .before .before .before .before .before .before .before .before .byte-wide2 .ensures .0 ∙ c .before .before .before .before .before .before .before .before .before .before .before .before .before .before .before .before .byte2 .ensures) in
+    let q = c .before .before .before .before .before .before .before .before .before .before .before .before .before .before .before .before .before .byte-wide .ensures .0 ∙ c .before .before .before .before .before .before .before .before .before .before .before .before .before .before .before .before .before .before .byte .ensures in
+    lists-taken (s .table .now) (g .0) m (g .1) (c .before .before .before .before .before .before .before .before .before .before .before .before .before .before .before .before .before .before .before .version-of .result) (2 * c .before .before .before .before .before .before .before .before .before .before .before .before .before .before .before .byte-wide2 .result) (c .before .before .before .before .before .before .before .before .before .before .before .before .before .before .before .before .before .byte-wide .result) v p q _ (c .before .before .before .before .before .before .before .before .before .before .before .before .before .take-bytes .ensures) (c .before .before .before .before .take-records .ensures .0) (c .before .before .before .before .before .before .before .before .before .take-limits .ensures) (c .before .before .before .before .take-records .ensures .1)
 
 pub take-lists-spec : {M : Type 1} → statement M
 take-lists-spec =
@@ -91,9 +91,9 @@ take-lists-spec =
     (tie.spec
     version-of-requires
     byte-requires
-    wide-requires
+    byte-wide-requires
     byte-requires-2
-    wide-requires-2
+    byte-wide-requires-2
     mul-pairs
     take-bytes-requires
     add-take-limits

@@ -7,7 +7,7 @@ use Rattle.writer.proofs.apart.take_program.Statement.{statement}
 use Rattle.writer.proofs.apart.take_program.Tie as tie
 use Rattle.writer.proofs.apart.take_program.Reads as reads
 use Rattle.writer.proofs.apart.take_program.Lts as lts
-use Rattle.records.proofs.bytes.word.Reads as word-reads
+use Rattle.words.proofs.byte_word.Reads as byte-word-reads
 use Rattle.records.proofs.fetch.fetch.Reads as fetch-reads
 
 abbrev Inv-loop : tie.InvT-loop
@@ -28,8 +28,8 @@ mul-j c = search needs
 fetch-requires : tie.Need-fetch-requires Inv-loop μ-loop
 fetch-requires c κs = search needs
 
-word-requires : tie.Need-word-requires Inv-loop μ-loop
-word-requires c κs = search needs
+byte-word-requires : tie.Need-byte-word-requires Inv-loop μ-loop
+byte-word-requires c κs = search needs
 
 mul-out : tie.Need-mul-out Inv-loop μ-loop
 mul-out c = search needs
@@ -65,7 +65,7 @@ loop-again : tie.Need-loop-again Inv-loop μ-loop
 loop-again c =
     let s = c .before .before .before .before .before .before .args in
     let l = c .before .before .before .loop in
-    taken-more (s .out .now) (s .table .now) (s .at) (s .n) (s .i) _ (l .k) (l .inv) (c .before .fetch .result) _ (c .before .before .loop-test .taken) (c .before .before .before .before .before .before .pre .0) (c .before .fetch .ensures) (c .word .ensures)
+    taken-more (s .out .now) (s .table .now) (s .at) (s .n) (s .i) _ (l .k) (l .inv) (c .before .fetch .result) _ (c .before .before .loop-test .taken) (c .before .before .before .before .before .before .pre .0) (c .before .fetch .ensures) (c .byte-word .ensures .0)
 
 same-length : tie.Need-same-length Inv-loop μ-loop
 same-length c = search needs
@@ -86,7 +86,7 @@ take-program-spec =
     add-j
     mul-j
     fetch-requires
-    word-requires
+    byte-word-requires
     mul-out
     slice-write-out
     add-out

@@ -21,8 +21,8 @@ loop-holds c =
     let s = c .before .before .before .before .args in
     taking-start (s .table .now) (s .at) (s .version) (s .processes) (s .placements .now) (s .instructions .now) (c .before .before .before .before .pre .0 .records-ok)
 
-add-wide : tie.Need-add-wide Inv-loop μ-loop
-add-wide c =
+add-byte-wide : tie.Need-add-byte-wide Inv-loop μ-loop
+add-byte-wide c =
     let s = c .before .before .before .before .before .before .args in
     let l = c .before .loop in
     let t = c .loop-test .taken in
@@ -33,8 +33,8 @@ add-wide c =
     let x = taking-within (s .table .now) (s .at) (s .version) (s .processes) (s .placements .now) (s .instructions .now) _ _ (l .next) (l .i) (l .p) (l .inv) t in
     omega arith
 
-shared-slice-read-wide : tie.Need-shared-slice-read-wide Inv-loop μ-loop
-shared-slice-read-wide c =
+shared-slice-read-byte-wide : tie.Need-shared-slice-read-byte-wide Inv-loop μ-loop
+shared-slice-read-byte-wide c =
     let s = c .before .before .before .before .before .before .before .args in
     let l = c .before .before .loop in
     let t = c .before .loop-test .taken in
@@ -45,8 +45,8 @@ shared-slice-read-wide c =
     let x = taking-within (s .table .now) (s .at) (s .version) (s .processes) (s .placements .now) (s .instructions .now) _ _ (l .next) (l .i) (l .p) (l .inv) t in
     omega arith
 
-wide-requires : tie.Need-wide-requires Inv-loop μ-loop
-wide-requires c κs = search needs
+byte-wide-requires : tie.Need-byte-wide-requires Inv-loop μ-loop
+byte-wide-requires c κs = search needs
 
 add-take-placement : tie.Need-add-take-placement Inv-loop μ-loop
 add-take-placement c =
@@ -58,7 +58,7 @@ add-take-placement c =
     let d = c .before .before .before .before .length-place .ensures .1 in
     let y = ap (λ (k : ℕ). byteAt (s .table .now) (l .next + k)) e in
     let x = taking-within (s .table .now) (s .at) (s .version) (s .processes) (s .placements .now) (s .instructions .now) _ _ (l .next) (l .i) (l .p) (l .inv) t in
-    let w = c .wide .ensures in
+    let w = c .byte-wide .ensures .0 in
     omega arith
 
 take-placement-requires : tie.Need-take-placement-requires Inv-loop μ-loop
@@ -71,7 +71,7 @@ take-placement-requires c κs =
     let d = c .before .before .before .before .before .length-place .ensures .1 in
     let y = ap (λ (k : ℕ). byteAt (s .table .now) (l .next + k)) e in
     let x = taking-within (s .table .now) (s .at) (s .version) (s .processes) (s .placements .now) (s .instructions .now) _ _ (l .next) (l .i) (l .p) (l .inv) t in
-    let w = c .before .wide .ensures in
+    let w = c .before .byte-wide .ensures .0 in
     let u = placed-room (s .table .now) (s .at) (s .version) (s .processes) (s .placements .now) (s .instructions .now) _ _ (l .next) (l .i) (l .p) (l .inv) t (g .1 .0) in
     let z = coded-room (s .table .now) (s .at) (s .version) (s .processes) (s .placements .now) (s .instructions .now) _ _ (l .next) (l .i) (l .p) (l .inv) t (g .1 .1) in
     let q = l .inv .coded .same-length in
@@ -87,7 +87,7 @@ add-take-program c =
     let d = c .before .before .before .before .before .before .before .before .length-place .ensures .1 in
     let y = ap (λ (k : ℕ). byteAt (s .table .now) (l .next + k)) e in
     let x = taking-within (s .table .now) (s .at) (s .version) (s .processes) (s .placements .now) (s .instructions .now) _ _ (l .next) (l .i) (l .p) (l .inv) t in
-    let w = c .before .before .before .before .wide .ensures in
+    let w = c .before .before .before .before .byte-wide .ensures .0 in
     omega arith
 
 add-take-program-2 : tie.Need-add-take-program-2 Inv-loop μ-loop
@@ -100,7 +100,7 @@ add-take-program-2 c =
     let d = c .before .before .before .before .before .before .before .before .length-place .ensures .1 in
     let y = ap (λ (k : ℕ). byteAt (s .table .now) (l .next + k)) e in
     let x = taking-within (s .table .now) (s .at) (s .version) (s .processes) (s .placements .now) (s .instructions .now) _ _ (l .next) (l .i) (l .p) (l .inv) t in
-    let w = c .before .before .before .before .wide .ensures in
+    let w = c .before .before .before .before .byte-wide .ensures .0 in
     omega arith
 
 take-program-requires : tie.Need-take-program-requires Inv-loop μ-loop
@@ -113,7 +113,7 @@ take-program-requires c κs =
     let d = c .before .before .before .before .before .before .before .before .before .length-place .ensures .1 in
     let y = ap (λ (k : ℕ). byteAt (s .table .now) (l .next + k)) e in
     let x = taking-within (s .table .now) (s .at) (s .version) (s .processes) (s .placements .now) (s .instructions .now) _ _ (l .next) (l .i) (l .p) (l .inv) t in
-    let w = c .before .before .before .before .before .wide .ensures in
+    let w = c .before .before .before .before .before .byte-wide .ensures .0 in
     let u = placed-room (s .table .now) (s .at) (s .version) (s .processes) (s .placements .now) (s .instructions .now) _ _ (l .next) (l .i) (l .p) (l .inv) t (g .1 .0) in
     let z = coded-room (s .table .now) (s .at) (s .version) (s .processes) (s .placements .now) (s .instructions .now) _ _ (l .next) (l .i) (l .p) (l .inv) t (g .1 .1) in
     let q = l .inv .coded .same-length in
@@ -129,7 +129,7 @@ add-next c =
     let d = c .before .before .before .before .before .before .before .before .before .before .before .before .length-place .ensures .1 in
     let y = ap (λ (k : ℕ). byteAt (s .table .now) (l .next + k)) e in
     let x = taking-within (s .table .now) (s .at) (s .version) (s .processes) (s .placements .now) (s .instructions .now) _ _ (l .next) (l .i) (l .p) (l .inv) t in
-    let w = c .before .before .before .before .before .before .before .before .wide .ensures in
+    let w = c .before .before .before .before .before .before .before .before .byte-wide .ensures .0 in
     omega arith
 
 mul-next : tie.Need-mul-next Inv-loop μ-loop
@@ -142,7 +142,7 @@ mul-next c =
     let d = c .before .before .before .before .before .before .before .before .before .before .before .before .length-place .ensures .1 in
     let y = ap (λ (k : ℕ). byteAt (s .table .now) (l .next + k)) e in
     let x = taking-within (s .table .now) (s .at) (s .version) (s .processes) (s .placements .now) (s .instructions .now) _ _ (l .next) (l .i) (l .p) (l .inv) t in
-    let w = c .before .before .before .before .before .before .before .before .wide .ensures in
+    let w = c .before .before .before .before .before .before .before .before .byte-wide .ensures .0 in
     omega arith
 
 add-next-2 : tie.Need-add-next-2 Inv-loop μ-loop
@@ -155,7 +155,7 @@ add-next-2 c =
     let d = c .before .before .before .before .before .before .before .before .before .before .before .before .length-place .ensures .1 in
     let y = ap (λ (k : ℕ). byteAt (s .table .now) (l .next + k)) e in
     let x = taking-within (s .table .now) (s .at) (s .version) (s .processes) (s .placements .now) (s .instructions .now) _ _ (l .next) (l .i) (l .p) (l .inv) t in
-    let w = c .before .before .before .before .before .before .before .before .wide .ensures in
+    let w = c .before .before .before .before .before .before .before .before .byte-wide .ensures .0 in
     omega arith
 
 add-next-3 : tie.Need-add-next-3 Inv-loop μ-loop
@@ -168,7 +168,7 @@ add-next-3 c =
     let d = c .before .before .before .before .before .before .before .before .before .before .before .before .length-place .ensures .1 in
     let y = ap (λ (k : ℕ). byteAt (s .table .now) (l .next + k)) e in
     let x = taking-within (s .table .now) (s .at) (s .version) (s .processes) (s .placements .now) (s .instructions .now) _ _ (l .next) (l .i) (l .p) (l .inv) t in
-    let w = c .before .before .before .before .before .before .before .before .wide .ensures in
+    let w = c .before .before .before .before .before .before .before .before .byte-wide .ensures .0 in
     omega arith
 
 add-i : tie.Need-add-i Inv-loop μ-loop
@@ -181,7 +181,7 @@ add-i c =
     let d = c .before .before .before .before .before .before .before .before .before .before .before .before .length-place .ensures .1 in
     let y = ap (λ (k : ℕ). byteAt (s .table .now) (l .next + k)) e in
     let x = taking-within (s .table .now) (s .at) (s .version) (s .processes) (s .placements .now) (s .instructions .now) _ _ (l .next) (l .i) (l .p) (l .inv) t in
-    let w = c .before .before .before .before .before .before .before .before .wide .ensures in
+    let w = c .before .before .before .before .before .before .before .before .byte-wide .ensures .0 in
     let u = placed-room (s .table .now) (s .at) (s .version) (s .processes) (s .placements .now) (s .instructions .now) _ _ (l .next) (l .i) (l .p) (l .inv) t (g .1 .0) in
     let z = coded-room (s .table .now) (s .at) (s .version) (s .processes) (s .placements .now) (s .instructions .now) _ _ (l .next) (l .i) (l .p) (l .inv) t (g .1 .1) in
     let q = l .inv .coded .same-length in
@@ -198,7 +198,7 @@ loop-again c =
     let s = c .before .before .before .before .before .before .before .before .before .before .before .before .before .before .before .before .args in
     let l = c .before .before .before .before .before .before .before .before .before .before .before .loop in
     let t = c .before .before .before .before .before .before .before .before .before .before .loop-test .taken in
-    taking-on (s .table .now) (s .at) (s .version) (s .processes) (s .placements .now) (s .instructions .now) _ _ (l .next) (l .i) (l .p) (l .inv) t (c .before .before .before .before .before .before .before .before .before .before .before .before .length-place .result) _ _ _ (c .before .before .before .before .before .before .before .before .before .before .before .before .length-place .ensures .0) (c .before .before .before .before .before .before .before .before .wide .ensures) (c .before .before .before .before .before .before .take-placement .ensures) (c .before .before .take-program .ensures)
+    taking-on (s .table .now) (s .at) (s .version) (s .processes) (s .placements .now) (s .instructions .now) _ _ (l .next) (l .i) (l .p) (l .inv) t (c .before .before .before .before .before .before .before .before .before .before .before .before .length-place .result) _ _ _ (c .before .before .before .before .before .before .before .before .before .before .before .before .length-place .ensures .0) (c .before .before .before .before .before .before .before .before .byte-wide .ensures .0) (c .before .before .before .before .before .before .take-placement .ensures) (c .before .before .take-program .ensures)
 
 same-length : tie.Need-same-length Inv-loop μ-loop
 same-length c = search needs
@@ -221,9 +221,9 @@ take-records-spec =
     μ-loop
     length-place-requires
     loop-holds
-    add-wide
-    shared-slice-read-wide
-    wide-requires
+    add-byte-wide
+    shared-slice-read-byte-wide
+    byte-wide-requires
     add-take-placement
     take-placement-requires
     add-take-program
