@@ -78,7 +78,7 @@ pub fn low_byte(x: u32) -> u8
 
 // 1 for true.
 pub fn flag(x: bool) -> u64
-    ensures { λ r. ⌜ r ≡ cond x 1 0 ⌝ }
+    ensures { λ r. ⌜ (r ≡ cond x 1 0) × (r ≤ 1) ⌝ }
 {
     if x { 1 } else { 0 }
 }

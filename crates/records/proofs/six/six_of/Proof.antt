@@ -6,13 +6,9 @@ use Rattle.records.proofs.six.six_of.Tie as tie
 use Rattle.records.proofs.six.six_of.Reads as reads
 use Rattle.records.proofs.six.six_of.Lts as lts
 use Rattle.records.proofs.six.number32_of.Reads as number32-of-reads
-use Rattle.records.proofs.six.zeros.Reads as zeros-reads
-
-zeros-requires : tie.Need-zeros-requires
-zeros-requires c κs = search needs
 
 returns : tie.Need-returns
-returns c = no-six _ (c .before .before .before .args .k) _ (c .before .if1 .taken) (c .zeros .ensures)
+returns c = no-six _ (c .before .before .args .k) (c .if1 .taken)
 
 mul-i : tie.Need-mul-i
 mul-i c = search needs
@@ -61,7 +57,6 @@ pub six-of-spec : {M : Type 1} → statement M
 six-of-spec =
     tie.close
     (tie.spec
-    zeros-requires
     returns
     mul-i
     shared-slice-read-t8
