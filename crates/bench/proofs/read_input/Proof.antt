@@ -5,7 +5,7 @@ use Rattle.bench.proofs.read_input.Statement.{statement}
 use Rattle.bench.proofs.read_input.Tie as tie
 use Rattle.bench.proofs.read_input.Reads as reads
 use Rattle.bench.proofs.read_input.Lts as lts
-use Rattle.bench.proofs.least.Reads as least-reads
+use Rattle.words.proofs.least.Reads as least-reads
 use Rattle.bench.proofs.read_part.Reads as read-part-reads
 use Rattle.bench_input.proofs.wanted.wanted.Reads as wanted-reads
 

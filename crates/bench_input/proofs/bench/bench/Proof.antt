@@ -5,7 +5,7 @@ use Rattle.bench_input.proofs.bench.bench.Statement.{statement}
 use Rattle.bench_input.proofs.bench.bench.Tie as tie
 use Rattle.bench_input.proofs.bench.bench.Reads as reads
 use Rattle.bench_input.proofs.bench.bench.Lts as lts
-use Rattle.bench_input.proofs.bench.least.Reads as least-reads
+use Rattle.words.proofs.least.Reads as least-reads
 use Rattle.bench_input.proofs.bench.run_page.Reads as run-page-reads
 use Rattle.bench_input.proofs.bytes.length_field.Reads as length-field-reads
 
