@@ -19,7 +19,7 @@ least-requires : tie.Need-least-requires
 least-requires c κs = search needs
 
 slice-aggregate-run-page : tie.Need-slice-aggregate-run-page
-slice-aggregate-run-page c = part-long (c .before .before .before .before .before .args .input .now) (c .before .least .result) (c .before .least .ensures .1)
+slice-aggregate-run-page c = part-long (c .before .before .before .before .before .args .input .now) (c .before .least .result) (let e = c .before .least .ensures in omega arith)
 
 sub-run-page : tie.Need-sub-run-page
 sub-run-page c = search needs
@@ -39,7 +39,7 @@ same-length c = search needs
 returns : tie.Need-returns
 returns c =
     let s = c .before .before .before .before .before .before .before .before .before .before .args in
-    benched (s .input .now) (c .before .before .before .before .before .before .before .length-field .result) (c .before .before .before .before .before .before .before .length-field .ensures .0) (c .before .before .before .before .before .before .least .result) (c .before .before .before .before .before .before .least .ensures .0) _ _ _ (c .before .before .run-page .ensures)
+    benched (s .input .now) (c .before .before .before .before .before .before .before .length-field .result) (c .before .before .before .before .before .before .before .length-field .ensures .0) (c .before .before .before .before .before .before .least .result) (c .before .before .before .before .before .before .least .ensures) _ _ _ (c .before .before .run-page .ensures)
 
 pub bench-spec : {M : Type 1} → statement M
 bench-spec =
