@@ -1,6 +1,5 @@
 // The page of what was read: "The program reads the table (as long as its length bytes say) and then, up to the end of input, the schedule
 // from standard input. Input that ends early is run as it is."
-ghost use mathlib.Core.Path.{_≡_};
 ghost use Rattle.rules.specs.Run.{ranOf};
 ghost use Rattle.page.specs.Written.{shownOf};
 ghost use Rattle.bench_input.specs.Benched.{Benched};

@@ -1,5 +1,4 @@
 // The bench program's page (document 01, "The bench program's page"), from what a run returned and the buffers that it was lent.
-ghost use mathlib.Core.Path.{_≡_};
 ghost use Prim.Native.Nat.{_+_, _*_, _<_};
 ghost use Rattle.rules.specs.Run.{ranOf};
 ghost use Rattle.rules.specs.Page.{acceptedPage, pageOf, refusedLine};

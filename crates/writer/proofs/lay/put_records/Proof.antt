@@ -6,7 +6,7 @@ use lib.Seq.{sets}
 use Rattle.rules.specs.Encode.{recordsFor}
 use Rattle.writer.specs.Given.{Programs}
 use Rattle.writer.specs.Fitted.{fitByte, fitThrees, headFor}
-use Rattle.writer.proofs.Laying.{laid-length}
+use Rattle.facts.specs.Laying.{laid-length}
 use Rattle.writer.proofs.Walking.{RecordsLaid, records-start, limits-room, next-few, next-instructions, next-room, records-on, records-end}
 use borrow.Author.Needs.{needs}
 use native.Mathlib.Omega.{arith}
