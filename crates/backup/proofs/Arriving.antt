@@ -12,7 +12,8 @@ use Rattle.backup.specs.Limits.{logMost, ports}
 use Rattle.backup.specs.Replica.{Message, Replica, savedOn, arrive, arriveNumber, arrived}
 use Rattle.backup.specs.Laws.{saved-append, saved-cons}
 use Rattle.backup.specs.Accepts.{fit-parts, arrive-accepted, arrived-fit}
-use Rattle.backup.specs.Place.{pack, unpack, unpack-pack, messages, viewIn, tallyIn, headLength, Sound, Called, arriveNumberIn}
+use Rattle.words.specs.Words.{pack}
+use Rattle.backup.specs.Place.{unpack, unpack-pack, messages, viewIn, tallyIn, headLength, Sound, Called, arriveNumberIn}
 use Rattle.backup.proofs.InPlace.{refused-so, accepted-so, same-replica, view-length, saved-few, bumped, bumped-other, bumped-same}
 
 module _ (log head : List ℕ) (port word : ℕ) where

@@ -6,6 +6,7 @@ use Prim.Native.Nat.{ℕ, _+_, _-_, _*_, _/_, _%_, _^_, _≤_, _<_}
 use native.Mathlib.Omega.{arith}
 use lib.Dec.{ltb, leb}
 use lib.ListN.{length, getD, set, replicate}
+use Rattle.words.specs.Words.{pack, highIn, lowIn}
 use Rattle.facts.specs.Tests.{anyBelow}
 use Rattle.facts.specs.Lists.{prefix}
 use Rattle.backup.specs.Limits.{logMost, ports, sentMost, pcMost}
@@ -18,15 +19,12 @@ use Rattle.backup.specs.declared.place.Promotion.{Promotion}
 use Rattle.backup.specs.declared.place.Landed.{Landed}
 use Rattle.backup.specs.declared.place.Metered.{Metered}
 
--- a message as one number: port times 2^32, plus word
-abbrev pub pack : ℕ → ℕ → ℕ
-pack port word = port * 4294967296 + word
-
+-- a message is one number: its port the higher word, its word the lower (words' `pack`)
 abbrev pub portIn : ℕ → ℕ
-portIn x = x / 4294967296
+portIn x = highIn x
 
 abbrev pub wordIn : ℕ → ℕ
-wordIn x = x % 4294967296
+wordIn x = lowIn x
 
 abbrev pub unpack : ℕ → Message
 unpack x = record { port = portIn x; word = wordIn x }

@@ -16,9 +16,10 @@ use crate::limits::LOG;
 use crate::limits::PC_MOST;
 use crate::limits::PORTS;
 use crate::limits::SENT_MOST;
-use crate::pack::packed;
 use crate::pack::port_of;
 use crate::pack::word_of;
+use words::packed;
+use words::wide;
 
 // Where a head has its numbers: the log's length, the count of transmitted messages, the program counter, four registers, and for
 // each port how many messages of the log came in on it.
@@ -85,12 +86,6 @@ pub struct Landed {
 pub struct Metered {
     pub landed: Landed,
     pub rounds: usize,
-}
-
-fn wide(x: u32) -> usize
-    ensures { λ r. ⌜ r ≡ x ⌝ }
-{
-    x as usize
 }
 
 // One more in a cell of the head.

@@ -12,6 +12,7 @@ use bench_input::bench::bench;
 use bench_input::wanted::wanted;
 use libc::STDIN_FILENO;
 use libc::STDOUT_FILENO;
+use words::least;
 
 // Reads into a part of a buffer until it is full or the input ends: where it ended.
 fn read_part(input: &mut [u8], from: usize, to: usize) -> usize
@@ -20,12 +21,6 @@ fn read_part(input: &mut [u8], from: usize, to: usize) -> usize
     ensures { λ r. ⌜ Filled (now (input .entry)) from to r (now (input .exit)) ⌝ }
 {
     from + io::read_full(STDIN_FILENO, &mut input[from..to])
-}
-
-fn least(a: usize, b: usize) -> usize
-    ensures { λ r. ⌜ (r ≤ a) × (r ≤ b) ⌝ }
-{
-    if a < b { a } else { b }
 }
 
 // Reads as many bytes as are wanted, or all that there are, or as many as have room: how many.

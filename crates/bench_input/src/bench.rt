@@ -1,7 +1,5 @@
 // The page of what was read: "The program reads the table (as long as its length bytes say) and then, up to the end of input, the schedule
 // from standard input. Input that ends early is run as it is."
-ghost use mathlib.Core.Path.{_≡_};
-ghost use Prim.Native.Nat.{_≤_, min};
 ghost use Rattle.rules.specs.Run.{ranOf};
 ghost use Rattle.page.specs.Written.{shownOf};
 ghost use Rattle.bench_input.specs.Benched.{Benched};
@@ -10,7 +8,8 @@ use crate::bytes::length_field;
 use cabinet::run::run;
 use page::write_page;
 use records::bytes::byte;
-use records::bytes::wide;
+use words::byte_wide;
+use words::least;
 
 // "Byte 4: processes P".
 const PROCESSES: usize = 4;
@@ -42,14 +41,8 @@ fn run_page(table: &[u8], schedule: &[u8], out: &mut [u8]) -> usize
     let number = v.number;
     let records = v.records;
     let quiet = v.quiet;
-    let processes = wide(byte(table, PROCESSES));
+    let processes = byte_wide(byte(table, PROCESSES));
     print(number, records, quiet, &answers, processes, &report, out)
-}
-
-fn least(a: usize, b: usize) -> usize
-    ensures { λ r. ⌜ (r ≡ min a b) × (r ≤ b) ⌝ }
-{
-    if a < b { a } else { b }
 }
 
 // The input is cut where its length bytes say that the table ends.

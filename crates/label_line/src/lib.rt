@@ -1,13 +1,14 @@
 // The label line (document 02, W-203): "one scanner, one numbering program and one printer program on two boards". It is given a first
 // serial, makes the table and runs schedules on it, with nothing but the cabinet's promises.
 ghost use mathlib.Core.Path.{_≡_};
-ghost use Prim.Native.Nat.{_%_, _≤_};
+ghost use Prim.Native.Nat.{_≤_};
 ghost use Rattle.rules.specs.Run.{buffersOf};
 ghost use Rattle.label_line.specs.Line.{lineBytes};
 ghost use Rattle.label_line.specs.Puts.{frameBytes, instructionIn};
 ghost use Rattle.label_line.specs.Labels.{Makes, RunsLine};
 use cabinet::run::Verdict;
 use cabinet::run::run;
+use words::low_byte;
 
 // Bytes of a label line's table.
 pub const TABLE: usize = 84;
@@ -35,12 +36,6 @@ const JUMP: u8 = 6;
 pub struct MadeTable {
     pub number: u8,
     pub bytes: [u8; TABLE],
-}
-
-fn low_byte(n: u32) -> u8
-    ensures { λ r. ⌜ r ≡ n % 256 ⌝ }
-{
-    (n % 256) as u8
 }
 
 // The table but for its instructions.

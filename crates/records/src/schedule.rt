@@ -3,9 +3,9 @@ ghost use mathlib.Core.Path.{_≡_};
 ghost use Rattle.rules.specs.Schedule.{decodeSchedule, command};
 ghost use Rattle.records.specs.Commands.{commandOf, ScheduleJudged, judgedRun};
 ghost use lib.ListN.{getD};
-use crate::bytes::pair;
 use crate::head::VERSION;
-use crate::six::six_at;
+use crate::six::six_of;
+use words::pair;
 
 // Where the commands begin: behind the length's two bytes and the version.
 const FIRST_COMMAND: usize = 3;
@@ -68,7 +68,14 @@ pub fn judge_schedule(schedule: &[u8]) -> Judged
 pub fn command_at(schedule: &[u8], i: usize) -> Command
     ensures { λ r. ⌜ commandOf r ≡ getD (decodeSchedule (now (schedule .entry))) i (command 0 0 0) ⌝ }
 {
-    let s = six_at(schedule, FIRST_COMMAND, i);
+    if schedule.len() < FIRST_COMMAND {
+        return Command {
+            mv: 0,
+            a: 0,
+            word: 0,
+        };
+    }
+    let s = six_of(&schedule[FIRST_COMMAND..], i);
     Command {
         mv: s.first,
         a: s.second,

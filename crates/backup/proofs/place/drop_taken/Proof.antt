@@ -15,7 +15,7 @@ use Rattle.backup.proofs.place.drop_taken.Lts as lts
 use Rattle.backup.proofs.place.together.Reads as together-reads
 use Rattle.backup.proofs.place.compact.Reads as compact-reads
 use Rattle.backup.proofs.place.less.Reads as less-reads
-use Rattle.backup.proofs.place.wide.Reads as wide-reads
+use Rattle.words.proofs.wide.Reads as wide-reads
 
 together-requires : tie.Need-together-requires
 together-requires c κs = search needs
@@ -47,7 +47,7 @@ element-write-head c = search needs
 returns-2 : tie.Need-returns-2
 returns-2 c =
     let a = c .before .before .before .before .before .before .args in
-    let w = c .before .before .wide .ensures in
+    let w = c .before .before .wide .ensures .0 in
     let z = c .before .before .before .before .before .together .ensures in
     let n : c .before .less .result ≡ getD (a .head .now) 0 0 - allTaken (takenOf (a .c)) = (let l = c .before .less .ensures in omega arith) in
     let few : getD (a .head .now) 0 0 ≤ allTaken (takenOf (a .c)) = (let t = c .if2 .taken in omega arith) in (
@@ -64,7 +64,7 @@ compact-requires c κs = search needs
 returns-3 : tie.Need-returns-3
 returns-3 c =
     let a = c .before .before .before .before .before .before .before .before .args in
-    let w = c .before .before .before .before .wide .ensures in
+    let w = c .before .before .before .before .wide .ensures .0 in
     let z = c .before .before .before .before .before .before .before .together .ensures in
     let n : c .before .before .before .less .result ≡ getD (a .head .now) 0 0 - allTaken (takenOf (a .c)) = (let l = c .before .before .before .less .ensures in omega arith) in
     let t = c .before .before .if2 .left in
