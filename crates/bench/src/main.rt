@@ -8,7 +8,9 @@
 ghost use Prim.Native.Nat.{_≤_};
 ghost use lib.ListN.{length};
 ghost use Rattle.bench.specs.Took.{Filled, Took};
+use bench_input::bench::PAGE_ROOM;
 use bench_input::bench::bench;
+use bench_input::wanted::INPUT_ROOM;
 use bench_input::wanted::wanted;
 use libc::STDIN_FILENO;
 use libc::STDOUT_FILENO;
@@ -42,10 +44,8 @@ fn read_input(input: &mut [u8]) -> usize
 }
 
 fn main() {
-    // `inputRoom`: the longest table, and one byte more than the longest schedule.
-    let mut input = [0u8; 66282];
-    // `pageRoom`: no page is longer.
-    let mut page = [0u8; 251158];
+    let mut input = [0u8; INPUT_ROOM];
+    let mut page = [0u8; PAGE_ROOM];
     let n = read_input(&mut input);
     let length = bench(&input[..n], &mut page);
     io::write_all(STDOUT_FILENO, &page[..length]);

@@ -29,7 +29,10 @@ pub const PROGRAM_ROW: usize = 8;
 // All of them.
 pub const PROGRAMS: usize = PROCESSES * PROGRAM_ROW;
 
-// A channel's row: its ends (255 is the environment), and its port within a reader that is a process.
+// An end of a channel that is no process (document 01: "a process number, or 255 for the outside").
+pub const ENVIRONMENT: u8 = 255;
+
+// A channel's row: its ends, and its port within a reader that is a process.
 pub const SENDER: usize = 0;
 
 pub const READER: usize = 1;

@@ -9,8 +9,10 @@ use words::pair;
 
 // Where the commands begin: behind the length's two bytes and the version.
 const FIRST_COMMAND: usize = 3;
+// Commands that a schedule has at most, and the bytes of one that has so many.
+pub const COMMANDS_MOST: usize = 10000;
 
-const COMMANDS_MOST: usize = 10000;
+pub const SCHEDULE_MOST: usize = FIRST_COMMAND + 6 * COMMANDS_MOST;
 
 // What judging a schedule finds: 0 or the number that refuses it, and how many commands it has (0 where it is refused).
 pub struct Judged {
