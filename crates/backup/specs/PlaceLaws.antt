@@ -11,7 +11,8 @@ use Rattle.facts.specs.Lists.{prefix, length-prefix, getD-prefix}
 use Rattle.backup.specs.Limits.{logMost, ports}
 use Rattle.backup.specs.Replica.{Message, Replica, FailOver, initial, fit, onPorts, failOver}
 use Rattle.backup.specs.Accepts.{fit-parts, fail-over-accepted}
-use Rattle.backup.specs.Place.{portIn, wordIn, unpack, messages, headLength, viewIn, Sound, Fresh, freshHead, promotionIn, handedOver, messageAt}
+use Rattle.backup.specs.Place.{portIn, wordIn, unpack, messages, headLength, viewIn, Sound, Fresh, freshHead, promotionIn, handedOver}
+use Rattle.backup.specs.Place.{messageAt}
 
 -- all zeros are a fresh, sound record
 pub fresh-in : (log : List ℕ) → length log ≡ logMost → Fresh log freshHead

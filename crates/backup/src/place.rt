@@ -8,7 +8,8 @@ ghost use Prim.Native.Nat.{ℕ, _+_, _-_, _%_, _^_, _≤_, _<_};
 ghost use lib.ListN.{length, getD, set};
 ghost use Rattle.backup.specs.Limits.{logMost};
 ghost use Rattle.backup.specs.Replica.{arrive, count, sync, failOver};
-ghost use Rattle.backup.specs.Place.{Called, Sound, headLength, portIn, wordIn, checkpointOf, takenOf, lacksIn, restatedIn, Dropped, promotionIn, viewIn, Reports, reportOf, refusedOf, landedIn};
+ghost use Rattle.backup.specs.Place.{Called, Sound, headLength, portIn, wordIn, checkpointOf, takenOf, lacksIn, restatedIn, Dropped};
+ghost use Rattle.backup.specs.Place.{promotionIn, viewIn, Reports, reportOf, refusedOf, landedIn};
 ghost use Rattle.backup.specs.Place.{Fresh, freshHead, arriveNumberIn, countNumberIn, syncNumberIn, handedOver, messageAt};
 ghost use Rattle.backup.specs.Report.{totalDropped};
 ghost use Rattle.backup.specs.Rounds.{allTaken, syncRounds, OnePass};
@@ -366,7 +367,8 @@ pub fn fail_over_in(head: &[u32; HEAD]) -> Promotion
 // The port of message i of a log; 0 where i is no index of one.
 pub fn port_in(log: &[u64; LOG], i: usize) -> u32
     ensures { λ r. ⌜ (i < logMost → r ≡ portIn (getD (now (log .entry)) i 0)) ⌝ }
-    ensures { λ r. ⌜ ((head : List ℕ) → Sound (now (log .entry)) head → i < getD head 0 0 → r ≡ messageAt (failOver (viewIn (now (log .entry)) head)) i .port) ⌝ }
+    ensures { λ r. ⌜ ((head : List ℕ) → Sound (now (log .entry)) head → i < getD head 0 0
+        → r ≡ messageAt (failOver (viewIn (now (log .entry)) head)) i .port) ⌝ }
 {
     if i < LOG { port_of(log[i]) } else { 0 }
 }
@@ -374,7 +376,8 @@ pub fn port_in(log: &[u64; LOG], i: usize) -> u32
 // Its word.
 pub fn word_in(log: &[u64; LOG], i: usize) -> u32
     ensures { λ r. ⌜ (i < logMost → r ≡ wordIn (getD (now (log .entry)) i 0)) ⌝ }
-    ensures { λ r. ⌜ ((head : List ℕ) → Sound (now (log .entry)) head → i < getD head 0 0 → r ≡ messageAt (failOver (viewIn (now (log .entry)) head)) i .word) ⌝ }
+    ensures { λ r. ⌜ ((head : List ℕ) → Sound (now (log .entry)) head → i < getD head 0 0
+        → r ≡ messageAt (failOver (viewIn (now (log .entry)) head)) i .word) ⌝ }
 {
     if i < LOG { word_of(log[i]) } else { 0 }
 }

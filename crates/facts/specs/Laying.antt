@@ -33,7 +33,8 @@ pub laying-start : (l : List ℕ) (at : ℕ) (whole : List ℕ) (at′ : ℕ) (r
 laying-start l at whole at′ rest i e = record { same-length = refl; stored = λ j. sets l (i j) (e j); room = λ j. i j + length (e j) }
 
 module _ {before : List ℕ} {from : ℕ} {whole after : List ℕ} {at : ℕ} where
-  pub laying-more : {rest : List ℕ} (new rest′ after′ : List ℕ) (at′ : ℕ) → Laying before from whole after at rest → rest ≡ new ++ rest′ → after′ ≡ sets after at new
+  pub laying-more : {rest : List ℕ} (new rest′ after′ : List ℕ) (at′ : ℕ) → Laying before from whole after at rest → rest ≡ new ++ rest′
+      → after′ ≡ sets after at new
       → at′ ≡ at + length new → Laying before from whole after′ at′ rest′
   laying-more {rest} new rest′ after′ at′ h e s i = record {
     same-length = ap length s ∙ length-sets after at new ∙ h .same-length;
@@ -45,7 +46,8 @@ module _ {before : List ℕ} {from : ℕ} {whole after : List ℕ} {at : ℕ} wh
   laying-end h e = sym (ap (sets after at) e) ∙ h .stored
 
   -- so there is room for what is next
-  pub laying-room : {rest : List ℕ} (new rest′ : List ℕ) → Laying before from whole after at rest → rest ≡ new ++ rest′ → from + length whole ≤ length before
+  pub laying-room : {rest : List ℕ} (new rest′ : List ℕ) → Laying before from whole after at rest → rest ≡ new ++ rest′
+      → from + length whole ≤ length before
       → at + length new ≤ length after
   laying-room new rest′ h e r =
       let a = h .room in let b = ap length e in let c = length-append new rest′ in let d = h .same-length in omega arith

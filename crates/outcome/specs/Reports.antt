@@ -20,7 +20,8 @@ headBytes row = boardIn row % 256 ∷ pcIn row % 256 ∷ unreadIn row % 256 ∷ 
 
 -- all twenty: "then four registers"
 abbrev pub twentyBytes : List ℕ → List ℕ
-twentyBytes row = headBytes row ++ (wordBytes (getD row 2 0) ++ (wordBytes (getD row 3 0) ++ (wordBytes (getD row 4 0) ++ wordBytes (getD row 5 0))))
+twentyBytes row = headBytes row ++ (wordBytes (getD row 2 0) ++ (wordBytes (getD row 3 0)
+    ++ (wordBytes (getD row 4 0) ++ wordBytes (getD row 5 0))))
 
 -- the p-th line of a buffer, a row's; where the buffer has no room for it, nothing
 pub record LinePut (row buffer : List ℕ) (p : ℕ) (buffer′ : List ℕ) : Type 0 where

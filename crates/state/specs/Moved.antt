@@ -57,7 +57,8 @@ pub record Reachable (t : Table) (c : Cabinet) : Type 0 where
   pub is-reached : c ≡ runFrom t (started t) commands .cabinet
 
 -- one move of the rules, as the code made it: the answer's numbers and its cause, and the cabinet that the lists hold afterwards
-pub record Answered (t : Table) (s : Store) (entries : List Entry) (c : Cabinet) (command : Command) (result : Result) (answer : Answer) : Type 0 where
+pub record Answered (t : Table) (s : Store) (entries : List Entry) (c : Cabinet) (command : Command) (result : Result)
+    (answer : Answer) : Type 0 where
   pub answer-is : numbers (settle c command result .answer) ≡ numbered (answer .code) (answer .a) (answer .word)
   pub cause-is : causeOf (settle c command result .answer) ≡ answer .cause
   pub holds : Holds t s entries (settle c command result .cabinet)
@@ -73,7 +74,8 @@ pub record SameLengths (s s′ : Store) : Type 0 where
 
 -- The move that the rules call `rule`, of the process, board or channel a, made on lists s that are then s′. `asks` is what it supposes of
 -- a, and of the entries; `entry` is the one that joins a queue by it, and `joins` the code of the answer that says so.
-pub record Makes (rule : Table → Cabinet → ℕ → Result) (asks : Table → List Entry → Type 0) (joins : ℕ) (l : Plan) (s : Store) (a : ℕ) (entry : Entry)
+pub record Makes (rule : Table → Cabinet → ℕ → Result) (asks : Table → List Entry → Type 0) (joins : ℕ) (l : Plan) (s : Store) (a : ℕ)
+    (entry : Entry)
     (s′ : Store) (r : Moved) : Type 0 where
   -- of a plan that is the table's, and of lists that hold a cabinet which commands reach
   pub made : (t : Table) (entries : List Entry) (c : Cabinet) (command : Command) → Reachable t c → Planned t l → Holds t s entries c

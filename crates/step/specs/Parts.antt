@@ -61,7 +61,8 @@ CalculateTurns rows a code register operand rows′ r =
     (storeOf rows mails logs heads queues totals) a (wordOf (r .answer)) (storeOf rows′ mails logs heads queues totals) r
 
 -- Process a's instruction, where a's limit is this one, takes the word at a position of its mailbox.
-abbrev pub TakeTurns : List ℕ → List (List ℕ) → List (List ℕ) → List ℕ → ℕ → ℕ → ℕ → ℕ → ℕ → List (List ℕ) → List (List ℕ) → List ℕ → Moved → Type 0
+abbrev pub TakeTurns : List ℕ → List (List ℕ) → List (List ℕ) → List ℕ → ℕ → ℕ → ℕ → ℕ → ℕ → List (List ℕ) → List (List ℕ) → List ℕ → Moved
+    → Type 0
 TakeTurns wires rows mails totals limit a code register at rows′ mails′ totals′ r =
     (table : List ℕ) (counts : Counts) (programs : List ℕ) (logs heads queues : List (List ℕ)) (n operand : ℕ)
     → Makes step (λ t entries. Intending t limit a (getD rows a []) (getD mails a []) n code register operand (Take at)) 2
