@@ -1,19 +1,14 @@
 -- An answer's six bytes, stored.
-use mathlib.Core.Path.{_≡_, refl, ap, _∙_}
-use mathlib.Core.List.{List, [], _∷_}
+use mathlib.Core.Path.{_≡_, ap, _∙_}
+use mathlib.Core.List.{List}
 use Prim.Native.Nat.{ℕ, suc, _+_, _/_, _%_, _^_, _<_}
 use native.Mathlib.Omega.{arith}
 use lib.ListN.{set}
-use lib.Seq.{sets, set-comm}
+use lib.Seq.{sets}
+use Rattle.facts.specs.Laying.{set-sets}
 use Rattle.rules.specs.Bytes.{wordBytes}
 use Rattle.state.specs.declared.moved.Answer.{Answer}
 use Rattle.play.specs.Written.{sixBytes}
-
--- a store before others may as well come first
-set-sets : {A : Type 0} (vs l : List A) (n i : ℕ) (x : A) → i < n → set (sets l n vs) i x ≡ sets (set l i x) n vs
-set-sets [] l n i x h = refl
-set-sets {A} (a ∷ vs) l n i x h =
-    set-sets vs (set l n a) (suc n) i x (omega arith) ∙ ap (λ (r : List A). sets r (suc n) vs) (set-comm l n i a x (λ e. omega arith))
 
 -- the word's four bytes first, then code and a
 pub six-put : (buffer : List ℕ) (n : ℕ) (r : Answer) (x2 x3 x4 x5 x0 x1 : ℕ) → r .word < 2 ^ 32
