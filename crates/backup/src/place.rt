@@ -9,7 +9,7 @@ ghost use lib.ListN.{length, getD, set};
 ghost use Rattle.backup.specs.Limits.{logMost};
 ghost use Rattle.backup.specs.Replica.{arrive, count, sync, failOver};
 ghost use Rattle.backup.specs.Place.{Called, Sound, headLength, portIn, wordIn, checkpointOf, takenOf, lacksIn, restatedIn, Dropped};
-ghost use Rattle.backup.specs.Place.{promotionIn, viewIn, Reports, reportOf, refusedOf, landedIn};
+ghost use Rattle.backup.specs.Place.{promotionIn, viewIn, Reports, reportOf, refusedOf, landedIn, headLen};
 ghost use Rattle.backup.specs.Place.{Fresh, freshHead, arriveNumberIn, countNumberIn, syncNumberIn, handedOver, messageAt};
 ghost use Rattle.backup.specs.Report.{totalDropped};
 ghost use Rattle.backup.specs.Rounds.{allTaken, syncRounds, OnePass};
@@ -249,8 +249,8 @@ fn compact(log: &mut [u64; LOG], len: usize, taken: [u32; 4], all: usize) -> usi
 // moves, and there is none.
 fn drop_taken(log: &mut [u64; LOG], head: &mut [u32; HEAD], c: Checkpoint) -> usize
     requires { ⌜ getD (now head) 0 0 ≤ logMost ⌝ }
-    ensures { λ _. ⌜ Dropped (now (log .entry)) (getD (now (head .entry)) 0 0) (takenOf c) (now (log .exit)) ⌝ }
-    ensures { λ _. ⌜ now (head .exit) ≡ set (now (head .entry)) 0 (getD (now (head .entry)) 0 0 - allTaken (takenOf c)) ⌝ }
+    ensures { λ _. ⌜ Dropped (now (log .entry)) (headLen (now (head .entry))) (takenOf c) (now (log .exit)) ⌝ }
+    ensures { λ _. ⌜ now (head .exit) ≡ set (now (head .entry)) 0 (headLen (now (head .entry)) - allTaken (takenOf c)) ⌝ }
     ensures { λ r. ⌜ r ≡ syncRounds 0 (viewIn (now (log .entry)) (now (head .entry))) (checkpointOf c) ⌝ }
 {
     let all = together(c.t0, c.t1, c.t2, c.t3);
@@ -367,7 +367,7 @@ pub fn fail_over_in(head: &[u32; HEAD]) -> Promotion
 // The port of message i of a log; 0 where i is no index of one.
 pub fn port_in(log: &[u64; LOG], i: usize) -> u32
     ensures { λ r. ⌜ (i < logMost → r ≡ portIn (getD (now (log .entry)) i 0)) ⌝ }
-    ensures { λ r. ⌜ ((head : List ℕ) → Sound (now (log .entry)) head → i < getD head 0 0
+    ensures { λ r. ⌜ ((head : List ℕ) → Sound (now (log .entry)) head → i < headLen head
         → r ≡ messageAt (failOver (viewIn (now (log .entry)) head)) i .port) ⌝ }
 {
     if i < LOG { port_of(log[i]) } else { 0 }
@@ -376,7 +376,7 @@ pub fn port_in(log: &[u64; LOG], i: usize) -> u32
 // Its word.
 pub fn word_in(log: &[u64; LOG], i: usize) -> u32
     ensures { λ r. ⌜ (i < logMost → r ≡ wordIn (getD (now (log .entry)) i 0)) ⌝ }
-    ensures { λ r. ⌜ ((head : List ℕ) → Sound (now (log .entry)) head → i < getD head 0 0
+    ensures { λ r. ⌜ ((head : List ℕ) → Sound (now (log .entry)) head → i < headLen head
         → r ≡ messageAt (failOver (viewIn (now (log .entry)) head)) i .word) ⌝ }
 {
     if i < LOG { word_of(log[i]) } else { 0 }

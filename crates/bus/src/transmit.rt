@@ -3,6 +3,7 @@ ghost use mathlib.Core.Path.{_≡_};
 ghost use Prim.Native.Nat.{_+_, _*_, _%_, _<_};
 ghost use lib.ListN.{getD};
 ghost use Rattle.rules.specs.Sizes.{boardsMost, outboxMost, entriesMost};
+ghost use Rattle.state.specs.Queue.{queueFirst};
 ghost use Rattle.bus.specs.Transmits.{Transmits};
 use crate::queue::Front;
 use crate::queue::peek;
@@ -30,7 +31,7 @@ use words::wide;
 
 // Where board b's oldest entry stands, if it has one.
 pub fn oldest(queue: &[u32; QUEUE_ROW], b: usize) -> usize
-    ensures { λ r. ⌜ (r < entriesMost) × (b < boardsMost → r ≡ outboxMost * b + getD (now (queue .entry)) 0 0 % outboxMost) ⌝ }
+    ensures { λ r. ⌜ (r < entriesMost) × (b < boardsMost → r ≡ outboxMost * b + queueFirst (now (queue .entry)) % outboxMost) ⌝ }
 {
     RING * (b % BOARDS) + wide(queue[FIRST]) % RING
 }

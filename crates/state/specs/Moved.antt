@@ -12,6 +12,7 @@ use Rattle.rules.specs.Cabinet.{Cabinet, started}
 use Rattle.rules.specs.Moves.{Command, Result, settle, numbers, numbered, runFrom}
 use Rattle.rules.specs.Reasons.{causeOf}
 use Rattle.plan.specs.Plan.{Plan, Planned}
+use Rattle.rules.specs.Sizes.{entriesMost}
 use Rattle.state.specs.declared.entry.Entry.{Entry}
 use Rattle.state.specs.declared.entry.Item.the-variants.{Word}
 use Rattle.state.specs.declared.moved.Answer.{Answer}
@@ -33,7 +34,7 @@ movedOf answer at = record { answer = answer; at = at }
 
 -- no entry joins a queue
 abbrev pub aloneOf : Answer → Moved
-aloneOf answer = movedOf answer 512
+aloneOf answer = movedOf answer entriesMost
 
 abbrev pub refusedWith : ℕ → ℕ → ℕ → Moved
 refusedWith code cause a = aloneOf (refusalOf code cause a)
@@ -42,7 +43,7 @@ refusedWith code cause a = aloneOf (refusalOf code cause a)
 
 -- with an entry put at a place, or as they are where that is no place
 abbrev pub joined : List Entry → ℕ → Entry → List Entry
-joined entries at entry = cond (ltb at 512) (set entries at entry) entries
+joined entries at entry = cond (ltb at entriesMost) (set entries at entry) entries
 
 -- the entry of a queued word, which an answer shows
 abbrev pub wordOf : Answer → Entry
@@ -82,7 +83,7 @@ pub record Makes (rule : Table → Cabinet → ℕ → Result) (asks : Table →
       → command .a ≡ a → asks t entries → Answered t s′ (joined entries (r .at) entry) c command (rule t c a) (r .answer)
   -- of any lists: what is refused leaves every one of them as it was, an answer with no entry stores none, and all stay as long as they were
   pub untouched : 32 ≤ r .answer .code → s′ ≡ s
-  pub none-joins : (r .answer .code ≡ joins → ⊥) → 512 ≤ r .at
+  pub none-joins : (r .answer .code ≡ joins → ⊥) → entriesMost ≤ r .at
   pub same-lengths : SameLengths s s′
 
 -- a move by which no entry joins, whatever it answers

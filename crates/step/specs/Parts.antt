@@ -18,14 +18,15 @@ use Rattle.rules.specs.Moves.{step}
 use Rattle.state.specs.declared.moved.Moved.{Moved}
 use Rattle.state.specs.Store.{storeOf}
 use Rattle.state.specs.Moved.{Makes, wordOf, answerOf, aloneOf, refusedWith}
+use Rattle.process.specs.Row.{eventsIn, flagIn, instructionsIn}
 
 -- "if backed and acts are 8", of a process's row; W-207: with its limit for 8
 abbrev pub exhaustedIn : ℕ → List ℕ → Bool
-exhaustedIn limit row = not (eqb (getD row 12 0) 0) && leb limit (getD row 7 0)
+exhaustedIn limit row = not (eqb (flagIn row) 0) && leb limit (eventsIn row)
 
 -- W-204: "64 instructions done since its last sync was issued", of a process's row
 abbrev pub overrunIn : List ℕ → Bool
-overrunIn row = not (eqb (getD row 12 0) 0) && leb instructionsMost (getD row 15 0)
+overrunIn row = not (eqb (flagIn row) 0) && leb instructionsMost (instructionsIn row)
 
 -- a sync is owed
 abbrev pub owingIn : ℕ → List ℕ → Bool

@@ -1,3 +1,4 @@
+use Rattle.backup.specs.Place.{headLen}
 use Rattle.backup.proofs.Arriving.{arrive-21, arrive-22, arrive-done, arrive-number-21, arrive-number-22, arrive-number-0}
 use Prim.Native.Nat.{_≤_, _<_}
 use lib.ListN.{getD}
@@ -28,7 +29,7 @@ returns-2 c =
     let s = c .before .before .before .before in
     let w = c .before .wide .ensures .0 in
     let h = c .before .before .before .if1 .left in
-    let k : logMost ≤ getD (s .args .head .now) 0 0 = (let t = c .if2 .taken in omega arith) in
+    let k : logMost ≤ headLen (s .args .head .now) = (let t = c .if2 .taken in omega arith) in
     (arrive-22 (s .args .log .now) (s .args .head .now) (s .args .port) (s .args .word) h k, arrive-number-22 (s .args .head .now) (s .args .port) h k)
 
 packed-requires : tie.Need-packed-requires
@@ -57,7 +58,7 @@ returns-3 c =
     let s = c .before .before .before .before .before .before .before .before .before .before in
     let w = c .before .before .before .before .before .before .before .wide .ensures .0 in
     let h = c .before .before .before .before .before .before .before .before .before .if1 .left in
-    let k : getD (s .args .head .now) 0 0 < logMost = (let t = c .before .before .before .before .before .before .if2 .left in omega arith) in (
+    let k : headLen (s .args .head .now) < logMost = (let t = c .before .before .before .before .before .before .if2 .left in omega arith) in (
       rw (c .bump2 .ensures, c .before .wide2 .ensures .0, c .before .before .before .bump .ensures, c .before .before .before .before .before .packed .ensures, w)
           (arrive-done (s .args .log .now) (s .args .head .now) (s .args .port) (s .args .word) h (s .fits .word .fits) k),
       arrive-number-0 (s .args .head .now) (s .args .port) h k,
