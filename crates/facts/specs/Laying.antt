@@ -4,7 +4,7 @@ use mathlib.Core.List.{List, [], _∷_, _++_}
 use Prim.Native.Nat.{ℕ, suc, _+_, _-_, _≤_, _<_}
 use native.Mathlib.Omega.{arith}
 use lib.ListN.{length, drop, set, length-append}
-use lib.Seq.{sets, length-sets, sets-eq, set-comm}
+use lib.Seq.{sets, length-sets, sets-eq}
 
 -- one of n is done
 pub one-fewer : (n p : ℕ) → p < n → n - p ≡ suc (n - (p + 1))
@@ -15,12 +15,6 @@ pub sets-append : (l : List ℕ) (i : ℕ) (a b : List ℕ) → sets (sets l i a
 sets-append l i [] b = ap (λ (n : ℕ). sets l n b) (omega arith)
 sets-append l i (x ∷ a) b =
     ap (λ (n : ℕ). sets (sets (set l i x) (suc i) a) n b) (omega arith) ∙ sets-append (set l i x) (suc i) a b
-
--- a store before others may as well come first
-pub set-sets : {A : Type 0} (vs l : List A) (n i : ℕ) (x : A) → i < n → set (sets l n vs) i x ≡ sets (set l i x) n vs
-set-sets [] l n i x h = refl
-set-sets {A} (a ∷ vs) l n i x h =
-    set-sets vs (set l n a) (suc n) i x (omega arith) ∙ ap (λ (r : List A). sets r (suc n) vs) (set-comm l n i a x (λ e. omega arith))
 
 -- at the front of a list: those numbers, then what stood behind them
 pub sets-front : (l new : List ℕ) → length new ≤ length l → sets l 0 new ≡ new ++ drop (length new) l

@@ -8,18 +8,18 @@ ghost use Rattle.play.specs.Written.{sixBytes, reasonByte};
 use state::moved::Answer;
 use words::low_byte;
 
-// The i-th answer of a buffer. The word goes first: the compiler makes one store of its four bytes where they stand in a row.
+// The i-th answer of a buffer.
 pub fn put(answers: &mut [u8], i: usize, r: Answer)
     requires { ⌜ 6 * i + 6 ≤ length (now answers) ⌝ }
     ensures { λ _. ⌜ now (answers .exit) ≡ sets (now (answers .entry)) (6 * i) (sixBytes r) ⌝ }
 {
     let at = 6 * i;
+    answers[at] = low_byte(r.code);
+    answers[at + 1] = low_byte(r.a);
     answers[at + 2] = low_byte(r.word / 16777216);
     answers[at + 3] = low_byte(r.word / 65536);
     answers[at + 4] = low_byte(r.word / 256);
     answers[at + 5] = low_byte(r.word);
-    answers[at] = low_byte(r.code);
-    answers[at + 1] = low_byte(r.a);
 }
 
 // A code is below 64, and a cause below 4.
