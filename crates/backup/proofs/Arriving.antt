@@ -12,7 +12,8 @@ use Rattle.backup.specs.Limits.{logMost, ports}
 use Rattle.backup.specs.Replica.{Message, Replica, savedOn, arrive, arriveNumber, arrived}
 use Rattle.backup.specs.Laws.{saved-append, saved-cons}
 use Rattle.backup.specs.Accepts.{fit-parts, arrive-accepted, arrived-fit}
-use Rattle.backup.specs.Place.{pack, unpack, unpack-pack, messages, viewIn, tallyIn, headLength, Sound, Called, arriveNumberIn}
+use Rattle.words.specs.Words.{pack}
+use Rattle.backup.specs.Place.{unpack, unpack-pack, messages, viewIn, tallyIn, headLength, Sound, Called, arriveNumberIn, headLen}
 use Rattle.backup.proofs.InPlace.{refused-so, accepted-so, same-replica, view-length, saved-few, bumped, bumped-other, bumped-same}
 
 module _ (log head : List ℕ) (port word : ℕ) where
@@ -20,30 +21,30 @@ module _ (log head : List ℕ) (port word : ℕ) where
   unfolding arrive arriveNumber
   arrive-21 h = refused-so log head 21 (λ v. arrive v port word) (λ s. rw (s .is-fit, le-leb ports port h))
 
-  pub arrive-22 : port < ports → logMost ≤ getD head 0 0 → Called log head log head 22 (λ v. arrive v port word)
+  pub arrive-22 : port < ports → logMost ≤ headLen head → Called log head log head 22 (λ v. arrive v port word)
   unfolding arrive arriveNumber
   arrive-22 h k = refused-so log head 22 (λ v. arrive v port word)
       (λ s. rw (s .is-fit, lt-leb ports port h, le-leb logMost (length (viewIn log head .log)) (rw (view-length log head) k)))
 
-  module _ (hp : port < ports) (hw : word < 2 ^ 32) (hl : getD head 0 0 < logMost) (s : Sound log head) where
+  module _ (hp : port < ports) (hw : word < 2 ^ 32) (hl : headLen head < logMost) (s : Sound log head) where
     stored : List ℕ
-    stored = set log (getD head 0 0) (pack port word)
+    stored = set log (headLen head) (pack port word)
 
     tallied : List ℕ
     tallied = bumped (bumped head 0) (7 + port)
 
-    log-now : messages (suc (getD head 0 0)) stored ≡ messages (getD head 0 0) log ++ (record { port = port; word = word } ∷ [])
+    log-now : messages (suc (headLen head)) stored ≡ messages (headLen head) log ++ (record { port = port; word = word } ∷ [])
     unfolding stored
     log-now =
-        ap (map unpack) (prefix-push (getD head 0 0) log (pack port word) (let l = s .log-length in omega arith))
-        ∙ map-append unpack (prefix (getD head 0 0) log) (pack port word ∷ [])
-        ∙ ap (λ (m : Message). messages (getD head 0 0) log ++ (m ∷ [])) (unpack-pack port word hw)
+        ap (map unpack) (prefix-push (headLen head) log (pack port word) (let l = s .log-length in omega arith))
+        ∙ map-append unpack (prefix (headLen head) log) (pack port word ∷ [])
+        ∙ ap (λ (m : Message). messages (headLen head) log ++ (m ∷ [])) (unpack-pack port word hw)
 
     cell : (k : ℕ) → (k ≡ 0 → ⊥) → (k ≡ 7 + port → ⊥) → getD tallied k 0 ≡ getD head k 0
     unfolding tallied
     cell k n m = bumped-other (bumped head 0) (7 + port) k m ∙ bumped-other head 0 k n
 
-    cell-0 : getD tallied 0 0 ≡ suc (getD head 0 0)
+    cell-0 : getD tallied 0 0 ≡ suc (headLen head)
     unfolding tallied
     cell-0 =
         bumped-other (bumped head 0) (7 + port) 0 (λ e. omega arith)
@@ -75,8 +76,8 @@ module _ (log head : List ℕ) (port word : ℕ) where
         ap (λ (k : ℕ). getD (bumped (bumped head 0) (7 + k)) (7 + p) 0) (sym e) ∙ omega arith)
         (λ n. let o = same-no p port n in let c = cell (7 + p) (λ e. omega arith) (λ e. n (omega arith)) in omega arith)
 
-  pub arrive-done : port < ports → word < 2 ^ 32 → getD head 0 0 < logMost
-      → Called log head (set log (getD head 0 0) (pack port word)) (bumped (bumped head 0) (7 + port)) 0 (λ v. arrive v port word)
+  pub arrive-done : port < ports → word < 2 ^ 32 → headLen head < logMost
+      → Called log head (set log (headLen head) (pack port word)) (bumped (bumped head 0) (7 + port)) 0 (λ v. arrive v port word)
   unfolding stored tallied
   arrive-done hp hw hl =
       accepted-so log head _ _ (λ v. arrive v port word) (arrived (viewIn log head) port word)
@@ -95,8 +96,8 @@ module _ (head : List ℕ) (port : ℕ) where
   pub arrive-number-21 : ports ≤ port → 21 ≡ arriveNumberIn head port
   arrive-number-21 h = rw (le-leb ports port h)
 
-  pub arrive-number-22 : port < ports → logMost ≤ getD head 0 0 → 22 ≡ arriveNumberIn head port
-  arrive-number-22 h k = rw (lt-leb ports port h, le-leb logMost (getD head 0 0) k)
+  pub arrive-number-22 : port < ports → logMost ≤ headLen head → 22 ≡ arriveNumberIn head port
+  arrive-number-22 h k = rw (lt-leb ports port h, le-leb logMost (headLen head) k)
 
-  pub arrive-number-0 : port < ports → getD head 0 0 < logMost → 0 ≡ arriveNumberIn head port
-  arrive-number-0 h k = rw (lt-leb ports port h, lt-leb logMost (getD head 0 0) k)
+  pub arrive-number-0 : port < ports → headLen head < logMost → 0 ≡ arriveNumberIn head port
+  arrive-number-0 h k = rw (lt-leb ports port h, lt-leb logMost (headLen head) k)

@@ -14,7 +14,7 @@ use Rattle.backup.specs.Limits.{logMost, ports, sentMost}
 use Rattle.backup.specs.Replica.{Message, Replica, Reply, fit, savedOn, initial, count, countNumber, counted}
 use Rattle.backup.specs.Laws.{saved-cons}
 use Rattle.backup.specs.Accepts.{count-accepted, counted-fit}
-use Rattle.backup.specs.Place.{unpack, messages, viewIn, tallyIn, headLength, Sound, Called, countNumberIn}
+use Rattle.backup.specs.Place.{unpack, messages, viewIn, tallyIn, headLength, Sound, Called, countNumberIn, headLen, headSent}
 
 -- a refused call: the arrays stay, and the definition gives this number
 pub refused-so : (log head : List ℕ) (number : ℕ) (call : Replica → Reply)
@@ -59,9 +59,9 @@ pub same-replica : {l k : List Message} {s t p q : ℕ} {r u : List ℕ} → l �
 same-replica a b c d = λ i. record { log = a i; sent = b i; pc = c i; registers = d i }
 
 -- the view's log has as many messages as the head says
-pub view-length : (log head : List ℕ) → length (viewIn log head .log) ≡ getD head 0 0
+pub view-length : (log head : List ℕ) → length (viewIn log head .log) ≡ headLen head
 unfolding viewIn
-view-length log head = length-map (prefix (getD head 0 0) log) unpack ∙ length-prefix (getD head 0 0) log
+view-length log head = length-map (prefix (headLen head) log) unpack ∙ length-prefix (headLen head) log
 
 one-few : (p q : ℕ) → same p q ≤ 1
 one-few p q = go (eqb p q)
@@ -88,11 +88,11 @@ bumped-same head i h l = getD-set-same head i ((getD head i 0 + 1) % 2 ^ 32) 0 h
 -- ---- count
 
 module _ (log head : List ℕ) where
-  pub count-24 : sentMost ≤ getD head 1 0 → Called log head log head 24 count
+  pub count-24 : sentMost ≤ headSent head → Called log head log head 24 count
   unfolding count countNumber viewIn
-  count-24 h = refused-so log head 24 count (λ s. rw (s .is-fit, le-leb sentMost (getD head 1 0) h))
+  count-24 h = refused-so log head 24 count (λ s. rw (s .is-fit, le-leb sentMost (headSent head) h))
 
-  view-counted : getD head 1 0 < sentMost → Sound log head → viewIn log (bumped head 1) ≡ counted (viewIn log head)
+  view-counted : headSent head < sentMost → Sound log head → viewIn log (bumped head 1) ≡ counted (viewIn log head)
   unfolding viewIn
   view-counted h s =
       let l = s .head-length in
@@ -100,7 +100,7 @@ module _ (log head : List ℕ) where
       same-replica (ap (λ (n : ℕ). messages n log) (o 0 (λ e. omega arith))) (bumped-same head 1 (omega arith) (omega arith)) (o 2 (λ e. omega arith))
       (rw (o 3 (λ e. omega arith), o 4 (λ e. omega arith), o 5 (λ e. omega arith), o 6 (λ e. omega arith)))
 
-  pub count-done : getD head 1 0 < sentMost → Called log head log (bumped head 1) 0 count
+  pub count-done : headSent head < sentMost → Called log head log (bumped head 1) 0 count
   unfolding viewIn
   count-done h =
       accepted-so log head log (bumped head 1) count (counted (viewIn log head))
@@ -114,8 +114,8 @@ module _ (log head : List ℕ) where
       })
 
 -- its number, of any head
-pub count-number-24 : (head : List ℕ) → sentMost ≤ getD head 1 0 → 24 ≡ countNumberIn head
-count-number-24 head h = rw (le-leb sentMost (getD head 1 0) h)
+pub count-number-24 : (head : List ℕ) → sentMost ≤ headSent head → 24 ≡ countNumberIn head
+count-number-24 head h = rw (le-leb sentMost (headSent head) h)
 
-pub count-number-0 : (head : List ℕ) → getD head 1 0 < sentMost → 0 ≡ countNumberIn head
-count-number-0 head h = rw (lt-leb sentMost (getD head 1 0) h)
+pub count-number-0 : (head : List ℕ) → headSent head < sentMost → 0 ≡ countNumberIn head
+count-number-0 head h = rw (lt-leb sentMost (headSent head) h)

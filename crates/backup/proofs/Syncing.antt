@@ -14,6 +14,7 @@ use Rattle.backup.specs.Replica.{Replica, savedOn, takenOn, remaining, l
 use Rattle.backup.specs.Laws.{saved-remaining}
 use Rattle.backup.specs.Accepts.{fit-parts, enough, answer-number, answer-done, sync-accepted, synced-fit}
 use Rattle.backup.specs.Place.{viewIn, tallyIn, Sound, Called, takenOf, checkpointOf, lacksIn, syncNumberIn, Dropped, restatedIn, reportOf, refusedOf, landedIn, Reports}
+use Rattle.backup.specs.Place.{headLen}
 use Rattle.backup.specs.Report.{syncReport}
 use Rattle.backup.specs.ReportLaws.{syncReport-accepted, syncReport-refused, gone-taken}
 use Rattle.backup.specs.Rounds.{allTaken, syncRounds, OnePass, onePass-by}
@@ -32,24 +33,24 @@ lacks-same log head taken s =
 sync-number-same : (log head : List ℕ) (c : Checkpoint) → Sound log head → syncNumber (viewIn log head) (checkpointOf c) ≡ syncNumberIn head c
 unfolding syncNumber
 sync-number-same log head c s =
-    let n : getD head 0 0 ≤ logMost = (let f = fit-parts (viewIn log head) (s .is-fit) .few in let l = view-length log head in omega arith) in
-    rw (s .is-fit, le-ltb logMost (getD head 0 0) n, lacks-same log head (takenOf c) s)
+    let n : headLen head ≤ logMost = (let f = fit-parts (viewIn log head) (s .is-fit) .few in let l = view-length log head in omega arith) in
+    rw (s .is-fit, le-ltb logMost (headLen head) n, lacks-same log head (takenOf c) s)
 
 -- what a head that is not refused has
 record Lands (head : List ℕ) (c : Checkpoint) : Type 0 where
-  few : getD head 0 0 ≤ logMost
+  few : headLen head ≤ logMost
   pc-small : c .pc ≤ pcMost
   has : lacksIn head (takenOf c) ≡ false
 
 lands-by : (head : List ℕ) (c : Checkpoint) → syncNumberIn head c ≡ 0 → Lands head c
-lands-by head c h = go (ltb logMost (getD head 0 0)) (ltb pcMost (c .pc)) (lacksIn head (takenOf c)) refl refl refl h
+lands-by head c h = go (ltb logMost (headLen head)) (ltb pcMost (c .pc)) (lacksIn head (takenOf c)) refl refl refl h
   where
-    go : (a b d : Bool) → ltb logMost (getD head 0 0) ≡ a → ltb pcMost (c .pc) ≡ b → lacksIn head (takenOf c) ≡ d
+    go : (a b d : Bool) → ltb logMost (headLen head) ≡ a → ltb pcMost (c .pc) ≡ b → lacksIn head (takenOf c) ≡ d
         → _≡_ {A = ℕ} (cond a 20 (cond b 21 (cond d 23 0))) 0 → Lands head c
     go true b d x y w e = absurd (omega arith)
     go false true d x y w e = absurd (omega arith)
     go false false true x y w e = absurd (omega arith)
-    go false false false x y w e = record { few = ltb-false logMost (getD head 0 0) x; pc-small = ltb-false pcMost (c .pc) y; has = w }
+    go false false false x y w e = record { few = ltb-false logMost (headLen head) x; pc-small = ltb-false pcMost (c .pc) y; has = w }
 
 -- ---- refused
 

@@ -9,7 +9,9 @@ use lib.ListN.{length, length-append}
 use borrow.Author.Tests.{le-ltb, lt-ltb, le-leb, lt-leb, leb-true, leb-false, ltb-false}
 use Rattle.facts.specs.Tests.{anyBelow, none-below, no-such, and-left, and-right, and-both, all-append, no-way}
 use Rattle.backup.specs.Limits.{logMost, ports, sentMost, pcMost}
-use Rattle.backup.specs.Replica.{noRegisters, Message, Replica, Checkpoint, Reply, FailOver, fit, onPorts, answer, arrived, arriveNumber, arrive, counted, countNumber, count, savedOn, takenOn, remaining, lacking, synced, syncNumber, sync, failOver}
+use Rattle.backup.specs.Replica.{noRegisters, Message, Replica, Checkpoint, Reply, FailOver, fit, onPorts, answer, arrived}
+use Rattle.backup.specs.Replica.{arriveNumber, arrive, counted, countNumber, count, savedOn, takenOn, remaining, lacking, synced}
+use Rattle.backup.specs.Replica.{syncNumber, sync, failOver}
 use Rattle.backup.specs.Laws.{ports-remaining, shorter}
 
 -- ---- fitness, part by part
@@ -82,7 +84,8 @@ arrived-fit r port word f p l =
     let m : Message = record { port = port; word = word } in
     parts-fit (arrived r port word) record {
       few = (let a = length-append (r .log) (m ∷ []) in omega arith);
-      on-ports = all-append (λ (x : Message). ltb (x .port) ports) (r .log) (m ∷ []) (h .on-ports) (and-both (ltb port ports) true (lt-ltb port ports p) refl);
+      on-ports = all-append (λ (x : Message). ltb (x .port) ports) (r .log) (m ∷ []) (h .on-ports)
+          (and-both (ltb port ports) true (lt-ltb port ports p) refl);
       sent-small = h .sent-small;
       pc-small = h .pc-small;
     }

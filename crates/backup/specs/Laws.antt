@@ -14,7 +14,8 @@ use Rattle.facts.specs.Tests.{by-eq, by-lt, allOf, anyBelow, no-such, no-way, a
 use Rattle.facts.specs.Sums.{_⊕_, getD-⊕, getD-lowered, sumBelow, sum-add, sum-same}
 use Rattle.facts.specs.Counts.{same, same-yes, same-no}
 use Rattle.backup.specs.Limits.{logMost, ports, sentMost, pcMost}
-use Rattle.backup.specs.Replica.{Message, Replica, Checkpoint, Reply, fit, onPorts, answer, arrived, arriveNumber, arrive, counted, countNumber, count, savedOn, takenOn, oneLess, remaining, lacking, synced, syncNumber, sync}
+use Rattle.backup.specs.Replica.{Message, Replica, Checkpoint, Reply, fit, onPorts, answer, arrived, arriveNumber, arrive, counted}
+use Rattle.backup.specs.Replica.{countNumber, count, savedOn, takenOn, oneLess, remaining, lacking, synced, syncNumber, sync}
 
 -- ---- takes of a port, after one of them is used up
 
@@ -83,7 +84,8 @@ port-by-port p t (m ∷ l) =
     by-taken t (m .port)
     (λ z. rw (stays t m l z) (by-eq p (m .port)
     (λ e. let k : takenOn t p ≡ 0 = ap (takenOn t) e ∙ z in
-    on-same p m (remaining t l) e ∙ ap (λ (r : List Message). m ∷ r) (port-by-port p t l ∙ ap (λ (n : ℕ). drop n (onPort p l)) k) ∙ rw (on-same p m l e, k))
+    on-same p m (remaining t l) e ∙ ap (λ (r : List Message). m ∷ r) (port-by-port p t l ∙ ap (λ (n : ℕ). drop n (onPort p l)) k)
+    ∙ rw (on-same p m l e, k))
     (λ n. on-other p m (remaining t l) n ∙ port-by-port p t l ∙ ap (drop (takenOn t p)) (sym (on-other p m l n)))))
     (λ g. rw (goes t m l g) (port-by-port p (oneLess t (m .port)) l ∙ by-eq p (m .port)
     (λ e. rw (e, taken-less t (m .port), on-same (m .port) m l refl) (drop-one m (onPort (m .port) l) (takenOn t (m .port)) g))
@@ -126,7 +128,8 @@ less-left s t q g p =
     let a = getD-⊕ (oneLess s q) t p in
     let b = getD-⊕ s t p in
     by-eq p q
-    (λ e. let c = taken-less s q in let d = taken-less (_⊕_ s t) q in rw e (let a′ = getD-⊕ (oneLess s q) t q in let b′ = getD-⊕ s t q in omega arith))
+    (λ e. let c = taken-less s q in let d = taken-less (_⊕_ s t) q in
+    rw e (let a′ = getD-⊕ (oneLess s q) t q in let b′ = getD-⊕ s t q in omega arith))
     (λ n. let c = taken-other s q p n in let d = taken-other (_⊕_ s t) q p n in omega arith)
 
 less-right : (s t : List ℕ) (q : ℕ) → 1 ≤ takenOn t q → (p : ℕ) → takenOn (_⊕_ s (oneLess t q)) p ≡ takenOn (oneLess (_⊕_ s t) q) p
@@ -134,7 +137,8 @@ less-right s t q g p =
     let a = getD-⊕ s (oneLess t q) p in
     let b = getD-⊕ s t p in
     by-eq p q
-    (λ e. let c = taken-less t q in let d = taken-less (_⊕_ s t) q in rw e (let a′ = getD-⊕ s (oneLess t q) q in let b′ = getD-⊕ s t q in omega arith))
+    (λ e. let c = taken-less t q in let d = taken-less (_⊕_ s t) q in
+    rw e (let a′ = getD-⊕ s (oneLess t q) q in let b′ = getD-⊕ s t q in omega arith))
     (λ n. let c = taken-other t q p n in let d = taken-other (_⊕_ s t) q p n in omega arith)
 
 -- Dropping s and then t is dropping s + t.
@@ -146,8 +150,10 @@ drop-drop s t (m ∷ l) =
     by-taken s q
     (λ z. ap (remaining t) (stays s m l z) ∙ by-taken t q
     (λ y. stays t m (remaining s l) y ∙ ap (λ (r : List Message). m ∷ r) (drop-drop s t l) ∙ sym (stays (_⊕_ s t) m l (omega arith)))
-    (λ g. goes t m (remaining s l) g ∙ drop-drop s (oneLess t q) l ∙ same-takes _ _ l (less-right s t q g) ∙ sym (goes (_⊕_ s t) m l (omega arith))))
-    (λ g. ap (remaining t) (goes s m l g) ∙ drop-drop (oneLess s q) t l ∙ same-takes _ _ l (less-left s t q g) ∙ sym (goes (_⊕_ s t) m l (omega arith)))
+    (λ g. goes t m (remaining s l) g ∙ drop-drop s (oneLess t q) l ∙ same-takes _ _ l (less-right s t q g)
+    ∙ sym (goes (_⊕_ s t) m l (omega arith))))
+    (λ g. ap (remaining t) (goes s m l g) ∙ drop-drop (oneLess s q) t l ∙ same-takes _ _ l (less-left s t q g)
+    ∙ sym (goes (_⊕_ s t) m l (omega arith)))
 
 -- ---- drops and arrivals
 
@@ -163,7 +169,8 @@ drop-arrive t (x ∷ l) m h =
     (λ d. let o = same-no (m .port) (x .port) d in omega arith)))
     ∙ ap (λ (r : List Message). r ++ (m ∷ [])) (sym (stays t x l z)))
     (λ g. goes t x (l ++ (m ∷ [])) g ∙ drop-arrive (oneLess t (x .port)) l m (by-eq (m .port) (x .port)
-    (λ e. let o = same-yes (m .port) (x .port) e in let k : takenOn (oneLess t (x .port)) (m .port) ≡ takenOn t (m .port) - 1 = rw e (taken-less t (x .port)) in omega arith)
+    (λ e. let o = same-yes (m .port) (x .port) e in let k : takenOn (oneLess t (x .port)) (m .port) ≡ takenOn t (m .port) - 1 =
+    rw e (taken-less t (x .port)) in omega arith)
     (λ d. let o = same-no (m .port) (x .port) d in let k = taken-other t (x .port) (m .port) d in omega arith))
     ∙ ap (λ (r : List Message). r ++ (m ∷ [])) (sym (goes t x l g)))
 
@@ -177,7 +184,8 @@ ports-remaining t [] h = refl
 ports-remaining t (m ∷ l) h =
     let p = ports-cons m l h in
     by-taken t (m .port)
-    (λ z. rw (stays t m l z) (and-both (ltb (m .port) ports) (onPorts (remaining t l)) (lt-ltb (m .port) ports (p .0)) (ports-remaining t l (p .1))))
+    (λ z. rw (stays t m l z) (and-both (ltb (m .port) ports) (onPorts (remaining t l)) (lt-ltb (m .port) ports (p .0))
+    (ports-remaining t l (p .1))))
     (λ g. rw (goes t m l g) (ports-remaining (oneLess t (m .port)) l (p .1)))
 
 pub shorter : (t : List ℕ) (l : List Message) → length (remaining t l) ≤ length l
@@ -222,5 +230,6 @@ length-remaining t l h c =
     let b = length-by-port l h in
     let d = sum-add (λ p. savedOn p (remaining t l)) (takenOn t) ports in
     let e : sumBelow (λ p. savedOn p (remaining t l) + takenOn t p) ports ≡ sumBelow (λ p. savedOn p l) ports =
-    sum-same (λ p. savedOn p (remaining t l) + takenOn t p) (λ p. savedOn p l) ports (λ p k. let s = saved-remaining p t l in let q = c p k in omega arith) in
+    sum-same (λ p. savedOn p (remaining t l) + takenOn t p) (λ p. savedOn p l) ports
+    (λ p k. let s = saved-remaining p t l in let q = c p k in omega arith) in
     omega arith

@@ -6,6 +6,7 @@ use Prim.Native.Nat.{ℕ, _+_, _-_, _*_, _/_, _%_, _^_, _≤_, _<_}
 use native.Mathlib.Omega.{arith}
 use lib.Dec.{ltb, leb}
 use lib.ListN.{length, getD, set, replicate}
+use Rattle.words.specs.Words.{pack, highIn, lowIn}
 use Rattle.facts.specs.Tests.{anyBelow}
 use Rattle.facts.specs.Lists.{prefix}
 use Rattle.backup.specs.Limits.{logMost, ports, sentMost, pcMost}
@@ -18,15 +19,12 @@ use Rattle.backup.specs.declared.place.Promotion.{Promotion}
 use Rattle.backup.specs.declared.place.Landed.{Landed}
 use Rattle.backup.specs.declared.place.Metered.{Metered}
 
--- a message as one number: port times 2^32, plus word
-abbrev pub pack : ℕ → ℕ → ℕ
-pack port word = port * 4294967296 + word
-
+-- a message is one number: its port the higher word, its word the lower (words' `pack`)
 abbrev pub portIn : ℕ → ℕ
-portIn x = x / 4294967296
+portIn x = highIn x
 
 abbrev pub wordIn : ℕ → ℕ
-wordIn x = x % 4294967296
+wordIn x = lowIn x
 
 abbrev pub unpack : ℕ → Message
 unpack x = record { port = portIn x; word = wordIn x }
@@ -46,18 +44,30 @@ messages n log = map unpack (prefix n log)
 abbrev pub headLength : ℕ
 headLength = 11
 
--- the value that a log and a head stand for: the head has the log's length, the count, the program counter and four registers
-unfoldable pub viewIn : List ℕ → List ℕ → Replica
-viewIn log head = record {
-  log = messages (getD head 0 0) log;
-  sent = getD head 1 0;
-  pc = getD head 2 0;
-  registers = getD head 3 0 ∷ getD head 4 0 ∷ getD head 5 0 ∷ getD head 6 0 ∷ [];
-}
+-- its cells: the log's length, the count, the program counter, the registers, and how many messages it says that there are on port p
+abbrev pub headLen : List ℕ → ℕ
+headLen head = getD head 0 0
 
--- how many messages on port p the head says that there are
+abbrev pub headSent : List ℕ → ℕ
+headSent head = getD head 1 0
+
+abbrev pub headPc : List ℕ → ℕ
+headPc head = getD head 2 0
+
+abbrev pub headRegister : List ℕ → ℕ → ℕ
+headRegister head a = getD head (3 + a) 0
+
 abbrev pub tallyIn : List ℕ → ℕ → ℕ
 tallyIn head p = getD head (7 + p) 0
+
+-- the value that a log and a head stand for
+unfoldable pub viewIn : List ℕ → List ℕ → Replica
+viewIn log head = record {
+  log = messages (headLen head) log;
+  sent = headSent head;
+  pc = headPc head;
+  registers = headRegister head 0 ∷ headRegister head 1 ∷ headRegister head 2 ∷ headRegister head 3 ∷ [];
+}
 
 -- what the calls in place keep: the value is fit, and the head's tallies say how many messages came in on each port
 pub record Sound (log head : List ℕ) : Type 0 where
@@ -95,10 +105,10 @@ pub record Fresh (log head : List ℕ) : Type 0 where
 -- ---- the number that a call in place returns, of any head, sound or not
 
 abbrev pub arriveNumberIn : List ℕ → ℕ → ℕ
-arriveNumberIn head port = cond (leb ports port) 21 (cond (leb logMost (getD head 0 0)) 22 0)
+arriveNumberIn head port = cond (leb ports port) 21 (cond (leb logMost (headLen head)) 22 0)
 
 abbrev pub countNumberIn : List ℕ → ℕ
-countNumberIn head = cond (leb sentMost (getD head 1 0)) 24 0
+countNumberIn head = cond (leb sentMost (headSent head)) 24 0
 
 -- more was taken on some port than its tally says
 abbrev pub lacksIn : List ℕ → List ℕ → Bool
@@ -106,7 +116,7 @@ lacksIn head taken = anyBelow (λ p. ltb (tallyIn head p) (takenOn taken p)) por
 
 -- a log said to be longer than its array is 20, first of all
 abbrev pub syncNumberIn : List ℕ → Checkpoint → ℕ
-syncNumberIn head c = cond (ltb logMost (getD head 0 0)) 20 (cond (ltb pcMost (c .pc)) 21 (cond (lacksIn head (takenOf c)) 23 0))
+syncNumberIn head c = cond (ltb logMost (headLen head)) 20 (cond (ltb pcMost (c .pc)) 21 (cond (lacksIn head (takenOf c)) 23 0))
 
 -- ---- what the steps of a checkpoint in place do
 
@@ -120,7 +130,7 @@ pub record Dropped (log : List ℕ) (len : ℕ) (taken : List ℕ) (log′ : Lis
 -- the head after a checkpoint, but for how many messages stay: its state, no count, and the tallies less what was taken
 unfoldable pub restatedIn : List ℕ → Checkpoint → List ℕ
 restatedIn head c =
-    getD head 0 0 ∷ 0 ∷ c .pc ∷ c .r0 ∷ c .r1 ∷ c .r2 ∷ c .r3
+    headLen head ∷ 0 ∷ c .pc ∷ c .r0 ∷ c .r1 ∷ c .r2 ∷ c .r3
     ∷ (tallyIn head 0 - c .t0) ∷ (tallyIn head 1 - c .t1) ∷ (tallyIn head 2 - c .t2) ∷ (tallyIn head 3 - c .t3) ∷ []
 
 -- what a sync's reply reports
@@ -147,13 +157,13 @@ pub record Reports (log head : List ℕ) (c : Checkpoint) (r : Landed) : Type 0 
 -- what a promotion reads off the head
 abbrev pub promotionIn : List ℕ → Promotion
 promotionIn head = record {
-  len = getD head 0 0;
-  sent = getD head 1 0;
-  pc = getD head 2 0;
-  r0 = getD head 3 0;
-  r1 = getD head 4 0;
-  r2 = getD head 5 0;
-  r3 = getD head 6 0;
+  len = headLen head;
+  sent = headSent head;
+  pc = headPc head;
+  r0 = headRegister head 0;
+  r1 = headRegister head 1;
+  r2 = headRegister head 2;
+  r3 = headRegister head 3;
 }
 
 -- what a promotion and the log that it was read beside hand over

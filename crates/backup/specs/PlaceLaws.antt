@@ -11,7 +11,8 @@ use Rattle.facts.specs.Lists.{prefix, length-prefix, getD-prefix}
 use Rattle.backup.specs.Limits.{logMost, ports}
 use Rattle.backup.specs.Replica.{Message, Replica, FailOver, initial, fit, onPorts, failOver}
 use Rattle.backup.specs.Accepts.{fit-parts, fail-over-accepted}
-use Rattle.backup.specs.Place.{portIn, wordIn, unpack, messages, headLength, viewIn, Sound, Fresh, freshHead, promotionIn, handedOver, messageAt}
+use Rattle.backup.specs.Place.{portIn, wordIn, unpack, messages, headLength, viewIn, Sound, Fresh, freshHead, promotionIn, handedOver}
+use Rattle.backup.specs.Place.{messageAt, headLen}
 
 -- all zeros are a fresh, sound record
 pub fresh-in : (log : List ℕ) → length log ≡ logMost → Fresh log freshHead
@@ -30,7 +31,7 @@ module _ (log head : List ℕ) where
   -- the view's log has as many messages as a promotion says
   pub view-few : length (viewIn log head .log) ≡ promotionIn head .len
   unfolding viewIn
-  view-few = length-map (prefix (getD head 0 0) log) unpack ∙ length-prefix (getD head 0 0) log
+  view-few = length-map (prefix (headLen head) log) unpack ∙ length-prefix (headLen head) log
 
   module _ (s : Sound log head) where
     -- what is read off the head, with the log, is what the definition hands over
@@ -50,7 +51,7 @@ module _ (log head : List ℕ) where
     -- message i of what is handed over stands in the log as number i
     pub message-at : (i : ℕ) → i < promotionIn head .len → messageAt (failOver (viewIn log head)) i ≡ unpack (getD log i 0)
     message-at i l =
-        let n : ℕ = getD head 0 0 in
+        let n : ℕ = headLen head in
         ap (λ (f : FailOver). messageAt f i) fail-over-in
         ∙ getD-map unpack (prefix n log) i 0 (unpack 0) (let e = length-prefix n log in omega arith)
         ∙ ap unpack (getD-prefix n log i l)

@@ -38,7 +38,8 @@ module _ (r : Replica) (c : Checkpoint) (h : syncNumber r c ≡ 0) where
   -- for each port: dropped is what was taken
   pub syncReport-dropped : (p : ℕ) → p < ports → getD (syncReport r c .dropped) p 0 ≡ takenOn (c .taken) p
   syncReport-dropped p l =
-      ap (λ (x : Report). getD (x .dropped) p 0) (syncReport-accepted r c h) ∙ getD-listed (λ q. savedOn q (r .log) - savedOn q (synced r c .log)) ports p 0 l ∙ gone-taken p l
+      ap (λ (x : Report). getD (x .dropped) p 0) (syncReport-accepted r c h)
+      ∙ getD-listed (λ q. savedOn q (r .log) - savedOn q (synced r c .log)) ports p 0 l ∙ gone-taken p l
 
   -- dropped and remaining together are what was saved
   pub syncReport-whole : (p : ℕ) → p < ports → getD (syncReport r c .dropped) p 0 + getD (syncReport r c .remained) p 0 ≡ savedOn p (r .log)
@@ -60,7 +61,8 @@ totalDropped-few r c =
     by-eq (syncNumber r c) 0
     (λ h.
     let a = totalDropped-taken r c h in
-    let b = length-remaining (c .taken) (r .log) (fit-parts r (sync-parts r c h .0) .on-ports) (enough (c .taken) (r .log) (sync-parts r c h .1)) in
+    let b = length-remaining (c .taken) (r .log) (fit-parts r (sync-parts r c h .0) .on-ports)
+    (enough (c .taken) (r .log) (sync-parts r c h .1)) in
     omega arith)
     (λ n. let a : totalDropped (syncReport r c) ≡ 0 = ap totalDropped (syncReport-refused r c n) in omega arith)
 

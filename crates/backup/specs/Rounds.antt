@@ -71,7 +71,8 @@ sumBelow-less f g q (suc n) l h o =
 
 pub allTaken-less : (t : List ℕ) (p : ℕ) → p < ports → 0 < takenOn t p → allTaken t ≡ suc (allTaken (oneLess t p))
 allTaken-less t p l g =
-    sumBelow-less (takenOn t) (takenOn (oneLess t p)) p ports l (let a = taken-less t p in omega arith) (λ i d. let a = taken-other t p i d in omega arith)
+    sumBelow-less (takenOn t) (takenOn (oneLess t p)) p ports l (let a = taken-less t p in omega arith)
+    (λ i d. let a = taken-other t p i d in omega arith)
 
 -- where nothing was taken, none was on any port
 sumBelow-none : (f : ℕ → ℕ) (n : ℕ) → sumBelow f n ≡ 0 → (i : ℕ) → i < n → f i ≡ 0

@@ -1,21 +1,17 @@
-// A message as one number: port times 2^32, plus word.
+// A message as one number: port times 2^32, plus word (`words::packed`).
 ghost use mathlib.Core.Path.{_≡_};
-ghost use Rattle.backup.specs.Place.{pack, portIn, wordIn};
-
-pub fn packed(port: u32, word: u32) -> u64
-    ensures { λ r. ⌜ r ≡ pack port word ⌝ }
-{
-    (port as u64) * 4294967296 + (word as u64)
-}
+ghost use Rattle.backup.specs.Place.{portIn, wordIn};
+use words::high_of;
+use words::low_of;
 
 pub fn port_of(x: u64) -> u32
     ensures { λ r. ⌜ r ≡ portIn x ⌝ }
 {
-    (x / 4294967296) as u32
+    high_of(x)
 }
 
 pub fn word_of(x: u64) -> u32
     ensures { λ r. ⌜ r ≡ wordIn x ⌝ }
 {
-    (x % 4294967296) as u32
+    low_of(x)
 }

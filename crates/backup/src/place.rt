@@ -8,7 +8,8 @@ ghost use Prim.Native.Nat.{ℕ, _+_, _-_, _%_, _^_, _≤_, _<_};
 ghost use lib.ListN.{length, getD, set};
 ghost use Rattle.backup.specs.Limits.{logMost};
 ghost use Rattle.backup.specs.Replica.{arrive, count, sync, failOver};
-ghost use Rattle.backup.specs.Place.{Called, Sound, headLength, portIn, wordIn, checkpointOf, takenOf, lacksIn, restatedIn, Dropped, promotionIn, viewIn, Reports, reportOf, refusedOf, landedIn};
+ghost use Rattle.backup.specs.Place.{Called, Sound, headLength, portIn, wordIn, checkpointOf, takenOf, lacksIn, restatedIn, Dropped};
+ghost use Rattle.backup.specs.Place.{promotionIn, viewIn, Reports, reportOf, refusedOf, landedIn, headLen};
 ghost use Rattle.backup.specs.Place.{Fresh, freshHead, arriveNumberIn, countNumberIn, syncNumberIn, handedOver, messageAt};
 ghost use Rattle.backup.specs.Report.{totalDropped};
 ghost use Rattle.backup.specs.Rounds.{allTaken, syncRounds, OnePass};
@@ -16,9 +17,10 @@ use crate::limits::LOG;
 use crate::limits::PC_MOST;
 use crate::limits::PORTS;
 use crate::limits::SENT_MOST;
-use crate::pack::packed;
 use crate::pack::port_of;
 use crate::pack::word_of;
+use words::packed;
+use words::wide;
 
 // Where a head has its numbers: the log's length, the count of transmitted messages, the program counter, four registers, and for
 // each port how many messages of the log came in on it.
@@ -85,12 +87,6 @@ pub struct Landed {
 pub struct Metered {
     pub landed: Landed,
     pub rounds: usize,
-}
-
-fn wide(x: u32) -> usize
-    ensures { λ r. ⌜ r ≡ x ⌝ }
-{
-    x as usize
 }
 
 // One more in a cell of the head.
@@ -253,8 +249,8 @@ fn compact(log: &mut [u64; LOG], len: usize, taken: [u32; 4], all: usize) -> usi
 // moves, and there is none.
 fn drop_taken(log: &mut [u64; LOG], head: &mut [u32; HEAD], c: Checkpoint) -> usize
     requires { ⌜ getD (now head) 0 0 ≤ logMost ⌝ }
-    ensures { λ _. ⌜ Dropped (now (log .entry)) (getD (now (head .entry)) 0 0) (takenOf c) (now (log .exit)) ⌝ }
-    ensures { λ _. ⌜ now (head .exit) ≡ set (now (head .entry)) 0 (getD (now (head .entry)) 0 0 - allTaken (takenOf c)) ⌝ }
+    ensures { λ _. ⌜ Dropped (now (log .entry)) (headLen (now (head .entry))) (takenOf c) (now (log .exit)) ⌝ }
+    ensures { λ _. ⌜ now (head .exit) ≡ set (now (head .entry)) 0 (headLen (now (head .entry)) - allTaken (takenOf c)) ⌝ }
     ensures { λ r. ⌜ r ≡ syncRounds 0 (viewIn (now (log .entry)) (now (head .entry))) (checkpointOf c) ⌝ }
 {
     let all = together(c.t0, c.t1, c.t2, c.t3);
@@ -371,7 +367,8 @@ pub fn fail_over_in(head: &[u32; HEAD]) -> Promotion
 // The port of message i of a log; 0 where i is no index of one.
 pub fn port_in(log: &[u64; LOG], i: usize) -> u32
     ensures { λ r. ⌜ (i < logMost → r ≡ portIn (getD (now (log .entry)) i 0)) ⌝ }
-    ensures { λ r. ⌜ ((head : List ℕ) → Sound (now (log .entry)) head → i < getD head 0 0 → r ≡ messageAt (failOver (viewIn (now (log .entry)) head)) i .port) ⌝ }
+    ensures { λ r. ⌜ ((head : List ℕ) → Sound (now (log .entry)) head → i < headLen head
+        → r ≡ messageAt (failOver (viewIn (now (log .entry)) head)) i .port) ⌝ }
 {
     if i < LOG { port_of(log[i]) } else { 0 }
 }
@@ -379,7 +376,8 @@ pub fn port_in(log: &[u64; LOG], i: usize) -> u32
 // Its word.
 pub fn word_in(log: &[u64; LOG], i: usize) -> u32
     ensures { λ r. ⌜ (i < logMost → r ≡ wordIn (getD (now (log .entry)) i 0)) ⌝ }
-    ensures { λ r. ⌜ ((head : List ℕ) → Sound (now (log .entry)) head → i < getD head 0 0 → r ≡ messageAt (failOver (viewIn (now (log .entry)) head)) i .word) ⌝ }
+    ensures { λ r. ⌜ ((head : List ℕ) → Sound (now (log .entry)) head → i < headLen head
+        → r ≡ messageAt (failOver (viewIn (now (log .entry)) head)) i .word) ⌝ }
 {
     if i < LOG { word_of(log[i]) } else { 0 }
 }

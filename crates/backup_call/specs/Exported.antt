@@ -73,7 +73,8 @@ handedBy number reply =
 -- a sync's report in a reply: for each of four slots the words dropped, and then for each the words that remain
 abbrev pub toldIn : List ℕ → Report → List ℕ
 toldIn reply r =
-    let d = set (set (set (set reply 0 (getD (r .dropped) 0 0)) 1 (getD (r .dropped) 1 0)) 2 (getD (r .dropped) 2 0)) 3 (getD (r .dropped) 3 0) in
+    let d = set (set (set (set reply 0 (getD (r .dropped) 0 0)) 1 (getD (r .dropped) 1 0)) 2 (getD (r .dropped) 2 0)) 3
+    (getD (r .dropped) 3 0) in
     set (set (set (set d 4 (getD (r .remained) 0 0)) 5 (getD (r .remained) 1 0)) 6 (getD (r .remained) 2 0)) 7 (getD (r .remained) 3 0)
 
 -- the reply of a call that is no promotion: a sync's report, refused or not, and else as it was

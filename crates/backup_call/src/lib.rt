@@ -7,7 +7,6 @@ ghost use Rattle.backup_call.specs.Layout.{stateLength, callLength, stat
 ghost use Rattle.backup_call.specs.Exported.{Sized, Exported, Stored, Settled, HandedOver, toldIn};
 ghost use Rattle.backup_call.specs.Rounds.{CallPass, roundlessOf};
 use backup::limits::LOG;
-use backup::pack::packed;
 use backup::pack::port_of;
 use backup::pack::word_of;
 use backup::place::Checkpoint;
@@ -20,6 +19,7 @@ use backup_value::count;
 use backup_value::fail_over;
 use backup_value::metered_sync;
 use backup_value::new;
+use words::packed;
 
 // Where a state has its numbers: the log's length, the count, the program counter, four registers, then a pair (port, word) for each
 // of LOG messages.

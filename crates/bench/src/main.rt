@@ -8,10 +8,13 @@
 ghost use Prim.Native.Nat.{_≤_};
 ghost use lib.ListN.{length};
 ghost use Rattle.bench.specs.Took.{Filled, Took};
+use bench_input::bench::PAGE_ROOM;
 use bench_input::bench::bench;
+use bench_input::wanted::INPUT_ROOM;
 use bench_input::wanted::wanted;
 use libc::STDIN_FILENO;
 use libc::STDOUT_FILENO;
+use words::least;
 
 // Reads into a part of a buffer until it is full or the input ends: where it ended.
 fn read_part(input: &mut [u8], from: usize, to: usize) -> usize
@@ -20,12 +23,6 @@ fn read_part(input: &mut [u8], from: usize, to: usize) -> usize
     ensures { λ r. ⌜ Filled (now (input .entry)) from to r (now (input .exit)) ⌝ }
 {
     from + io::read_full(STDIN_FILENO, &mut input[from..to])
-}
-
-fn least(a: usize, b: usize) -> usize
-    ensures { λ r. ⌜ (r ≤ a) × (r ≤ b) ⌝ }
-{
-    if a < b { a } else { b }
 }
 
 // Reads as many bytes as are wanted, or all that there are, or as many as have room: how many.
@@ -47,10 +44,8 @@ fn read_input(input: &mut [u8]) -> usize
 }
 
 fn main() {
-    // `inputRoom`: the longest table, and one byte more than the longest schedule.
-    let mut input = [0u8; 66282];
-    // `pageRoom`: no page is longer.
-    let mut page = [0u8; 251158];
+    let mut input = [0u8; INPUT_ROOM];
+    let mut page = [0u8; PAGE_ROOM];
     let n = read_input(&mut input);
     let length = bench(&input[..n], &mut page);
     io::write_all(STDOUT_FILENO, &page[..length]);

@@ -6,6 +6,7 @@ mod input;
 use crate::input::Case;
 use crate::input::NOWHERE;
 use crate::input::fill;
+use bench_input::bench::PAGE_ROOM;
 use bench_input::bench::bench;
 use bench_input::wanted::wanted;
 use libc::STDOUT_FILENO;
@@ -54,7 +55,7 @@ fn show(page: &[u8]) {
 }
 
 fn run_case(name: &[u8], input: &[u8]) {
-    let mut page = [0u8; 251158];
+    let mut page = [0u8; PAGE_ROOM];
     text(name);
     text(b": wants ");
     number(wanted(input) as u64);

@@ -4,15 +4,16 @@
 use mathlib.Core.Path.{_≡_}
 use mathlib.Core.Bool.{cond}
 use mathlib.Core.List.{List, _++_}
-use Prim.Native.Nat.{ℕ, _+_, _≤_}
+use Prim.Native.Nat.{ℕ, _+_, _*_, _≤_}
 use lib.Dec.{ltb}
 use lib.ListN.{length}
+use Rattle.rules.specs.Sizes.{scheduleHead, commandsMost}
 use Rattle.rules.specs.Format.{tableMost, lengthField}
 use Rattle.rules.specs.Page.{benchPage}
 
 -- one byte more than the longest schedule has: with it every schedule is too long, whatever follows
 abbrev pub scheduleRead : ℕ
-scheduleRead = 60004
+scheduleRead = scheduleHead + 6 * commandsMost + 1
 
 -- how many bytes are wanted in all, once these are there
 abbrev pub wantedOf : List ℕ → ℕ

@@ -1,7 +1,5 @@
 // The page of what was read: "The program reads the table (as long as its length bytes say) and then, up to the end of input, the schedule
 // from standard input. Input that ends early is run as it is."
-ghost use mathlib.Core.Path.{_≡_};
-ghost use Prim.Native.Nat.{_≤_, min};
 ghost use Rattle.rules.specs.Run.{ranOf};
 ghost use Rattle.page.specs.Written.{shownOf};
 ghost use Rattle.bench_input.specs.Benched.{Benched};
@@ -9,11 +7,20 @@ ghost use Rattle.bench_input.specs.Parts.{Printed, RunPrinted};
 use crate::bytes::length_field;
 use cabinet::run::run;
 use page::write_page;
+use plan::PROCESSES as PROCESSES_MOST;
 use records::bytes::byte;
-use records::bytes::wide;
+use records::schedule::COMMANDS_MOST;
+use table::format::PROCESSES;
+use words::byte_wide;
+use words::least;
 
-// "Byte 4: processes P".
-const PROCESSES: usize = 4;
+// Buffers for the longest schedule and the most processes: six bytes and one for each record, twenty for each process.
+const ANSWERS: usize = 6 * COMMANDS_MOST;
+
+const REPORT: usize = 20 * PROCESSES_MOST;
+
+// No page is longer (`pageRoom`): its first line, one for each record, one for each process, and its last.
+pub const PAGE_ROOM: usize = 14 + 25 * COMMANDS_MOST + 71 * PROCESSES_MOST + 8;
 
 // What a run returned and wrote, as a page.
 fn print(
@@ -31,25 +38,19 @@ fn print(
     write_page(number, records, quiet, answers, processes, report, out)
 }
 
-// A run with buffers for 10,000 records and 16 processes, and its page.
+// A run with buffers of these lengths, and its page.
 fn run_page(table: &[u8], schedule: &[u8], out: &mut [u8]) -> usize
     ensures { λ r. ⌜ RunPrinted (now (table .entry)) (now (schedule .entry)) (now (out .entry)) r (now (out .exit)) ⌝ }
 {
-    let mut answers = [0u8; 60000];
-    let mut reasons = [0u8; 10000];
-    let mut report = [0u8; 320];
+    let mut answers = [0u8; ANSWERS];
+    let mut reasons = [0u8; COMMANDS_MOST];
+    let mut report = [0u8; REPORT];
     let v = run(table, schedule, &mut answers, &mut reasons, &mut report);
     let number = v.number;
     let records = v.records;
     let quiet = v.quiet;
-    let processes = wide(byte(table, PROCESSES));
+    let processes = byte_wide(byte(table, PROCESSES));
     print(number, records, quiet, &answers, processes, &report, out)
-}
-
-fn least(a: usize, b: usize) -> usize
-    ensures { λ r. ⌜ (r ≡ min a b) × (r ≤ b) ⌝ }
-{
-    if a < b { a } else { b }
 }
 
 // The input is cut where its length bytes say that the table ends.

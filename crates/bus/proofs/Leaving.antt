@@ -16,7 +16,7 @@ use Rattle.rules.specs.Cabinet.{Cabinet, Process, nobody, processAt, outboxAt, 
 use Rattle.rules.specs.Moves.{withProcess, withOutbox}
 use Rattle.rules.proofs.Counting.{flight-leave}
 use Rattle.state.specs.declared.entry.Entry.{Entry}
-use Rattle.state.specs.Queue.{firstIn, countIn}
+use Rattle.state.specs.Queue.{firstIn, countIn, queueCount}
 use Rattle.state.specs.Store.{Store, storeOf, Holds, itemOf, blankEntry, outboxIn, flag}
 use Rattle.state.specs.Moved.{Reachable}
 use Rattle.state.proofs.Reading.{at-outbox, how-many, how-many-boards}
@@ -77,7 +77,7 @@ module _ {t : Table} {s : Store} {entries : List Entry} {c : Cabinet} (reach : R
       rw same (flag-there (s .rows) p q 0 n ∙ old ∙ ap (λ (i : ℕ). flag (waiting q (outboxAt c i))) e ∙ ap flag before))
       (λ m. rw (getD-set-other (c .outboxes) b (processAt now q .board) rest [] m) (flag-there (s .rows) p q 0 n ∙ old)))
 
-  queue-then : QueueThen t s now b (withFlag (s .rows) p 0) queue′ (s .totals) ((firstIn (s .queues) b + 1) % 32) (getD queue′ 1 0) rest
+  queue-then : QueueThen t s now b (withFlag (s .rows) p 0) queue′ (s .totals) ((firstIn (s .queues) b + 1) % 32) (queueCount queue′) rest
   queue-then = record {
     is-first = popped .first-is;
     is-count = refl;
@@ -96,6 +96,6 @@ module _ {t : Table} {s : Store} {entries : List Entry} {c : Cabinet} (reach : R
   pub waiter-leaves : Holds t (storeOf (withFlag (s .rows) p 0) (s .mails) (s .logs) (s .heads) (set (s .queues) b queue′) (s .totals)) entries
       (withOutbox b rest now)
   waiter-leaves =
-      let count-is : countIn (s .queues) b ≡ suc (getD queue′ 1 0) = sym (popped .count-is) in
-      entry-leaves h (reach .accepted .boards-high) b hb (withFlag (s .rows) p 0) queue′ (s .totals) (getD queue′ 1 0) rest count-is
-      (oldest-is h b hb (getD queue′ 1 0) item rest count-is oldest) queue-then
+      let count-is : countIn (s .queues) b ≡ suc (queueCount queue′) = sym (popped .count-is) in
+      entry-leaves h (reach .accepted .boards-high) b hb (withFlag (s .rows) p 0) queue′ (s .totals) (queueCount queue′) rest count-is
+      (oldest-is h b hb (queueCount queue′) item rest count-is oldest) queue-then

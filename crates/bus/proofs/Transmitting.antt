@@ -29,7 +29,7 @@ use Rattle.state.specs.declared.entry.Entry.{Entry}
 use Rattle.state.specs.declared.entry.Item.{Item}
 use Rattle.state.specs.declared.entry.Item.the-variants.{Word, Sync, Transfer}
 use Rattle.state.specs.declared.moved.Answer.{Answer}
-use Rattle.state.specs.Queue.{firstIn, countIn}
+use Rattle.state.specs.Queue.{firstIn, countIn, queueCount, queueFirst}
 use Rattle.state.specs.Store.{Store, storeOf, Holds, itemOf, blankEntry, outboxIn, flag}
 use Rattle.state.specs.Moved.{Reachable, Answered, SameLengths, refusalOf, aloneOf}
 use Rattle.state.proofs.Reading.{at-outbox, at-dead, how-many-boards}
@@ -59,18 +59,18 @@ abbrev its-item : Item → Front → Item
 its-item d (Oldest i) = i
 its-item d Empty = d
 
-front-none : (queue : List ℕ) (x : Entry) → frontOf queue x ≡ Empty → getD queue 1 0 ≡ 0
-front-none queue x e = go (eqb (getD queue 1 0) 0) refl e
+front-none : (queue : List ℕ) (x : Entry) → frontOf queue x ≡ Empty → queueCount queue ≡ 0
+front-none queue x e = go (eqb (queueCount queue) 0) refl e
   where
-    go : (b : Bool) → eqb (getD queue 1 0) 0 ≡ b → cond b Empty (Oldest (x .item)) ≡ Empty → getD queue 1 0 ≡ 0
-    go true f g = eqb-true (getD queue 1 0) 0 f
+    go : (b : Bool) → eqb (queueCount queue) 0 ≡ b → cond b Empty (Oldest (x .item)) ≡ Empty → queueCount queue ≡ 0
+    go true f g = eqb-true (queueCount queue) 0 f
     go false f g = absurd (no-way (ap is-empty g))
 
-front-some : (queue : List ℕ) (x : Entry) (i : Item) → frontOf queue x ≡ Oldest i → (getD queue 1 0 ≢ 0) × (x .item ≡ i)
+front-some : (queue : List ℕ) (x : Entry) (i : Item) → frontOf queue x ≡ Oldest i → (queueCount queue ≢ 0) × (x .item ≡ i)
 front-some queue x i e =
-    by-eq (getD queue 1 0) 0
-    (λ f. absurd (no-way (sym (ap is-empty (sym (ap (λ (b : Bool). cond b Empty (Oldest (x .item))) (eq-eqb (getD queue 1 0) 0 f)) ∙ e)))))
-    (λ n. (n, ap (its-item i) (sym (ap (λ (b : Bool). cond b Empty (Oldest (x .item))) (ne-eqb (getD queue 1 0) 0 n)) ∙ e)))
+    by-eq (queueCount queue) 0
+    (λ f. absurd (no-way (sym (ap is-empty (sym (ap (λ (b : Bool). cond b Empty (Oldest (x .item))) (eq-eqb (queueCount queue) 0 f)) ∙ e)))))
+    (λ n. (n, ap (its-item i) (sym (ap (λ (b : Bool). cond b Empty (Oldest (x .item))) (ne-eqb (queueCount queue) 0 n)) ∙ e)))
 
 -- ---- the queue
 
@@ -116,17 +116,17 @@ module _ {t : Table} {s : Store} {entries : List Entry} {c : Cabinet} (h : Holds
   row-then count e =
       let queue : List ℕ = getD (s .queues) b [] in
       let l = h .queue-three b hb in
-      let first : List ℕ = set queue 0 ((getD queue 0 0 + 1) % 32) in
+      let first : List ℕ = set queue 0 ((queueFirst queue + 1) % 32) in
       let few = h .count-small b hb in
       let z : length first ≡ length queue = length-set queue 0 _ in
       record {
         first-is =
-            getD-set-other first 1 0 (lessOne (getD queue 1 0)) 0 (λ i. omega arith)
-            ∙ getD-set-same queue 0 ((getD queue 0 0 + 1) % 32) 0 (omega arith);
-        count-is = let a = getD-set-same first 1 (lessOne (getD queue 1 0)) 0 (omega arith) in omega arith;
+            getD-set-other first 1 0 (lessOne (queueCount queue)) 0 (λ i. omega arith)
+            ∙ getD-set-same queue 0 ((queueFirst queue + 1) % 32) 0 (omega arith);
+        count-is = let a = getD-set-same first 1 (lessOne (queueCount queue)) 0 (omega arith) in omega arith;
         dead-is =
-            getD-set-other first 1 2 (lessOne (getD queue 1 0)) 0 (λ i. omega arith)
-            ∙ getD-set-other queue 0 2 ((getD queue 0 0 + 1) % 32) 0 (λ i. omega arith);
+            getD-set-other first 1 2 (lessOne (queueCount queue)) 0 (λ i. omega arith)
+            ∙ getD-set-other queue 0 2 ((queueFirst queue + 1) % 32) 0 (λ i. omega arith);
         three = length-set first 1 _ ∙ z ∙ l;
       }
 

@@ -14,6 +14,7 @@ use Rattle.state.specs.Store.{storeOf, Holds}
 use Rattle.state.specs.Moved.{SameLengths}
 use Rattle.plan.specs.declared.Counts.{Counts}
 use Rattle.plan.specs.Plan.{planOf, Planned}
+use Rattle.rules.specs.Sizes.{channelsMost}
 use Rattle.bus.specs.Delivers.{mailOf, Room}
 use Rattle.bus.specs.Transmitted.{transmittedOf}
 
@@ -24,7 +25,7 @@ countedAt t k c = withProcess (channelAt t k .sender) (counts (processAt c (chan
 -- The totals while a word of a channel is on the bus: it has left its queue, nobody has it yet, and they count it still.
 pub record OnBus (t : Table) (totals : List ℕ) (channel : ℕ) (c : Cabinet) : Type 0 where
   pub total-is : (k : ℕ) → k < length (t .channels) → getD totals k 0 ≡ occupancy t c k + same k channel
-  pub totals-length : length totals ≡ 32
+  pub totals-length : length totals ≡ channelsMost
 
 -- whatever the plan and the lists are that it isn't lent
 pub record Carries (wires : List ℕ) (rows mails logs heads : List (List ℕ)) (totals : List ℕ) (channel word : ℕ)

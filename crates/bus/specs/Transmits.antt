@@ -12,10 +12,11 @@ use Rattle.state.specs.declared.moved.Answer.{Answer}
 use Rattle.state.specs.Queue.{firstIn}
 use Rattle.state.specs.Store.{storeOf, blankEntry}
 use Rattle.state.specs.Moved.{MakesAlone}
+use Rattle.rules.specs.Sizes.{outboxMost}
 
 -- where board b's oldest entry stands, if it has one
 abbrev pub oldestPlace : List (List ℕ) → ℕ → ℕ
-oldestPlace queues b = 32 * b + firstIn queues b % 32
+oldestPlace queues b = outboxMost * b + firstIn queues b % outboxMost
 
 -- a is a board, and this is what stands where its oldest entry does
 pub record Oldest (queues : List (List ℕ)) (a : ℕ) (oldest : Entry) (t : Table) (entries : List Entry) : Type 0 where

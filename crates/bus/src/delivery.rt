@@ -2,6 +2,7 @@
 ghost use Rattle.bus.specs.Delivers.{Delivers};
 use backup::limits::LOG;
 use backup::place::HEAD;
+use plan::PROCESSES;
 use plan::WIRES;
 use plan::port;
 use plan::reader;
@@ -12,10 +13,10 @@ use words::index32;
 
 pub fn deliver(
     wires: &[u32; WIRES],
-    rows: &mut [[u32; ROW]; 16],
-    mails: &mut [[u64; LOG]; 16],
-    logs: &mut [[u64; LOG]; 16],
-    heads: &mut [[u32; HEAD]; 16],
+    rows: &mut [[u32; ROW]; PROCESSES],
+    mails: &mut [[u64; LOG]; PROCESSES],
+    logs: &mut [[u64; LOG]; PROCESSES],
+    heads: &mut [[u32; HEAD]; PROCESSES],
     channel: u32,
     word: u32,
 )

@@ -3,6 +3,8 @@ ghost use Rattle.bus.specs.Injects.{Injects};
 use crate::delivery::deliver;
 use backup::limits::LOG;
 use backup::place::HEAD;
+use plan::CHANNELS;
+use plan::PROCESSES;
 use plan::WIRES;
 use plan::reader;
 use plan::sender;
@@ -15,11 +17,11 @@ use words::index32;
 
 pub fn inject(
     wires: &[u32; WIRES],
-    rows: &mut [[u32; ROW]; 16],
-    mails: &mut [[u64; LOG]; 16],
-    logs: &mut [[u64; LOG]; 16],
-    heads: &mut [[u32; HEAD]; 16],
-    totals: &mut [u32; 32],
+    rows: &mut [[u32; ROW]; PROCESSES],
+    mails: &mut [[u64; LOG]; PROCESSES],
+    logs: &mut [[u64; LOG]; PROCESSES],
+    heads: &mut [[u32; HEAD]; PROCESSES],
+    totals: &mut [u32; CHANNELS],
     a: u32,
     word: u32,
 ) -> Answer

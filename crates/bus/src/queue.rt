@@ -5,6 +5,7 @@ use state::entry::Entry;
 use state::entry::Item;
 use state::queue::COUNT;
 use state::queue::FIRST;
+use state::queue::QUEUE;
 use state::queue::QUEUE_ROW;
 
 // Document 01: "Carry looks at the oldest entry; with none the answer is 42."
@@ -28,6 +29,6 @@ pub fn peek(queue: &[u32; QUEUE_ROW], oldest: Entry) -> Front
 pub fn pop(queue: &mut [u32; QUEUE_ROW])
     ensures { λ _. ⌜ now (queue .exit) ≡ poppedIn (now (queue .entry)) ⌝ }
 {
-    queue[FIRST] = std::num::wrapping_add_u32(queue[FIRST], 1) % 32;
+    queue[FIRST] = std::num::wrapping_add_u32(queue[FIRST], 1) % QUEUE;
     queue[COUNT] = std::num::wrapping_sub_u32(queue[COUNT], 1);
 }

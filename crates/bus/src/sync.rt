@@ -4,6 +4,7 @@ ghost use Rattle.bus.specs.Syncs.{Syncs};
 use backup::limits::LOG;
 use backup::place::Checkpoint;
 use backup::place::HEAD;
+use plan::PROCESSES;
 use process::checkpoint::keep;
 use process::row::COMPLETE;
 use process::row::PROTECTED;
@@ -13,9 +14,9 @@ use state::moved::Answer;
 use words::index16;
 
 pub fn transmit_sync(
-    rows: &mut [[u32; ROW]; 16],
-    logs: &mut [[u64; LOG]; 16],
-    heads: &mut [[u32; HEAD]; 16],
+    rows: &mut [[u32; ROW]; PROCESSES],
+    logs: &mut [[u64; LOG]; PROCESSES],
+    heads: &mut [[u32; HEAD]; PROCESSES],
     process: u32,
     checkpoint: Checkpoint,
 ) -> Answer

@@ -2,13 +2,14 @@
 // W-210: "When that entry is carried, its other table board holds a new record". "Its carry answers 5 with word 0"; "under 5 [..] a resync" has
 // cause 3.
 ghost use Rattle.bus.specs.Transfers.{Transfers};
+use plan::PROCESSES;
 use process::row::ROW;
 use process::row::WAITS;
 use process::transfer::complete;
 use state::moved::Answer;
 use words::index16;
 
-pub fn transmit_transfer(rows: &mut [[u32; ROW]; 16], process: u32) -> Answer
+pub fn transmit_transfer(rows: &mut [[u32; ROW]; PROCESSES], process: u32) -> Answer
     ensures { λ r. ⌜ Transfers (now (rows .entry)) process (now (rows .exit)) r ⌝ }
 {
     let p = index16(process);

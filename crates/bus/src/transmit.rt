@@ -2,6 +2,8 @@
 ghost use mathlib.Core.Path.{_≡_};
 ghost use Prim.Native.Nat.{_+_, _*_, _%_, _<_};
 ghost use lib.ListN.{getD};
+ghost use Rattle.rules.specs.Sizes.{boardsMost, outboxMost, entriesMost};
+ghost use Rattle.state.specs.Queue.{queueFirst};
 ghost use Rattle.bus.specs.Transmits.{Transmits};
 use crate::queue::Front;
 use crate::queue::peek;
@@ -11,6 +13,9 @@ use crate::transfer::transmit_transfer;
 use crate::word::transmit_word;
 use backup::limits::LOG;
 use backup::place::HEAD;
+use plan::BOARDS;
+use plan::CHANNELS;
+use plan::PROCESSES;
 use plan::WIRES;
 use process::row::ROW;
 use state::entry::Entry;
@@ -20,25 +25,26 @@ use state::moved::refusal;
 use state::queue::DEAD;
 use state::queue::FIRST;
 use state::queue::QUEUE_ROW;
+use state::queue::RING;
 use words::index16;
 use words::wide;
 
 // Where board b's oldest entry stands, if it has one.
 pub fn oldest(queue: &[u32; QUEUE_ROW], b: usize) -> usize
-    ensures { λ r. ⌜ (r < 512) × (b < 16 → r ≡ 32 * b + getD (now (queue .entry)) 0 0 % 32) ⌝ }
+    ensures { λ r. ⌜ (r < entriesMost) × (b < boardsMost → r ≡ outboxMost * b + queueFirst (now (queue .entry)) % outboxMost) ⌝ }
 {
-    32 * (b % 16) + wide(queue[FIRST]) % 32
+    RING * (b % BOARDS) + wide(queue[FIRST]) % RING
 }
 
 // `oldest` is what stands where the board's oldest entry does, if it has one.
 pub fn transmit(
     wires: &[u32; WIRES],
-    rows: &mut [[u32; ROW]; 16],
-    mails: &mut [[u64; LOG]; 16],
-    logs: &mut [[u64; LOG]; 16],
-    heads: &mut [[u32; HEAD]; 16],
-    queues: &mut [[u32; QUEUE_ROW]; 16],
-    totals: &mut [u32; 32],
+    rows: &mut [[u32; ROW]; PROCESSES],
+    mails: &mut [[u64; LOG]; PROCESSES],
+    logs: &mut [[u64; LOG]; PROCESSES],
+    heads: &mut [[u32; HEAD]; PROCESSES],
+    queues: &mut [[u32; QUEUE_ROW]; BOARDS],
+    totals: &mut [u32; CHANNELS],
     a: u32,
     oldest: Entry,
 ) -> Answer

@@ -4,6 +4,8 @@ ghost use Rattle.bus.specs.Carries.{Carries};
 use crate::delivery::deliver;
 use backup::limits::LOG;
 use backup::place::HEAD;
+use plan::CHANNELS;
+use plan::PROCESSES;
 use plan::WIRES;
 use plan::reader;
 use plan::sender;
@@ -18,11 +20,11 @@ use words::index32;
 // with a word less in the queues and one more unread; of a word that the outside reads it is one less.
 pub fn transmit_word(
     wires: &[u32; WIRES],
-    rows: &mut [[u32; ROW]; 16],
-    mails: &mut [[u64; LOG]; 16],
-    logs: &mut [[u64; LOG]; 16],
-    heads: &mut [[u32; HEAD]; 16],
-    totals: &mut [u32; 32],
+    rows: &mut [[u32; ROW]; PROCESSES],
+    mails: &mut [[u64; LOG]; PROCESSES],
+    logs: &mut [[u64; LOG]; PROCESSES],
+    heads: &mut [[u32; HEAD]; PROCESSES],
+    totals: &mut [u32; CHANNELS],
     channel: u32,
     word: u32,
 ) -> Answer

@@ -9,6 +9,9 @@ use backup::place::HEAD;
 use outcome::quiet::quiescent;
 use outcome::report::write_report;
 use outcome::start::seat;
+use plan::BOARDS;
+use plan::CHANNELS;
+use plan::PROCESSES;
 use play::play::play;
 use process::row::ROW;
 use records::schedule::Lengths;
@@ -45,12 +48,12 @@ fn conduct(
     let wires = plan.wires;
     let primary = plan.primary;
     let standby = plan.standby;
-    let mut rows = [[0u32; ROW]; 16];
-    let mut mails = [[0u64; LOG]; 16];
-    let mut logs = [[0u64; LOG]; 16];
-    let mut heads = [[0u32; HEAD]; 16];
-    let mut queues = [[0u32; QUEUE_ROW]; 16];
-    let mut totals = [0u32; 32];
+    let mut rows = [[0u32; ROW]; PROCESSES];
+    let mut mails = [[0u64; LOG]; PROCESSES];
+    let mut logs = [[0u64; LOG]; PROCESSES];
+    let mut heads = [[0u32; HEAD]; PROCESSES];
+    let mut queues = [[0u32; QUEUE_ROW]; BOARDS];
+    let mut totals = [0u32; CHANNELS];
     seat(&mut rows, &primary, &standby, counts.processes);
     play(
         table,

@@ -6,11 +6,12 @@ use lib.Dec.{eqb, ltb}
 use lib.ListN.{getD, set}
 use Rattle.plan.specs.Plan.{senderIn}
 use Rattle.process.specs.Row.{boardIn, flagIn}
+use Rattle.rules.specs.Sizes.{processesMost}
 use Rattle.crash.specs.Each.{Each}
 
 -- p is a process that runs on board a
 abbrev pub runsOn : List (List ℕ) → ℕ → ℕ → Bool
-runsOn rows a p = ltb p 16 && eqb (boardIn (getD rows p [])) a
+runsOn rows a p = ltb p processesMost && eqb (boardIn (getD rows p [])) a
 
 -- process p has no backup; one that is being made is none
 abbrev pub unbackedIn : List (List ℕ) → ℕ → Bool

@@ -21,4 +21,5 @@ pub record AllCrashed (n : ℕ) (programs : List ℕ) (rows mails logs heads : L
   pub rows-length : length rows′ ≡ length rows
   pub mails-length : length mails′ ≡ length mails
   pub crashed-at : (p : ℕ) → p < n → p < length rows → p < length mails
-      → Crashed (getD rows p []) (getD mails p []) (getD logs p []) (getD heads p []) (getD rows′ p []) (getD mails′ p []) a (portChannels programs p)
+      → Crashed (getD rows p []) (getD mails p []) (getD logs p []) (getD heads p []) (getD rows′ p []) (getD mails′ p []) a
+      (portChannels programs p)

@@ -8,6 +8,7 @@ use Rattle.backup.specs.Limits.{logMost}
 use Rattle.rules.specs.Cabinet.{unreadOn}
 use Rattle.process.specs.Row.{unreadIn, oldestIn, mailsIn}
 use Rattle.plan.specs.Plan.{readerIn}
+use Rattle.rules.specs.Sizes.{processesMost}
 use Rattle.crash.specs.Each.{Each}
 
 -- how many unread words of channel k a row and a mailbox have
@@ -16,7 +17,7 @@ unreadHere row mail k = unreadOn k (mailsIn (oldestIn row) (min (unreadIn row) l
 
 -- how many process p has; none where p is no process
 abbrev pub unreadAt : List (List ℕ) → List (List ℕ) → ℕ → ℕ → ℕ
-unreadAt rows mails p k = cond (ltb p 16) (unreadHere (getD rows p []) (getD mails p []) k) 0
+unreadAt rows mails p k = cond (ltb p processesMost) (unreadHere (getD rows p []) (getD mails p []) k) 0
 
 -- a number less or more another, in 32 bits
 abbrev pub lessBy : ℕ → ℕ → ℕ

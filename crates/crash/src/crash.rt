@@ -9,7 +9,10 @@ use crate::recount::add_unread;
 use crate::recount::drop_unread;
 use backup::limits::LOG;
 use backup::place::HEAD;
+use plan::BOARDS;
+use plan::CHANNELS;
 use plan::Counts;
+use plan::PROCESSES;
 use plan::PROGRAMS;
 use plan::WIRES;
 use process::row::ROW;
@@ -25,12 +28,12 @@ pub fn crash(
     counts: Counts,
     programs: &[u32; PROGRAMS],
     wires: &[u32; WIRES],
-    rows: &mut [[u32; ROW]; 16],
-    mails: &mut [[u64; LOG]; 16],
-    logs: &[[u64; LOG]; 16],
-    heads: &[[u32; HEAD]; 16],
-    queues: &mut [[u32; QUEUE_ROW]; 16],
-    totals: &mut [u32; 32],
+    rows: &mut [[u32; ROW]; PROCESSES],
+    mails: &mut [[u64; LOG]; PROCESSES],
+    logs: &[[u64; LOG]; PROCESSES],
+    heads: &[[u32; HEAD]; PROCESSES],
+    queues: &mut [[u32; QUEUE_ROW]; BOARDS],
+    totals: &mut [u32; CHANNELS],
     a: u32,
 ) -> Answer
     ensures { λ r. ⌜ Crashes counts (now (programs .entry)) (now (wires .entry)) (now (rows .entry)) (now (mails .entry)) (now (logs .entry))

@@ -2,7 +2,10 @@
 ghost use mathlib.Core.Path.{_≡_};
 ghost use Prim.Native.Nat.{_≤_, _<_};
 ghost use Rattle.facts.specs.Tests.{anyBelow};
+ghost use Rattle.rules.specs.Sizes.{processesMost, channelsMost};
 ghost use Rattle.crash.specs.Losses.{runsOn, unbackedIn, Zeroed, lostWords, deadRow};
+use plan::CHANNELS;
+use plan::PROCESSES;
 use plan::WIRES;
 use plan::sender;
 use process::row::BOARD;
@@ -15,23 +18,27 @@ use state::queue::QUEUE_ROW;
 use words::wide;
 
 // Whether p is a process that runs on board a.
-pub fn runs_on(rows: &[[u32; ROW]; 16], p: usize, a: u32) -> bool
+pub fn runs_on(rows: &[[u32; ROW]; PROCESSES], p: usize, a: u32) -> bool
     ensures { λ r. ⌜ r ≡ runsOn (now (rows .entry)) a p ⌝ }
 {
-    if p < 16 { rows[p][BOARD] == a } else { false }
+    if p < PROCESSES {
+        rows[p][BOARD] == a
+    } else {
+        false
+    }
 }
 
 // Whether process p has no backup, or one that is being made.
-fn unbacked(rows: &[[u32; ROW]; 16], p: usize) -> bool
-    requires { ⌜ p < 16 ⌝ }
+fn unbacked(rows: &[[u32; ROW]; PROCESSES], p: usize) -> bool
+    requires { ⌜ p < processesMost ⌝ }
     ensures { λ r. ⌜ r ≡ unbackedIn (now (rows .entry)) p ⌝ }
 {
     rows[p][PROTECTED] != COMPLETE
 }
 
 // Whether one of n processes has no backup.
-pub fn some_unbacked(n: usize, rows: &[[u32; ROW]; 16]) -> bool
-    requires { ⌜ n ≤ 16 ⌝ }
+pub fn some_unbacked(n: usize, rows: &[[u32; ROW]; PROCESSES]) -> bool
+    requires { ⌜ n ≤ processesMost ⌝ }
     ensures { λ r. ⌜ r ≡ anyBelow (unbackedIn (now (rows .entry))) n ⌝ }
 {
     let mut found = false;
@@ -49,11 +56,11 @@ pub fn some_unbacked(n: usize, rows: &[[u32; ROW]; 16]) -> bool
 pub fn lose_words(
     n: usize,
     wires: &[u32; WIRES],
-    rows: &[[u32; ROW]; 16],
+    rows: &[[u32; ROW]; PROCESSES],
     a: u32,
-    totals: &mut [u32; 32],
+    totals: &mut [u32; CHANNELS],
 )
-    requires { ⌜ n ≤ 32 ⌝ }
+    requires { ⌜ n ≤ channelsMost ⌝ }
     ensures { λ _. ⌜ Zeroed (lostWords (now (wires .entry)) (now (rows .entry)) a) n (now (totals .entry)) (now (totals .exit)) ⌝ }
 {
     let mut k = 0;

@@ -1,9 +1,12 @@
 // The processes after a crash: "Each process running there goes on at its backup board".
 ghost use mathlib.Core.Path.{_≡_};
 ghost use Prim.Native.Nat.{_≤_, _<_};
+ghost use Rattle.backup.specs.Limits.{ports};
+ghost use Rattle.rules.specs.Sizes.{processesMost};
 ghost use Rattle.crash.specs.Processes.{portChannel, AllCrashed};
 use backup::limits::LOG;
 use backup::place::HEAD;
+use plan::PROCESSES;
 use plan::PROGRAMS;
 use plan::arity;
 use plan::input;
@@ -13,7 +16,7 @@ use words::wide;
 
 // The channel of a port of process p; 0 stands for one that it doesn't have.
 fn input_at(programs: &[u32; PROGRAMS], p: usize, port: usize) -> u32
-    requires { ⌜ (p < 16) × (port < 4) ⌝ }
+    requires { ⌜ (p < processesMost) × (port < ports) ⌝ }
     ensures { λ r. ⌜ r ≡ portChannel (now (programs .entry)) p port ⌝ }
 {
     if port < wide(arity(programs, p)) {
@@ -27,13 +30,13 @@ fn input_at(programs: &[u32; PROGRAMS], p: usize, port: usize) -> u32
 pub fn crash_all(
     n: usize,
     programs: &[u32; PROGRAMS],
-    rows: &mut [[u32; ROW]; 16],
-    mails: &mut [[u64; LOG]; 16],
-    logs: &[[u64; LOG]; 16],
-    heads: &[[u32; HEAD]; 16],
+    rows: &mut [[u32; ROW]; PROCESSES],
+    mails: &mut [[u64; LOG]; PROCESSES],
+    logs: &[[u64; LOG]; PROCESSES],
+    heads: &[[u32; HEAD]; PROCESSES],
     a: u32,
 )
-    requires { ⌜ n ≤ 16 ⌝ }
+    requires { ⌜ n ≤ processesMost ⌝ }
     ensures { λ _. ⌜ AllCrashed n (now (programs .entry)) (now (rows .entry)) (now (mails .entry)) (now (logs .entry)) (now (heads .entry)) a
         (now (rows .exit)) (now (mails .exit)) ⌝ }
 {

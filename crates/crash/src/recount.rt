@@ -4,8 +4,11 @@ ghost use Prim.Native.Nat.{_≤_, _<_};
 ghost use Rattle.backup.specs.Limits.{logMost};
 ghost use Rattle.rules.specs.Cabinet.{unreadOn};
 ghost use Rattle.process.specs.Row.{oldestIn, mailIn, mailsIn};
+ghost use Rattle.rules.specs.Sizes.{channelsMost};
 ghost use Rattle.crash.specs.Recount.{unreadHere, unreadAt, Dropped, Added};
 use backup::limits::LOG;
+use plan::CHANNELS;
+use plan::PROCESSES;
 use plan::WIRES;
 use plan::reader;
 use process::mail::channel_of;
@@ -46,10 +49,15 @@ fn unread_of(row: &[u32; ROW], mail: &[u64; LOG], k: usize) -> u32
 }
 
 // How many process p has; none where p is no process.
-fn unread_at(rows: &[[u32; ROW]; 16], mails: &[[u64; LOG]; 16], p: usize, k: usize) -> u32
+fn unread_at(
+    rows: &[[u32; ROW]; PROCESSES],
+    mails: &[[u64; LOG]; PROCESSES],
+    p: usize,
+    k: usize,
+) -> u32
     ensures { λ r. ⌜ r ≡ unreadAt (now (rows .entry)) (now (mails .entry)) p k ⌝ }
 {
-    if p < 16 {
+    if p < PROCESSES {
         unread_of(&rows[p], &mails[p], k)
     } else {
         0
@@ -60,11 +68,11 @@ fn unread_at(rows: &[[u32; ROW]; 16], mails: &[[u64; LOG]; 16], p: usize, k: usi
 pub fn drop_unread(
     n: usize,
     wires: &[u32; WIRES],
-    rows: &[[u32; ROW]; 16],
-    mails: &[[u64; LOG]; 16],
-    totals: &mut [u32; 32],
+    rows: &[[u32; ROW]; PROCESSES],
+    mails: &[[u64; LOG]; PROCESSES],
+    totals: &mut [u32; CHANNELS],
 )
-    requires { ⌜ n ≤ 32 ⌝ }
+    requires { ⌜ n ≤ channelsMost ⌝ }
     ensures { λ _. ⌜ Dropped n (now (wires .entry)) (now (rows .entry)) (now (mails .entry)) (now (totals .entry)) (now (totals .exit)) ⌝ }
 {
     let mut k = 0;
@@ -79,11 +87,11 @@ pub fn drop_unread(
 pub fn add_unread(
     n: usize,
     wires: &[u32; WIRES],
-    rows: &[[u32; ROW]; 16],
-    mails: &[[u64; LOG]; 16],
-    totals: &mut [u32; 32],
+    rows: &[[u32; ROW]; PROCESSES],
+    mails: &[[u64; LOG]; PROCESSES],
+    totals: &mut [u32; CHANNELS],
 )
-    requires { ⌜ n ≤ 32 ⌝ }
+    requires { ⌜ n ≤ channelsMost ⌝ }
     ensures { λ _. ⌜ Added n (now (wires .entry)) (now (rows .entry)) (now (mails .entry)) (now (totals .entry)) (now (totals .exit)) ⌝ }
 {
     let mut k = 0;

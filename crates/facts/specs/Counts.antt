@@ -41,7 +41,8 @@ module _ {A : Type 0} (w : A → ℕ) where
 pub total-one : {A : Type 0} (w : A → ℕ) (l : List A) (b : ℕ) (d : A) → w d ≡ 0 → ((j : ℕ) → j ≢ b → w (getD l j d) ≡ 0)
     → total w l ≡ w (getD l b d)
 total-one w [] b d z h = sym z
-total-one w (x ∷ l) zero d z h = let a = total-one w l (length l) d z (λ j _. h (suc j) (λ e. absurd (omega arith))) in let e = ap w (List·getD-eq-default l d {n = length l} (omega arith)) in omega arith
+total-one w (x ∷ l) zero d z h = let a = total-one w l (length l) d z (λ j _. h (suc j) (λ e. absurd (omega arith))) in
+    let e = ap w (List·getD-eq-default l d {n = length l} (omega arith)) in omega arith
 total-one w (x ∷ l) (suc b) d z h =
     let a = h zero (λ e. absurd (omega arith)) in let e = total-one w l b d z (λ j n. h (suc j) (λ f. n (omega arith))) in omega arith
 

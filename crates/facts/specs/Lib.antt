@@ -8,3 +8,4 @@ pub mod Rings
 pub mod Ranges
 pub mod Bits
 pub mod Walks
+pub mod Laying

@@ -45,7 +45,8 @@ all-and f g n =
     (all-given f n (λ j l. and-left (f j) (g j) (all-below (λ k. f k && g k) n h j l)))
     (all-given g n (λ j l. and-right (f j) (g j) (all-below (λ k. f k && g k) n h j l))))
     (λ h. all-given (λ k. f k && g k) n
-    (λ j l. and-both (f j) (g j) (all-below f n (and-left (allBelow f n) (allBelow g n) h) j l) (all-below g n (and-right (allBelow f n) (allBelow g n) h) j l)))
+    (λ j l. and-both (f j) (g j) (all-below f n (and-left (allBelow f n) (allBelow g n) h) j l)
+    (all-below g n (and-right (allBelow f n) (allBelow g n) h) j l)))
 
 -- every element passes
 pub all-of-given : {A : Type 0} (f : A → Bool) (l : List A) (d : A) → ((j : ℕ) → j < length l → f (getD l j d) ≡ true) → allOf f l ≡ true

@@ -45,7 +45,8 @@ listed-set {A} f g (suc n) zero h =
     ap (λ (l : List A). g zero ∷ l) (listed-same (λ i. g (suc i)) (λ i. f (suc i)) n (λ i l. h (suc i) (omega arith) (λ e. omega arith)))
 listed-set {A} f g (suc n) (suc k) h =
     ap (λ (x : A). x ∷ listed (λ i. g (suc i)) n) (h zero (omega arith) (λ e. omega arith))
-    ∙ ap (λ (l : List A). f zero ∷ l) (listed-set (λ i. f (suc i)) (λ i. g (suc i)) n k (λ i l e. h (suc i) (omega arith) (λ z. e (omega arith))))
+    ∙ ap (λ (l : List A). f zero ∷ l) (listed-set (λ i. f (suc i)) (λ i. g (suc i)) n k
+    (λ i l e. h (suc i) (omega arith) (λ z. e (omega arith))))
 
 -- ---- rings
 
@@ -67,7 +68,8 @@ module _ {A : Type 0} (d : A) (entries : List A) (b first count : ℕ) (x : A) (
       → ring d (set entries (32 * b + (first + count) % 32) x) b′ first′ count′ ≡ ring d entries b′ first′ count′
   unfolding ring
   ring-apart b′ first′ count′ n =
-      listed-same (λ i. getD (set entries (32 * b + (first + count) % 32) x) (32 * b′ + (first′ + i) % 32) d) (λ i. getD entries (32 * b′ + (first′ + i) % 32) d) count′
+      listed-same (λ i. getD (set entries (32 * b + (first + count) % 32) x) (32 * b′ + (first′ + i) % 32) d)
+      (λ i. getD entries (32 * b′ + (first′ + i) % 32) d) count′
       (λ i l. getD-set-other entries (32 * b + (first + count) % 32) (32 * b′ + (first′ + i) % 32) x d (λ e. n (omega arith)))
 
 -- the oldest leaves

@@ -81,7 +81,8 @@ no-such f (suc n) h = rw (h n (omega arith)) (no-such f n (λ j l. h j (omega ar
 -- the test holds of every element of both parts
 pub all-append : {A : Type 0} (f : A → Bool) (l r : List A) → allOf f l ≡ true → allOf f r ≡ true → allOf f (l ++ r) ≡ true
 all-append f [] r h k = k
-all-append f (x ∷ l) r h k = and-both (f x) (allOf f (l ++ r)) (and-left (f x) (allOf f l) h) (all-append f l r (and-right (f x) (allOf f l) h) k)
+all-append f (x ∷ l) r h k = and-both (f x) (allOf f (l ++ r)) (and-left (f x) (allOf f l) h)
+    (all-append f l r (and-right (f x) (allOf f l) h) k)
 
 -- so it holds at each place
 pub all-at : {A : Type 0} (f : A → Bool) (l : List A) (i : ℕ) (d : A) → allOf f l ≡ true → i < length l → f (getD l i d) ≡ true

@@ -11,14 +11,14 @@ use Rattle.rules.specs.Table.{Instruction}
 use Rattle.rules.specs.Machine.{Machine, halted, moved, internal, take1, first1, execute, localStep}
 use Rattle.rules.specs.Format.{instruction}
 use Rattle.rules.proofs.Decoded.{instruction-none}
-use Rattle.process.specs.Row.{pcIn, unreadIn, oldestIn, machineOf}
+use Rattle.process.specs.Row.{pcIn, unreadIn, oldestIn, machineOf, registerIn}
 use Rattle.instruction.specs.Instruction.{InRange, Fetched, afterInternal, outcomeOf, Examined, Sought}
 use Rattle.instruction.specs.declared.instruction.Intent.{Intent}
 use Rattle.instruction.specs.declared.instruction.Intent.the-variants.{Halted, NoMail, Internal, Take, Send}
 
 -- a register of the row is the machine's
 pub register-is : (row : List ℕ) (a : ℕ) → a < 4
-    → getD (getD row 2 0 ∷ getD row 3 0 ∷ getD row 4 0 ∷ getD row 5 0 ∷ []) a 0 ≡ getD row (2 + a % 4) 0
+    → getD (registerIn row 0 ∷ registerIn row 1 ∷ registerIn row 2 ∷ registerIn row 3 ∷ []) a 0 ≡ getD row (2 + a % 4) 0
 register-is row zero h = refl
 register-is row (suc zero) h = refl
 register-is row (suc (suc zero)) h = refl

@@ -9,7 +9,8 @@ use lib.ListN.{length, getD, set}
 use Rattle.facts.specs.Lists.{removeAt}
 use Rattle.backup.specs.Limits.{pcMost, ports}
 use Rattle.rules.specs.Table.{Instruction, SET}
-use Rattle.rules.specs.Machine.{Mail, Machine, Outcome, halted, noMail, moved, internal, took, sent, booted, next, pull, nothing, found, execute, localStep}
+use Rattle.rules.specs.Machine.{Mail, Machine, Outcome, halted, noMail, moved, internal, took, sent, booted, next, pull, nothing, found}
+use Rattle.rules.specs.Machine.{execute, localStep}
 use Rattle.rules.specs.Format.{instruction}
 use Rattle.rules.specs.Moves.{advanced, counting, oneDone, oneSent, oneTaken}
 use Rattle.process.specs.Row.{pcIn, suppressIn, flagIn, unreadIn, mailIn, packedAt, mailsIn, mailAt, machineOf, Kept}

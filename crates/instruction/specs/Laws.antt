@@ -35,7 +35,8 @@ in-range t p n (suc (suc (suc (suc zero)))) a operand h =
     let l = ltb-true a 3 (and-left _ _ h) in record { first = omega arith; second = λ e. absurd (omega arith); pair = λ e. l }
 in-range t p n (suc (suc (suc (suc (suc zero))))) a operand h =
     one-register 5 a operand (and-left (ltb a 4) (sends t p operand) h) (λ e. omega arith) (λ e. omega arith)
-in-range t p n (suc (suc (suc (suc (suc (suc zero)))))) a operand h = one-register 6 a operand (and-left _ _ h) (λ e. omega arith) (λ e. omega arith)
+in-range t p n (suc (suc (suc (suc (suc (suc zero)))))) a operand h =
+    one-register 6 a operand (and-left _ _ h) (λ e. omega arith) (λ e. omega arith)
 in-range t p n (suc (suc (suc (suc (suc (suc (suc code))))))) a operand h = absurd (no-way (cc))
 
 -- a program of an accepted table

@@ -10,6 +10,7 @@ ghost use Rattle.instruction.specs.Instruction.{Computes, Takes, Suppres
 use crate::mailbox::look;
 use crate::mailbox::remove;
 use backup::limits::LOG;
+use process::mail::PLACES;
 use process::mail::channel_of;
 use process::mail::place;
 use process::mail::word_of;
@@ -201,7 +202,7 @@ pub fn take_word(
     load(row, code, a, mail[place(first, at)]);
     remove(mail, first, at);
     row[UNREAD] = std::num::wrapping_sub_u32(row[UNREAD], 1);
-    row[OLDEST] = std::num::wrapping_add_u32(row[OLDEST], 1) % 64;
+    row[OLDEST] = std::num::wrapping_add_u32(row[OLDEST], 1) % PLACES;
     tally(row, T0 + wide(port % 4));
     event(row);
 }

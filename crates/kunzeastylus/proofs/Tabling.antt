@@ -5,9 +5,9 @@ use Prim.Native.Nat.{ℕ, _+_, _*_, _/_, _%_, _<_}
 use native.Mathlib.Omega.{arith}
 use Rattle.rules.specs.Encode.{Lists}
 use Rattle.writer.specs.declared.write.Written.{Written}
-use Rattle.writer.specs.declared.apart.Taken.{Taken}
+use Rattle.apart.specs.declared.Taken.{Taken}
 use Rattle.writer.specs.Writes.{Writes}
-use Rattle.writer.specs.Taken.{Lent, TakesApart}
+use Rattle.apart.specs.Taken.{Lent, TakesApart}
 use Rattle.kunzeastylus.specs.Tables.{packedWritten, writtenIn, WritesPacked, packedTaken, takenIn, Small, TakesPacked}
 
 writtenIn-packedWritten : (r : Written) → r .number < 256 → writtenIn (packedWritten r) ≡ r

@@ -4,9 +4,9 @@ use mathlib.Core.List.{List}
 use Prim.Native.Nat.{ℕ, _+_, _*_, _/_, _%_, _<_}
 use Rattle.rules.specs.Encode.{Lists}
 use Rattle.writer.specs.declared.write.Written.{Written}
-use Rattle.writer.specs.declared.apart.Taken.{Taken}
+use Rattle.apart.specs.declared.Taken.{Taken}
 use Rattle.writer.specs.Writes.{Writes}
-use Rattle.writer.specs.Taken.{Lent, TakesApart}
+use Rattle.apart.specs.Taken.{Lent, TakesApart}
 
 -- number and length as one number, and out of it again, as a caller takes it apart: bits 0 to 7, and bits 32 on
 abbrev pub packedWritten : Written → ℕ

@@ -3,15 +3,10 @@ ghost use mathlib.Core.Path.{_≡_};
 ghost use Prim.Native.Nat.{_≤_, _<_};
 ghost use Rattle.rules.specs.Schedule.{commandsMost};
 ghost use Rattle.rules.specs.Run.{buffersOf};
-ghost use Rattle.kunzeastylus.specs.Packed.{flagOf, packedOf, RunsPacked};
+ghost use Rattle.kunzeastylus.specs.Packed.{packedOf, RunsPacked};
 use cabinet::run::Verdict;
 use cabinet::run::run;
-
-fn flag(quiet: bool) -> u64
-    ensures { λ n. ⌜ (n ≡ flagOf quiet) × (n ≤ 1) ⌝ }
-{
-    if quiet { 1 } else { 0 }
-}
+use words::flag;
 
 // number + 256 quiet + 2^32 records
 pub fn packed(r: Verdict) -> u64

@@ -2,10 +2,10 @@
 ghost use mathlib.Core.Path.{_≡_};
 ghost use Prim.Native.Nat.{_^_, _<_};
 ghost use Rattle.writer.specs.Given.{given};
-ghost use Rattle.writer.specs.Taken.{lent};
+ghost use Rattle.apart.specs.Taken.{lent};
 ghost use Rattle.kunzeastylus.specs.Tables.{packedWritten, WritesPacked, packedTaken, Small, TakesPacked};
-use writer::apart::Taken;
-use writer::apart::take_apart;
+use apart::Taken;
+use apart::take_apart;
 use writer::write::Head;
 use writer::write::Written;
 use writer::write::write;

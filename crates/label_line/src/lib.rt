@@ -1,13 +1,15 @@
 // The label line (document 02, W-203): "one scanner, one numbering program and one printer program on two boards". It is given a first
 // serial, makes the table and runs schedules on it, with nothing but the cabinet's promises.
 ghost use mathlib.Core.Path.{_≡_};
-ghost use Prim.Native.Nat.{_%_, _≤_};
+ghost use Prim.Native.Nat.{_≤_};
 ghost use Rattle.rules.specs.Run.{buffersOf};
 ghost use Rattle.label_line.specs.Line.{lineBytes};
 ghost use Rattle.label_line.specs.Puts.{frameBytes, instructionIn};
 ghost use Rattle.label_line.specs.Labels.{Makes, RunsLine};
 use cabinet::run::Verdict;
 use cabinet::run::run;
+use plan::ENVIRONMENT;
+use words::low_byte;
 
 // Bytes of a label line's table.
 pub const TABLE: usize = 84;
@@ -18,9 +20,7 @@ pub const SERIAL_MOST: u32 = 4294957295;
 // "46, a first serial above 4,294,957,295"
 pub const SERIAL_HIGH: u8 = 46;
 
-// "255 for the outside", and the instructions' codes.
-const OUTSIDE: u8 = 255;
-
+// The instructions' codes.
 const SET: u8 = 1;
 
 const ADD: u8 = 2;
@@ -37,12 +37,6 @@ pub struct MadeTable {
     pub bytes: [u8; TABLE],
 }
 
-fn low_byte(n: u32) -> u8
-    ensures { λ r. ⌜ r ≡ n % 256 ⌝ }
-{
-    (n % 256) as u8
-}
-
 // The table but for its instructions.
 fn frame() -> [u8; TABLE]
     ensures { λ r. ⌜ r ≡ frameBytes ⌝ }
@@ -53,10 +47,10 @@ fn frame() -> [u8; TABLE]
     t[3] = 2; // boards
     t[4] = 2; // processes
     t[5] = 3; // channels: 0 from the scanner to process 0, 1 from there to process 1, 2 from there to the outlet
-    t[6] = OUTSIDE;
+    t[6] = ENVIRONMENT;
     t[9] = 1;
     t[10] = 1;
-    t[11] = OUTSIDE;
+    t[11] = ENVIRONMENT;
     t[13] = 1; // process 0: board 0, stand-by 1, seven instructions
     t[14] = 7;
     t[57] = 1; // process 1: board 1, stand-by 0, four instructions

@@ -13,7 +13,7 @@ use Rattle.rules.specs.Table.{Table}
 use Rattle.rules.specs.Cabinet.{limitMost, Cabinet, Process}
 use Rattle.rules.specs.Bytes.{wordBytes, allBytes, written}
 use Rattle.rules.specs.Run.{reportBytes}
-use Rattle.process.specs.Row.{boardIn, pcIn, suppressIn, unreadIn, mailAt, machineOf, processOf}
+use Rattle.process.specs.Row.{boardIn, pcIn, suppressIn, unreadIn, mailAt, machineOf, processOf, registerIn}
 use Rattle.state.specs.declared.entry.Entry.{Entry}
 use Rattle.state.specs.Store.{Store, Holds, processIn}
 use Rattle.state.specs.Moved.{Reachable}
@@ -46,24 +46,24 @@ head-put row buffer n x0 x1 x2 x3 e0 e1 e2 e3 =
     four-put buffer n x0 x1 x2 x3 ∙ (λ j. sets buffer n (e0 j ∷ e1 j ∷ e2 j ∷ e3 j ∷ []))
 
 -- four and sixteen more
-twenty-put : (row buffer b0 b1 b2 b3 b4 : List ℕ) (n : ℕ) → b0 ≡ sets buffer n (headBytes row) → b1 ≡ sets b0 (n + 4) (wordBytes (getD row 2 0))
-    → b2 ≡ sets b1 (n + 8) (wordBytes (getD row 3 0)) → b3 ≡ sets b2 (n + 12) (wordBytes (getD row 4 0)) → b4 ≡ sets b3 (n + 16) (wordBytes (getD row 5 0))
+twenty-put : (row buffer b0 b1 b2 b3 b4 : List ℕ) (n : ℕ) → b0 ≡ sets buffer n (headBytes row) → b1 ≡ sets b0 (n + 4) (wordBytes (registerIn row 0))
+    → b2 ≡ sets b1 (n + 8) (wordBytes (registerIn row 1)) → b3 ≡ sets b2 (n + 12) (wordBytes (registerIn row 2)) → b4 ≡ sets b3 (n + 16) (wordBytes (registerIn row 3))
     → b4 ≡ sets buffer n (twentyBytes row)
 twenty-put row buffer b0 b1 b2 b3 b4 n e0 e1 e2 e3 e4 =
     let i1 : n + 4 ≡ suc (suc (suc (suc n))) = omega arith in
     let i2 : n + 8 ≡ suc (suc (suc (suc (suc (suc (suc (suc n))))))) = omega arith in
     let i3 : n + 12 ≡ suc (suc (suc (suc (suc (suc (suc (suc (suc (suc (suc (suc n))))))))))) = omega arith in
     let i4 : n + 16 ≡ suc (suc (suc (suc (suc (suc (suc (suc (suc (suc (suc (suc (suc (suc (suc (suc n))))))))))))))) = omega arith in
-    let f1 = e1 ∙ (λ j. sets (e0 j) (i1 j) (wordBytes (getD row 2 0))) in
-    let f2 = e2 ∙ (λ j. sets (f1 j) (i2 j) (wordBytes (getD row 3 0))) in
-    let f3 = e3 ∙ (λ j. sets (f2 j) (i3 j) (wordBytes (getD row 4 0))) in
-    e4 ∙ (λ j. sets (f3 j) (i4 j) (wordBytes (getD row 5 0)))
+    let f1 = e1 ∙ (λ j. sets (e0 j) (i1 j) (wordBytes (registerIn row 0))) in
+    let f2 = e2 ∙ (λ j. sets (f1 j) (i2 j) (wordBytes (registerIn row 1))) in
+    let f3 = e3 ∙ (λ j. sets (f2 j) (i3 j) (wordBytes (registerIn row 2))) in
+    e4 ∙ (λ j. sets (f3 j) (i4 j) (wordBytes (registerIn row 3)))
 
 pub line-none : (row buffer : List ℕ) (p : ℕ) → length buffer / 20 ≤ p → LinePut row buffer p buffer
 line-none row buffer p h = record { fits = λ l. absurd (omega arith); same-length = refl }
 
-pub line-put : (row buffer b0 b1 b2 b3 b4 : List ℕ) (p : ℕ) → b0 ≡ sets buffer (20 * p) (headBytes row) → b1 ≡ sets b0 (20 * p + 4) (wordBytes (getD row 2 0))
-    → b2 ≡ sets b1 (20 * p + 8) (wordBytes (getD row 3 0)) → b3 ≡ sets b2 (20 * p + 12) (wordBytes (getD row 4 0)) → b4 ≡ sets b3 (20 * p + 16) (wordBytes (getD row 5 0))
+pub line-put : (row buffer b0 b1 b2 b3 b4 : List ℕ) (p : ℕ) → b0 ≡ sets buffer (20 * p) (headBytes row) → b1 ≡ sets b0 (20 * p + 4) (wordBytes (registerIn row 0))
+    → b2 ≡ sets b1 (20 * p + 8) (wordBytes (registerIn row 1)) → b3 ≡ sets b2 (20 * p + 12) (wordBytes (registerIn row 2)) → b4 ≡ sets b3 (20 * p + 16) (wordBytes (registerIn row 3))
     → LinePut row buffer p b4
 line-put row buffer b0 b1 b2 b3 b4 p e0 e1 e2 e3 e4 =
     let e = twenty-put row buffer b0 b1 b2 b3 b4 (20 * p) e0 e1 e2 e3 e4 in
@@ -128,7 +128,7 @@ line-is row mail log head h0 h1 h2 h3 =
     ∷ small (pcIn row) h1 j
     ∷ e2 j
     ∷ small (suppressIn row) h3 j
-    ∷ (wordBytes (getD row 2 0) ++ (wordBytes (getD row 3 0) ++ (wordBytes (getD row 4 0) ++ wordBytes (getD row 5 0))))
+    ∷ (wordBytes (registerIn row 0) ++ (wordBytes (registerIn row 1) ++ (wordBytes (registerIn row 2) ++ wordBytes (registerIn row 3))))
 
 bytes-same : {A B : Type 0} (f : A → List ℕ) (g : B → List ℕ) (u : ℕ → A) (v : ℕ → B) (n : ℕ) → ((i : ℕ) → i < n → f (u i) ≡ g (v i))
     → allBytes f (listed u n) ≡ allBytes g (listed v n)

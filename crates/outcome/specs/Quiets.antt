@@ -20,6 +20,7 @@ use Rattle.state.specs.declared.entry.Entry.{Entry}
 use Rattle.state.specs.Queue.{countIn}
 use Rattle.state.specs.Store.{storeOf, Holds}
 use Rattle.state.specs.Moved.{Reachable}
+use Rattle.rules.specs.Sizes.{boardsMost}
 
 -- ---- one process
 
@@ -65,7 +66,7 @@ abbrev pub emptyIn : List (List ℕ) → ℕ → Bool
 emptyIn queues b = eqb (countIn queues b) 0
 
 abbrev pub AllEmpty : ℕ → List (List ℕ) → Bool → Type 0
-AllEmpty boards queues r = boards ≤ 16 → r ≡ allBelow (emptyIn queues) boards
+AllEmpty boards queues r = boards ≤ boardsMost → r ≡ allBelow (emptyIn queues) boards
 
 -- Whether a cabinet that the lists hold is quiet, whatever the plan and the lists are that the call isn't lent.
 pub record Quiets (table : List ℕ) (counts : Counts) (programs : List ℕ) (rows mails queues : List (List ℕ)) (r : Bool) : Type 0 where

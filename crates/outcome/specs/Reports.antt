@@ -5,7 +5,7 @@ use mathlib.Core.List.{List, [], _∷_, _++_}
 use Prim.Native.Nat.{ℕ, _+_, _*_, _%_, _≤_}
 use lib.ListN.{length, getD}
 use lib.Seq.{sets}
-use Rattle.process.specs.Row.{boardIn, pcIn, suppressIn, unreadIn}
+use Rattle.process.specs.Row.{boardIn, pcIn, suppressIn, unreadIn, registerIn}
 use Rattle.rules.specs.Table.{Table}
 use Rattle.rules.specs.Cabinet.{Cabinet}
 use Rattle.rules.specs.Bytes.{wordBytes, allBytes, written}
@@ -20,7 +20,8 @@ headBytes row = boardIn row % 256 ∷ pcIn row % 256 ∷ unreadIn row % 256 ∷ 
 
 -- all twenty: "then four registers"
 abbrev pub twentyBytes : List ℕ → List ℕ
-twentyBytes row = headBytes row ++ (wordBytes (getD row 2 0) ++ (wordBytes (getD row 3 0) ++ (wordBytes (getD row 4 0) ++ wordBytes (getD row 5 0))))
+twentyBytes row = headBytes row ++ (wordBytes (registerIn row 0) ++ (wordBytes (registerIn row 1)
+    ++ (wordBytes (registerIn row 2) ++ wordBytes (registerIn row 3))))
 
 -- the p-th line of a buffer, a row's; where the buffer has no room for it, nothing
 pub record LinePut (row buffer : List ℕ) (p : ℕ) (buffer′ : List ℕ) : Type 0 where

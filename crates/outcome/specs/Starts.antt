@@ -11,6 +11,9 @@ use Rattle.rules.specs.Cabinet.{started}
 use Rattle.process.specs.Row.{rowLength}
 use Rattle.state.specs.declared.entry.Entry.{Entry}
 use Rattle.state.specs.Store.{Store, storeOf, Holds, blankEntry}
+use Rattle.rules.specs.Sizes.{boardsMost, processesMost, channelsMost, entriesMost}
+use Rattle.backup.specs.Place.{headLength}
+use Rattle.state.specs.Queue.{queueLength}
 
 -- a row of zeros becomes that of a process on its primary board, protected by a backup on its other one
 abbrev pub seatedIn : List ℕ → ℕ → ℕ → List ℕ
@@ -18,13 +21,13 @@ seatedIn row primary standby = set (set (set row 0 primary) 12 1) 13 standby
 
 -- Lists as they are made: all zeros, and every entry blank.
 pub record Fresh (s : Store) (entries : List Entry) : Type 0 where
-  pub rows-is : s .rows ≡ replicate 16 (replicate rowLength 0)
-  pub mails-is : s .mails ≡ replicate 16 (replicate logMost 0)
-  pub logs-is : s .logs ≡ replicate 16 (replicate logMost 0)
-  pub heads-is : s .heads ≡ replicate 16 (replicate 11 0)
-  pub queues-is : s .queues ≡ replicate 16 (replicate 3 0)
-  pub totals-is : s .totals ≡ replicate 32 0
-  pub entries-is : entries ≡ replicate 512 blankEntry
+  pub rows-is : s .rows ≡ replicate processesMost (replicate rowLength 0)
+  pub mails-is : s .mails ≡ replicate processesMost (replicate logMost 0)
+  pub logs-is : s .logs ≡ replicate processesMost (replicate logMost 0)
+  pub heads-is : s .heads ≡ replicate processesMost (replicate headLength 0)
+  pub queues-is : s .queues ≡ replicate boardsMost (replicate queueLength 0)
+  pub totals-is : s .totals ≡ replicate channelsMost 0
+  pub entries-is : entries ≡ replicate entriesMost blankEntry
 
 -- The two boards of each process of table t, and how many processes it has.
 pub record Placed (t : Table) (primary standby : List ℕ) (processes : ℕ) : Type 0 where
@@ -35,7 +38,7 @@ pub record Placed (t : Table) (primary standby : List ℕ) (processes : ℕ) : T
 -- What seating promises of 16 rows: those of the processes are seated, the others stay; and fresh lists then hold the table's start.
 pub record Seats (rows : List (List ℕ)) (primary standby : List ℕ) (processes : ℕ) (rows′ : List (List ℕ)) : Type 0 where
   pub same-length : length rows′ ≡ length rows
-  pub seated-at : length rows ≡ 16 → (p : ℕ) → p < 16 → p < processes
+  pub seated-at : length rows ≡ processesMost → (p : ℕ) → p < processesMost → p < processes
       → getD rows′ p [] ≡ seatedIn (getD rows p []) (getD primary p 0) (getD standby p 0)
   pub others : (p : ℕ) → processes ≤ p → getD rows′ p [] ≡ getD rows p []
   pub holds : (t : Table) (mails logs heads queues : List (List ℕ)) (totals : List ℕ) (entries : List Entry)

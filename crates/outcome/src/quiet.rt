@@ -4,7 +4,9 @@ ghost use Rattle.outcome.specs.Quiets.{restsOf, Rests, AllRest, AllEmpty
 use backup::limits::LOG;
 use instruction::instruction::Intent;
 use instruction::instruction::examine;
+use plan::BOARDS;
 use plan::Counts;
+use plan::PROCESSES;
 use plan::PROGRAMS;
 use plan::length;
 use plan::start;
@@ -41,8 +43,8 @@ fn all_rest(
     table: &[u8],
     processes: usize,
     programs: &[u32; PROGRAMS],
-    rows: &[[u32; ROW]; 16],
-    mails: &[[u64; LOG]; 16],
+    rows: &[[u32; ROW]; PROCESSES],
+    mails: &[[u64; LOG]; PROCESSES],
 ) -> bool
     ensures { λ r. ⌜ AllRest (now (table .entry)) processes (now (programs .entry)) (now (rows .entry)) (now (mails .entry)) r ⌝ }
 {
@@ -63,7 +65,7 @@ fn all_rest(
     true
 }
 
-fn all_empty(boards: usize, queues: &[[u32; QUEUE_ROW]; 16]) -> bool
+fn all_empty(boards: usize, queues: &[[u32; QUEUE_ROW]; BOARDS]) -> bool
     ensures { λ r. ⌜ AllEmpty boards (now (queues .entry)) r ⌝ }
 {
     let n = most16(boards);
@@ -81,9 +83,9 @@ pub fn quiescent(
     table: &[u8],
     counts: Counts,
     programs: &[u32; PROGRAMS],
-    rows: &[[u32; ROW]; 16],
-    mails: &[[u64; LOG]; 16],
-    queues: &[[u32; QUEUE_ROW]; 16],
+    rows: &[[u32; ROW]; PROCESSES],
+    mails: &[[u64; LOG]; PROCESSES],
+    queues: &[[u32; QUEUE_ROW]; BOARDS],
 ) -> bool
     ensures { λ r. ⌜ Quiets (now (table .entry)) counts (now (programs .entry)) (now (rows .entry)) (now (mails .entry))
         (now (queues .entry)) r ⌝ }

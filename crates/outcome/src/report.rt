@@ -5,6 +5,7 @@ ghost use lib.ListN.{length};
 ghost use lib.Seq.{sets};
 ghost use Rattle.rules.specs.Bytes.{wordBytes};
 ghost use Rattle.outcome.specs.Reports.{headBytes, LinePut, Reports};
+use plan::PROCESSES;
 use process::row::BOARD;
 use process::row::PC;
 use process::row::R0;
@@ -55,7 +56,7 @@ fn put_line(row: &[u32; ROW], report: &mut [u8], p: usize)
 }
 
 // A line for each process. Bytes beyond stay.
-pub fn write_report(rows: &[[u32; ROW]; 16], processes: usize, report: &mut [u8])
+pub fn write_report(rows: &[[u32; ROW]; PROCESSES], processes: usize, report: &mut [u8])
     ensures { λ _. ⌜ Reports (now (rows .entry)) processes (now (report .entry)) (now (report .exit)) ⌝ }
 {
     let n = most16(processes);

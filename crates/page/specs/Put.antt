@@ -26,9 +26,11 @@ answerAt answers i = numbered (byteAt answers (6 * i)) (byteAt answers (6 * i + 
 -- parts of a process's line: the registers whose bytes begin here, and before them "board, place, unread, hold-back"
 abbrev pub registersLine : List ℕ → ℕ → List ℕ
 registersLine report at =
-    line (decimal (registerAt report at) ∷ decimal (registerAt report (at + 4)) ∷ decimal (registerAt report (at + 8)) ∷ decimal (registerAt report (at + 12)) ∷ [])
+    line (decimal (registerAt report at) ∷ decimal (registerAt report (at + 4)) ∷ decimal (registerAt report (at + 8))
+    ∷ decimal (registerAt report (at + 12)) ∷ [])
 
 abbrev pub stateLine : List ℕ → ℕ → List ℕ
 stateLine report at =
     line (decimal (byteAt report at) ∷ decimal (byteAt report (at + 1)) ∷ decimal (byteAt report (at + 2)) ∷ decimal (byteAt report (at + 3))
-    ∷ decimal (registerAt report (at + 4)) ∷ decimal (registerAt report (at + 8)) ∷ decimal (registerAt report (at + 12)) ∷ decimal (registerAt report (at + 16)) ∷ [])
+    ∷ decimal (registerAt report (at + 4)) ∷ decimal (registerAt report (at + 8)) ∷ decimal (registerAt report (at + 12))
+    ∷ decimal (registerAt report (at + 16)) ∷ [])

@@ -1,6 +1,4 @@
 // The bench program's page (document 01, "The bench program's page"), from what a run returned and the buffers that it was lent.
-ghost use mathlib.Core.Path.{_≡_};
-ghost use mathlib.Core.Bool.{cond};
 ghost use Prim.Native.Nat.{_+_, _*_, _<_};
 ghost use Rattle.rules.specs.Run.{ranOf};
 ghost use Rattle.rules.specs.Page.{acceptedPage, pageOf, refusedLine};
@@ -16,6 +14,7 @@ use crate::lines::put_processes;
 use crate::text::LINE_FEED;
 use crate::text::put_number;
 use crate::text::put_text;
+use words::flag;
 
 // "A refused run prints one line, `refused`, a space and the number."
 fn put_refused(out: &mut [u8], number: u8) -> usize
@@ -23,12 +22,6 @@ fn put_refused(out: &mut [u8], number: u8) -> usize
 {
     let a = put_text(out, 0, b"refused ", 0);
     put_number(out, a, number as u64, LINE_FEED)
-}
-
-fn flag(quiet: bool) -> u64
-    ensures { λ r. ⌜ r ≡ cond quiet 1 0 ⌝ }
-{
-    if quiet { 1 } else { 0 }
 }
 
 // The page of an accepted run.

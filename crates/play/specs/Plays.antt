@@ -16,6 +16,7 @@ use Rattle.plan.specs.Plan.{Plan, Planned}
 use Rattle.state.specs.declared.entry.Entry.{Entry}
 use Rattle.state.specs.declared.moved.Answer.{Answer}
 use Rattle.state.specs.Store.{Store, Holds, blankEntry}
+use Rattle.rules.specs.Sizes.{entriesMost}
 use Rattle.play.specs.Written.{sixBytes, reasonByte}
 
 -- ---- the buffers
@@ -64,5 +65,5 @@ pub record Playing (l : Plan) (schedule : List ℕ) (records : ℕ) (s₀ : Stor
 -- all of them, whatever entries are left
 pub record Plays (l : Plan) (schedule : List ℕ) (records : ℕ) (s : Store) (sheets : Sheets) (s′ : Store) (sheets′ : Sheets) : Type 0 where
   pub entries : List Entry
-  pub played : (t : Table) → Suited t l schedule records s (replicate 512 blankEntry)
+  pub played : (t : Table) → Suited t l schedule records s (replicate entriesMost blankEntry)
       → Played t (decodeSchedule schedule) s′ entries sheets sheets′

@@ -16,7 +16,10 @@ use bus::transmit::transmit;
 use command::judge::cause;
 use command::judge::judge;
 use crash::crash::crash;
+use plan::BOARDS;
+use plan::CHANNELS;
 use plan::Counts;
+use plan::PROCESSES;
 use plan::PROGRAMS;
 use plan::WIRES;
 use process::checkpoint::snapshot;
@@ -54,12 +57,12 @@ pub fn play(
     counts: Counts,
     programs: &[u32; PROGRAMS],
     wires: &[u32; WIRES],
-    rows: &mut [[u32; ROW]; 16],
-    mails: &mut [[u64; LOG]; 16],
-    logs: &mut [[u64; LOG]; 16],
-    heads: &mut [[u32; HEAD]; 16],
-    queues: &mut [[u32; QUEUE_ROW]; 16],
-    totals: &mut [u32; 32],
+    rows: &mut [[u32; ROW]; PROCESSES],
+    mails: &mut [[u64; LOG]; PROCESSES],
+    logs: &mut [[u64; LOG]; PROCESSES],
+    heads: &mut [[u32; HEAD]; PROCESSES],
+    queues: &mut [[u32; QUEUE_ROW]; BOARDS],
+    totals: &mut [u32; CHANNELS],
     answers: &mut [u8],
     reasons: &mut [u8],
 )

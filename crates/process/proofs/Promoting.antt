@@ -11,7 +11,7 @@ use borrow.Author.Tests.{eq-eqb, ne-eqb, ltb-true}
 use Rattle.facts.specs.Indexing.{map-agree}
 use Rattle.backup.specs.Limits.{logMost, ports}
 use Rattle.backup.specs.Replica.{Message, FailOver, onPorts}
-use Rattle.backup.specs.Place.{promotionIn, handedOver}
+use Rattle.backup.specs.Place.{promotionIn, handedOver, headLen}
 use Rattle.backup.specs.PlaceLaws.{fail-over-in, promotion-few, promotion-ports}
 use Rattle.backup.specs.declared.place.Promotion.{Promotion}
 use Rattle.rules.specs.Table.{Table, channelOn}
@@ -49,10 +49,10 @@ routed t p channels r =
 -- ---- the process
 
 module _ (row mail log head channels : List ℕ) where
-  pub promoted-none : logMost < getD head 0 0 → Promoted row mail log head row mail channels
+  pub promoted-none : logMost < headLen head → Promoted row mail log head row mail channels
   promoted-none h k t p r = absurd (let s = promotion-few log head (k .sound) in omega arith)
 
-  pub promoted-so : (mail′ row′ : List ℕ) → Readdressed mail log (getD head 0 0) channels mail′ → Restored row (promotionIn head) row′
+  pub promoted-so : (mail′ row′ : List ℕ) → Readdressed mail log (headLen head) channels mail′ → Restored row (promotionIn head) row′
       → Promoted row mail log head row′ mail′ channels
   unfolding processOf machineOf standbyOf promoted recovered restoredIn
   promoted-so mail′ row′ m e k t p r =

@@ -26,8 +26,11 @@ boardIn row = getD row 0 0
 abbrev pub pcIn : List ℕ → ℕ
 pcIn row = getD row 1 0
 
+abbrev pub registerIn : List ℕ → ℕ → ℕ
+registerIn row a = getD row (2 + a) 0
+
 abbrev pub registersIn : List ℕ → List ℕ
-registersIn row = getD row 2 0 ∷ getD row 3 0 ∷ getD row 4 0 ∷ getD row 5 0 ∷ []
+registersIn row = registerIn row 0 ∷ registerIn row 1 ∷ registerIn row 2 ∷ registerIn row 3 ∷ []
 
 abbrev pub suppressIn : List ℕ → ℕ
 suppressIn row = getD row 6 0

@@ -11,12 +11,13 @@ use Rattle.rules.specs.Table.{Table, placementAt, portOf}
 use Rattle.rules.specs.Machine.{Mail}
 use Rattle.rules.specs.Moves.{rebacking}
 use Rattle.plan.specs.Plan.{portIn}
+use Rattle.rules.specs.Sizes.{channelsMost}
 use Rattle.process.specs.Row.{pcIn, unreadIn, mailIn, packedAt, mailsIn, mailAt, Kept, Seated}
 use Rattle.process.specs.Change.{Became}
 
 -- the port of a word by the plan's row of its channel, and the word as a message
 abbrev pub portFor : List ℕ → Mail → ℕ
-portFor wires x = portIn wires (x .channel % 32)
+portFor wires x = portIn wires (x .channel % channelsMost)
 
 abbrev pub copyOf : List ℕ → Mail → Message
 copyOf port x = record { port = portFor port x; word = x .word }

@@ -9,6 +9,9 @@ use words::high_of;
 use words::low_of;
 use words::wide;
 
+// The places of the ring, as a cell of a row counts them.
+pub const PLACES: u32 = LOG as u32;
+
 pub fn channel_of(x: u64) -> u32
     ensures { λ r. ⌜ r ≡ mailIn x .channel ⌝ }
 {

@@ -23,6 +23,7 @@ use backup::place::HEAD;
 use backup::place::arrive_in;
 use backup::place::new_in;
 use backup::place::sync_in;
+use plan::CHANNELS;
 use plan::WIRES;
 use plan::port;
 use words::wide;
@@ -43,7 +44,7 @@ fn copy(
     let mut i = 0;
     while i < len {
         let x = mail[place(first, i)];
-        let k = wide(channel_of(x)) % 32;
+        let k = wide(channel_of(x)) % CHANNELS;
         arrive_in(log, head, port(wires, k), word_of(x));
         i += 1;
     }

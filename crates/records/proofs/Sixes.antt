@@ -4,11 +4,12 @@ use mathlib.Core.List.{List}
 use Prim.Native.Nat.{ℕ, zero, suc, _+_, _-_, _*_, _/_, _≤_, _<_}
 use native.Mathlib.Omega.{arith}
 use native.Mathlib.Nat.{not-suc-le-zero, le-of-suc-le-suc, add-assoc}
-use lib.ListN.{length, getD, drop, List·getD-eq-default}
+use lib.ListN.{length, getD, take, drop, length-drop, List·getD-eq-default}
 use lib.Seq.{getD-drop}
+use Rattle.facts.specs.Lists.{part-rest}
 use Rattle.rules.specs.Bytes.{byteAt, number32, sixes}
 use Rattle.rules.proofs.Valid.{length-sixes}
-use Rattle.records.specs.Six.{six, sixAt}
+use Rattle.records.specs.Six.{six, sixOf}
 use Rattle.records.specs.declared.six.Six.{Six}
 
 module _ {A : Type 0} (make : ℕ → ℕ → ℕ → A) where
@@ -41,21 +42,28 @@ module _ {A : Type 0} (make : ℕ → ℕ → ℕ → A) where
   made-of-six (suc n) l zero = refl
   made-of-six (suc n) l (suc k) = made-of-six n (drop 6 l) k
 
-  -- so the code's six numbers say what is made
-  pub made-of : (l : List ℕ) (at k : ℕ) (s : Six) → s ≡ sixAt l at k
+  -- so the code's six numbers say what is made of the part from byte `at` on
+  pub made-of-part : (l : List ℕ) (at k : ℕ) (s : Six) → s ≡ sixOf (take (length l - at) (drop at l)) k
       → make (s .first) (s .second) (s .word) ≡ getD (sixes make ((length l - at) / 6) (drop at l)) k (make 0 0 0)
-  unfolding sixAt
-  made-of l at k s e =
-      ap (λ (x : Six). make (x .first) (x .second) (x .word)) e ∙ sym (made-of-six ((length l - at) / 6) (drop at l) k)
+  unfolding sixOf
+  made-of-part l at k s e =
+      ap (λ (x : Six). make (x .first) (x .second) (x .word))
+      (e ∙ ap (λ (part : List ℕ). getD (sixes six (length part / 6) part) k (six 0 0 0)) (part-rest l at)
+      ∙ ap (λ (n : ℕ). getD (sixes six (n / 6) (drop at l)) k (six 0 0 0)) (length-drop at l))
+      ∙ sym (made-of-six ((length l - at) / 6) (drop at l) k)
+
+  -- and zeros where it would begin behind the end
+  pub made-of-none : (l : List ℕ) (at k : ℕ) → length l < at → make 0 0 0 ≡ getD (sixes make ((length l - at) / 6) (drop at l)) k (make 0 0 0)
+  made-of-none l at k h = sym (six-past ((length l - at) / 6) (drop at l) k (make 0 0 0) (omega arith))
 
 -- ---- the code's six
 
-pub no-six : (l : List ℕ) (at k : ℕ) → (length l - at) / 6 ≤ k → six 0 0 0 ≡ sixAt l at k
-unfolding sixAt
-no-six l at k h = sym (six-past six ((length l - at) / 6) (drop at l) k (six 0 0 0) h)
+pub no-six : (l : List ℕ) (k : ℕ) → length l / 6 ≤ k → six 0 0 0 ≡ sixOf l k
+unfolding sixOf
+no-six l k h = sym (six-past six (length l / 6) l k (six 0 0 0) h)
 
-pub whole-six : (l : List ℕ) (at k w : ℕ) → k < (length l - at) / 6
-    → w ≡ number32 (byteAt l (at + 6 * k + 2)) (byteAt l (at + 6 * k + 3)) (byteAt l (at + 6 * k + 4)) (byteAt l (at + 6 * k + 5))
-    → six (byteAt l (at + 6 * k)) (byteAt l (at + 6 * k + 1)) w ≡ sixAt l at k
-unfolding sixAt
-whole-six l at k w h e = rw e (sym (six-from six ((length l - at) / 6) l at k (six 0 0 0) h))
+pub whole-six : (l : List ℕ) (k w : ℕ) → k < length l / 6
+    → w ≡ number32 (byteAt l (6 * k + 2)) (byteAt l (6 * k + 3)) (byteAt l (6 * k + 4)) (byteAt l (6 * k + 5))
+    → six (byteAt l (6 * k)) (byteAt l (6 * k + 1)) w ≡ sixOf l k
+unfolding sixOf
+whole-six l k w h e = rw e (sym (six-at six (length l / 6) l k (six 0 0 0) h))

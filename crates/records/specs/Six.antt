@@ -1,13 +1,13 @@
 -- Six bytes, the layout of an instruction and of a schedule record, as the code has them.
 use mathlib.Core.List.{List}
-use Prim.Native.Nat.{ℕ, _-_, _/_}
-use lib.ListN.{length, getD, drop}
+use Prim.Native.Nat.{ℕ, _/_}
+use lib.ListN.{length, getD}
 use Rattle.rules.specs.Bytes.{sixes}
 use Rattle.records.specs.declared.six.Six.{Six}
 
 abbrev pub six : ℕ → ℕ → ℕ → Six
 six first second word = record { first = first; second = second; word = word }
 
--- the k-th of the whole sixes from byte `at` on; zeros past the last
-unfoldable pub sixAt : List ℕ → ℕ → ℕ → Six
-sixAt bytes at k = getD (sixes six ((length bytes - at) / 6) (drop at bytes)) k (six 0 0 0)
+-- the k-th of a part's whole sixes; zeros past the last
+unfoldable pub sixOf : List ℕ → ℕ → Six
+sixOf part k = getD (sixes six (length part / 6) part) k (six 0 0 0)

@@ -3,14 +3,16 @@ ghost use mathlib.Core.Path.{_≡_};
 ghost use Rattle.rules.specs.Schedule.{decodeSchedule, command};
 ghost use Rattle.records.specs.Commands.{commandOf, ScheduleJudged, judgedRun};
 ghost use lib.ListN.{getD};
-use crate::bytes::pair;
 use crate::head::VERSION;
-use crate::six::six_at;
+use crate::six::six_of;
+use words::pair;
 
 // Where the commands begin: behind the length's two bytes and the version.
 const FIRST_COMMAND: usize = 3;
+// Commands that a schedule has at most, and the bytes of one that has so many.
+pub const COMMANDS_MOST: usize = 10000;
 
-const COMMANDS_MOST: usize = 10000;
+pub const SCHEDULE_MOST: usize = FIRST_COMMAND + 6 * COMMANDS_MOST;
 
 // What judging a schedule finds: 0 or the number that refuses it, and how many commands it has (0 where it is refused).
 pub struct Judged {
@@ -68,7 +70,14 @@ pub fn judge_schedule(schedule: &[u8]) -> Judged
 pub fn command_at(schedule: &[u8], i: usize) -> Command
     ensures { λ r. ⌜ commandOf r ≡ getD (decodeSchedule (now (schedule .entry))) i (command 0 0 0) ⌝ }
 {
-    let s = six_at(schedule, FIRST_COMMAND, i);
+    if schedule.len() < FIRST_COMMAND {
+        return Command {
+            mv: 0,
+            a: 0,
+            word: 0,
+        };
+    }
+    let s = six_of(&schedule[FIRST_COMMAND..], i);
     Command {
         mv: s.first,
         a: s.second,

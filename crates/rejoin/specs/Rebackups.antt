@@ -13,10 +13,11 @@ use Rattle.state.specs.declared.entry.Item.the-variants.{Transfer}
 use Rattle.state.specs.declared.moved.Moved.{Moved}
 use Rattle.state.specs.Store.{storeOf}
 use Rattle.state.specs.Moved.{Makes, aProcess}
+use Rattle.rules.specs.Sizes.{channelsMost}
 
 -- the channel at a port of process p; no table has one over 31
 abbrev pub channelIn : List ℕ → ℕ → ℕ → ℕ
-channelIn programs p port = inputIn programs p port % 32
+channelIn programs p port = inputIn programs p port % channelsMost
 
 -- "on one channel it reads, more than 8 words unread and in queues together", of the channel at a port
 abbrev pub crowdedOn : List ℕ → List ℕ → ℕ → ℕ → Bool

@@ -6,9 +6,13 @@ ghost use Prim.Native.Nat.{_<_, min};
 ghost use Rattle.facts.specs.Tests.{anyBelow};
 ghost use Rattle.backup.specs.Limits.{ports};
 ghost use Rattle.plan.specs.Plan.{arityIn};
+ghost use Rattle.rules.specs.Sizes.{processesMost};
 ghost use Rattle.rejoin.specs.Rebackups.{crowdedOn, Rebackups};
 use backup::limits::LOG;
 use backup::place::HEAD;
+use plan::BOARDS;
+use plan::CHANNELS;
+use plan::PROCESSES;
 use plan::PROGRAMS;
 use plan::WIRES;
 use plan::arity;
@@ -36,17 +40,17 @@ use words::least;
 use words::wide;
 
 // Whether the channel at a port of process p has more words than it may.
-fn crowds(programs: &[u32; PROGRAMS], totals: &[u32; 32], p: usize, port: usize) -> bool
-    requires { ⌜ (p < 16) × (port < ports) ⌝ }
+fn crowds(programs: &[u32; PROGRAMS], totals: &[u32; CHANNELS], p: usize, port: usize) -> bool
+    requires { ⌜ (p < processesMost) × (port < ports) ⌝ }
     ensures { λ r. ⌜ r ≡ crowdedOn (now (programs .entry)) (now (totals .entry)) p port ⌝ }
 {
-    let k = wide(input(programs, p, port)) % 32;
+    let k = wide(input(programs, p, port)) % CHANNELS;
     totals[k] > OCCUPANCY
 }
 
 // Whether one of them has.
-fn crowded(programs: &[u32; PROGRAMS], totals: &[u32; 32], p: usize) -> bool
-    requires { ⌜ p < 16 ⌝ }
+fn crowded(programs: &[u32; PROGRAMS], totals: &[u32; CHANNELS], p: usize) -> bool
+    requires { ⌜ p < processesMost ⌝ }
     ensures { λ r. ⌜ r ≡ anyBelow (crowdedOn (now (programs .entry)) (now (totals .entry)) p) (min (arityIn (now (programs .entry)) p) ports) ⌝ }
 {
     let n = least(wide(arity(programs, p)), 4);
@@ -64,12 +68,12 @@ fn crowded(programs: &[u32; PROGRAMS], totals: &[u32; 32], p: usize) -> bool
 pub fn rebackup(
     programs: &[u32; PROGRAMS],
     wires: &[u32; WIRES],
-    rows: &mut [[u32; ROW]; 16],
-    mails: &[[u64; LOG]; 16],
-    logs: &mut [[u64; LOG]; 16],
-    heads: &mut [[u32; HEAD]; 16],
-    queues: &mut [[u32; QUEUE_ROW]; 16],
-    totals: &[u32; 32],
+    rows: &mut [[u32; ROW]; PROCESSES],
+    mails: &[[u64; LOG]; PROCESSES],
+    logs: &mut [[u64; LOG]; PROCESSES],
+    heads: &mut [[u32; HEAD]; PROCESSES],
+    queues: &mut [[u32; QUEUE_ROW]; BOARDS],
+    totals: &[u32; CHANNELS],
     a: u32,
 ) -> Moved
     ensures { λ r. ⌜ Rebackups (now (programs .entry)) (now (wires .entry)) (now (rows .entry)) (now (mails .entry)) (now (logs .entry))

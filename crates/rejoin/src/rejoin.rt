@@ -1,6 +1,7 @@
 // Move 6: "Move 6 returns board a with an empty queue; nothing runs there yet." "48, a return of a live board, after 33".
 ghost use mathlib.Core.Path.{_≡_};
 ghost use Rattle.rejoin.specs.Rejoins.{liveRow, Rejoins};
+use plan::BOARDS;
 use state::moved::Answer;
 use state::moved::refusal;
 use state::queue::COUNT;
@@ -16,7 +17,7 @@ fn revive(queue: &mut [u32; QUEUE_ROW])
     queue[DEAD] = 0;
 }
 
-pub fn rejoin(queues: &mut [[u32; QUEUE_ROW]; 16], a: u32) -> Answer
+pub fn rejoin(queues: &mut [[u32; QUEUE_ROW]; BOARDS], a: u32) -> Answer
     ensures { λ r. ⌜ Rejoins (now (queues .entry)) a (now (queues .exit)) r ⌝ }
 {
     let b = index16(a);

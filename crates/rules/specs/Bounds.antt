@@ -13,7 +13,8 @@ use Rattle.facts.specs.Counts.{total}
 use Rattle.backup.specs.Replica.{Message, Checkpoint, counted, takenOn, remaining, arriveNumber, countNumber, syncNumber, failOver}
 use Rattle.rules.specs.Table.{Table, environment, channelAt, codeOf, limitOf, inputs, portOf, channelOn}
 use Rattle.rules.specs.Machine.{Mail}
-use Rattle.rules.specs.Cabinet.{outboxMost, limitMost, instructionsMost, occupancyMost, savedMost, Standby, Item, message, checkpoint, transfer, Cabinet, noTakes, processAt, outboxAt, deadAt, queuedOn, inFlight, occupancy, full}
+use Rattle.rules.specs.Cabinet.{outboxMost, limitMost, instructionsMost, occupancyMost, savedMost, Standby, Item, message, checkpoint}
+use Rattle.rules.specs.Cabinet.{transfer, Cabinet, noTakes, processAt, outboxAt, deadAt, queuedOn, inFlight, occupancy, full}
 
 -- saved words as an inbox: "the saved words as inbox"
 abbrev pub mails : Table → ℕ → List Message → List Mail
@@ -47,7 +48,8 @@ pub record BackupBounds (t : Table) (c : Cabinet) (p : ℕ) (s : Standby) : Type
   -- "A channel is held when its unread words and those in the queues are 8 or more together."
   pub occupied : (k : ℕ) → channelAt t k .reader ≡ p → occupancy t c k ≤ occupancyMost
   -- the saved words, less those taken since the backup's state, are the inbox
-  pub saved : mails t p (remaining (processAt c p .since .taken) (remaining (issuedTakes p (outboxAt c (processAt c p .board))) (s .replica .log))) ≡ processAt c p .machine .mailbox
+  pub saved : mails t p (remaining (processAt c p .since .taken)
+      (remaining (issuedTakes p (outboxAt c (processAt c p .board))) (s .replica .log))) ≡ processAt c p .machine .mailbox
   -- no call of the backup is refused. "A word goes [..] to the sender's backup record, which counts it":
   pub counts : (b : ℕ) (x : Mail) (rest : List Item) → outboxAt c b ≡ message x ∷ rest → channelAt t (x .channel) .sender ≡ p
       → countNumber (s .replica) ≡ 0

@@ -12,7 +12,8 @@ use Rattle.rules.specs.Table.{Placement, Table}
 use Rattle.rules.specs.Judge.{endsOk, inputsOk, boardsOk, instructionsOk, limitsOk}
 use Rattle.rules.specs.Bytes.{byteAt, sixes, wordBytes, allBytes}
 use Rattle.rules.specs.Sizes.{withLimits, limitBytes, recordHead}
-use Rattle.rules.specs.Format.{versionIn, boardsIn, processesIn, channelsIn, pairs, recordBytes, programLength, rests, instruction, limitSaid, orNumber, versionOk, countsFit, tableNumber, decodeTable, validateTable}
+use Rattle.rules.specs.Format.{versionIn, boardsIn, processesIn, channelsIn, pairs, recordBytes, programLength, rests, instruction}
+use Rattle.rules.specs.Format.{limitSaid, orNumber, versionOk, countsFit, tableNumber, decodeTable, validateTable}
 
 -- The version, boards B, processes P and channels C; for each channel sender and reader; for each process primary board, backup board and n; the
 -- limit of each process, in version 2; and for each instruction code, `a` and operand, the instructions of all processes in a row.

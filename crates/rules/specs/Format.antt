@@ -6,7 +6,8 @@ use Prim.Native.Nat.{ℕ, zero, suc, _+_, _*_}
 use lib.Dec.{eqb, leb}
 use lib.ListN.{length, drop}
 use Rattle.backup.specs.Limits.{pcMost}
-pub use Rattle.rules.specs.Sizes.{tableMost, boardsLeast, boardsMost, processesMost, channelsMost, withLimits, lengthPlace, recordHead, limitBefore}
+pub use Rattle.rules.specs.Sizes.{tableMost, boardsLeast, boardsMost, processesMost, channelsMost, withLimits, lengthPlace}
+pub use Rattle.rules.specs.Sizes.{recordHead, limitBefore}
 use Rattle.rules.specs.Table.{Channel, Instruction, SET, ADD, TAKE, FIRST, SEND, JUMP, NONE, Placement, Table}
 use Rattle.rules.specs.Cabinet.{isEmpty}
 use Rattle.rules.specs.Judge.{endsOk, inputsOk, boardsOk, instructionsOk, limitsOk}

@@ -9,7 +9,8 @@ use lib.ListN.{length}
 use Rattle.facts.specs.Tests.{allOf, allBelow}
 use Rattle.backup.specs.Limits.{ports, pcMost}
 use Rattle.rules.specs.Sizes.{boardsLeast, boardsMost, processesMost, channelsMost, limitLeast, limitMost}
-use Rattle.rules.specs.Table.{environment, Channel, Instruction, SET, ADD, TAKE, FIRST, SEND, JUMP, NONE, Placement, Table, channelAt, codeOf, placementAt, inputs}
+use Rattle.rules.specs.Table.{environment, Channel, Instruction, SET, ADD, TAKE, FIRST, SEND, JUMP, NONE, Placement, Table, channelAt}
+use Rattle.rules.specs.Table.{codeOf, placementAt, inputs}
 use Rattle.rules.specs.Machine.{bit}
 
 -- "a process number, or 255 for the outside"
@@ -30,7 +31,8 @@ inputsOk t = allBelow (λ p. leb (length (inputs t p)) ports) (length (t .proces
 -- 7: "a board not below B, or primary equal to backup"
 unfoldable pub boardsOk : Table → Bool
 boardsOk t =
-    allOf (λ (x : Placement). ltb (x .primary) (t .boards) && (ltb (x .standby) (t .boards) && not (eqb (x .primary) (x .standby)))) (t .processes)
+    allOf (λ (x : Placement). ltb (x .primary) (t .boards) && (ltb (x .standby) (t .boards) && not (eqb (x .primary) (x .standby))))
+    (t .processes)
 
 -- process p reads, or sends on, channel k of the table
 abbrev pub reads : Table → ℕ → ℕ → Bool

@@ -7,11 +7,19 @@ use lib.Dec.{eqb, ltb, leb}
 use lib.ListN.{length, getD, set}
 use Rattle.backup.specs.Report.{totalDropped, syncReport}
 use Rattle.backup.specs.Replica.{Message, Replica, Checkpoint, Reply, FailOver, arrive, count, sync, failOver}
-use Rattle.rules.specs.Table.{Table, Instruction, SET, ADD, TAKE, FIRST, SEND, JUMP, NONE, environment, channelAt, codeOf, limitOf, portOf, channelOn}
-use Rattle.rules.specs.Machine.{Mail, Machine, Act, internal, took, sent, Outcome, halted, noMail, moved, instructionAt, localStep, delivered}
-use Rattle.rules.specs.Cabinet.{outboxMost, Standby, Since, Process, Item, message, checkpoint, transfer, isComplete, Cabinet, noneSince, nobody, processAt, outboxAt, deadAt, protected, limited, otherBoard, someUnbacked, exhausted, overrun, owing, full, crowded, waiting}
-pub use Rattle.rules.specs.Answers.{Command, Refusal, unknownMove, strayWord, noProcess, noBoard, noChannel, transmitDead, crashDead, isHalted, noWordToTake, noWordForFirst, eventsFull, instructionsFull, sendBlocked, syncBlocked, rebackupBlocked, sendHeld, injectHeld, syncWaits, rebackupWaits, noBackup, outboxEmpty, notOutside, notBacked, boardLive, unready, hasBackup}
-pub use Rattle.rules.specs.Answers.{Answer, stepDone, issueDone, crashDone, rejoinDone, rebackupDone, received, queued, suppressed, transmitted, injected, syncKept, syncLost, transferKept, refused, Numbers, numbered}
+use Rattle.rules.specs.Table.{Table, Instruction, SET, ADD, TAKE, FIRST, SEND, JUMP, NONE, environment, channelAt, codeOf, limitOf}
+use Rattle.rules.specs.Table.{portOf, channelOn}
+use Rattle.rules.specs.Machine.{Mail, Machine, Act, internal, took, sent, Outcome, halted, noMail, moved, instructionAt, localStep}
+use Rattle.rules.specs.Machine.{delivered}
+use Rattle.rules.specs.Cabinet.{outboxMost, Standby, Since, Process, Item, message, checkpoint, transfer, isComplete, Cabinet}
+use Rattle.rules.specs.Cabinet.{noneSince, nobody, processAt, outboxAt, deadAt, protected, limited, otherBoard, someUnbacked}
+use Rattle.rules.specs.Cabinet.{exhausted, overrun, owing, full, crowded, waiting}
+pub use Rattle.rules.specs.Answers.{Command, Refusal, unknownMove, strayWord, noProcess, noBoard, noChannel, transmitDead, crashDead}
+pub use Rattle.rules.specs.Answers.{isHalted, noWordToTake, noWordForFirst, eventsFull, instructionsFull, sendBlocked, syncBlocked}
+pub use Rattle.rules.specs.Answers.{rebackupBlocked, sendHeld, injectHeld, syncWaits, rebackupWaits, noBackup, outboxEmpty}
+pub use Rattle.rules.specs.Answers.{notOutside, notBacked, boardLive, unready, hasBackup}
+pub use Rattle.rules.specs.Answers.{Answer, stepDone, issueDone, crashDone, rejoinDone, rebackupDone, received, queued, suppressed}
+pub use Rattle.rules.specs.Answers.{transmitted, injected, syncKept, syncLost, transferKept, refused, Numbers, numbered}
 unfoldable pub use Rattle.rules.specs.Answers.{refusalNumber, numbers}
 
 -- what a move comes to: a refusal, or the cabinet afterwards and the answer

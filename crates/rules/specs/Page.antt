@@ -68,8 +68,10 @@ registerAt report at = number32 (byteAt report at) (byteAt report (at + 1)) (byt
 -- "one line a process (`process`, its number, board, place, unread, hold-back, registers)", of the 20 bytes that begin at this one
 abbrev pub processLine : ℕ → List ℕ → ℕ → List ℕ
 processLine p report at =
-    line (processText ∷ decimal p ∷ decimal (byteAt report at) ∷ decimal (byteAt report (at + 1)) ∷ decimal (byteAt report (at + 2)) ∷ decimal (byteAt report (at + 3))
-    ∷ decimal (registerAt report (at + 4)) ∷ decimal (registerAt report (at + 8)) ∷ decimal (registerAt report (at + 12)) ∷ decimal (registerAt report (at + 16)) ∷ [])
+    line (processText ∷ decimal p ∷ decimal (byteAt report at) ∷ decimal (byteAt report (at + 1)) ∷ decimal (byteAt report (at + 2))
+    ∷ decimal (byteAt report (at + 3))
+    ∷ decimal (registerAt report (at + 4)) ∷ decimal (registerAt report (at + 8)) ∷ decimal (registerAt report (at + 12))
+    ∷ decimal (registerAt report (at + 16)) ∷ [])
 
 -- the lines of n processes of which p is the first
 abbrev pub processLines : ℕ → ℕ → List ℕ → List ℕ

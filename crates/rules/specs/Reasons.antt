@@ -1,7 +1,11 @@
 -- Why that answer (document 02, W-206): "The service desk wants a second list with one byte a record: the answer's code times 4, plus a cause."
 -- The refusals and the answers of Moves know what told them apart; here each has its cause.
 use Prim.Native.Nat.{ℕ, _+_, _*_}
-use Rattle.rules.specs.Moves.{Refusal, unknownMove, strayWord, noProcess, noBoard, noChannel, transmitDead, crashDead, isHalted, noWordToTake, noWordForFirst, eventsFull, instructionsFull, sendBlocked, syncBlocked, rebackupBlocked, sendHeld, injectHeld, noBackup, syncWaits, rebackupWaits, outboxEmpty, notOutside, notBacked, boardLive, unready, hasBackup, Answer, stepDone, issueDone, crashDone, rejoinDone, rebackupDone, received, queued, suppressed, transmitted, injected, syncKept, syncLost, transferKept, refused, numbers}
+use Rattle.rules.specs.Moves.{Refusal, unknownMove, strayWord, noProcess, noBoard, noChannel, transmitDead, crashDead, isHalted}
+use Rattle.rules.specs.Moves.{noWordToTake, noWordForFirst, eventsFull, instructionsFull, sendBlocked, syncBlocked, rebackupBlocked}
+use Rattle.rules.specs.Moves.{sendHeld, injectHeld, noBackup, syncWaits, rebackupWaits, outboxEmpty, notOutside, notBacked, boardLive}
+use Rattle.rules.specs.Moves.{unready, hasBackup, Answer, stepDone, issueDone, crashDone, rejoinDone, rebackupDone, received, queued}
+use Rattle.rules.specs.Moves.{suppressed, transmitted, injected, syncKept, syncLost, transferKept, refused, numbers}
 
 -- "The cause is 0 except here."
 unfoldable pub refusalCause : Refusal → ℕ

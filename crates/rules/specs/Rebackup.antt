@@ -11,7 +11,8 @@ use Rattle.backup.specs.Replica.{Message, Replica, Checkpoint, initial, arrived
 use Rattle.rules.specs.Table.{Table, placementAt, channelAt, portOf}
 use Rattle.rules.specs.Machine.{Mail, Machine}
 use Rattle.rules.specs.Cabinet.{Standby, Process, Item, Cabinet, noTakes, processAt, otherBoard, isCheckpointOf, occupancy}
-use Rattle.rules.specs.Moves.{Answer, stepDone, issueDone, crashDone, rejoinDone, rebackupDone, received, queued, suppressed, transmitted, injected, syncKept, syncLost, transferKept, refused, numbers, copied}
+use Rattle.rules.specs.Moves.{Answer, stepDone, issueDone, crashDone, rejoinDone, rebackupDone, received, queued, suppressed}
+use Rattle.rules.specs.Moves.{transmitted, injected, syncKept, syncLost, transferKept, refused, numbers, copied}
 use Rattle.rules.specs.Transparent.{traceOf}
 
 -- ---- where the halves of a process are

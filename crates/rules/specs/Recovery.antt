@@ -9,7 +9,8 @@ use lib.ListN.{length}
 use Rattle.rules.specs.Table.{Table}
 use Rattle.rules.specs.Reference.{Reference, Action, referenceStart, referenceRun, injections}
 use Rattle.rules.specs.Cabinet.{Cabinet, processAt, protected}
-use Rattle.rules.specs.Moves.{Command, Answer, stepDone, issueDone, crashDone, rejoinDone, rebackupDone, received, queued, suppressed, transmitted, injected, syncKept, syncLost, transferKept, refused, numbers, runFrom}
+use Rattle.rules.specs.Moves.{Command, Answer, stepDone, issueDone, crashDone, rejoinDone, rebackupDone, received, queued, suppressed}
+use Rattle.rules.specs.Moves.{transmitted, injected, syncKept, syncLost, transferKept, refused, numbers, runFrom}
 use Rattle.rules.specs.Transparent.{traceOf, fedOf, answered, finished}
 use Rattle.rules.specs.Rebackup.{anyCompletes}
 

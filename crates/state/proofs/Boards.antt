@@ -15,7 +15,7 @@ use Rattle.rules.specs.Table.{Table}
 use Rattle.rules.specs.Cabinet as rules
 use Rattle.rules.specs.Cabinet.{Cabinet, outboxMost}
 use Rattle.state.specs.declared.entry.Entry.{Entry}
-use Rattle.state.specs.Queue.{firstIn, countIn, deadIn}
+use Rattle.state.specs.Queue.{firstIn, countIn, deadIn, queueCount, queueDead, queueFirst}
 use Rattle.state.specs.Store.{Store, Holds, itemOf, blankEntry, outboxIn}
 
 -- what `Holds` says of the boards' rows
@@ -29,11 +29,11 @@ pub record Boarded (t : Table) (queues : List (List ℕ)) (entries : List Entry)
 
 -- What is known of a board's new row, where its queue is q then, and of the entries.
 pub record RowThen (s : Store) (entries entries′ : List Entry) (b : ℕ) (queue : List ℕ) (dead : Bool) (q : List rules.Item) : Type 0 where
-  pub first-fits : getD queue 0 0 < outboxMost
-  pub count-fits : getD queue 1 0 ≤ outboxMost
-  pub is-dead : not (eqb (getD queue 2 0) 0) ≡ dead
+  pub first-fits : queueFirst queue < outboxMost
+  pub count-fits : queueCount queue ≤ outboxMost
+  pub is-dead : not (eqb (queueDead queue) 0) ≡ dead
   pub three : length queue ≡ 3
-  pub is-queue : map (λ (e : Entry). itemOf (e .item)) (ring blankEntry entries′ b (getD queue 0 0) (getD queue 1 0)) ≡ q
+  pub is-queue : map (λ (e : Entry). itemOf (e .item)) (ring blankEntry entries′ b (queueFirst queue) (queueCount queue)) ≡ q
   pub others : (i : ℕ) → i ≢ b
       → ring blankEntry entries′ i (firstIn (s .queues) i) (countIn (s .queues) i) ≡ ring blankEntry entries i (firstIn (s .queues) i) (countIn (s .queues) i)
 
@@ -81,7 +81,7 @@ module _ {t : Table} {s : Store} {entries : List Entry} {c : Cabinet} (h : Holds
       let queue : List ℕ = getD (s .queues) b [] in
       let l = h .queue-three b hb in
       let m = length-set queue 1 0 in
-      let is-first : getD (set (set queue 1 0) 2 dead) 0 0 ≡ getD queue 0 0 =
+      let is-first : getD (set (set queue 1 0) 2 dead) 0 0 ≡ queueFirst queue =
       getD-set-other (set queue 1 0) 2 0 dead 0 (λ e. omega arith) ∙ getD-set-other queue 1 0 0 0 (λ e. omega arith) in
       let is-count : getD (set (set queue 1 0) 2 dead) 1 0 ≡ 0 =
       getD-set-other (set queue 1 0) 2 1 dead 0 (λ e. omega arith) ∙ getD-set-same queue 1 0 0 (omega arith) in

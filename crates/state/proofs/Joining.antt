@@ -11,7 +11,7 @@ use lib.ListN.{length, getD, set, length-set}
 use lib.Seq.{getD-set-same, getD-set-other}
 use borrow.Author.Tests.{eq-eqb, ne-eqb}
 use Rattle.facts.specs.Tests.{by-eq}
-use Rattle.process.specs.Row.{processOf, waitsIn}
+use Rattle.process.specs.Row.{processOf, waitsIn, boardIn, flagIn}
 use Rattle.process.proofs.Rows.{protected-is}
 use Rattle.rules.specs.Table.{Table}
 use Rattle.rules.specs.Cabinet as rules
@@ -19,7 +19,7 @@ use Rattle.rules.specs.Cabinet.{isCheckpointOf, Cabinet, Process, outboxMost, p
 use Rattle.rules.specs.Moves.{enqueue}
 use Rattle.rules.proofs.Counting.{weight, flight-joined}
 use Rattle.state.specs.declared.entry.Entry.{Entry}
-use Rattle.state.specs.Queue.{placeOf, pushedIn}
+use Rattle.state.specs.Queue.{placeOf, pushedIn, queueCount}
 use Rattle.state.specs.Queue.{firstIn, countIn}
 use Rattle.state.specs.Store.{itemOf, Store, storeOf, Holds, processIn, outboxIn, flag}
 use Rattle.state.specs.Moved.{Reachable}
@@ -42,21 +42,21 @@ module _ {t : Table} {s : Store} {entries : List Entry} {c : Cabinet} (reach : R
   x-is : processAt c p ≡ processIn s p
   x-is = at-process h p hp
 
-  pub is-protected : (b : Bool) → eqb (getD (getD (s .rows) p []) 12 0) 1 ≡ b → protected (processAt c p) ≡ b
+  pub is-protected : (b : Bool) → eqb (flagIn (getD (s .rows) p [])) 1 ≡ b → protected (processAt c p) ≡ b
   is-protected b e = ap protected x-is ∙ protected-is _ _ _ _ ∙ e
 
-  pub board-is : processAt c p .board ≡ getD (getD (s .rows) p []) 0 0
+  pub board-is : processAt c p .board ≡ boardIn (getD (s .rows) p [])
   unfolding processOf
   board-is = ap (λ (x : Process). x .board) x-is
 
-  pub board-there : getD (getD (s .rows) p []) 0 0 < t .boards
+  pub board-there : boardIn (getD (s .rows) p []) < t .boards
   board-there = rw (← board-is) (bounds reach p hp .board)
 
-  queue-is : outboxAt c (processAt c p .board) ≡ outboxIn (s .queues) entries (getD (getD (s .rows) p []) 0 0)
-  queue-is = ap (outboxAt c) board-is ∙ at-outbox h (getD (getD (s .rows) p []) 0 0) board-there
+  queue-is : outboxAt c (processAt c p .board) ≡ outboxIn (s .queues) entries (boardIn (getD (s .rows) p []))
+  queue-is = ap (outboxAt c) board-is ∙ at-outbox h (boardIn (getD (s .rows) p [])) board-there
 
-  pub queue-has : length (outboxAt c (processAt c p .board)) ≡ countIn (s .queues) (getD (getD (s .rows) p []) 0 0)
-  queue-has = ap (λ (l : List _). length l) queue-is ∙ queue-length (s .queues) entries (getD (getD (s .rows) p []) 0 0)
+  pub queue-has : length (outboxAt c (processAt c p .board)) ≡ countIn (s .queues) (boardIn (getD (s .rows) p []))
+  queue-has = ap (λ (l : List _). length l) queue-is ∙ queue-length (s .queues) entries (boardIn (getD (s .rows) p []))
 
   pub waits-on : (waitsIn (getD (s .rows) p []) ≡ 0 → ⊥) → waiting p (outboxAt c (processAt c p .board)) ≡ true
   waits-on n = flag-on (waiting p (outboxAt c (processAt c p .board))) (waitsIn (getD (s .rows) p [])) (h .waits-is p hp) n
@@ -77,9 +77,9 @@ waiting-joined q p [] x w = rw (w .its q) (or-false (eqb q p))
 waiting-joined q p (i ∷ l) x w = ap (λ (b : Bool). isCheckpointOf q i || b) (waiting-joined q p l x w) ∙ sym (or-assoc (isCheckpointOf q i) (waiting q l) (eqb q p))
 
 module _ {t : Table} {s : Store} {entries : List Entry} {c : Cabinet} (reach : Reachable t c) (h : Holds t s entries c) (p : ℕ) (hp : p < length (t .processes))
-    (x : Entry) (waiter : Waiter p (itemOf (x .item))) (few : countIn (s .queues) (getD (getD (s .rows) p []) 0 0) < outboxMost) where
+    (x : Entry) (waiter : Waiter p (itemOf (x .item))) (few : countIn (s .queues) (boardIn (getD (s .rows) p [])) < outboxMost) where
   abbrev b : ℕ
-  b = getD (getD (s .rows) p []) 0 0
+  b = boardIn (getD (s .rows) p [])
 
   hb : b < t .boards
   hb = board-there reach h p hp
@@ -115,9 +115,9 @@ module _ {t : Table} {s : Store} {entries : List Entry} {c : Cabinet} (reach : R
   queue-then =
       let l = h .queue-three b hb in
       record {
-        is-first = getD-set-other queue 1 0 ((getD queue 1 0 + 1) % 2 ^ 32) 0 (λ e. omega arith);
-        is-count = getD-set-same queue 1 ((getD queue 1 0 + 1) % 2 ^ 32) 0 (omega arith) ∙ omega arith;
-        is-dead = getD-set-other queue 1 2 ((getD queue 1 0 + 1) % 2 ^ 32) 0 (λ e. omega arith);
+        is-first = getD-set-other queue 1 0 ((queueCount queue + 1) % 2 ^ 32) 0 (λ e. omega arith);
+        is-count = getD-set-same queue 1 ((queueCount queue + 1) % 2 ^ 32) 0 (omega arith) ∙ omega arith;
+        is-dead = getD-set-other queue 1 2 ((queueCount queue + 1) % 2 ^ 32) 0 (λ e. omega arith);
         three = length-set queue 1 _ ∙ l;
         totalled-then = totalled-same (h .totalled) (λ i.
             let a = flight-joined i (c .outboxes) b (itemOf (x .item)) (rw (how-many-boards h) hb) in

@@ -15,7 +15,7 @@ use Rattle.rules.specs.Cabinet as rules
 use Rattle.rules.specs.Cabinet.{Cabinet, outboxMost, processAt, outboxAt, deadAt, waiting}
 use Rattle.rules.specs.Moves.{withOutbox, enqueue}
 use Rattle.state.specs.declared.entry.Entry.{Entry}
-use Rattle.state.specs.Queue.{firstIn, countIn}
+use Rattle.state.specs.Queue.{firstIn, countIn, queueCount, queueDead, queueFirst}
 use Rattle.state.specs.Store.{Store, Totalled, Holds, processIn, itemOf, blankEntry, outboxIn, flag}
 use Rattle.process.specs.Row.{waitsIn}
 use Rattle.state.proofs.Flagging.{Flagged}
@@ -39,9 +39,9 @@ items l = map (λ (e : Entry). itemOf (e .item)) l
 -- What is known of the rows, of a board's new row and of the totals, where its queue becomes q.
 pub record QueueThen (t : Table) (s : Store) (c : Cabinet) (b : ℕ) (rows : List (List ℕ)) (queue totals : List ℕ) (first count : ℕ)
     (q : List rules.Item) : Type 0 where
-  pub is-first : getD queue 0 0 ≡ first
-  pub is-count : getD queue 1 0 ≡ count
-  pub is-dead : getD queue 2 0 ≡ getD (getD (s .queues) b []) 2 0
+  pub is-first : queueFirst queue ≡ first
+  pub is-count : queueCount queue ≡ count
+  pub is-dead : queueDead queue ≡ getD (getD (s .queues) b []) 2 0
   pub three : length queue ≡ 3
   pub totalled-then : Totalled t totals (withOutbox b q c)
   pub flagged : Flagged t (s .rows) rows

@@ -12,6 +12,7 @@ use Rattle.rules.specs.Cabinet.{Cabinet, started}
 use Rattle.rules.specs.Moves.{Command, Result, settle, numbers, numbered, runFrom}
 use Rattle.rules.specs.Reasons.{causeOf}
 use Rattle.plan.specs.Plan.{Plan, Planned}
+use Rattle.rules.specs.Sizes.{entriesMost}
 use Rattle.state.specs.declared.entry.Entry.{Entry}
 use Rattle.state.specs.declared.entry.Item.the-variants.{Word}
 use Rattle.state.specs.declared.moved.Answer.{Answer}
@@ -33,7 +34,7 @@ movedOf answer at = record { answer = answer; at = at }
 
 -- no entry joins a queue
 abbrev pub aloneOf : Answer → Moved
-aloneOf answer = movedOf answer 512
+aloneOf answer = movedOf answer entriesMost
 
 abbrev pub refusedWith : ℕ → ℕ → ℕ → Moved
 refusedWith code cause a = aloneOf (refusalOf code cause a)
@@ -42,7 +43,7 @@ refusedWith code cause a = aloneOf (refusalOf code cause a)
 
 -- with an entry put at a place, or as they are where that is no place
 abbrev pub joined : List Entry → ℕ → Entry → List Entry
-joined entries at entry = cond (ltb at 512) (set entries at entry) entries
+joined entries at entry = cond (ltb at entriesMost) (set entries at entry) entries
 
 -- the entry of a queued word, which an answer shows
 abbrev pub wordOf : Answer → Entry
@@ -57,7 +58,8 @@ pub record Reachable (t : Table) (c : Cabinet) : Type 0 where
   pub is-reached : c ≡ runFrom t (started t) commands .cabinet
 
 -- one move of the rules, as the code made it: the answer's numbers and its cause, and the cabinet that the lists hold afterwards
-pub record Answered (t : Table) (s : Store) (entries : List Entry) (c : Cabinet) (command : Command) (result : Result) (answer : Answer) : Type 0 where
+pub record Answered (t : Table) (s : Store) (entries : List Entry) (c : Cabinet) (command : Command) (result : Result)
+    (answer : Answer) : Type 0 where
   pub answer-is : numbers (settle c command result .answer) ≡ numbered (answer .code) (answer .a) (answer .word)
   pub cause-is : causeOf (settle c command result .answer) ≡ answer .cause
   pub holds : Holds t s entries (settle c command result .cabinet)
@@ -73,14 +75,15 @@ pub record SameLengths (s s′ : Store) : Type 0 where
 
 -- The move that the rules call `rule`, of the process, board or channel a, made on lists s that are then s′. `asks` is what it supposes of
 -- a, and of the entries; `entry` is the one that joins a queue by it, and `joins` the code of the answer that says so.
-pub record Makes (rule : Table → Cabinet → ℕ → Result) (asks : Table → List Entry → Type 0) (joins : ℕ) (l : Plan) (s : Store) (a : ℕ) (entry : Entry)
+pub record Makes (rule : Table → Cabinet → ℕ → Result) (asks : Table → List Entry → Type 0) (joins : ℕ) (l : Plan) (s : Store) (a : ℕ)
+    (entry : Entry)
     (s′ : Store) (r : Moved) : Type 0 where
   -- of a plan that is the table's, and of lists that hold a cabinet which commands reach
   pub made : (t : Table) (entries : List Entry) (c : Cabinet) (command : Command) → Reachable t c → Planned t l → Holds t s entries c
       → command .a ≡ a → asks t entries → Answered t s′ (joined entries (r .at) entry) c command (rule t c a) (r .answer)
   -- of any lists: what is refused leaves every one of them as it was, an answer with no entry stores none, and all stay as long as they were
   pub untouched : 32 ≤ r .answer .code → s′ ≡ s
-  pub none-joins : (r .answer .code ≡ joins → ⊥) → 512 ≤ r .at
+  pub none-joins : (r .answer .code ≡ joins → ⊥) → entriesMost ≤ r .at
   pub same-lengths : SameLengths s s′
 
 -- a move by which no entry joins, whatever it answers

@@ -12,10 +12,11 @@ use Rattle.rules.specs.Table.{Table, placementAt}
 use Rattle.rules.specs.Machine.{Mail}
 use Rattle.rules.specs.Cabinet as rules
 use Rattle.rules.specs.Cabinet.{Cabinet, Process, outboxMost, occupancy, waiting, processAt, outboxAt}
+use Rattle.rules.specs.Sizes.{boardsMost, processesMost, channelsMost, entriesMost}
 use Rattle.state.specs.declared.entry.Entry.{Entry}
 use Rattle.state.specs.declared.entry.Item.{Item}
 use Rattle.state.specs.declared.entry.Item.the-variants.{Word, Sync, Transfer}
-use Rattle.state.specs.Queue.{firstIn, countIn, deadIn}
+use Rattle.state.specs.Queue.{firstIn, countIn, deadIn, queueLength}
 
 -- ---- the lists
 
@@ -62,16 +63,16 @@ flag b = cond b 1 0
 -- the outside reads, its words in queues.
 pub record Totalled (t : Table) (totals : List ℕ) (c : Cabinet) : Type 0 where
   pub total-is : (k : ℕ) → k < length (t .channels) → getD totals k 0 ≡ occupancy t c k
-  pub totals-length : length totals ≡ 32
+  pub totals-length : length totals ≡ channelsMost
 
 -- How long the lists are, whatever they hold.
 pub record Shaped (s : Store) (entries : List Entry) : Type 0 where
-  pub rows-length : length (s .rows) ≡ 16
-  pub mails-length : length (s .mails) ≡ 16
-  pub logs-length : length (s .logs) ≡ 16
-  pub heads-length : length (s .heads) ≡ 16
-  pub queues-length : length (s .queues) ≡ 16
-  pub entries-length : length entries ≡ 512
+  pub rows-length : length (s .rows) ≡ processesMost
+  pub mails-length : length (s .mails) ≡ processesMost
+  pub logs-length : length (s .logs) ≡ processesMost
+  pub heads-length : length (s .heads) ≡ processesMost
+  pub queues-length : length (s .queues) ≡ boardsMost
+  pub entries-length : length entries ≡ entriesMost
 
 -- The lists hold this cabinet of table t.
 pub record Holds (t : Table) (s : Store) (entries : List Entry) (c : Cabinet) : Type 0 where
@@ -86,7 +87,7 @@ pub record Holds (t : Table) (s : Store) (entries : List Entry) (c : Cabinet) : 
   pub waits-is : (p : ℕ) → p < length (t .processes) → waitsIn (getD (s .rows) p []) ≡ flag (waiting p (outboxAt c (processAt c p .board)))
   pub first-small : (b : ℕ) → b < t .boards → firstIn (s .queues) b < outboxMost
   pub count-small : (b : ℕ) → b < t .boards → countIn (s .queues) b ≤ outboxMost
-  pub queue-three : (b : ℕ) → b < t .boards → length (getD (s .queues) b []) ≡ 3
+  pub queue-three : (b : ℕ) → b < t .boards → length (getD (s .queues) b []) ≡ queueLength
   -- W-208: "After every move of a run, a crash included, each total equals the count made afresh."
   pub totalled : Totalled t (s .totals) c
   pub shape : Shaped s entries

@@ -2,8 +2,8 @@
 ghost use mathlib.Core.Path.{_≡_};
 ghost use Rattle.state.specs.Channel.{fullIn};
 
-// Document 01: "a process number, or 255 for the outside".
-pub const ENVIRONMENT: u32 = 255;
+// The environment as a number of a wire.
+pub const ENVIRONMENT: u32 = plan::ENVIRONMENT as u32;
 // Words of a channel, unread and in queues together, at which it is full.
 pub const OCCUPANCY: u32 = 8;
 

@@ -27,7 +27,7 @@ use Rattle.rules.proofs.Decoded.{owed-number}
 use Rattle.rules.proofs.Tables.{step-own}
 use Rattle.state.specs.declared.entry.Entry.{Entry}
 use Rattle.state.specs.declared.moved.Moved.{Moved}
-use Rattle.state.specs.Queue.{firstIn, countIn, placeOf, pushedIn}
+use Rattle.state.specs.Queue.{firstIn, countIn, placeOf, pushedIn, queueCount}
 use Rattle.state.specs.Store.{itemOf, Store, storeOf, Totalled, Holds, flag}
 use Rattle.state.specs.Moved.{Reachable, answerOf, refusalOf, movedOf, aloneOf, refusedWith, wordOf}
 use Rattle.state.proofs.Reading.{at-process, how-many-boards}
@@ -65,7 +65,7 @@ module _ {t : Table} {s : Store} {entries : List Entry} {c : Cabinet} (reach : R
 
   -- its board
   abbrev b : ℕ
-  b = getD row 0 0
+  b = boardIn row
 
   abbrev x : Mail
   x = record { channel = channel; word = word }
@@ -83,7 +83,7 @@ module _ {t : Table} {s : Store} {entries : List Entry} {c : Cabinet} (reach : R
   pub channel-inside : channel < length (t .channels)
   channel-inside = sent-inside (reach .accepted) channel (rw own hp)
 
-  sends-so : (held : ℕ) → getD row 6 0 ≡ held → step t c p ≡ moves.send t c p (processAt c p) m1 x held
+  sends-so : (held : ℕ) → suppressIn row ≡ held → step t c p ≡ moves.send t c p (processAt c p) m1 x held
   unfolding stepFrom processOf
   sends-so held e =
       step-is h p hp _ (i .outcome) ∙ ap (moves.send t c p (processAt c p) m1 x) (ap (λ (y : Process). y .suppress) (at-process h p hp) ∙ e)
@@ -93,14 +93,14 @@ module _ {t : Table} {s : Store} {entries : List Entry} {c : Cabinet} (reach : R
   abbrev suppressing : ℕ → Process → Process
   suppressing left y = advanced m1 (y .since) left y
 
-  pub suppressed-so : (left : ℕ) → getD row 6 0 ≡ suc left → step t c p ≡ accept (withProcess p (suppressing left (processAt c p)) c) (suppressed x)
+  pub suppressed-so : (left : ℕ) → suppressIn row ≡ suc left → step t c p ≡ accept (withProcess p (suppressing left (processAt c p)) c) (suppressed x)
   unfolding moves.send
   suppressed-so left e = sends-so (suc left) e
 
   same-mailbox : m1 .mailbox ≡ processAt c p .machine .mailbox
   same-mailbox = ap (λ (m : Machine). m .mailbox) (sym (machine-is h p hp))
 
-  pub suppress-holds : (left : ℕ) (row′ : List ℕ) → getD row 6 0 ≡ suc left → Suppresses row row′
+  pub suppress-holds : (left : ℕ) (row′ : List ℕ) → suppressIn row ≡ suc left → Suppresses row row′
       → Holds t (storeOf (set (s .rows) p row′) (s .mails) (s .logs) (s .heads) (s .queues) (s .totals)) entries (withProcess p (suppressing left (processAt c p)) c)
   unfolding advanced
   suppress-holds left row′ e became =
@@ -115,7 +115,7 @@ module _ {t : Table} {s : Store} {entries : List Entry} {c : Cabinet} (reach : R
   abbrev then : Cabinet
   then = withProcess p (queueing (processAt c p)) (enqueue (processAt c p .board) (rules.message x) c)
 
-  module _ (none : getD row 6 0 ≡ 0) (reader : ℕ) (is-reader : reader ≡ channelAt t channel .reader) where
+  module _ (none : suppressIn row ≡ 0) (reader : ℕ) (is-reader : reader ≡ channelAt t channel .reader) where
     queues-so : (b1 b2 b3 : Bool) → owingIn (limitOf t p) row ≡ b1 → leb outboxMost (countIn (s .queues) b) ≡ b2 → fullIn reader (getD (s .totals) channel 0) ≡ b3
         → step t c p ≡ guard b1 (owedFor (limitOf t p) (processAt c p)) (guard b2 sendBlocked (guard b3 sendHeld (accept then (moves.queued x))))
     unfolding moves.send
@@ -185,9 +185,9 @@ module _ {t : Table} {s : Store} {entries : List Entry} {c : Cabinet} (reach : R
     queue-then =
         let l = h .queue-three b hb in
         record {
-          is-first = getD-set-other queue 1 0 ((getD queue 1 0 + 1) % 2 ^ 32) 0 (λ f. omega arith);
-          is-count = getD-set-same queue 1 ((getD queue 1 0 + 1) % 2 ^ 32) 0 (omega arith) ∙ omega arith;
-          is-dead = getD-set-other queue 1 2 ((getD queue 1 0 + 1) % 2 ^ 32) 0 (λ f. omega arith);
+          is-first = getD-set-other queue 1 0 ((queueCount queue + 1) % 2 ^ 32) 0 (λ f. omega arith);
+          is-count = getD-set-same queue 1 ((queueCount queue + 1) % 2 ^ 32) 0 (omega arith) ∙ omega arith;
+          is-dead = getD-set-other queue 1 2 ((queueCount queue + 1) % 2 ^ 32) 0 (λ f. omega arith);
           three = length-set queue 1 _ ∙ l;
           totalled-then = totals-then;
           waiting-there = waits-then;
@@ -195,7 +195,7 @@ module _ {t : Table} {s : Store} {entries : List Entry} {c : Cabinet} (reach : R
         }
 
     -- the lists afterwards hold the rules' cabinet afterwards
-    send-holds : (row′ : List ℕ) → getD row 6 0 ≡ 0 → Queues row row′
+    send-holds : (row′ : List ℕ) → suppressIn row ≡ 0 → Queues row row′
         → Holds t (storeOf (set (s .rows) p row′) (s .mails) (s .logs) (s .heads) (set (s .queues) b (pushedIn queue)) totals′) (set entries (placeOf queue b) e)
         (withProcess p (queueing (processAt c p)) (enqueue b (itemOf (e .item)) c))
     unfolding advanced
@@ -204,7 +204,7 @@ module _ {t : Table} {s : Store} {entries : List Entry} {c : Cabinet} (reach : R
         row-changed first (reach .accepted .processes-high) p hp row′ queueing
         (became (codeOf t p) n code a operand channel word mail log head (h .kept p hp) i none (events-room h p hp reach) (instructions-room h p hp reach)) refl same-mailbox
 
-    pub send-holds-so : (row′ : List ℕ) → getD row 6 0 ≡ 0 → Queues row row′
+    pub send-holds-so : (row′ : List ℕ) → suppressIn row ≡ 0 → Queues row row′
         → Holds t (storeOf (set (s .rows) p row′) (s .mails) (s .logs) (s .heads) (set (s .queues) b (pushedIn queue)) totals′) (set entries (placeOf queue b) e) then
     send-holds-so row′ none became =
         let after : Store = storeOf (set (s .rows) p row′) (s .mails) (s .logs) (s .heads) (set (s .queues) b (pushedIn queue)) totals′ in

@@ -8,7 +8,7 @@ use lib.Dec.{leb, ltb}
 use lib.ListN.{length, getD}
 use borrow.Author.Tests.{ne-eqb, ltb-true}
 use Rattle.facts.specs.Tests.{no-way}
-use Rattle.process.specs.Row.{pcIn, machineOf, processOf}
+use Rattle.process.specs.Row.{pcIn, machineOf, processOf, eventsIn, flagIn, instructionsIn}
 use Rattle.process.proofs.Rows.{limited-is}
 use Rattle.instruction.specs.Instruction.{Intends, Fetched, Examined, TallyRoom}
 use Rattle.instruction.specs.Laws as laws
@@ -64,11 +64,11 @@ module _ {t : Table} {s : Store} {entries : List Entry} {c : Cabinet} (h : Holds
 
   pub exhausted-is : exhausted (limitOf t p) (processAt c p) ≡ exhaustedIn (limitOf t p) row
   unfolding exhausted processOf
-  exhausted-is = ap (exhausted (limitOf t p)) (at-process h p hp) ∙ ap (λ (b : Bool). b && leb (limitOf t p) (getD row 7 0)) (limited-is row mail (getD (s .logs) p []) (getD (s .heads) p []))
+  exhausted-is = ap (exhausted (limitOf t p)) (at-process h p hp) ∙ ap (λ (b : Bool). b && leb (limitOf t p) (eventsIn row)) (limited-is row mail (getD (s .logs) p []) (getD (s .heads) p []))
 
   pub overrun-is : overrun (processAt c p) ≡ overrunIn row
   unfolding overrun processOf
-  overrun-is = ap overrun (at-process h p hp) ∙ ap (λ (b : Bool). b && leb instructionsMost (getD row 15 0)) (limited-is row mail (getD (s .logs) p []) (getD (s .heads) p []))
+  overrun-is = ap overrun (at-process h p hp) ∙ ap (λ (b : Bool). b && leb instructionsMost (instructionsIn row)) (limited-is row mail (getD (s .logs) p []) (getD (s .heads) p []))
 
   pub owing-is : owing (limitOf t p) (processAt c p) ≡ owingIn (limitOf t p) row
   unfolding owing
@@ -79,20 +79,20 @@ module _ {t : Table} {s : Store} {entries : List Entry} {c : Cabinet} (h : Holds
   blame-is = owed-cause (limitOf t p) (processAt c p) ∙ ap (λ (b : Bool). cond b 0 1) exhausted-is
 
   -- a process is limited where its row says so, and then its instructions and its events are few
-  pub limited-here : (getD row 12 0 ≡ 0 → ⊥) → limited (processAt c p) ≡ true
-  limited-here n = ap limited (at-process h p hp) ∙ limited-is row mail (getD (s .logs) p []) (getD (s .heads) p []) ∙ rw (ne-eqb (getD row 12 0) 0 n)
+  pub limited-here : (flagIn row ≡ 0 → ⊥) → limited (processAt c p) ≡ true
+  limited-here n = ap limited (at-process h p hp) ∙ limited-is row mail (getD (s .logs) p []) (getD (s .heads) p []) ∙ rw (ne-eqb (flagIn row) 0 n)
 
   pub events-room : Reachable t c → TallyRoom row 7
   unfolding processOf
   events-room reach n =
-      let e : processAt c p .since .events ≡ getD row 7 0 = ap (λ (x : Process). x .since .events) (at-process h p hp) in
+      let e : processAt c p .since .events ≡ eventsIn row = ap (λ (x : Process). x .since .events) (at-process h p hp) in
       let f = events-few reach p hp (limited-here n) in
       omega arith
 
   pub instructions-room : Reachable t c → TallyRoom row 15
   unfolding processOf
   instructions-room reach n =
-      let e : processAt c p .since .instructions ≡ getD row 15 0 = ap (λ (x : Process). x .since .instructions) (at-process h p hp) in
+      let e : processAt c p .since .instructions ≡ instructionsIn row = ap (λ (x : Process). x .since .instructions) (at-process h p hp) in
       let f = instructions-few reach p hp (limited-here n) in
       omega arith
 
@@ -111,7 +111,7 @@ module _ {t : Table} {s : Store} {entries : List Entry} {c : Cabinet} (h : Holds
     unfolding machineOf
     missing-is i =
         let e = i .fetched .length-is in
-        let here : getD row 1 0 < length (codeOf t p) = waits-inside (codeOf t p) (machineOf row mail) (i .outcome) in
+        let here : pcIn row < length (codeOf t p) = waits-inside (codeOf t p) (machineOf row mail) (i .outcome) in
         ap (λ (m : Machine). refusalCause (missing (instructionAt (codeOf t p) m))) machine-is
         ∙ ap (λ (x : rules.Instruction). refusalCause (missing x)) (i .fetched .instruction-is (omega arith))
         ∙ missing-cause code a operand

@@ -19,4 +19,5 @@ syncEntry rows a = record { item = Sync a (checkpointIn (getD rows a [])) }
 abbrev pub Issues : List (List ℕ) → List (List ℕ) → ℕ → List (List ℕ) → List (List ℕ) → Moved → Type 0
 Issues rows queues a rows′ queues′ r =
     (l : Plan) (mails logs heads : List (List ℕ)) (totals : List ℕ)
-    → Makes issue (aProcess a) 0 l (storeOf rows mails logs heads queues totals) a (syncEntry rows a) (storeOf rows′ mails logs heads queues′ totals) r
+    → Makes issue (aProcess a) 0 l (storeOf rows mails logs heads queues totals) a (syncEntry rows a)
+    (storeOf rows′ mails logs heads queues′ totals) r

@@ -18,14 +18,15 @@ use Rattle.rules.specs.Moves.{step}
 use Rattle.state.specs.declared.moved.Moved.{Moved}
 use Rattle.state.specs.Store.{storeOf}
 use Rattle.state.specs.Moved.{Makes, wordOf, answerOf, aloneOf, refusedWith}
+use Rattle.process.specs.Row.{eventsIn, flagIn, instructionsIn}
 
 -- "if backed and acts are 8", of a process's row; W-207: with its limit for 8
 abbrev pub exhaustedIn : ℕ → List ℕ → Bool
-exhaustedIn limit row = not (eqb (getD row 12 0) 0) && leb limit (getD row 7 0)
+exhaustedIn limit row = not (eqb (flagIn row) 0) && leb limit (eventsIn row)
 
 -- W-204: "64 instructions done since its last sync was issued", of a process's row
 abbrev pub overrunIn : List ℕ → Bool
-overrunIn row = not (eqb (getD row 12 0) 0) && leb instructionsMost (getD row 15 0)
+overrunIn row = not (eqb (flagIn row) 0) && leb instructionsMost (instructionsIn row)
 
 -- a sync is owed
 abbrev pub owingIn : ℕ → List ℕ → Bool
@@ -61,7 +62,8 @@ CalculateTurns rows a code register operand rows′ r =
     (storeOf rows mails logs heads queues totals) a (wordOf (r .answer)) (storeOf rows′ mails logs heads queues totals) r
 
 -- Process a's instruction, where a's limit is this one, takes the word at a position of its mailbox.
-abbrev pub TakeTurns : List ℕ → List (List ℕ) → List (List ℕ) → List ℕ → ℕ → ℕ → ℕ → ℕ → ℕ → List (List ℕ) → List (List ℕ) → List ℕ → Moved → Type 0
+abbrev pub TakeTurns : List ℕ → List (List ℕ) → List (List ℕ) → List ℕ → ℕ → ℕ → ℕ → ℕ → ℕ → List (List ℕ) → List (List ℕ) → List ℕ → Moved
+    → Type 0
 TakeTurns wires rows mails totals limit a code register at rows′ mails′ totals′ r =
     (table : List ℕ) (counts : Counts) (programs : List ℕ) (logs heads queues : List (List ℕ)) (n operand : ℕ)
     → Makes step (λ t entries. Intending t limit a (getD rows a []) (getD mails a []) n code register operand (Take at)) 2

@@ -1,6 +1,8 @@
 // Move 2: a process's checkpoint joins its board's queue. The loop makes the entry, of the row as it was before. "Sync: 40 no backup, 41
 // one waiting, 38 queue full."
 ghost use Rattle.step.specs.Issues.{Issues};
+use plan::BOARDS;
+use plan::PROCESSES;
 use process::checkpoint;
 use process::row::BOARD;
 use process::row::COMPLETE;
@@ -17,7 +19,11 @@ use state::queue::place;
 use state::queue::push;
 use words::index16;
 
-pub fn issue(rows: &mut [[u32; ROW]; 16], queues: &mut [[u32; QUEUE_ROW]; 16], a: u32) -> Moved
+pub fn issue(
+    rows: &mut [[u32; ROW]; PROCESSES],
+    queues: &mut [[u32; QUEUE_ROW]; BOARDS],
+    a: u32,
+) -> Moved
     ensures { λ r. ⌜ Issues (now (rows .entry)) (now (queues .entry)) a (now (rows .exit)) (now (queues .exit)) r ⌝ }
 {
     let p = index16(a);

@@ -5,6 +5,9 @@ use crate::guards::blame;
 use crate::guards::owing;
 use instruction::instruction::queue_send;
 use instruction::instruction::suppress_send;
+use plan::BOARDS;
+use plan::CHANNELS;
+use plan::PROCESSES;
 use plan::WIRES;
 use plan::reader;
 use process::row::BOARD;
@@ -26,9 +29,9 @@ use words::index32;
 // Process a sends a word to a channel of its own.
 pub fn send(
     wires: &[u32; WIRES],
-    rows: &mut [[u32; ROW]; 16],
-    queues: &mut [[u32; QUEUE_ROW]; 16],
-    totals: &mut [u32; 32],
+    rows: &mut [[u32; ROW]; PROCESSES],
+    queues: &mut [[u32; QUEUE_ROW]; BOARDS],
+    totals: &mut [u32; CHANNELS],
     limit: u32,
     a: u32,
     channel: u32,

@@ -8,6 +8,9 @@ use crate::take::take;
 use backup::limits::LOG;
 use instruction::instruction::Intent;
 use instruction::instruction::examine;
+use plan::BOARDS;
+use plan::CHANNELS;
+use plan::PROCESSES;
 use plan::PROGRAMS;
 use plan::WIRES;
 use plan::length;
@@ -33,10 +36,10 @@ pub fn step(
     table: &[u8],
     programs: &[u32; PROGRAMS],
     wires: &[u32; WIRES],
-    rows: &mut [[u32; ROW]; 16],
-    mails: &mut [[u64; LOG]; 16],
-    queues: &mut [[u32; QUEUE_ROW]; 16],
-    totals: &mut [u32; 32],
+    rows: &mut [[u32; ROW]; PROCESSES],
+    mails: &mut [[u64; LOG]; PROCESSES],
+    queues: &mut [[u32; QUEUE_ROW]; BOARDS],
+    totals: &mut [u32; CHANNELS],
     a: u32,
 ) -> Moved
     ensures { λ r. ⌜ Steps (now (table .entry)) (now (programs .entry)) (now (wires .entry)) (now (rows .entry)) (now (mails .entry))

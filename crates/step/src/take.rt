@@ -5,6 +5,8 @@ use crate::guards::blame;
 use crate::guards::owing;
 use backup::limits::LOG;
 use instruction::instruction::take_word;
+use plan::CHANNELS;
+use plan::PROCESSES;
 use plan::WIRES;
 use plan::port;
 use process::mail::channel_of;
@@ -21,9 +23,9 @@ use words::index32;
 // Process a takes the word at a position of its mailbox into a register.
 pub fn take(
     wires: &[u32; WIRES],
-    rows: &mut [[u32; ROW]; 16],
-    mails: &mut [[u64; LOG]; 16],
-    totals: &mut [u32; 32],
+    rows: &mut [[u32; ROW]; PROCESSES],
+    mails: &mut [[u64; LOG]; PROCESSES],
+    totals: &mut [u32; CHANNELS],
     limit: u32,
     a: u32,
     code: u8,

@@ -10,7 +10,8 @@ use Rattle.rules.specs.Table.{environment, channelAt, placementAt, codeOf, limi
 use Rattle.facts.specs.Tests.{allBelow}
 use Rattle.rules.specs.Judge.{endOk, inputsOk, boardsOk, limitOk}
 use Rattle.rules.specs.Bytes.{byteAt}
-use Rattle.rules.specs.Format.{versionIn, boardsIn, processesIn, channelsIn, recordHead, programLength, recordLength, limitSaid, decodeTable, orNumber, lengthOk, versionOk, countsOk, extentOk}
+use Rattle.rules.specs.Format.{versionIn, boardsIn, processesIn, channelsIn, recordHead, programLength, recordLength, limitSaid}
+use Rattle.rules.specs.Format.{decodeTable, orNumber, lengthOk, versionOk, countsOk, extentOk}
 use Rattle.plan.specs.Plan.{startIn, lengthIn, limitIn, arityIn, inputIn, senderIn, readerIn, portIn}
 use Rattle.plan.specs.declared.Counts.{Counts}
 use Rattle.table.specs.Records.{programStart}

@@ -14,8 +14,8 @@ use crate::record::program_length;
 use crate::record::record_length;
 use crate::record::version_of;
 use records::bytes::byte;
-use records::bytes::pair;
 use words::byte_wide;
+use words::pair;
 
 // 1: at least a head, and a length field that is at most 6,276 and the true one.
 fn length_ok(table: &[u8]) -> bool

@@ -1,5 +1,6 @@
-// A table's layout and sizes; rules/specs/Format.antt names the same numbers for the definitions. How many processes and channels a table has
-// at most is named by crate `plan`.
+// A table's layout and sizes; rules/specs/Format.antt names the same numbers for the definitions. How many boards, processes and
+// channels a table has at most, and the environment, are named by crate `plan`, how many channels a process reads by the record's limits.
+use backup::limits::PC_MOST;
 
 // Of the head, behind the length's two bytes and the version (records/src/head.rt): boards, processes, channels.
 pub const BOARDS: usize = 3;
@@ -27,14 +28,12 @@ pub const WITHOUT_LIMITS: u32 = 1;
 
 pub const WITH_LIMITS: u32 = 2;
 
-// The largest length field, the bounds of the boards, and the most instructions of a process.
+// The largest length field, the fewest boards, and the most instructions of a process.
 pub const TABLE_MOST: usize = 6276;
 
 pub const BOARDS_LEAST: usize = 2;
 
-pub const BOARDS_MOST: usize = 16;
-
-pub const PROGRAM_MOST: usize = 64;
+pub const PROGRAM_MOST: usize = PC_MOST as usize;
 
 // The bounds of a limit, and the limit of every process of version 1.
 pub const LIMIT_LEAST: u32 = 1;
@@ -42,9 +41,3 @@ pub const LIMIT_LEAST: u32 = 1;
 pub const LIMIT_MOST: u32 = 16;
 
 pub const LIMIT_BEFORE: u8 = 8;
-
-// The most channels that one process reads.
-pub const PORTS: u32 = 4;
-
-// An end of a channel that is no process: the environment (document 01: the outside).
-pub const ENVIRONMENT: u8 = 255;

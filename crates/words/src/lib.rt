@@ -1,7 +1,7 @@
 // Small functions on numbers that know nothing of cabinets: widening, clamps, the least of two, the low byte, and two words in one number.
 ghost use mathlib.Core.Path.{_≡_};
 ghost use mathlib.Core.Bool.{cond};
-ghost use Prim.Native.Nat.{_%_, _^_, _≤_, _<_, min};
+ghost use Prim.Native.Nat.{_+_, _*_, _%_, _^_, _≤_, _<_, min};
 ghost use Rattle.words.specs.Words.{pack, highIn, lowIn};
 
 // ---- the same number, wider
@@ -22,6 +22,13 @@ pub fn byte_word(x: u8) -> u32
     ensures { λ r. ⌜ (r ≡ x) × (r < 256) ⌝ }
 {
     x as u32
+}
+
+// Two bytes as one number, the higher first.
+pub fn pair(b1: u8, b0: u8) -> usize
+    ensures { λ r. ⌜ (r ≡ b1 * 256 + b0) × (r < 65536) ⌝ }
+{
+    byte_wide(b1) * 256 + byte_wide(b0)
 }
 
 // ---- clamps
@@ -71,7 +78,7 @@ pub fn low_byte(x: u32) -> u8
 
 // 1 for true.
 pub fn flag(x: bool) -> u64
-    ensures { λ r. ⌜ r ≡ cond x 1 0 ⌝ }
+    ensures { λ r. ⌜ (r ≡ cond x 1 0) × (r ≤ 1) ⌝ }
 {
     if x { 1 } else { 0 }
 }

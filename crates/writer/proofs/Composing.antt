@@ -1,25 +1,25 @@
--- The parts put together: the whole table laid out, judged, and written; and a table taken apart.
+-- The parts put together: the whole table laid out, judged, and written.
 use mathlib.Core.Path.{_≡_, refl, ap, sym, subst, _∙_}
-use mathlib.Core.Bool.{Bool, true, false, cond, _&&_, _||_}
-use mathlib.Core.List.{List, [], _∷_, _++_, map}
-use Prim.Native.Nat.{ℕ, zero, suc, _+_, _-_, _*_, _/_, _%_, _^_, _≤_, _<_}
+use mathlib.Core.Bool.{Bool, true, false, cond, _||_}
+use mathlib.Core.List.{List, _∷_, _++_, map}
+use Prim.Native.Nat.{ℕ, _+_, _-_, _*_, _/_, _%_, _^_, _≤_, _<_}
 use native.Mathlib.Omega.{arith}
 use lib.Dec.{eqb, leb}
 use lib.ListN.{length, take, drop, length-append, length-map}
 use lib.Seq.{sets, take-at}
 use borrow.Author.Tests.{eqb-true, eq-eqb, ne-eqb, le-leb, lt-leb}
-use Rattle.facts.specs.Tests.{no-way, by-eq}
+use Rattle.facts.specs.Tests.{by-eq}
 use Rattle.rules.specs.Bytes.{written}
 use Rattle.rules.specs.Format.{tableMost, orNumber, versionOk, countsFit, validateTable, tableNumber}
-use Rattle.rules.specs.Encode.{Lists, tableOf, recordsFor, bodyOf, encode, programLengths, total, listsOk, validateLists, validateWrite, ReadsAs}
+use Rattle.rules.specs.Encode.{Lists, tableOf, recordsFor, bodyOf, encode, listsOk, validateLists, validateWrite, ReadsAs}
 use Rattle.rules.proofs.Valid.{counts-fit}
-use Rattle.rules.proofs.Encoding.{Long, long, length-encode, encode-short, encode-reads}
+use Rattle.rules.proofs.Encoding.{long, length-encode, encode-short, encode-reads}
 use Rattle.writer.specs.declared.write.Head.{Head}
 use Rattle.writer.specs.declared.write.Written.{Written}
 use Rattle.writer.specs.Given.{given, framing, Fitting, Programs}
 use Rattle.writer.specs.Fitted.{fitByte, fitThrees, fitted, headBytes, recordsLaid}
 use Rattle.writer.specs.Writes.{nothing, Writes}
-use Rattle.writer.proofs.Laying.{sets-append, sets-front}
+use Rattle.facts.specs.Laying.{sets-append, sets-front}
 use Rattle.writer.proofs.Pieces.{fit-same}
 use Rattle.writer.proofs.Fitting.{length-fitThrees, long-fitted, validate-laid, fitted-same}
 

@@ -2,5 +2,3 @@
 pub mod Given
 pub mod Fitted
 pub mod Writes
-pub mod Taken
-pub mod Taking

@@ -11,13 +11,7 @@ use table::counts::counts_fit;
 use table::counts::version_ok;
 use table::format::PROGRAM_MOST;
 use table::format::WITH_LIMITS;
-
-// The same number, as an index.
-pub fn wider(x: u32) -> usize
-    ensures { λ r. ⌜ r ≡ x ⌝ }
-{
-    x as usize
-}
+use words::wide;
 
 // How many limits so many processes have: one each, or none where the version has none.
 fn limits_long(version: u32, processes: usize) -> usize
@@ -35,10 +29,11 @@ fn lists_ok(
     instructions: &[u32],
 ) -> bool
     requires { ⌜ countsFit (head .boards) (head .processes) (head .channels) ≡ true ⌝ }
-    ensures { λ r. ⌜ r ≡ listsOk (given head (now (ends .entry)) (now (placements .entry)) (now (limits .entry)) (now (instructions .entry))) ⌝ }
+    ensures { λ r. ⌜ r
+        ≡ listsOk (given head (now (ends .entry)) (now (placements .entry)) (now (limits .entry)) (now (instructions .entry))) ⌝ }
 {
-    let processes = wider(head.processes);
-    let channels = wider(head.channels);
+    let processes = wide(head.processes);
+    let channels = wide(head.channels);
     if ends.len() != 2 * channels {
         return false;
     }
@@ -51,7 +46,7 @@ fn lists_ok(
     let mut total = 0;
     let mut p = 0;
     while p < processes {
-        let n = wider(placements[3 * p + 2]);
+        let n = wide(placements[3 * p + 2]);
         if n > PROGRAM_MOST {
             return false;
         }
@@ -69,16 +64,13 @@ pub fn judge_lists(
     limits: &[u32],
     instructions: &[u32],
 ) -> u8
-    ensures { λ r. ⌜ r ≡ framing (given head (now (ends .entry)) (now (placements .entry)) (now (limits .entry)) (now (instructions .entry))) ⌝ }
+    ensures { λ r. ⌜ r
+        ≡ framing (given head (now (ends .entry)) (now (placements .entry)) (now (limits .entry)) (now (instructions .entry))) ⌝ }
 {
     if !version_ok(head.version) {
         return 2;
     }
-    if !counts_fit(
-        wider(head.boards),
-        wider(head.processes),
-        wider(head.channels),
-    ) {
+    if !counts_fit(wide(head.boards), wide(head.processes), wide(head.channels)) {
         return 3;
     }
     if !lists_ok(head, ends, placements, limits, instructions) {

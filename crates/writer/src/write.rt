@@ -58,8 +58,10 @@ fn judge_laid(
     total: usize,
 ) -> u8
     requires { ⌜ Fitting (given head (now ends) (now placements) (now limits) (now instructions)) ⌝ }
-    requires { ⌜ (total ≡ length (encode (fitted (given head (now ends) (now placements) (now limits) (now instructions))))) × (total ≤ 2 + tableMost) ⌝ }
-    ensures { λ r. ⌜ r ≡ validateLists (given head (now (ends .entry)) (now (placements .entry)) (now (limits .entry)) (now (instructions .entry))) ⌝ }
+    requires { ⌜ (total ≡ length (encode (fitted (given head (now ends) (now placements) (now limits) (now instructions)))))
+        × (total ≤ 2 + tableMost) ⌝ }
+    ensures { λ r. ⌜ r
+        ≡ validateLists (given head (now (ends .entry)) (now (placements .entry)) (now (limits .entry)) (now (instructions .entry))) ⌝ }
 {
     let mut bytes = [0u8; TABLE_BYTES];
     lay(

@@ -1,8 +1,8 @@
 // Cases of the writer, compared with stdout: document 01's sample as lists, in version 1 and, with a limit, in version 2; then with one number
 // changed for each refusal, in numbers that fit no byte where there are such; pairs that show the order; a buffer of one byte too few; and both
 // tables taken apart again. A line of the writer has the number, the length and four bytes of the buffer, all of which were 238 before.
+use apart::take_apart;
 use libc::STDOUT_FILENO;
-use writer::apart::take_apart;
 use writer::write::Head;
 use writer::write::Written;
 use writer::write::write;

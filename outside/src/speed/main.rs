@@ -16,6 +16,10 @@ use outside::rules::lent::Lent;
 use outside::rules::repairs::{crash_after_crash, row};
 use timing::time;
 
+// All code behind it stands 16 bytes further for each: where code stands changes how quick it is, ours and the plain run's, so `tools/speed`
+// builds one program for each of four places and compares them.
+std::arch::global_asm!(concat!(".pushsection .text.unlikely.place,\"axR\",@progbits\n.zero 16 * ", env!("PLACE"), "\n.popsection"));
+
 const SEED: u64 = 0xE703_7ED1_A0B4_28DB;
 const REPETITIONS: u64 = 400;
 

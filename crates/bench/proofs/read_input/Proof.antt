@@ -5,7 +5,7 @@ use Rattle.bench.proofs.read_input.Statement.{statement}
 use Rattle.bench.proofs.read_input.Tie as tie
 use Rattle.bench.proofs.read_input.Reads as reads
 use Rattle.bench.proofs.read_input.Lts as lts
-use Rattle.bench.proofs.least.Reads as least-reads
+use Rattle.words.proofs.least.Reads as least-reads
 use Rattle.bench.proofs.read_part.Reads as read-part-reads
 use Rattle.bench_input.proofs.wanted.wanted.Reads as wanted-reads
 
@@ -46,7 +46,7 @@ same-length-3 : tie.Need-same-length-3
 same-length-3 c = search needs
 
 returns-4 : tie.Need-returns-4
-returns-4 c = took-all _ _ _ (c .before .before .before .before .before .before .before .before .before .before .before .before .before .if1 .left) (c .before .before .before .before .before .before .before .before .before .before .before .read-part .ensures) _ (c .before .before .before .before .before .before .wanted .ensures .is) _ (c .before .before .before .before .before .least .ensures) _ _ (c .before .before .read-part2 .ensures)
+returns-4 c = took-all _ _ _ (c .before .before .before .before .before .before .before .before .before .before .before .before .before .if1 .left) (c .before .before .before .before .before .before .before .before .before .before .before .read-part .ensures) _ (c .before .before .before .before .before .before .wanted .ensures .is) _ (let e = c .before .before .before .before .before .least .ensures in (omega arith, omega arith)) _ _ (c .before .before .read-part2 .ensures)
 
 pub read-input-spec : {M : Type 1} → statement M
 read-input-spec =

@@ -6,7 +6,7 @@ use Rattle.label_line.proofs.set_instruction.Statement.{statement}
 use Rattle.label_line.proofs.set_instruction.Tie as tie
 use Rattle.label_line.proofs.set_instruction.Reads as reads
 use Rattle.label_line.proofs.set_instruction.Lts as lts
-use Rattle.label_line.proofs.low_byte.Reads as low-byte-reads
+use Rattle.words.proofs.low_byte.Reads as low-byte-reads
 
 element-write-table : tie.Need-element-write-table
 element-write-table c = search needs

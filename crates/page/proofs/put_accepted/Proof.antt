@@ -7,7 +7,7 @@ use Rattle.page.proofs.put_accepted.Statement.{statement}
 use Rattle.page.proofs.put_accepted.Tie as tie
 use Rattle.page.proofs.put_accepted.Reads as reads
 use Rattle.page.proofs.put_accepted.Lts as lts
-use Rattle.page.proofs.flag.Reads as flag-reads
+use Rattle.words.proofs.flag.Reads as flag-reads
 use Rattle.page.proofs.lines.put_answers.Reads as put-answers-reads
 use Rattle.page.proofs.lines.put_processes.Reads as put-processes-reads
 use Rattle.page.proofs.text.put_number.Reads as put-number-reads
@@ -44,7 +44,7 @@ same-length : tie.Need-same-length
 same-length c = search needs
 
 returns : tie.Need-returns
-returns c = let s = c .before .before .before .before .before .before .before .before .before .before .before .before .before .before .before .before .before .before .before .before .before .before .before .before .before .before .before .before .before .before .args in accepted-put (s .records) (s .processes) _ _ (s .quiet) (shownOf (s .answers .now) (s .report .now)) (s .out .now) _ _ _ _ _ _ _ _ _ _ _ _ refl (c .before .before .before .flag .ensures) (c .before .before .before .before .before .before .before .before .before .before .before .before .before .before .before .before .before .before .before .before .before .before .before .before .put-text .ensures) (c .before .before .before .before .before .before .before .before .before .before .before .before .before .before .before .before .before .before .before .before .put-number .ensures) (c .before .before .before .before .before .before .before .before .before .before .before .before .before .before .before .before .put-answers .ensures) (c .before .before .before .before .before .before .before .before .before .before .before .before .put-processes .ensures) (c .before .before .before .before .before .before .before .put-text2 .ensures) (c .before .before .put-number2 .ensures)
+returns c = let s = c .before .before .before .before .before .before .before .before .before .before .before .before .before .before .before .before .before .before .before .before .before .before .before .before .before .before .before .before .before .before .args in accepted-put (s .records) (s .processes) _ _ (s .quiet) (shownOf (s .answers .now) (s .report .now)) (s .out .now) _ _ _ _ _ _ _ _ _ _ _ _ refl (c .before .before .before .flag .ensures .0) (c .before .before .before .before .before .before .before .before .before .before .before .before .before .before .before .before .before .before .before .before .before .before .before .before .put-text .ensures) (c .before .before .before .before .before .before .before .before .before .before .before .before .before .before .before .before .before .before .before .before .put-number .ensures) (c .before .before .before .before .before .before .before .before .before .before .before .before .before .before .before .before .put-answers .ensures) (c .before .before .before .before .before .before .before .before .before .before .before .before .put-processes .ensures) (c .before .before .before .before .before .before .before .put-text2 .ensures) (c .before .before .put-number2 .ensures)
 
 pub put-accepted-spec : {M : Type 1} → statement M
 put-accepted-spec =

@@ -11,7 +11,7 @@ use Rattle.backup.proofs.place.compact.Reads as reads
 use Rattle.backup.proofs.place.compact.Lts as lts
 use Rattle.backup.proofs.place.lane.Reads as lane-reads
 use Rattle.backup.proofs.place.minus.Reads as minus-reads
-use Rattle.backup.proofs.place.wide.Reads as wide-reads
+use Rattle.words.proofs.wide.Reads as wide-reads
 
 abbrev Inv-loop : tie.InvT-loop
 Inv-loop log₀ len all left₀ due₀ i₀ kept₀ rounds₀ log left due i kept rounds = Sifting log₀ len i₀ kept₀ rounds₀ left₀ log left due i kept rounds
@@ -138,7 +138,7 @@ sub-due-2 c =
     let l = c .before .before .before .before .before .before .loop2 in
     let t = c .before .before .before .before .before .loop2-test .taken in
     let s = c .before .before .lane2 in
-    let z = sifting-owed (l .inv) t (s .result) (s .ensures) (c .before .minus .result) (c .wide .result) (c .before .minus .ensures) (c .wide .ensures) in
+    let z = sifting-owed (l .inv) t (s .result) (s .ensures) (c .before .minus .result) (c .wide .result) (c .before .minus .ensures) (c .wide .ensures .0) in
     search needs
 
 sub-kept : tie.Need-sub-kept Inv-loop μ-loop Inv-loop2 μ-loop2 Inv-loop3 μ-loop3
@@ -161,7 +161,7 @@ loop2-again c =
     let l = c .before .before .before .before .before .before .loop2 in
     let t = c .before .before .before .before .before .loop2-test .taken in
     let s = c .before .before .lane2 in
-    sifting-swept (l .inv) t (s .result) (s .ensures) (c .before .minus .result) (c .wide .result) (c .before .minus .ensures) (c .wide .ensures) (c .before .before .before .before .before .before .before .before .before .pre .0)
+    sifting-swept (l .inv) t (s .result) (s .ensures) (c .before .minus .result) (c .wide .result) (c .before .minus .ensures) (c .wide .ensures .0) (c .before .before .before .before .before .before .before .before .before .pre .0)
 
 loop3-holds : tie.Need-loop3-holds Inv-loop μ-loop Inv-loop2 μ-loop2 Inv-loop3 μ-loop3
 loop3-holds c = search needs

@@ -3,7 +3,7 @@ use Prim.Native.Nat.{ℕ, _-_, _≤_, _<_}
 use lib.ListN.{getD, set}
 use lib.Seq.{set-getD}
 use Rattle.backup.specs.Rounds.{allTaken, syncRounds-none, syncRounds-all, syncRounds-some}
-use Rattle.backup.specs.Place.{viewIn, takenOf, checkpointOf, Dropped}
+use Rattle.backup.specs.Place.{viewIn, takenOf, checkpointOf, Dropped, headLen}
 use Rattle.backup.proofs.InPlace.{view-length}
 use Rattle.backup.proofs.Compacting.{dropped-none, dropped-all}
 use native.Mathlib.Omega.{arith}
@@ -15,7 +15,7 @@ use Rattle.backup.proofs.place.drop_taken.Lts as lts
 use Rattle.backup.proofs.place.together.Reads as together-reads
 use Rattle.backup.proofs.place.compact.Reads as compact-reads
 use Rattle.backup.proofs.place.less.Reads as less-reads
-use Rattle.backup.proofs.place.wide.Reads as wide-reads
+use Rattle.words.proofs.wide.Reads as wide-reads
 
 together-requires : tie.Need-together-requires
 together-requires c κs = search needs
@@ -24,8 +24,8 @@ returns : tie.Need-returns
 returns c =
     let a = c .before .before .args in
     let z = sym (c .before .together .ensures) ∙ c .if1 .taken in
-    let n : getD (a .head .now) 0 0 - allTaken (takenOf (a .c)) ≡ getD (a .head .now) 0 0 = omega arith in (
-      dropped-none (a .log .now) (getD (a .head .now) 0 0) (takenOf (a .c)) refl z,
+    let n : headLen (a .head .now) - allTaken (takenOf (a .c)) ≡ headLen (a .head .now) = omega arith in (
+      dropped-none (a .log .now) (headLen (a .head .now)) (takenOf (a .c)) refl z,
       (sym (ap (set (a .head .now) 0) n ∙ set-getD (a .head .now) 0 0), sym (syncRounds-none (viewIn (a .log .now) (a .head .now)) (checkpointOf (a .c)) z)),
     )
 
@@ -47,11 +47,11 @@ element-write-head c = search needs
 returns-2 : tie.Need-returns-2
 returns-2 c =
     let a = c .before .before .before .before .before .before .args in
-    let w = c .before .before .wide .ensures in
+    let w = c .before .before .wide .ensures .0 in
     let z = c .before .before .before .before .before .together .ensures in
-    let n : c .before .less .result ≡ getD (a .head .now) 0 0 - allTaken (takenOf (a .c)) = (let l = c .before .less .ensures in omega arith) in
-    let few : getD (a .head .now) 0 0 ≤ allTaken (takenOf (a .c)) = (let t = c .if2 .taken in omega arith) in (
-      dropped-all (a .log .now) (getD (a .head .now) 0 0) (takenOf (a .c)) few,
+    let n : c .before .less .result ≡ headLen (a .head .now) - allTaken (takenOf (a .c)) = (let l = c .before .less .ensures in omega arith) in
+    let few : headLen (a .head .now) ≤ allTaken (takenOf (a .c)) = (let t = c .if2 .taken in omega arith) in (
+      dropped-all (a .log .now) (headLen (a .head .now)) (takenOf (a .c)) few,
       (
         ap (set (a .head .now) 0) n,
         sym (syncRounds-all (viewIn (a .log .now) (a .head .now)) (checkpointOf (a .c)) (λ e. c .before .before .before .before .if1 .left (z ∙ e)) (let l = view-length (a .log .now) (a .head .now) in omega arith)),
@@ -64,9 +64,9 @@ compact-requires c κs = search needs
 returns-3 : tie.Need-returns-3
 returns-3 c =
     let a = c .before .before .before .before .before .before .before .before .args in
-    let w = c .before .before .before .before .wide .ensures in
+    let w = c .before .before .before .before .wide .ensures .0 in
     let z = c .before .before .before .before .before .before .before .together .ensures in
-    let n : c .before .before .before .less .result ≡ getD (a .head .now) 0 0 - allTaken (takenOf (a .c)) = (let l = c .before .before .before .less .ensures in omega arith) in
+    let n : c .before .before .before .less .result ≡ headLen (a .head .now) - allTaken (takenOf (a .c)) = (let l = c .before .before .before .less .ensures in omega arith) in
     let t = c .before .before .if2 .left in
     let p = c .compact in
     let l = view-length (a .log .now) (a .head .now) in (

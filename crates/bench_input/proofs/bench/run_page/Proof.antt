@@ -8,7 +8,7 @@ use Rattle.bench_input.proofs.bench.run_page.Reads as reads
 use Rattle.bench_input.proofs.bench.run_page.Lts as lts
 use Rattle.bench_input.proofs.bench.print.Reads as print-reads
 use Rattle.records.proofs.bytes.byte.Reads as byte-reads
-use Rattle.records.proofs.bytes.wide.Reads as wide-reads
+use Rattle.words.proofs.byte_wide.Reads as byte-wide-reads
 use Rattle.cabinet.proofs.run.run.Reads as run-reads
 
 slice-aggregate-run : tie.Need-slice-aggregate-run
@@ -26,8 +26,8 @@ run-requires c κs = search needs
 byte-requires : tie.Need-byte-requires
 byte-requires c κs = search needs
 
-wide-requires : tie.Need-wide-requires
-wide-requires c κs = search needs
+byte-wide-requires : tie.Need-byte-wide-requires
+byte-wide-requires c κs = search needs
 
 slice-aggregate-print : tie.Need-slice-aggregate-print
 slice-aggregate-print c = search needs
@@ -44,7 +44,7 @@ same-length c = search needs
 returns : tie.Need-returns
 returns c =
     let s = c .before .before .before .before .before .before .before .before .before .before .before .before .before .before .before .before .before .before .args in
-    run-page (s .table .now) (s .schedule .now) (c .before .before .before .before .before .before .before .before .before .before .before .run .result) _ (c .before .before .before .before .before .before .before .before .before .before .before .run .ensures) (c .before .before .before .before .before .before .wide .result) (c .before .before .before .before .before .before .wide .ensures ∙ c .before .before .before .before .before .before .before .byte .ensures) _ _ _ (c .before .before .print .ensures)
+    run-page (s .table .now) (s .schedule .now) (c .before .before .before .before .before .before .before .before .before .before .before .run .result) _ (c .before .before .before .before .before .before .before .before .before .before .before .run .ensures) (c .before .before .before .before .before .before .byte-wide .result) (c .before .before .before .before .before .before .byte-wide .ensures .0 ∙ c .before .before .before .before .before .before .before .byte .ensures) _ _ _ (c .before .before .print .ensures)
 
 pub run-page-spec : {M : Type 1} → statement M
 run-page-spec =
@@ -55,7 +55,7 @@ run-page-spec =
     slice-aggregate-run-3
     run-requires
     byte-requires
-    wide-requires
+    byte-wide-requires
     slice-aggregate-print
     slice-aggregate-print-2
     print-requires

@@ -1,6 +1,6 @@
 -- `ks_table_apart`: the promise of taking apart, with what it returned packed.
-use Rattle.writer.specs.Taken.{lent}
-use Rattle.writer.proofs.Parting.{few-instructions}
+use Rattle.apart.specs.Taken.{lent}
+use Rattle.apart.proofs.Parting.{few-instructions}
 use Rattle.kunzeastylus.proofs.Tabling.{takes-packed}
 use borrow.Author.Needs.{needs}
 use Rattle.kunzeastylus.proofs.tables.ks_table_apart.Statement.{statement}

@@ -6,7 +6,7 @@ use Rattle.records.proofs.schedule.judge_schedule.Statement.{statement}
 use Rattle.records.proofs.schedule.judge_schedule.Tie as tie
 use Rattle.records.proofs.schedule.judge_schedule.Reads as reads
 use Rattle.records.proofs.schedule.judge_schedule.Lts as lts
-use Rattle.records.proofs.bytes.pair.Reads as pair-reads
+use Rattle.words.proofs.pair.Reads as pair-reads
 use Rattle.records.proofs.schedule.refused.Reads as refused-reads
 
 refused-requires : tie.Need-refused-requires
@@ -28,13 +28,13 @@ shared-slice-read-version : tie.Need-shared-slice-read-version
 shared-slice-read-version c = search needs
 
 add-if2 : tie.Need-add-if2
-add-if2 c = omega (arith, c .before .pair .ensures, c .before .before .shared-slice-known3 .given 0, c .before .before .shared-slice-known3 .given 1)
+add-if2 c = omega (arith, c .before .pair .ensures .0, c .before .before .shared-slice-known3 .given 0, c .before .before .shared-slice-known3 .given 1)
 
 refused-requires-2 : tie.Need-refused-requires-2
 refused-requires-2 c κs = search needs
 
 returns-2 : tie.Need-returns-2
-returns-2 c = field-9 _ _ _ (c .before .before .before .pair .ensures) (c .before .if2 .taken) (c .refused2 .ensures)
+returns-2 c = field-9 _ _ _ (c .before .before .before .pair .ensures .0) (c .before .if2 .taken) (c .refused2 .ensures)
 
 mul-if3 : tie.Need-mul-if3
 mul-if3 c = search needs
@@ -58,10 +58,10 @@ refused-requires-5 : tie.Need-refused-requires-5
 refused-requires-5 c κs = search needs
 
 returns-5 : tie.Need-returns-5
-returns-5 c = version-10 _ _ (tested _ _ (c .before .before .before .before .before .before .pair .ensures) (c .before .before .before .before .before .before .before .before .before .if1 .left) (c .before .before .before .before .if2 .left) (c .before .before .before .if3 .left) (c .before .before .if4 .left)) (c .before .if5 .taken) (c .refused5 .ensures)
+returns-5 c = version-10 _ _ (tested _ _ (c .before .before .before .before .before .before .pair .ensures .0) (c .before .before .before .before .before .before .before .before .before .if1 .left) (c .before .before .before .before .if2 .left) (c .before .before .before .if3 .left) (c .before .before .if4 .left)) (c .before .if5 .taken) (c .refused5 .ensures)
 
 returns-6 : tie.Need-returns-6
-returns-6 c = accepted-0 _ _ (tested _ _ (c .before .before .before .before .before .pair .ensures) (c .before .before .before .before .before .before .before .before .if1 .left) (c .before .before .before .if2 .left) (c .before .before .if3 .left) (c .before .if4 .left)) (c .if5 .left) refl refl
+returns-6 c = accepted-0 _ _ (tested _ _ (c .before .before .before .before .before .pair .ensures .0) (c .before .before .before .before .before .before .before .before .if1 .left) (c .before .before .before .if2 .left) (c .before .before .if3 .left) (c .before .if4 .left)) (c .if5 .left) refl refl
 
 pub judge-schedule-spec : {M : Type 1} → statement M
 judge-schedule-spec =

@@ -21,7 +21,7 @@ returns-2 : tie.Need-returns-2
 returns-2 c =
     let b = c .before .before .before .byte .ensures in
     let d = c .before .before .byte2 .ensures in
-    too-long (c .before .before .before .before .before .before .args .table .now) (c .before .pair .result) (c .before .pair .ensures ∙ ap₂ number16 b d) (c .before .before .before .before .if1 .left) (c .if2 .taken)
+    too-long (c .before .before .before .before .before .before .args .table .now) (c .before .pair .result) (c .before .pair .ensures .0 ∙ ap₂ number16 b d) (c .before .before .before .before .if1 .left) (c .if2 .taken)
 
 add-result : tie.Need-add-result
 add-result c = search needs
@@ -30,7 +30,7 @@ returns-3 : tie.Need-returns-3
 returns-3 c =
     let b = c .before .before .before .byte .ensures in
     let d = c .before .before .byte2 .ensures in
-    true-length (c .before .before .before .before .before .before .args .table .now) (c .before .pair .result) (c .before .pair .ensures ∙ ap₂ number16 b d) (c .before .before .before .before .if1 .left) (c .if2 .left)
+    true-length (c .before .before .before .before .before .before .args .table .now) (c .before .pair .result) (c .before .pair .ensures .0 ∙ ap₂ number16 b d) (c .before .before .before .before .if1 .left) (c .if2 .left)
 
 pub length-ok-spec : {M : Type 1} → statement M
 length-ok-spec =

@@ -4,7 +4,7 @@ use Prim.Native.Nat.{_+_, _-_}
 use lib.ListN.{length}
 use Rattle.writer.specs.Given.{given}
 use Rattle.writer.specs.Fitted.{fitByte, headBytes}
-use Rattle.writer.proofs.Laying.{laid-length}
+use Rattle.facts.specs.Laying.{laid-length}
 use Rattle.writer.proofs.Composing.{programs-of, length-laid, length-parts, laid-whole}
 use native.Mathlib.Omega.{arith}
 use borrow.Author.Needs.{needs}

@@ -5,14 +5,14 @@ use borrow.Author.Needs.{needs}
 use Rattle.writer.proofs.lay.put_head.Statement.{statement}
 use Rattle.writer.proofs.lay.put_head.Tie as tie
 
-low-requires : tie.Need-low-requires
-low-requires c κs = search needs
+low-byte-requires : tie.Need-low-byte-requires
+low-byte-requires c κs = search needs
 
 slice-write-bytes : tie.Need-slice-write-bytes
 slice-write-bytes c = search needs
 
-low-requires-2 : tie.Need-low-requires-2
-low-requires-2 c κs = search needs
+low-byte-requires-2 : tie.Need-low-byte-requires-2
+low-byte-requires-2 c κs = search needs
 
 slice-write-bytes-2 : tie.Need-slice-write-bytes-2
 slice-write-bytes-2 c = simp length-set (omega arith)
@@ -47,15 +47,15 @@ same-length c = search needs
 returns : tie.Need-returns
 returns c =
     let s = c .before .before .before .before .before .before .before .args in
-    head-put (s .bytes .now) (s .size) (s .head) _ _ _ _ _ _ (c .before .before .before .before .before .low .ensures) (c .before .before .before .before .low2 .ensures) (c .before .before .before .fit .ensures) (c .before .before .fit2 .ensures) (c .before .fit3 .ensures) (c .fit4 .ensures)
+    head-put (s .bytes .now) (s .size) (s .head) _ _ _ _ _ _ (c .before .before .before .before .before .low-byte .ensures) (c .before .before .before .before .low-byte2 .ensures) (c .before .before .before .fit .ensures) (c .before .before .fit2 .ensures) (c .before .fit3 .ensures) (c .fit4 .ensures)
 
 pub put-head-spec : {M : Type 1} → statement M
 put-head-spec =
     tie.close
     (tie.spec
-    low-requires
+    low-byte-requires
     slice-write-bytes
-    low-requires-2
+    low-byte-requires-2
     slice-write-bytes-2
     fit-requires
     slice-write-bytes-3

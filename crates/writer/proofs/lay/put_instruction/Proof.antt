@@ -7,7 +7,7 @@ use Rattle.writer.proofs.lay.put_instruction.Tie as tie
 use Rattle.writer.proofs.lay.put_instruction.Reads as reads
 use Rattle.writer.proofs.lay.put_instruction.Lts as lts
 use Rattle.writer.proofs.lay.fit.Reads as fit-reads
-use Rattle.writer.proofs.lay.low.Reads as low-reads
+use Rattle.words.proofs.low_byte.Reads as low-byte-reads
 
 fit-requires : tie.Need-fit-requires
 fit-requires c κs = search needs
@@ -24,8 +24,8 @@ add-bytes c = search needs
 slice-write-bytes-2 : tie.Need-slice-write-bytes-2
 slice-write-bytes-2 c = simp length-set (omega arith)
 
-low-requires : tie.Need-low-requires
-low-requires c κs = search needs
+low-byte-requires : tie.Need-low-byte-requires
+low-byte-requires c κs = search needs
 
 add-bytes-2 : tie.Need-add-bytes-2
 add-bytes-2 c = search needs
@@ -33,8 +33,8 @@ add-bytes-2 c = search needs
 slice-write-bytes-3 : tie.Need-slice-write-bytes-3
 slice-write-bytes-3 c = simp length-set (omega arith)
 
-low-requires-2 : tie.Need-low-requires-2
-low-requires-2 c κs = search needs
+low-byte-requires-2 : tie.Need-low-byte-requires-2
+low-byte-requires-2 c κs = search needs
 
 add-bytes-3 : tie.Need-add-bytes-3
 add-bytes-3 c = search needs
@@ -42,8 +42,8 @@ add-bytes-3 c = search needs
 slice-write-bytes-4 : tie.Need-slice-write-bytes-4
 slice-write-bytes-4 c = simp length-set (omega arith)
 
-low-requires-3 : tie.Need-low-requires-3
-low-requires-3 c κs = search needs
+low-byte-requires-3 : tie.Need-low-byte-requires-3
+low-byte-requires-3 c κs = search needs
 
 add-bytes-4 : tie.Need-add-bytes-4
 add-bytes-4 c = search needs
@@ -51,8 +51,8 @@ add-bytes-4 c = search needs
 slice-write-bytes-5 : tie.Need-slice-write-bytes-5
 slice-write-bytes-5 c = simp length-set (omega arith)
 
-low-requires-4 : tie.Need-low-requires-4
-low-requires-4 c κs = search needs
+low-byte-requires-4 : tie.Need-low-byte-requires-4
+low-byte-requires-4 c κs = search needs
 
 add-bytes-5 : tie.Need-add-bytes-5
 add-bytes-5 c = search needs
@@ -67,7 +67,7 @@ returns : tie.Need-returns
 returns c =
     let s = c .before .before .before .before .before .before .before .args in
     let f = c .before .before .before .before .before .before .before .fits in
-    instruction-put (s .bytes .now) (s .at) (s .code) (s .a) (s .operand) _ _ _ _ _ _ (f .operand .fits) (c .before .before .before .before .before .fit .ensures) (c .before .before .before .before .fit2 .ensures) (c .before .before .before .low .ensures) (c .before .before .low2 .ensures) (c .before .low3 .ensures) (c .low4 .ensures)
+    instruction-put (s .bytes .now) (s .at) (s .code) (s .a) (s .operand) _ _ _ _ _ _ (f .operand .fits) (c .before .before .before .before .before .fit .ensures) (c .before .before .before .before .fit2 .ensures) (c .before .before .before .low-byte .ensures) (c .before .before .low-byte2 .ensures) (c .before .low-byte3 .ensures) (c .low-byte4 .ensures)
 
 pub put-instruction-spec : {M : Type 1} → statement M
 put-instruction-spec =
@@ -78,16 +78,16 @@ put-instruction-spec =
     fit-requires-2
     add-bytes
     slice-write-bytes-2
-    low-requires
+    low-byte-requires
     add-bytes-2
     slice-write-bytes-3
-    low-requires-2
+    low-byte-requires-2
     add-bytes-3
     slice-write-bytes-4
-    low-requires-3
+    low-byte-requires-3
     add-bytes-4
     slice-write-bytes-5
-    low-requires-4
+    low-byte-requires-4
     add-bytes-5
     slice-write-bytes-6
     same-length

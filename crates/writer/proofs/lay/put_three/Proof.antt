@@ -1,6 +1,6 @@
 use Prim.Native.Nat.{_*_}
 use lib.ListN.{length-set}
-use Rattle.writer.proofs.Storing.{three-put}
+use Rattle.facts.specs.Laying.{three-put}
 use native.Mathlib.Omega.{arith}
 use borrow.Author.Needs.{needs}
 use Rattle.writer.proofs.lay.put_three.Statement.{statement}

@@ -19,11 +19,11 @@ Inv-loop ends placements limits instructions processes channels total₀ p₀ to
 abbrev μ-loop : tie.MeasureT-loop
 μ-loop ends placements limits instructions processes channels total₀ p₀ total p = processes - p
 
-wider-requires : tie.Need-wider-requires Inv-loop μ-loop
-wider-requires c κs = search needs
+wide-requires : tie.Need-wide-requires Inv-loop μ-loop
+wide-requires c κs = search needs
 
-wider-requires-2 : tie.Need-wider-requires-2 Inv-loop μ-loop
-wider-requires-2 c κs = search needs
+wide-requires-2 : tie.Need-wide-requires-2 Inv-loop μ-loop
+wide-requires-2 c κs = search needs
 
 mul-if1 : tie.Need-mul-if1 Inv-loop μ-loop
 mul-if1 c = search needs
@@ -44,33 +44,33 @@ returns-3 : tie.Need-returns-3 Inv-loop μ-loop
 returns-3 c =
     let s = c .before .before .before .before .before .before .before .before .before .before .args in
     limits-wrong (given (s .head) (s .ends .now) (s .placements .now) (s .limits .now) (s .instructions .now)) (omega arith) (omega arith)
-    (λ e. c .if3 .taken (e ∙ sym (c .before .limits-long .ensures ∙ ap (λ (n : ℕ). limitBytes (s .head .version) * n) (c .before .before .before .before .before .wider .ensures))))
+    (λ e. c .if3 .taken (e ∙ sym (c .before .limits-long .ensures ∙ ap (λ (n : ℕ). limitBytes (s .head .version) * n) (c .before .before .before .before .before .wide .ensures .0))))
 
 loop-holds : tie.Need-loop-holds Inv-loop μ-loop
 loop-holds c = counting-start _ _
 
-mul-wider : tie.Need-mul-wider Inv-loop μ-loop
-mul-wider c = search needs
+mul-wide : tie.Need-mul-wide Inv-loop μ-loop
+mul-wide c = search needs
 
-add-wider : tie.Need-add-wider Inv-loop μ-loop
-add-wider c = search needs
+add-wide : tie.Need-add-wide Inv-loop μ-loop
+add-wide c = search needs
 
-mul-wider-2 : tie.Need-mul-wider-2 Inv-loop μ-loop
-mul-wider-2 c = search needs
+mul-wide-2 : tie.Need-mul-wide-2 Inv-loop μ-loop
+mul-wide-2 c = search needs
 
-shared-slice-read-wider : tie.Need-shared-slice-read-wider Inv-loop μ-loop
-shared-slice-read-wider c = search needs
+shared-slice-read-wide : tie.Need-shared-slice-read-wide Inv-loop μ-loop
+shared-slice-read-wide c = search needs
 
-wider-requires-3 : tie.Need-wider-requires-3 Inv-loop μ-loop
-wider-requires-3 c κs = search needs
+wide-requires-3 : tie.Need-wide-requires-3 Inv-loop μ-loop
+wide-requires-3 c κs = search needs
 
 returns-4 : tie.Need-returns-4 Inv-loop μ-loop
 returns-4 c =
     let s = c .before .before .before .before .before .before .before .before .before .before .before .before .before .before .before .args in
     let l = c .before .before .before .before .loop in
-    n-wrong (given (s .head) (s .ends .now) (s .placements .now) (s .limits .now) (s .instructions .now)) (omega arith) (omega arith) (c .before .before .before .before .before .if3 .left ∙ (c .before .before .before .before .before .before .limits-long .ensures ∙ ap (λ (n : ℕ). limitBytes (s .head .version) * n) (c .before .before .before .before .before .before .before .before .before .before .wider .ensures)))
-    (ap (λ (m : ℕ). allOf (λ k. leb k pcMost) (programLengths m (s .placements .now))) (sym (c .before .before .before .before .before .before .before .before .before .before .wider .ensures))
-    ∙ counting-over _ _ (l .total) (l .p) (c .before .wider3 .result) (l .inv) (c .before .before .before .loop-test .taken) (c .before .wider3 .ensures) (c .if4 .taken))
+    n-wrong (given (s .head) (s .ends .now) (s .placements .now) (s .limits .now) (s .instructions .now)) (omega arith) (omega arith) (c .before .before .before .before .before .if3 .left ∙ (c .before .before .before .before .before .before .limits-long .ensures ∙ ap (λ (n : ℕ). limitBytes (s .head .version) * n) (c .before .before .before .before .before .before .before .before .before .before .wide .ensures .0)))
+    (ap (λ (m : ℕ). allOf (λ k. leb k pcMost) (programLengths m (s .placements .now))) (sym (c .before .before .before .before .before .before .before .before .before .before .wide .ensures .0))
+    ∙ counting-over _ _ (l .total) (l .p) (c .before .wide3 .result) (l .inv) (c .before .before .before .loop-test .taken) (c .before .wide3 .ensures .0) (c .if4 .taken))
 
 add-total : tie.Need-add-total Inv-loop μ-loop
 add-total c = let x = c .before .before .before .before .before .before .before .before .before .before .before .before .before .before .before .args .head in let k = counts-fit (x .boards) (x .processes) (x .channels) (c .before .before .before .before .before .before .before .before .before .before .before .before .before .before .before .pre) in omega arith
@@ -84,7 +84,7 @@ loop-less c = search needs
 loop-again : tie.Need-loop-again Inv-loop μ-loop
 loop-again c =
     let l = c .before .before .before .before .loop in
-    counting-more _ _ (l .total) (l .p) _ (l .inv) (c .before .before .before .loop-test .taken) (c .before .wider3 .ensures) (c .if4 .left)
+    counting-more _ _ (l .total) (l .p) _ (l .inv) (c .before .before .before .loop-test .taken) (c .before .wide3 .ensures .0) (c .if4 .left)
 
 mul-result : tie.Need-mul-result Inv-loop μ-loop
 mul-result c = let x = c .before .before .before .before .before .before .before .before .before .before .before .before .args .head in let k = counts-fit (x .boards) (x .processes) (x .channels) (c .before .before .before .before .before .before .before .before .before .before .before .before .pre) in omega arith
@@ -93,9 +93,9 @@ returns-5 : tie.Need-returns-5 Inv-loop μ-loop
 returns-5 c =
     let s = c .before .before .before .before .before .before .before .before .before .before .before .before .args in
     let l = c .before .loop in
-    let same = sym (c .before .before .before .before .before .before .before .wider .ensures) in
-    let e = counting-end (s .placements .now) (c .before .before .before .before .before .before .before .wider .result) (l .total) (l .p) (l .inv) (c .loop-test .left) in
-    instructions-tell (given (s .head) (s .ends .now) (s .placements .now) (s .limits .now) (s .instructions .now)) (omega arith) (omega arith) (c .before .before .if3 .left ∙ (c .before .before .before .limits-long .ensures ∙ ap (λ (n : ℕ). limitBytes (s .head .version) * n) (c .before .before .before .before .before .before .before .wider .ensures))) (l .total)
+    let same = sym (c .before .before .before .before .before .before .before .wide .ensures .0) in
+    let e = counting-end (s .placements .now) (c .before .before .before .before .before .before .before .wide .result) (l .total) (l .p) (l .inv) (c .loop-test .left) in
+    instructions-tell (given (s .head) (s .ends .now) (s .placements .now) (s .limits .now) (s .instructions .now)) (omega arith) (omega arith) (c .before .before .if3 .left ∙ (c .before .before .before .limits-long .ensures ∙ ap (λ (n : ℕ). limitBytes (s .head .version) * n) (c .before .before .before .before .before .before .before .wide .ensures .0))) (l .total)
     (ap (λ (m : ℕ). total (programLengths m (s .placements .now))) same ∙ e .0)
     (ap (λ (m : ℕ). allOf (λ k. leb k pcMost) (programLengths m (s .placements .now))) same ∙ e .1)
 
@@ -105,8 +105,8 @@ lists-ok-spec =
     (tie.spec
     Inv-loop
     μ-loop
-    wider-requires
-    wider-requires-2
+    wide-requires
+    wide-requires-2
     mul-if1
     returns
     mul-if2
@@ -114,11 +114,11 @@ lists-ok-spec =
     limits-long-requires
     returns-3
     loop-holds
-    mul-wider
-    add-wider
-    mul-wider-2
-    shared-slice-read-wider
-    wider-requires-3
+    mul-wide
+    add-wide
+    mul-wide-2
+    shared-slice-read-wide
+    wide-requires-3
     returns-4
     add-total
     add-p
