@@ -57,11 +57,11 @@ passed : (table schedule : List ℕ) (buffers : Buffers) → validateRun table s
 unfolding accepted ranFrom
 passed table schedule buffers h = rw h
 
-module _ (table schedule : List ℕ) (records : ℕ) (plan : Plan) (answers reasons report answers′ reasons′ report′ : List ℕ)
+module _ (table schedule : List ℕ) (plan : Plan) (answers reasons report answers′ reasons′ report′ : List ℕ)
     (rows rows₀ mails₀ logs₀ heads₀ queues₀ : List (List ℕ)) (totals₀ : List ℕ) (s : Store) (quiet : Bool)
     (fresh : Fresh (storeOf rows₀ mails₀ logs₀ heads₀ queues₀ totals₀) (replicate 512 blankEntry))
     (seats : Seats rows₀ (plan .primary) (plan .standby) (plan .counts .processes) rows)
-    (plays : Plays (planOf table (plan .counts) (plan .programs) (plan .wires)) schedule records (storeOf rows mails₀ logs₀ heads₀ queues₀ totals₀)
+    (plays : Plays (planOf table (plan .counts) (plan .programs) (plan .wires)) schedule (commandsIn schedule) (storeOf rows mails₀ logs₀ heads₀ queues₀ totals₀)
     (sheetsOf answers reasons) s (sheetsOf answers′ reasons′))
     (reports : Reports (s .rows) (plan .counts .processes) report report′)
     (quiets : Quiets table (plan .counts) (plan .programs) (s .rows) (s .mails) (s .queues) quiet) where
@@ -71,10 +71,10 @@ module _ (table schedule : List ℕ) (records : ℕ) (plan : Plan) (answers reas
   abbrev end : Cabinet
   end = runFrom t (started t) (decodeSchedule schedule) .cabinet
 
-  pub conducts : Conducts table schedule records plan (buffersOf answers reasons report) quiet (buffersOf answers′ reasons′ report′)
+  pub conducts : Conducts table schedule plan (buffersOf answers reasons report) quiet (buffersOf answers′ reasons′ report′)
   unfolding ranFrom
   conducts = record {
-    conducted = λ ok plans many.
+    conducted = λ ok plans.
         let before = buffersOf answers reasons report in
         let acc = passed table schedule before ok in
         let tv = table-valid table schedule before acc in
@@ -83,7 +83,7 @@ module _ (table schedule : List ℕ) (records : ℕ) (plan : Plan) (answers reas
         let placed : Placed t (plan .primary) (plan .standby) (plan .counts .processes) =
         record { processes-is = planned .processes-is; primary-at = plans .primary-at; standby-at = plans .standby-at } in
         let begins = seats .holds t mails₀ logs₀ heads₀ queues₀ totals₀ (replicate 512 blankEntry) at placed fresh in
-        let so-many : records ≡ length (decodeSchedule schedule) = many ∙ sym (commands-many schedule) in
+        let so-many : commandsIn schedule ≡ length (decodeSchedule schedule) = sym (commands-many schedule) in
         let played = plays .played t (record { accepted = at; planned = planned; records-is = so-many; starts = begins }) in
         let reach : Reachable t end = record { accepted = at; commands = decodeSchedule schedule; is-reached = refl } in
         let room : 20 * plan .counts .processes ≤ length report = rw (planned .processes-is, processes-counted table) (report-fits table schedule before acc) in
@@ -109,14 +109,12 @@ module _ (table schedule : List ℕ) (before : Buffers) (d : Decoded) (j : Judge
   }
 
   -- a run that is not refused has room for its records
-  pub roomy : (n : ℕ) → n ≡ number → n ≡ 0 → Roomy (j .records) (sheetsOf (before .answers) (before .reasons))
+  pub roomy : (n : ℕ) → n ≡ number → n ≡ 0 → Roomy (commandsIn schedule) (sheetsOf (before .answers) (before .reasons))
   roomy n e z =
       let acc = passed table schedule before (sym judged ∙ sym e ∙ z) in
-      let sv = schedule-valid table schedule before acc in
-      let many : j .records ≡ commandsIn schedule = is-j .records-is ∙ ap (λ (m : ℕ). cond (eqb m 0) (commandsIn schedule) 0) sv in
-      record { answers-room = rw many (answers-fit table schedule before acc); reasons-room = rw many (reasons-fit table schedule before acc) }
+      record { answers-room = answers-fit table schedule before acc; reasons-room = reasons-fit table schedule before acc }
 
-  pub accepts : (n : ℕ) → n ≡ number → n ≡ 0 → (quiet : Bool) (after : Buffers) → Conducts table schedule (j .records) (d .plan) before quiet after
+  pub accepts : (n : ℕ) → n ≡ number → n ≡ 0 → (quiet : Bool) (after : Buffers) → Conducts table schedule (d .plan) before quiet after
       → Runs table schedule before (record { number = 0; records = j .records; quiet = quiet }) after
   unfolding run
   accepts n e z quiet after h =
@@ -126,7 +124,7 @@ module _ (table schedule : List ℕ) (before : Buffers) (d : Decoded) (j : Judge
       let sv = schedule-valid table schedule before acc in
       let many : j .records ≡ commandsIn schedule = is-j .records-is ∙ ap (λ (m : ℕ). cond (eqb m 0) (commandsIn schedule) 0) sv in
       let same : ranOf 0 (j .records) quiet after ≡ run table schedule before =
-      h .conducted ok (is-d .accepted fine) many ∙ sym (ap (λ (m : ℕ). cond (eqb m 0) (ranFrom (decodeTable table) (decodeSchedule schedule) before) (refusedWith m before)) ok) in
+      ap (λ (m : ℕ). ranOf 0 m quiet after) many ∙ h .conducted ok (is-d .accepted fine) ∙ sym (ap (λ (m : ℕ). cond (eqb m 0) (ranFrom (decodeTable table) (decodeSchedule schedule) before) (refusedWith m before)) ok) in
       record {
         ran = same;
         failure-transparent = λ _. subst (FailureTransparency table schedule) (sym same) (failure-transparency table schedule before acc);

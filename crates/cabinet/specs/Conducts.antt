@@ -9,6 +9,6 @@ use Rattle.rules.specs.Format.{decodeTable}
 use Rattle.rules.specs.Schedule.{commandsIn, decodeSchedule}
 use Rattle.rules.specs.Run.{Buffers, lengthsOf, ranOf, validateRun, ranFrom}
 
-pub record Conducts (table schedule : List ℕ) (records : ℕ) (plan : Plan) (before : Buffers) (quiet : Bool) (after : Buffers) : Type 0 where
-  pub conducted : validateRun table schedule (lengthsOf before) ≡ 0 → Plans table plan → records ≡ commandsIn schedule
-      → ranOf 0 records quiet after ≡ ranFrom (decodeTable table) (decodeSchedule schedule) before
+pub record Conducts (table schedule : List ℕ) (plan : Plan) (before : Buffers) (quiet : Bool) (after : Buffers) : Type 0 where
+  pub conducted : validateRun table schedule (lengthsOf before) ≡ 0 → Plans table plan
+      → ranOf 0 (commandsIn schedule) quiet after ≡ ranFrom (decodeTable table) (decodeSchedule schedule) before

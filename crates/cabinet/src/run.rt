@@ -1,5 +1,6 @@
 // The public call: a table and a schedule in, answers, reasons and a report into lent buffers, and a number, how many records were run, and
 // whether the cabinet ended quiet. Document 01, "What each move replies". All state is this call's own; nothing is kept between calls.
+ghost use Rattle.rules.specs.Schedule.{commandsIn};
 ghost use Rattle.rules.specs.Run.{buffersOf};
 ghost use Rattle.cabinet.specs.Conducts.{Conducts};
 ghost use Rattle.play.specs.Plays.{Roomy, sheetsOf};
@@ -32,14 +33,13 @@ pub struct Verdict {
 fn conduct(
     table: &[u8],
     schedule: &[u8],
-    records: usize,
     plan: Plan,
     answers: &mut [u8],
     reasons: &mut [u8],
     report: &mut [u8],
 ) -> bool
-    requires { ⌜ Roomy records (sheetsOf (now answers) (now reasons)) ⌝ }
-    ensures { λ r. ⌜ Conducts (now (table .entry)) (now (schedule .entry)) records plan
+    requires { ⌜ Roomy (commandsIn (now schedule)) (sheetsOf (now answers) (now reasons)) ⌝ }
+    ensures { λ r. ⌜ Conducts (now (table .entry)) (now (schedule .entry)) plan
         (buffersOf (now (answers .entry)) (now (reasons .entry)) (now (report .entry))) r
         (buffersOf (now (answers .exit)) (now (reasons .exit)) (now (report .exit))) ⌝ }
 {
@@ -58,7 +58,6 @@ fn conduct(
     play(
         table,
         schedule,
-        records,
         counts,
         &programs,
         &wires,
@@ -106,7 +105,7 @@ pub fn run(
             quiet: false,
         };
     }
-    let quiet = conduct(table, schedule, records, plan, answers, reasons, report);
+    let quiet = conduct(table, schedule, plan, answers, reasons, report);
     Verdict {
         number: 0,
         records: records,

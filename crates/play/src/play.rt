@@ -3,6 +3,7 @@
 ghost use mathlib.Core.Path.{_≡_};
 ghost use Prim.Native.Nat.{_*_, _+_, _≤_, _<_};
 ghost use lib.ListN.{length};
+ghost use Rattle.rules.specs.Schedule.{commandsIn};
 ghost use Rattle.plan.specs.Plan.{planOf};
 ghost use Rattle.state.specs.Store.{storeOf};
 ghost use Rattle.play.specs.Plays.{sheetsOf, Writes, Roomy, Plays};
@@ -24,6 +25,7 @@ use plan::PROGRAMS;
 use plan::WIRES;
 use process::checkpoint::snapshot;
 use process::row::ROW;
+use records::head::VERSION;
 use records::schedule::command_at;
 use rejoin::rebackup::rebackup;
 use rejoin::rejoin::rejoin;
@@ -39,6 +41,9 @@ use step::step::step;
 use words::byte_word;
 use words::index16;
 
+// The first record stands behind the version.
+const FIRST: usize = VERSION + 1;
+
 // The i-th answer, and why.
 fn write(answers: &mut [u8], reasons: &mut [u8], i: usize, r: Answer)
     requires { ⌜ (6 * i + 6 ≤ length (now answers)) × (i < length (now reasons)) ⌝ }
@@ -49,11 +54,11 @@ fn write(answers: &mut [u8], reasons: &mut [u8], i: usize, r: Answer)
     put(answers, i, r);
 }
 
-// So many records of a schedule, on lists that hold the cabinet as it starts. The buffers have room for them.
+// The records of a schedule, on lists that hold the cabinet as it starts. The buffers have room for them. They are counted here, so that the
+// compiler knows that each of them is there.
 pub fn play(
     table: &[u8],
     schedule: &[u8],
-    records: usize,
     counts: Counts,
     programs: &[u32; PROGRAMS],
     wires: &[u32; WIRES],
@@ -66,13 +71,19 @@ pub fn play(
     answers: &mut [u8],
     reasons: &mut [u8],
 )
-    requires { ⌜ Roomy records (sheetsOf (now answers) (now reasons)) ⌝ }
-    ensures { λ _. ⌜ Plays (planOf (now (table .entry)) counts (now (programs .entry)) (now (wires .entry))) (now (schedule .entry)) records
+    requires { ⌜ Roomy (commandsIn (now schedule)) (sheetsOf (now answers) (now reasons)) ⌝ }
+    ensures { λ _. ⌜ Plays (planOf (now (table .entry)) counts (now (programs .entry)) (now (wires .entry))) (now (schedule .entry))
+        (commandsIn (now (schedule .entry)))
         (storeOf (now (rows .entry)) (now (mails .entry)) (now (logs .entry)) (now (heads .entry)) (now (queues .entry)) (now (totals .entry)))
         (sheetsOf (now (answers .entry)) (now (reasons .entry)))
         (storeOf (now (rows .exit)) (now (mails .exit)) (now (logs .exit)) (now (heads .exit)) (now (queues .exit)) (now (totals .exit)))
         (sheetsOf (now (answers .exit)) (now (reasons .exit))) ⌝ }
 {
+    let len = schedule.len();
+    if len < FIRST {
+        return;
+    }
+    let records = (len - FIRST) / 6;
     let none = blank();
     let mut entries = [none; ENTRIES];
     let mut i = 0;

@@ -36,7 +36,7 @@ same-length-3 c = search needs
 returns : tie.Need-returns
 returns c =
     let s = c .before .before .before .before .before .before .before .before .before .before .before .before .before .before .before .before .before .before .before .before .before .before .before .before .before .before .before .before .before .before .before .before .before .before .before .before .before .before .before .args in
-    conducts (s .table .now) (s .schedule .now) (s .records) (s .plan) (s .answers .now) (s .reasons .now) (s .report .now) _ _ _ _ _ _ _ _ _ _ _ (c .quiescent .result)
+    conducts (s .table .now) (s .schedule .now) (s .plan) (s .answers .now) (s .reasons .now) (s .report .now) _ _ _ _ _ _ _ _ _ _ _ (c .quiescent .result)
     (fresh-made _ refl) (c .before .before .before .before .before .before .before .before .before .before .before .before .before .before .before .before .before .before .before .before .before .before .before .before .before .seat .ensures) (c .before .before .before .before .before .before .before .before .before .before .before .before .before .before .play .ensures) (c .before .before .before .before .before .before .before .write-report .ensures) (c .quiescent .ensures)
 
 pub conduct-spec : {M : Type 1} → statement M

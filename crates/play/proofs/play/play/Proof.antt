@@ -1,9 +1,11 @@
 use mathlib.Core.Path.{_≡_, refl, ap, sym, _∙_}
 use mathlib.Core.List.{[]}
-use Prim.Native.Nat.{ℕ, _+_, _-_, _*_, _%_}
+use Prim.Native.Nat.{ℕ, _+_, _-_, _*_, _%_, _≤_}
 use lib.ListN.{length, getD, set, replicate}
 use native.Mathlib.Omega.{arith}
 use Rattle.plan.specs.Plan.{planOf}
+use Rattle.rules.specs.Schedule.{commandsIn}
+use Rattle.rules.specs.Sizes.{entriesMost}
 use Rattle.state.specs.declared.entry.Item.the-variants.{Word, Sync, Transfer}
 use Rattle.state.specs.Store.{storeOf, blankEntry}
 use Rattle.state.specs.Moved.{aloneOf, wordOf, aProcess, aBoard, aChannel}
@@ -39,20 +41,31 @@ use Rattle.words.proofs.byte_word.Reads as byte-word-reads
 use Rattle.words.proofs.index16.Reads as index16-reads
 
 abbrev Inv-loop : tie.InvT-loop
-Inv-loop table schedule records counts programs wires rows₀ mails₀ logs₀ heads₀ queues₀ totals₀ answers₀ reasons₀ entries₀ i₀ rows mails logs heads queues totals answers reasons entries i =
+Inv-loop table schedule counts programs wires rows₀ mails₀ logs₀ heads₀ queues₀ totals₀ answers₀ reasons₀ len records entries₀ i₀ rows mails logs heads queues totals answers reasons entries i =
     Playing (planOf table counts programs wires) schedule records (storeOf rows₀ mails₀ logs₀ heads₀ queues₀ totals₀) entries₀ (sheetsOf answers₀ reasons₀)
     i (storeOf rows mails logs heads queues totals) entries (sheetsOf answers reasons)
 
 abbrev μ-loop : tie.MeasureT-loop
-μ-loop table schedule records counts programs wires rows₀ mails₀ logs₀ heads₀ queues₀ totals₀ answers₀ reasons₀ entries₀ i₀ rows mails logs heads queues totals answers reasons entries i = records - i
+μ-loop table schedule counts programs wires rows₀ mails₀ logs₀ heads₀ queues₀ totals₀ answers₀ reasons₀ len records entries₀ i₀ rows mails logs heads queues totals answers reasons entries i = records - i
+
+returns : tie.Need-returns Inv-loop μ-loop
+returns c =
+    let s = c .before .before .before .before .before .args in
+    let none : commandsIn (s .schedule .now) ≤ 0 = (let t = c .if1 .taken in omega arith) in
+    at-last (planOf (s .table .now) (s .counts) (s .programs .now) (s .wires .now)) (s .schedule .now) (commandsIn (s .schedule .now))
+    (storeOf (s .rows .now) (s .mails .now) (s .logs .now) (s .heads .now) (s .queues .now) (s .totals .now)) (replicate entriesMost blankEntry)
+    (sheetsOf (s .answers .now) (s .reasons .now)) 0 _ _ _ refl
+    (at-first (planOf (s .table .now) (s .counts) (s .programs .now) (s .wires .now)) (s .schedule .now) (commandsIn (s .schedule .now))
+    (storeOf (s .rows .now) (s .mails .now) (s .logs .now) (s .heads .now) (s .queues .now) (s .totals .now)) _ (sheetsOf (s .answers .now) (s .reasons .now)))
+    none
 
 blank-requires : tie.Need-blank-requires Inv-loop μ-loop
 blank-requires c κs = search needs
 
 loop-holds : tie.Need-loop-holds Inv-loop μ-loop
 loop-holds c =
-    let s = c .before .before .before .before .before .args in
-    at-first (planOf (s .table .now) (s .counts) (s .programs .now) (s .wires .now)) (s .schedule .now) (s .records)
+    let s = c .before .before .before .before .before .before .args in
+    at-first (planOf (s .table .now) (s .counts) (s .programs .now) (s .wires .now)) (s .schedule .now) (commandsIn (s .schedule .now))
     (storeOf (s .rows .now) (s .mails .now) (s .logs .now) (s .heads .now) (s .queues .now) (s .totals .now)) _ (sheetsOf (s .answers .now) (s .reasons .now))
 
 add-i : tie.Need-add-i Inv-loop μ-loop
@@ -75,7 +88,7 @@ refusal-requires c κs = search needs
 
 write-requires : tie.Need-write-requires Inv-loop μ-loop
 write-requires c κs =
-    let z = c .before .before .before .before .before .before .before .before .before .before .before .before .before .before .before .pre in
+    let z = c .before .before .before .before .before .before .before .before .before .before .before .before .before .before .before .before .pre in
     let v = c .before .before .before .before .before .before .before .before .before .loop .inv in
     let h = c .before .before .before .before .before .before .before .before .loop-test .taken in
     let d = v .answers-long in
@@ -90,24 +103,24 @@ loop-less c =
 
 loop-again : tie.Need-loop-again Inv-loop μ-loop
 loop-again c =
-    let z = c .before .before .before .before .before .before .before .before .before .before .before .before .before .before .before .before .before .before .before .before in
+    let z = c .before .before .before .before .before .before .before .before .before .before .before .before .before .before .before .before .before .before .before .before .before in
     let s = z .args in
     let q = c .before .before .before .before .before .before .before .before .before .before .before .before .before .before .loop in
     let x = c .before .before .before .before .before .before .before .before .before .before .before .before .command-at in
     let g = c .before .before .before .before .before .before .before .before .before .before .before .byte-word in
     let j = c .before .before .before .before .before .before .before .before .before .before .judge in
-    on-refused (planOf (s .table .now) (s .counts) (s .programs .now) (s .wires .now)) (s .schedule .now) (s .records)
+    on-refused (planOf (s .table .now) (s .counts) (s .programs .now) (s .wires .now)) (s .schedule .now) (commandsIn (s .schedule .now))
     (storeOf (s .rows .now) (s .mails .now) (s .logs .now) (s .heads .now) (s .queues .now) (s .totals .now)) _ (sheetsOf (s .answers .now) (s .reasons .now))
     (z .pre) (q .i) (storeOf (q .rows) (q .mails) (q .logs) (q .heads) (q .queues) (q .totals)) (q .entries) (sheetsOf (q .answers) (q .reasons)) (q .inv)
     (c .before .before .before .before .before .before .before .before .before .before .before .before .before .loop-test .taken) (x .result) (x .ensures) (g .result) (g .ensures .0) (g .ensures .1) (j .result) (j .ensures)
-    (c .before .before .before .before .before .before .before .before .before .if1 .taken) (c .before .before .before .before .before .before .cause .result) (c .before .before .before .before .before .before .cause .ensures) (c .before .before .before .before .before .refusal .result) (c .before .before .before .before .before .refusal .ensures) (sheetsOf _ _) (c .before .before .before .before .write .ensures)
+    (c .before .before .before .before .before .before .before .before .before .if2 .taken) (c .before .before .before .before .before .before .cause .result) (c .before .before .before .before .before .before .cause .ensures) (c .before .before .before .before .before .refusal .result) (c .before .before .before .before .before .refusal .ensures) (sheetsOf _ _) (c .before .before .before .before .write .ensures)
 
 step-requires : tie.Need-step-requires Inv-loop μ-loop
 step-requires c κs = search needs
 
 write-requires-2 : tie.Need-write-requires-2 Inv-loop μ-loop
 write-requires-2 c κs =
-    let z = c .before .before .before .before .before .before .before .before .before .before .before .before .before .before .before .before .before .before .before .before .pre in
+    let z = c .before .before .before .before .before .before .before .before .before .before .before .before .before .before .before .before .before .before .before .before .before .pre in
     let v = c .before .before .before .before .before .before .before .before .before .before .before .before .before .before .loop .inv in
     let h = c .before .before .before .before .before .before .before .before .before .before .before .before .before .loop-test .taken in
     let d = v .answers-long in
@@ -128,19 +141,19 @@ loop-less-2 c =
 
 loop-again-2 : tie.Need-loop-again-2 Inv-loop μ-loop
 loop-again-2 c =
-    let z = c .before .before .before .before .before .before .before .before .before .before .before .before .before .before .before .before .before .before .before .before .before .before .before .before .before .before in
+    let z = c .before .before .before .before .before .before .before .before .before .before .before .before .before .before .before .before .before .before .before .before .before .before .before .before .before .before .before in
     let s = z .args in
     let q = c .before .before .before .before .before .before .before .before .before .before .before .before .before .before .before .before .before .before .before .before .loop in
     let x = c .before .before .before .before .before .before .before .before .before .before .before .before .before .before .before .before .before .before .command-at in
     let g = c .before .before .before .before .before .before .before .before .before .before .before .before .before .before .before .before .before .byte-word in
     let j = c .before .before .before .before .before .before .before .before .before .before .before .before .before .before .before .before .judge in
-    on-made (planOf (s .table .now) (s .counts) (s .programs .now) (s .wires .now)) (s .schedule .now) (s .records)
+    on-made (planOf (s .table .now) (s .counts) (s .programs .now) (s .wires .now)) (s .schedule .now) (commandsIn (s .schedule .now))
     (storeOf (s .rows .now) (s .mails .now) (s .logs .now) (s .heads .now) (s .queues .now) (s .totals .now)) _ (sheetsOf (s .answers .now) (s .reasons .now))
     (z .pre) (q .i) (storeOf (q .rows) (q .mails) (q .logs) (q .heads) (q .queues) (q .totals)) (q .entries) (sheetsOf (q .answers) (q .reasons)) (q .inv)
     (c .before .before .before .before .before .before .before .before .before .before .before .before .before .before .before .before .before .before .before .loop-test .taken) (x .result) (x .ensures) (g .result) (g .ensures .0) (g .ensures .1) (j .result) (j .ensures)
-    (c .before .before .before .before .before .before .before .before .before .before .before .before .before .before .before .if1 .left) 1 (c .before .before .before .before .before .before .before .before .before .before .before .before .before .before .match .keys1) (aProcess (g .result)) 2 (wordOf (c .before .before .before .before .before .before .before .before .before .step .result .answer)) _ _ (sheetsOf _ _) (c .before .before .before .before .before .before .before .before .before .step .result) (c .before .before .before .before .before .write2 .ensures)
+    (c .before .before .before .before .before .before .before .before .before .before .before .before .before .before .before .if2 .left) 1 (c .before .before .before .before .before .before .before .before .before .before .before .before .before .before .match .keys1) (aProcess (g .result)) 2 (wordOf (c .before .before .before .before .before .before .before .before .before .step .result .answer)) _ _ (sheetsOf _ _) (c .before .before .before .before .before .before .before .before .before .step .result) (c .before .before .before .before .before .write2 .ensures)
     (c .before .before .before .before .before .before .before .before .before .step .ensures (s .counts) (q .logs) (q .heads))
-    (λ t ok holds b. (b, one-joined (q .entries) (c .before .before .before .before .before .before .before .before .before .step .result .at) _ (c .if2 .taken)))
+    (λ t ok holds b. (b, one-joined (q .entries) (c .before .before .before .before .before .before .before .before .before .step .result .at) _ (c .if3 .taken)))
 
 loop-less-3 : tie.Need-loop-less-3 Inv-loop μ-loop
 loop-less-3 c =
@@ -148,19 +161,19 @@ loop-less-3 c =
 
 loop-again-3 : tie.Need-loop-again-3 Inv-loop μ-loop
 loop-again-3 c =
-    let z = c .before .before .before .before .before .before .before .before .before .before .before .before .before .before .before .before .before .before .before .before .before .before .before .before .before .before in
+    let z = c .before .before .before .before .before .before .before .before .before .before .before .before .before .before .before .before .before .before .before .before .before .before .before .before .before .before .before in
     let s = z .args in
     let q = c .before .before .before .before .before .before .before .before .before .before .before .before .before .before .before .before .before .before .before .before .loop in
     let x = c .before .before .before .before .before .before .before .before .before .before .before .before .before .before .before .before .before .before .command-at in
     let g = c .before .before .before .before .before .before .before .before .before .before .before .before .before .before .before .before .before .byte-word in
     let j = c .before .before .before .before .before .before .before .before .before .before .before .before .before .before .before .before .judge in
-    on-made (planOf (s .table .now) (s .counts) (s .programs .now) (s .wires .now)) (s .schedule .now) (s .records)
+    on-made (planOf (s .table .now) (s .counts) (s .programs .now) (s .wires .now)) (s .schedule .now) (commandsIn (s .schedule .now))
     (storeOf (s .rows .now) (s .mails .now) (s .logs .now) (s .heads .now) (s .queues .now) (s .totals .now)) _ (sheetsOf (s .answers .now) (s .reasons .now))
     (z .pre) (q .i) (storeOf (q .rows) (q .mails) (q .logs) (q .heads) (q .queues) (q .totals)) (q .entries) (sheetsOf (q .answers) (q .reasons)) (q .inv)
     (c .before .before .before .before .before .before .before .before .before .before .before .before .before .before .before .before .before .before .before .loop-test .taken) (x .result) (x .ensures) (g .result) (g .ensures .0) (g .ensures .1) (j .result) (j .ensures)
-    (c .before .before .before .before .before .before .before .before .before .before .before .before .before .before .before .if1 .left) 1 (c .before .before .before .before .before .before .before .before .before .before .before .before .before .before .match .keys1) (aProcess (g .result)) 2 (wordOf (c .before .before .before .before .before .before .before .before .before .step .result .answer)) _ _ (sheetsOf _ _) (c .before .before .before .before .before .before .before .before .before .step .result) (c .before .before .before .before .before .write2 .ensures)
+    (c .before .before .before .before .before .before .before .before .before .before .before .before .before .before .before .if2 .left) 1 (c .before .before .before .before .before .before .before .before .before .before .before .before .before .before .match .keys1) (aProcess (g .result)) 2 (wordOf (c .before .before .before .before .before .before .before .before .before .step .result .answer)) _ _ (sheetsOf _ _) (c .before .before .before .before .before .before .before .before .before .step .result) (c .before .before .before .before .before .write2 .ensures)
     (c .before .before .before .before .before .before .before .before .before .step .ensures (s .counts) (q .logs) (q .heads))
-    (λ t ok holds b. (b, none-joined (q .entries) (c .before .before .before .before .before .before .before .before .before .step .result .at) _ (c .if2 .left)))
+    (λ t ok holds b. (b, none-joined (q .entries) (c .before .before .before .before .before .before .before .before .before .step .result .at) _ (c .if3 .left)))
 
 index16-requires : tie.Need-index16-requires Inv-loop μ-loop
 index16-requires c κs = search needs
@@ -179,7 +192,7 @@ issue-requires c κs = search needs
 
 write-requires-3 : tie.Need-write-requires-3 Inv-loop μ-loop
 write-requires-3 c κs =
-    let z = c .before .before .before .before .before .before .before .before .before .before .before .before .before .before .before .before .before .before .before .before .before .pre in
+    let z = c .before .before .before .before .before .before .before .before .before .before .before .before .before .before .before .before .before .before .before .before .before .before .pre in
     let v = c .before .before .before .before .before .before .before .before .before .before .before .before .before .before .before .loop .inv in
     let h = c .before .before .before .before .before .before .before .before .before .before .before .before .before .before .loop-test .taken in
     let d = v .answers-long in
@@ -200,22 +213,22 @@ loop-less-4 c =
 
 loop-again-4 : tie.Need-loop-again-4 Inv-loop μ-loop
 loop-again-4 c =
-    let z = c .before .before .before .before .before .before .before .before .before .before .before .before .before .before .before .before .before .before .before .before .before .before .before .before .before .before .before in
+    let z = c .before .before .before .before .before .before .before .before .before .before .before .before .before .before .before .before .before .before .before .before .before .before .before .before .before .before .before .before in
     let s = z .args in
     let q = c .before .before .before .before .before .before .before .before .before .before .before .before .before .before .before .before .before .before .before .before .before .loop in
     let x = c .before .before .before .before .before .before .before .before .before .before .before .before .before .before .before .before .before .before .before .command-at in
     let g = c .before .before .before .before .before .before .before .before .before .before .before .before .before .before .before .before .before .before .byte-word in
     let j = c .before .before .before .before .before .before .before .before .before .before .before .before .before .before .before .before .before .judge in
-    on-made (planOf (s .table .now) (s .counts) (s .programs .now) (s .wires .now)) (s .schedule .now) (s .records)
+    on-made (planOf (s .table .now) (s .counts) (s .programs .now) (s .wires .now)) (s .schedule .now) (commandsIn (s .schedule .now))
     (storeOf (s .rows .now) (s .mails .now) (s .logs .now) (s .heads .now) (s .queues .now) (s .totals .now)) _ (sheetsOf (s .answers .now) (s .reasons .now))
     (z .pre) (q .i) (storeOf (q .rows) (q .mails) (q .logs) (q .heads) (q .queues) (q .totals)) (q .entries) (sheetsOf (q .answers) (q .reasons)) (q .inv)
     (c .before .before .before .before .before .before .before .before .before .before .before .before .before .before .before .before .before .before .before .before .loop-test .taken) (x .result) (x .ensures) (g .result) (g .ensures .0) (g .ensures .1) (j .result) (j .ensures)
-    (c .before .before .before .before .before .before .before .before .before .before .before .before .before .before .before .before .if1 .left) 2 (c .before .before .before .before .before .before .before .before .before .before .before .before .before .before .before .match .keys2) (aProcess (g .result)) 0 (syncEntry (q .rows) (g .result)) _ _ (sheetsOf _ _) (c .before .before .before .before .before .before .before .before .before .issue .result) (c .before .before .before .before .before .write3 .ensures)
+    (c .before .before .before .before .before .before .before .before .before .before .before .before .before .before .before .before .if2 .left) 2 (c .before .before .before .before .before .before .before .before .before .before .before .before .before .before .before .match .keys2) (aProcess (g .result)) 0 (syncEntry (q .rows) (g .result)) _ _ (sheetsOf _ _) (c .before .before .before .before .before .before .before .before .before .issue .result) (c .before .before .before .before .before .write3 .ensures)
     (c .before .before .before .before .before .before .before .before .before .issue .ensures _ (q .mails) (q .logs) (q .heads) (q .totals))
     (λ t ok holds b. (
       b,
       ap (λ (k : Checkpoint). set (q .entries) (c .before .before .before .before .before .before .before .before .before .issue .result .at) (record { item = Sync (g .result) k })) (c .before .before .before .before .before .before .before .before .before .before .before .before .snapshot .ensures ∙ ap (λ (p : ℕ). checkpointIn (getD (q .rows) p [])) (c .before .before .before .before .before .before .before .before .before .before .before .before .before .before .index16 .ensures .1 (let y = ok .processes-high in omega arith)))
-          ∙ one-joined (q .entries) (c .before .before .before .before .before .before .before .before .before .issue .result .at) _ (c .if3 .taken),
+          ∙ one-joined (q .entries) (c .before .before .before .before .before .before .before .before .before .issue .result .at) _ (c .if4 .taken),
     ))
 
 loop-less-5 : tie.Need-loop-less-5 Inv-loop μ-loop
@@ -224,19 +237,19 @@ loop-less-5 c =
 
 loop-again-5 : tie.Need-loop-again-5 Inv-loop μ-loop
 loop-again-5 c =
-    let z = c .before .before .before .before .before .before .before .before .before .before .before .before .before .before .before .before .before .before .before .before .before .before .before .before .before .before .before in
+    let z = c .before .before .before .before .before .before .before .before .before .before .before .before .before .before .before .before .before .before .before .before .before .before .before .before .before .before .before .before in
     let s = z .args in
     let q = c .before .before .before .before .before .before .before .before .before .before .before .before .before .before .before .before .before .before .before .before .before .loop in
     let x = c .before .before .before .before .before .before .before .before .before .before .before .before .before .before .before .before .before .before .before .command-at in
     let g = c .before .before .before .before .before .before .before .before .before .before .before .before .before .before .before .before .before .before .byte-word in
     let j = c .before .before .before .before .before .before .before .before .before .before .before .before .before .before .before .before .before .judge in
-    on-made (planOf (s .table .now) (s .counts) (s .programs .now) (s .wires .now)) (s .schedule .now) (s .records)
+    on-made (planOf (s .table .now) (s .counts) (s .programs .now) (s .wires .now)) (s .schedule .now) (commandsIn (s .schedule .now))
     (storeOf (s .rows .now) (s .mails .now) (s .logs .now) (s .heads .now) (s .queues .now) (s .totals .now)) _ (sheetsOf (s .answers .now) (s .reasons .now))
     (z .pre) (q .i) (storeOf (q .rows) (q .mails) (q .logs) (q .heads) (q .queues) (q .totals)) (q .entries) (sheetsOf (q .answers) (q .reasons)) (q .inv)
     (c .before .before .before .before .before .before .before .before .before .before .before .before .before .before .before .before .before .before .before .before .loop-test .taken) (x .result) (x .ensures) (g .result) (g .ensures .0) (g .ensures .1) (j .result) (j .ensures)
-    (c .before .before .before .before .before .before .before .before .before .before .before .before .before .before .before .before .if1 .left) 2 (c .before .before .before .before .before .before .before .before .before .before .before .before .before .before .before .match .keys2) (aProcess (g .result)) 0 (syncEntry (q .rows) (g .result)) _ _ (sheetsOf _ _) (c .before .before .before .before .before .before .before .before .before .issue .result) (c .before .before .before .before .before .write3 .ensures)
+    (c .before .before .before .before .before .before .before .before .before .before .before .before .before .before .before .before .if2 .left) 2 (c .before .before .before .before .before .before .before .before .before .before .before .before .before .before .before .match .keys2) (aProcess (g .result)) 0 (syncEntry (q .rows) (g .result)) _ _ (sheetsOf _ _) (c .before .before .before .before .before .before .before .before .before .issue .result) (c .before .before .before .before .before .write3 .ensures)
     (c .before .before .before .before .before .before .before .before .before .issue .ensures _ (q .mails) (q .logs) (q .heads) (q .totals))
-    (λ t ok holds b. (b, none-joined (q .entries) (c .before .before .before .before .before .before .before .before .before .issue .result .at) _ (c .if3 .left)))
+    (λ t ok holds b. (b, none-joined (q .entries) (c .before .before .before .before .before .before .before .before .before .issue .result .at) _ (c .if4 .left)))
 
 index16-requires-2 : tie.Need-index16-requires-2 Inv-loop μ-loop
 index16-requires-2 c κs = search needs
@@ -261,7 +274,7 @@ transmit-requires c κs = search needs
 
 write-requires-4 : tie.Need-write-requires-4 Inv-loop μ-loop
 write-requires-4 c κs =
-    let z = c .before .before .before .before .before .before .before .before .before .before .before .before .before .before .before .before .before .before .before .before .before .before .before .before .before .pre in
+    let z = c .before .before .before .before .before .before .before .before .before .before .before .before .before .before .before .before .before .before .before .before .before .before .before .before .before .before .pre in
     let v = c .before .before .before .before .before .before .before .before .before .before .before .before .before .before .before .before .before .before .before .loop .inv in
     let h = c .before .before .before .before .before .before .before .before .before .before .before .before .before .before .before .before .before .before .loop-test .taken in
     let d = v .answers-long in
@@ -276,17 +289,17 @@ loop-less-6 c =
 
 loop-again-6 : tie.Need-loop-again-6 Inv-loop μ-loop
 loop-again-6 c =
-    let z = c .before .before .before .before .before .before .before .before .before .before .before .before .before .before .before .before .before .before .before .before .before .before .before .before .before .before .before .before .before .before in
+    let z = c .before .before .before .before .before .before .before .before .before .before .before .before .before .before .before .before .before .before .before .before .before .before .before .before .before .before .before .before .before .before .before in
     let s = z .args in
     let q = c .before .before .before .before .before .before .before .before .before .before .before .before .before .before .before .before .before .before .before .before .before .before .before .before .loop in
     let x = c .before .before .before .before .before .before .before .before .before .before .before .before .before .before .before .before .before .before .before .before .before .before .command-at in
     let g = c .before .before .before .before .before .before .before .before .before .before .before .before .before .before .before .before .before .before .before .before .before .byte-word in
     let j = c .before .before .before .before .before .before .before .before .before .before .before .before .before .before .before .before .before .before .before .before .judge in
-    on-made (planOf (s .table .now) (s .counts) (s .programs .now) (s .wires .now)) (s .schedule .now) (s .records)
+    on-made (planOf (s .table .now) (s .counts) (s .programs .now) (s .wires .now)) (s .schedule .now) (commandsIn (s .schedule .now))
     (storeOf (s .rows .now) (s .mails .now) (s .logs .now) (s .heads .now) (s .queues .now) (s .totals .now)) _ (sheetsOf (s .answers .now) (s .reasons .now))
     (z .pre) (q .i) (storeOf (q .rows) (q .mails) (q .logs) (q .heads) (q .queues) (q .totals)) (q .entries) (sheetsOf (q .answers) (q .reasons)) (q .inv)
     (c .before .before .before .before .before .before .before .before .before .before .before .before .before .before .before .before .before .before .before .before .before .before .before .loop-test .taken) (x .result) (x .ensures) (g .result) (g .ensures .0) (g .ensures .1) (j .result) (j .ensures)
-    (c .before .before .before .before .before .before .before .before .before .before .before .before .before .before .before .before .before .before .before .if1 .left) 3 (c .before .before .before .before .before .before .before .before .before .before .before .before .before .before .before .before .before .before .match .keys3) (Oldest (q .queues) (g .result) _) 0 blankEntry _ _ (sheetsOf _ _) (aloneOf (c .before .before .before .before .before .before .before .transmit .result)) (c .before .before .before .before .write4 .ensures)
+    (c .before .before .before .before .before .before .before .before .before .before .before .before .before .before .before .before .before .before .before .if2 .left) 3 (c .before .before .before .before .before .before .before .before .before .before .before .before .before .before .before .before .before .before .match .keys3) (Oldest (q .queues) (g .result) _) 0 blankEntry _ _ (sheetsOf _ _) (aloneOf (c .before .before .before .before .before .before .before .transmit .result)) (c .before .before .before .before .write4 .ensures)
     (c .before .before .before .before .before .before .before .transmit .ensures (s .table .now) (s .counts) (s .programs .now))
     (λ t ok holds b. (
       record {
@@ -302,7 +315,7 @@ inject-requires c κs = search needs
 
 write-requires-5 : tie.Need-write-requires-5 Inv-loop μ-loop
 write-requires-5 c κs =
-    let z = c .before .before .before .before .before .before .before .before .before .before .before .before .before .before .before .before .before .before .before .before .pre in
+    let z = c .before .before .before .before .before .before .before .before .before .before .before .before .before .before .before .before .before .before .before .before .before .pre in
     let v = c .before .before .before .before .before .before .before .before .before .before .before .before .before .before .loop .inv in
     let h = c .before .before .before .before .before .before .before .before .before .before .before .before .before .loop-test .taken in
     let d = v .answers-long in
@@ -317,17 +330,17 @@ loop-less-7 c =
 
 loop-again-7 : tie.Need-loop-again-7 Inv-loop μ-loop
 loop-again-7 c =
-    let z = c .before .before .before .before .before .before .before .before .before .before .before .before .before .before .before .before .before .before .before .before .before .before .before .before .before in
+    let z = c .before .before .before .before .before .before .before .before .before .before .before .before .before .before .before .before .before .before .before .before .before .before .before .before .before .before in
     let s = z .args in
     let q = c .before .before .before .before .before .before .before .before .before .before .before .before .before .before .before .before .before .before .before .loop in
     let x = c .before .before .before .before .before .before .before .before .before .before .before .before .before .before .before .before .before .command-at in
     let g = c .before .before .before .before .before .before .before .before .before .before .before .before .before .before .before .before .byte-word in
     let j = c .before .before .before .before .before .before .before .before .before .before .before .before .before .before .before .judge in
-    on-made (planOf (s .table .now) (s .counts) (s .programs .now) (s .wires .now)) (s .schedule .now) (s .records)
+    on-made (planOf (s .table .now) (s .counts) (s .programs .now) (s .wires .now)) (s .schedule .now) (commandsIn (s .schedule .now))
     (storeOf (s .rows .now) (s .mails .now) (s .logs .now) (s .heads .now) (s .queues .now) (s .totals .now)) _ (sheetsOf (s .answers .now) (s .reasons .now))
     (z .pre) (q .i) (storeOf (q .rows) (q .mails) (q .logs) (q .heads) (q .queues) (q .totals)) (q .entries) (sheetsOf (q .answers) (q .reasons)) (q .inv)
     (c .before .before .before .before .before .before .before .before .before .before .before .before .before .before .before .before .before .before .loop-test .taken) (x .result) (x .ensures) (g .result) (g .ensures .0) (g .ensures .1) (j .result) (j .ensures)
-    (c .before .before .before .before .before .before .before .before .before .before .before .before .before .before .if1 .left) 4 (c .before .before .before .before .before .before .before .before .before .before .before .before .before .match .keys4) (aChannel (g .result)) 0 blankEntry _ _ (sheetsOf _ _) (aloneOf (c .before .before .before .before .before .before .before .inject .result)) (c .before .before .before .before .write5 .ensures)
+    (c .before .before .before .before .before .before .before .before .before .before .before .before .before .before .if2 .left) 4 (c .before .before .before .before .before .before .before .before .before .before .before .before .before .match .keys4) (aChannel (g .result)) 0 blankEntry _ _ (sheetsOf _ _) (aloneOf (c .before .before .before .before .before .before .before .inject .result)) (c .before .before .before .before .write5 .ensures)
     (c .before .before .before .before .before .before .before .inject .ensures (s .table .now) (s .counts) (s .programs .now) (q .queues))
     (λ t ok holds b. (b, refl))
 
@@ -336,7 +349,7 @@ crash-requires c κs = search needs
 
 write-requires-6 : tie.Need-write-requires-6 Inv-loop μ-loop
 write-requires-6 c κs =
-    let z = c .before .before .before .before .before .before .before .before .before .before .before .before .before .before .before .before .before .before .before .before .before .pre in
+    let z = c .before .before .before .before .before .before .before .before .before .before .before .before .before .before .before .before .before .before .before .before .before .before .pre in
     let v = c .before .before .before .before .before .before .before .before .before .before .before .before .before .before .before .loop .inv in
     let h = c .before .before .before .before .before .before .before .before .before .before .before .before .before .before .loop-test .taken in
     let d = v .answers-long in
@@ -351,17 +364,17 @@ loop-less-8 c =
 
 loop-again-8 : tie.Need-loop-again-8 Inv-loop μ-loop
 loop-again-8 c =
-    let z = c .before .before .before .before .before .before .before .before .before .before .before .before .before .before .before .before .before .before .before .before .before .before .before .before .before .before in
+    let z = c .before .before .before .before .before .before .before .before .before .before .before .before .before .before .before .before .before .before .before .before .before .before .before .before .before .before .before in
     let s = z .args in
     let q = c .before .before .before .before .before .before .before .before .before .before .before .before .before .before .before .before .before .before .before .before .loop in
     let x = c .before .before .before .before .before .before .before .before .before .before .before .before .before .before .before .before .before .before .command-at in
     let g = c .before .before .before .before .before .before .before .before .before .before .before .before .before .before .before .before .before .byte-word in
     let j = c .before .before .before .before .before .before .before .before .before .before .before .before .before .before .before .before .judge in
-    on-made (planOf (s .table .now) (s .counts) (s .programs .now) (s .wires .now)) (s .schedule .now) (s .records)
+    on-made (planOf (s .table .now) (s .counts) (s .programs .now) (s .wires .now)) (s .schedule .now) (commandsIn (s .schedule .now))
     (storeOf (s .rows .now) (s .mails .now) (s .logs .now) (s .heads .now) (s .queues .now) (s .totals .now)) _ (sheetsOf (s .answers .now) (s .reasons .now))
     (z .pre) (q .i) (storeOf (q .rows) (q .mails) (q .logs) (q .heads) (q .queues) (q .totals)) (q .entries) (sheetsOf (q .answers) (q .reasons)) (q .inv)
     (c .before .before .before .before .before .before .before .before .before .before .before .before .before .before .before .before .before .before .before .loop-test .taken) (x .result) (x .ensures) (g .result) (g .ensures .0) (g .ensures .1) (j .result) (j .ensures)
-    (c .before .before .before .before .before .before .before .before .before .before .before .before .before .before .before .if1 .left) 5 (c .before .before .before .before .before .before .before .before .before .before .before .before .before .before .match .keys5) (aBoard (g .result)) 0 blankEntry _ _ (sheetsOf _ _) (aloneOf (c .before .before .before .before .before .before .before .crash .result)) (c .before .before .before .before .write6 .ensures)
+    (c .before .before .before .before .before .before .before .before .before .before .before .before .before .before .before .if2 .left) 5 (c .before .before .before .before .before .before .before .before .before .before .before .before .before .before .match .keys5) (aBoard (g .result)) 0 blankEntry _ _ (sheetsOf _ _) (aloneOf (c .before .before .before .before .before .before .before .crash .result)) (c .before .before .before .before .write6 .ensures)
     (c .before .before .before .before .before .before .before .crash .ensures (s .table .now))
     (λ t ok holds b. (b, refl))
 
@@ -370,7 +383,7 @@ rejoin-requires c κs = search needs
 
 write-requires-7 : tie.Need-write-requires-7 Inv-loop μ-loop
 write-requires-7 c κs =
-    let z = c .before .before .before .before .before .before .before .before .before .before .before .before .before .before .before .before .pre in
+    let z = c .before .before .before .before .before .before .before .before .before .before .before .before .before .before .before .before .before .pre in
     let v = c .before .before .before .before .before .before .before .before .before .before .loop .inv in
     let h = c .before .before .before .before .before .before .before .before .before .loop-test .taken in
     let d = v .answers-long in
@@ -385,17 +398,17 @@ loop-less-9 c =
 
 loop-again-9 : tie.Need-loop-again-9 Inv-loop μ-loop
 loop-again-9 c =
-    let z = c .before .before .before .before .before .before .before .before .before .before .before .before .before .before .before .before .before .before .before .before .before in
+    let z = c .before .before .before .before .before .before .before .before .before .before .before .before .before .before .before .before .before .before .before .before .before .before in
     let s = z .args in
     let q = c .before .before .before .before .before .before .before .before .before .before .before .before .before .before .before .loop in
     let x = c .before .before .before .before .before .before .before .before .before .before .before .before .before .command-at in
     let g = c .before .before .before .before .before .before .before .before .before .before .before .before .byte-word in
     let j = c .before .before .before .before .before .before .before .before .before .before .before .judge in
-    on-made (planOf (s .table .now) (s .counts) (s .programs .now) (s .wires .now)) (s .schedule .now) (s .records)
+    on-made (planOf (s .table .now) (s .counts) (s .programs .now) (s .wires .now)) (s .schedule .now) (commandsIn (s .schedule .now))
     (storeOf (s .rows .now) (s .mails .now) (s .logs .now) (s .heads .now) (s .queues .now) (s .totals .now)) _ (sheetsOf (s .answers .now) (s .reasons .now))
     (z .pre) (q .i) (storeOf (q .rows) (q .mails) (q .logs) (q .heads) (q .queues) (q .totals)) (q .entries) (sheetsOf (q .answers) (q .reasons)) (q .inv)
     (c .before .before .before .before .before .before .before .before .before .before .before .before .before .before .loop-test .taken) (x .result) (x .ensures) (g .result) (g .ensures .0) (g .ensures .1) (j .result) (j .ensures)
-    (c .before .before .before .before .before .before .before .before .before .before .if1 .left) 6 (c .before .before .before .before .before .before .before .before .before .match .keys6) (aBoard (g .result)) 0 blankEntry _ _ (sheetsOf _ _) (aloneOf (c .before .before .before .before .before .before .before .rejoin .result)) (c .before .before .before .before .write7 .ensures)
+    (c .before .before .before .before .before .before .before .before .before .before .if2 .left) 6 (c .before .before .before .before .before .before .before .before .before .match .keys6) (aBoard (g .result)) 0 blankEntry _ _ (sheetsOf _ _) (aloneOf (c .before .before .before .before .before .before .before .rejoin .result)) (c .before .before .before .before .write7 .ensures)
     (c .before .before .before .before .before .before .before .rejoin .ensures _ (q .rows) (q .mails) (q .logs) (q .heads) (q .totals))
     (λ t ok holds b. (b, refl))
 
@@ -404,7 +417,7 @@ rebackup-requires c κs = search needs
 
 write-requires-8 : tie.Need-write-requires-8 Inv-loop μ-loop
 write-requires-8 c κs =
-    let z = c .before .before .before .before .before .before .before .before .before .before .before .before .before .before .before .before .before .before .before .before .before .before .pre in
+    let z = c .before .before .before .before .before .before .before .before .before .before .before .before .before .before .before .before .before .before .before .before .before .before .before .pre in
     let v = c .before .before .before .before .before .before .before .before .before .before .before .before .before .before .before .before .loop .inv in
     let h = c .before .before .before .before .before .before .before .before .before .before .before .before .before .before .before .loop-test .taken in
     let d = v .answers-long in
@@ -425,19 +438,19 @@ loop-less-10 c =
 
 loop-again-10 : tie.Need-loop-again-10 Inv-loop μ-loop
 loop-again-10 c =
-    let z = c .before .before .before .before .before .before .before .before .before .before .before .before .before .before .before .before .before .before .before .before .before .before .before .before .before .before .before .before in
+    let z = c .before .before .before .before .before .before .before .before .before .before .before .before .before .before .before .before .before .before .before .before .before .before .before .before .before .before .before .before .before in
     let s = z .args in
     let q = c .before .before .before .before .before .before .before .before .before .before .before .before .before .before .before .before .before .before .before .before .before .before .loop in
     let x = c .before .before .before .before .before .before .before .before .before .before .before .before .before .before .before .before .before .before .before .before .command-at in
     let g = c .before .before .before .before .before .before .before .before .before .before .before .before .before .before .before .before .before .before .before .byte-word in
     let j = c .before .before .before .before .before .before .before .before .before .before .before .before .before .before .before .before .before .before .judge in
-    on-made (planOf (s .table .now) (s .counts) (s .programs .now) (s .wires .now)) (s .schedule .now) (s .records)
+    on-made (planOf (s .table .now) (s .counts) (s .programs .now) (s .wires .now)) (s .schedule .now) (commandsIn (s .schedule .now))
     (storeOf (s .rows .now) (s .mails .now) (s .logs .now) (s .heads .now) (s .queues .now) (s .totals .now)) _ (sheetsOf (s .answers .now) (s .reasons .now))
     (z .pre) (q .i) (storeOf (q .rows) (q .mails) (q .logs) (q .heads) (q .queues) (q .totals)) (q .entries) (sheetsOf (q .answers) (q .reasons)) (q .inv)
     (c .before .before .before .before .before .before .before .before .before .before .before .before .before .before .before .before .before .before .before .before .before .loop-test .taken) (x .result) (x .ensures) (g .result) (g .ensures .0) (g .ensures .1) (j .result) (j .ensures)
-    (c .before .before .before .before .before .before .before .before .before .before .before .before .before .before .before .before .before .if1 .left) 7 (c .before .before .before .before .before .before .before .before .before .before .before .before .before .before .before .before .match .keys7) (aProcess (g .result)) 0 (transferEntry (g .result)) _ _ (sheetsOf _ _) (c .before .before .before .before .before .before .before .before .before .rebackup .result) (c .before .before .before .before .before .write8 .ensures)
+    (c .before .before .before .before .before .before .before .before .before .before .before .before .before .before .before .before .before .if2 .left) 7 (c .before .before .before .before .before .before .before .before .before .before .before .before .before .before .before .before .match .keys7) (aProcess (g .result)) 0 (transferEntry (g .result)) _ _ (sheetsOf _ _) (c .before .before .before .before .before .before .before .before .before .rebackup .result) (c .before .before .before .before .before .write8 .ensures)
     (c .before .before .before .before .before .before .before .before .before .rebackup .ensures (s .table .now) (s .counts))
-    (λ t ok holds b. (b, one-joined (q .entries) (c .before .before .before .before .before .before .before .before .before .rebackup .result .at) _ (c .if4 .taken)))
+    (λ t ok holds b. (b, one-joined (q .entries) (c .before .before .before .before .before .before .before .before .before .rebackup .result .at) _ (c .if5 .taken)))
 
 loop-less-11 : tie.Need-loop-less-11 Inv-loop μ-loop
 loop-less-11 c =
@@ -445,26 +458,26 @@ loop-less-11 c =
 
 loop-again-11 : tie.Need-loop-again-11 Inv-loop μ-loop
 loop-again-11 c =
-    let z = c .before .before .before .before .before .before .before .before .before .before .before .before .before .before .before .before .before .before .before .before .before .before .before .before .before .before .before .before in
+    let z = c .before .before .before .before .before .before .before .before .before .before .before .before .before .before .before .before .before .before .before .before .before .before .before .before .before .before .before .before .before in
     let s = z .args in
     let q = c .before .before .before .before .before .before .before .before .before .before .before .before .before .before .before .before .before .before .before .before .before .before .loop in
     let x = c .before .before .before .before .before .before .before .before .before .before .before .before .before .before .before .before .before .before .before .before .command-at in
     let g = c .before .before .before .before .before .before .before .before .before .before .before .before .before .before .before .before .before .before .before .byte-word in
     let j = c .before .before .before .before .before .before .before .before .before .before .before .before .before .before .before .before .before .before .judge in
-    on-made (planOf (s .table .now) (s .counts) (s .programs .now) (s .wires .now)) (s .schedule .now) (s .records)
+    on-made (planOf (s .table .now) (s .counts) (s .programs .now) (s .wires .now)) (s .schedule .now) (commandsIn (s .schedule .now))
     (storeOf (s .rows .now) (s .mails .now) (s .logs .now) (s .heads .now) (s .queues .now) (s .totals .now)) _ (sheetsOf (s .answers .now) (s .reasons .now))
     (z .pre) (q .i) (storeOf (q .rows) (q .mails) (q .logs) (q .heads) (q .queues) (q .totals)) (q .entries) (sheetsOf (q .answers) (q .reasons)) (q .inv)
     (c .before .before .before .before .before .before .before .before .before .before .before .before .before .before .before .before .before .before .before .before .before .loop-test .taken) (x .result) (x .ensures) (g .result) (g .ensures .0) (g .ensures .1) (j .result) (j .ensures)
-    (c .before .before .before .before .before .before .before .before .before .before .before .before .before .before .before .before .before .if1 .left) 7 (c .before .before .before .before .before .before .before .before .before .before .before .before .before .before .before .before .match .keys7) (aProcess (g .result)) 0 (transferEntry (g .result)) _ _ (sheetsOf _ _) (c .before .before .before .before .before .before .before .before .before .rebackup .result) (c .before .before .before .before .before .write8 .ensures)
+    (c .before .before .before .before .before .before .before .before .before .before .before .before .before .before .before .before .before .if2 .left) 7 (c .before .before .before .before .before .before .before .before .before .before .before .before .before .before .before .before .match .keys7) (aProcess (g .result)) 0 (transferEntry (g .result)) _ _ (sheetsOf _ _) (c .before .before .before .before .before .before .before .before .before .rebackup .result) (c .before .before .before .before .before .write8 .ensures)
     (c .before .before .before .before .before .before .before .before .before .rebackup .ensures (s .table .now) (s .counts))
-    (λ t ok holds b. (b, none-joined (q .entries) (c .before .before .before .before .before .before .before .before .before .rebackup .result .at) _ (c .if4 .left)))
+    (λ t ok holds b. (b, none-joined (q .entries) (c .before .before .before .before .before .before .before .before .before .rebackup .result .at) _ (c .if5 .left)))
 
 refusal-requires-2 : tie.Need-refusal-requires-2 Inv-loop μ-loop
 refusal-requires-2 c κs = search needs
 
 write-requires-9 : tie.Need-write-requires-9 Inv-loop μ-loop
 write-requires-9 c κs =
-    let z = c .before .before .before .before .before .before .before .before .before .before .before .before .before .before .before .pre in
+    let z = c .before .before .before .before .before .before .before .before .before .before .before .before .before .before .before .before .pre in
     let v = c .before .before .before .before .before .before .before .before .before .loop .inv in
     let h = c .before .before .before .before .before .before .before .before .loop-test .taken in
     let d = v .answers-long in
@@ -479,17 +492,17 @@ loop-less-12 c =
 
 loop-again-12 : tie.Need-loop-again-12 Inv-loop μ-loop
 loop-again-12 c =
-    let z = c .before .before .before .before .before .before .before .before .before .before .before .before .before .before .before .before .before .before .before .before in
+    let z = c .before .before .before .before .before .before .before .before .before .before .before .before .before .before .before .before .before .before .before .before .before in
     let s = z .args in
     let q = c .before .before .before .before .before .before .before .before .before .before .before .before .before .before .loop in
     let x = c .before .before .before .before .before .before .before .before .before .before .before .before .command-at in
     let g = c .before .before .before .before .before .before .before .before .before .before .before .byte-word in
     let j = c .before .before .before .before .before .before .before .before .before .before .judge in
-    on-unknown (planOf (s .table .now) (s .counts) (s .programs .now) (s .wires .now)) (s .schedule .now) (s .records)
+    on-unknown (planOf (s .table .now) (s .counts) (s .programs .now) (s .wires .now)) (s .schedule .now) (commandsIn (s .schedule .now))
     (storeOf (s .rows .now) (s .mails .now) (s .logs .now) (s .heads .now) (s .queues .now) (s .totals .now)) _ (sheetsOf (s .answers .now) (s .reasons .now))
     (z .pre) (q .i) (storeOf (q .rows) (q .mails) (q .logs) (q .heads) (q .queues) (q .totals)) (q .entries) (sheetsOf (q .answers) (q .reasons)) (q .inv)
     (c .before .before .before .before .before .before .before .before .before .before .before .before .before .loop-test .taken) (x .result) (x .ensures) (g .result) (g .ensures .0) (g .ensures .1) (j .result) (j .ensures)
-    (c .before .before .before .before .before .before .before .before .before .if1 .left) (c .before .before .before .before .before .before .before .before .match .rest .0 .0 .0 .0 .0 .0 .1) (c .before .before .before .before .before .before .before .before .match .rest .0 .0 .0 .0 .0 .1) (c .before .before .before .before .before .before .before .before .match .rest .0 .0 .0 .0 .1) (c .before .before .before .before .before .before .before .before .match .rest .0 .0 .0 .1) (c .before .before .before .before .before .before .before .before .match .rest .0 .0 .1) (c .before .before .before .before .before .before .before .before .match .rest .0 .1) (c .before .before .before .before .before .before .before .before .match .rest .1) (c .before .before .before .before .before .refusal2 .result) (sheetsOf _ _) (c .before .before .before .before .write9 .ensures)
+    (c .before .before .before .before .before .before .before .before .before .if2 .left) (c .before .before .before .before .before .before .before .before .match .rest .0 .0 .0 .0 .0 .0 .1) (c .before .before .before .before .before .before .before .before .match .rest .0 .0 .0 .0 .0 .1) (c .before .before .before .before .before .before .before .before .match .rest .0 .0 .0 .0 .1) (c .before .before .before .before .before .before .before .before .match .rest .0 .0 .0 .1) (c .before .before .before .before .before .before .before .before .match .rest .0 .0 .1) (c .before .before .before .before .before .before .before .before .match .rest .0 .1) (c .before .before .before .before .before .before .before .before .match .rest .1) (c .before .before .before .before .before .refusal2 .result) (sheetsOf _ _) (c .before .before .before .before .write9 .ensures)
 
 same-length : tie.Need-same-length Inv-loop μ-loop
 same-length c =
@@ -499,11 +512,11 @@ same-length-2 : tie.Need-same-length-2 Inv-loop μ-loop
 same-length-2 c =
     c .before .loop .inv .reasons-long
 
-returns : tie.Need-returns Inv-loop μ-loop
-returns c =
-    let s = c .before .before .before .before .before .before .before .args in
+returns-2 : tie.Need-returns-2 Inv-loop μ-loop
+returns-2 c =
+    let s = c .before .before .before .before .before .before .before .before .args in
     let q = c .before .loop in
-    at-last (planOf (s .table .now) (s .counts) (s .programs .now) (s .wires .now)) (s .schedule .now) (s .records)
+    at-last (planOf (s .table .now) (s .counts) (s .programs .now) (s .wires .now)) (s .schedule .now) (commandsIn (s .schedule .now))
     (storeOf (s .rows .now) (s .mails .now) (s .logs .now) (s .heads .now) (s .queues .now) (s .totals .now)) _ (sheetsOf (s .answers .now) (s .reasons .now))
     (q .i) (storeOf (q .rows) (q .mails) (q .logs) (q .heads) (q .queues) (q .totals)) (q .entries) (sheetsOf (q .answers) (q .reasons))
     (ap (replicate 512) (c .before .before .blank .ensures)) (q .inv) (c .loop-test .left)
@@ -514,6 +527,7 @@ play-spec =
     (tie.spec
     Inv-loop
     μ-loop
+    returns
     blank-requires
     loop-holds
     add-i
@@ -581,4 +595,4 @@ play-spec =
     loop-again-12
     same-length
     same-length-2
-    returns)
+    returns-2)
