@@ -248,7 +248,7 @@ fn compact(log: &mut [u64; LOG], len: usize, taken: [u32; 4], all: usize) -> usi
 // Drops what was taken, writes how many messages stay, and says in how many rounds. Where nothing was taken, or all that was saved, nothing
 // moves, and there is none.
 fn drop_taken(log: &mut [u64; LOG], head: &mut [u32; HEAD], c: Checkpoint) -> usize
-    requires { ⌜ getD (now head) 0 0 ≤ logMost ⌝ }
+    requires { ⌜ headLen (now head) ≤ logMost ⌝ }
     ensures { λ _. ⌜ Dropped (now (log .entry)) (headLen (now (head .entry))) (takenOf c) (now (log .exit)) ⌝ }
     ensures { λ _. ⌜ now (head .exit) ≡ set (now (head .entry)) 0 (headLen (now (head .entry)) - allTaken (takenOf c)) ⌝ }
     ensures { λ r. ⌜ r ≡ syncRounds 0 (viewIn (now (log .entry)) (now (head .entry))) (checkpointOf c) ⌝ }

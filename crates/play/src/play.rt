@@ -25,7 +25,7 @@ use plan::PROGRAMS;
 use plan::WIRES;
 use process::checkpoint::snapshot;
 use process::row::ROW;
-use records::head::VERSION;
+use records::schedule::FIRST_COMMAND;
 use records::schedule::command_at;
 use rejoin::rebackup::rebackup;
 use rejoin::rejoin::rejoin;
@@ -40,9 +40,6 @@ use step::issue::issue;
 use step::step::step;
 use words::byte_word;
 use words::index16;
-
-// The first record stands behind the version.
-const FIRST: usize = VERSION + 1;
 
 // The i-th answer, and why.
 fn write(answers: &mut [u8], reasons: &mut [u8], i: usize, r: Answer)
@@ -80,10 +77,10 @@ pub fn play(
         (sheetsOf (now (answers .exit)) (now (reasons .exit))) ⌝ }
 {
     let len = schedule.len();
-    if len < FIRST {
+    if len < FIRST_COMMAND {
         return;
     }
-    let records = (len - FIRST) / 6;
+    let records = (len - FIRST_COMMAND) / 6;
     let none = blank();
     let mut entries = [none; ENTRIES];
     let mut i = 0;

@@ -8,7 +8,7 @@ use crate::six::six_of;
 use words::pair;
 
 // Where the commands begin: behind the length's two bytes and the version.
-const FIRST_COMMAND: usize = 3;
+pub const FIRST_COMMAND: usize = 3;
 // Commands that a schedule has at most, and the bytes of one that has so many.
 pub const COMMANDS_MOST: usize = 10000;
 
