@@ -1,5 +1,4 @@
 -- An answer's bytes:
-pub mod Putting
 pub mod Answers
 -- and why what the records leave is what the rules leave:
 pub mod Playing

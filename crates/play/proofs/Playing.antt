@@ -32,7 +32,7 @@ use Rattle.command.proofs.Judging.{ruleOf, mostOf, Passes, passes, made, refuse
 use Rattle.plan.specs.Plan.{Plan, Planned}
 use Rattle.play.specs.Written.{sixBytes, reasonByte}
 use Rattle.play.specs.Plays.{Sheets, Roomy, Writes, Played, Suited, Playing, Plays}
-use Rattle.outcome.proofs.Writing.{written-more}
+use Rattle.records.proofs.Writing.{written-more}
 use Rattle.play.proofs.Answers.{answer-fits}
 
 -- ---- one command more
