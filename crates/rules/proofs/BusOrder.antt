@@ -5,9 +5,9 @@ use mathlib.Core.Bool.{cond, _&&_}
 use mathlib.Core.List.{List, [], _∷_, map}
 use Prim.Native.Nat.{ℕ}
 use lib.Dec.{eqb}
-use Rattle.rules.specs.Machine.{Mail}
+use Rattle.rules.specs.Machine.{Mail, Origin, BusWord}
 use Rattle.rules.specs.Moves.{Command, Answer, stepDone, issueDone, crashDone, rejoinDone, rebackupDone, received, queued, suppressed, transmitted, injected, syncKept, syncLost, transferKept, refused, Numbers, numbered, numbers}
-use Rattle.rules.specs.Transparent.{traceOf, fedOf}
+use Rattle.rules.specs.Transparent.{traceOf, busOf, fedOf}
 
 -- document 01's own numbers: "5 sync carried [..] (process, 0)"
 abbrev pub numbersBefore : Answer → Numbers
@@ -70,6 +70,33 @@ pub traceOf-unaffected : (l : List Answer) → traceOf (map numbers l) ≡ trace
 unfolding traceOf added
 traceOf-unaffected [] = refl
 traceOf-unaffected (a ∷ l) = rw (traceOf-unaffected l) (same-added a (traceOf (map numbersBefore l)))
+
+-- the same with the origins, which are none of an answer 5
+addedFrom : Origin → Numbers → List BusWord → List BusWord
+addedFrom o n others = cond (eqb (n .code) 4) (record { mail = record { channel = n .a; word = n .word }; origin = o } ∷ others) others
+
+same-addedFrom : (o : Origin) (a : Answer) (others : List BusWord) → addedFrom o (numbers a) others ≡ addedFrom o (numbersBefore a) others
+unfolding numbers addedFrom
+same-addedFrom o (syncKept p dropped) others = refl
+same-addedFrom o stepDone others = refl
+same-addedFrom o issueDone others = refl
+same-addedFrom o crashDone others = refl
+same-addedFrom o rejoinDone others = refl
+same-addedFrom o rebackupDone others = refl
+same-addedFrom o (received x) others = refl
+same-addedFrom o (queued x) others = refl
+same-addedFrom o (suppressed x) others = refl
+same-addedFrom o (transmitted x) others = refl
+same-addedFrom o (injected x) others = refl
+same-addedFrom o (syncLost p) others = refl
+same-addedFrom o (transferKept p) others = refl
+same-addedFrom o (refused why a) others = refl
+
+pub busOf-unaffected : (l : List Answer) (origins : List Origin) → busOf (map numbers l) origins ≡ busOf (map numbersBefore l) origins
+unfolding busOf addedFrom
+busOf-unaffected [] origins = refl
+busOf-unaffected (a ∷ l) [] = refl
+busOf-unaffected (a ∷ l) (o ∷ origins) = rw (busOf-unaffected l origins) (same-addedFrom o a (busOf (map numbersBefore l) origins))
 
 pub fedOf-unaffected : (rs : List Command) (l : List Answer) → fedOf rs (map numbers l) ≡ fedOf rs (map numbersBefore l)
 unfolding fedOf
