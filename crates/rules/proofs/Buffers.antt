@@ -17,11 +17,13 @@ use Rattle.rules.specs.Transparent.{answered, originated, finished}
 use Rattle.rules.specs.Bytes.{allBytes, written}
 use Rattle.rules.specs.Format.{processesIn, decodeTable}
 use Rattle.rules.specs.Schedule.{commandsIn, decodeSchedule, command}
-use Rattle.rules.specs.Run.{Buffers, lengthsOf, answerBytes, originBytes, reportBytes, validateRun, ranFrom, refusedWith, run, accepted}
+use Rattle.rules.specs.Run.{Buffers, lengthsOf, answerBytes, originBytes, reportBytes, validateRun, ranFrom, refusedWith, run}
+use Rattle.rules.specs.Run.{accepted}
 use Rattle.rules.proofs.Guards.{Leaves, after-run}
 use Rattle.rules.proofs.Crashed.{crash-length}
 use Rattle.rules.proofs.Valid.{length-sixes, processes-counted}
-use Rattle.rules.proofs.AcceptedRun.{one-answer-each, answered-length, originated-length, run-is, answers-fit, reasons-fit, report-fits, origins-fit}
+use Rattle.rules.proofs.AcceptedRun.{one-answer-each, answered-length, originated-length, run-is}
+use Rattle.rules.proofs.AcceptedRun.{answers-fit, reasons-fit, report-fits, origins-fit}
 
 -- ---- written bytes
 

@@ -1,4 +1,5 @@
--- W-212: "Equal now means these agree as well." So channel and word agree as they did: without its origins the new bus order is the old one.
+-- W-212: "Equal now means these agree as well." So channel and word agree as they did: without its origins the bus order is the one that was
+-- compared before.
 use mathlib.Core.Path.{_≡_, refl, ap, _∙_}
 use mathlib.Core.Bool.{Bool, true, false, cond}
 use mathlib.Core.List.{List, [], _∷_, map}
@@ -20,13 +21,15 @@ one-more : (n : Numbers) (o : Origin) (l : List Numbers) (origins : List Origin)
 unfolding busOf traceOf
 one-more n o l origins h = rw (← h) (go (eqb (n .code) 4))
   where
-    go : (b : Bool) → withoutOrigins (cond b (record { mail = record { channel = n .a; word = n .word }; origin = o } ∷ busOf l origins) (busOf l origins))
+    go : (b : Bool)
+        → withoutOrigins (cond b (record { mail = record { channel = n .a; word = n .word }; origin = o } ∷ busOf l origins) (busOf l origins))
         ≡ cond b (record { channel = n .a; word = n .word } ∷ withoutOrigins (busOf l origins)) (withoutOrigins (busOf l origins))
     go true = refl
     go false = refl
 
 -- of the bytes that a run left
-pub words-read : (n : ℕ) (answers origins : List ℕ) → withoutOrigins (busOf (readAnswers n answers) (readOrigins n origins)) ≡ traceOf (readAnswers n answers)
+pub words-read : (n : ℕ) (answers origins : List ℕ)
+    → withoutOrigins (busOf (readAnswers n answers) (readOrigins n origins)) ≡ traceOf (readAnswers n answers)
 words-read zero answers origins = no-word
 words-read (suc n) answers origins = one-more _ _ _ _ (words-read n (drop 6 answers) (drop 2 origins))
 
@@ -36,5 +39,6 @@ words-answered [] = no-word
 words-answered (a ∷ l) = one-more (numbers a) (originOf a) (map numbers l) (map originOf l) (words-answered l)
 
 -- the equality before W-212
-pub same-words : (table schedule : List ℕ) (r : Ran) (x : FailureTransparency table schedule r) → withoutOrigins (x .end .trace) ≡ traceOf (answersIn r)
+pub same-words : (table schedule : List ℕ) (r : Ran) (x : FailureTransparency table schedule r)
+    → withoutOrigins (x .end .trace) ≡ traceOf (answersIn r)
 same-words table schedule r x = ap withoutOrigins (x .same-trace) ∙ words-read (r .records) (r .buffers .answers) (r .buffers .origins)

@@ -1,12 +1,12 @@
--- W-212: what tells the origin of an answer, of every command in every cabinet: its move, its code and, of a carry, the oldest entry before it.
--- This is what code that writes the origins rests on.
+-- W-212: what tells the origin of an answer, of every command in every cabinet: its move, its code and, of a carry, the oldest entry before
+-- it. This is what code that writes the origins rests on.
 use mathlib.Core.Path.{_≡_, refl}
 use mathlib.Core.Bool.{Bool, true, false, cond}
 use Prim.Native.Nat.{ℕ}
 use Rattle.rules.specs.Table.{Table}
 use Rattle.rules.specs.Cabinet.{Cabinet, processAt, outboxAt, protected}
-use Rattle.rules.specs.Moves.{Command, Move, stepMove, issueMove, transmitMove, injectMove, crashMove, rejoinMove, rebackupMove, unknown, moveOf}
-use Rattle.rules.specs.Moves.{Refusal, Answer, syncKept, syncLost, droppedFrom, refused, numbers, originOf, turn}
+use Rattle.rules.specs.Moves.{Command, Move, stepMove, issueMove, transmitMove, injectMove, crashMove, rejoinMove, rebackupMove, unknown}
+use Rattle.rules.specs.Moves.{moveOf, Refusal, Answer, syncKept, syncLost, droppedFrom, refused, numbers, originOf, turn}
 use Rattle.rules.specs.Origins.{toldBy}
 use Rattle.rules.proofs.Decoded.{refusalNumber-not-4}
 use Rattle.rules.proofs.Guards.{Done, yields-turn}

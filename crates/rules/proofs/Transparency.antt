@@ -18,7 +18,8 @@ use Rattle.rules.proofs.Start.{reached}
 use Rattle.rules.proofs.Quiet.{all-caught-up, same-machines, no-more}
 
 -- at a quiet end the reference machine goes on to the running machines
-finish : (t : Table) (commands : List Command) → Follows t (finished t commands) (referenceStart t) (busOf (answered t commands) (originated t commands)) (fedOf commands (answered t commands))
+finish : (t : Table) (commands : List Command)
+    → Follows t (finished t commands) (referenceStart t) (busOf (answered t commands) (originated t commands)) (fedOf commands (answered t commands))
     → (quiet : Bool) → quiescent t (finished t commands) ≡ quiet → ListTransparent t commands
 unfolding referenceStart
 finish t commands f false q =

@@ -79,5 +79,5 @@ finished t commands = runFrom t (started t) commands .cabinet
 -- "Demand 3 speaks of that list as a whole, in one theorem, and not of each move by itself."
 abbrev pub ListTransparent : Table → List Command → Type 0
 ListTransparent t commands =
-    Transparent t (fedOf commands (answered t commands)) (busOf (answered t commands) (originated t commands)) (quiescent t (finished t commands))
-    (machinesOf (finished t commands))
+    Transparent t (fedOf commands (answered t commands)) (busOf (answered t commands) (originated t commands))
+    (quiescent t (finished t commands)) (machinesOf (finished t commands))
