@@ -31,7 +31,6 @@ use rejoin::rebackup::rebackup;
 use rejoin::rejoin::rejoin;
 use state::entry::Entry;
 use state::entry::Item;
-use state::entry::blank;
 use state::moved::Answer;
 use state::moved::refusal;
 use state::queue::ENTRIES;
@@ -40,6 +39,15 @@ use step::issue::issue;
 use step::step::step;
 use words::byte_word;
 use words::index16;
+use words::least;
+
+// Records of a schedule that are to be played: those from number `from` on, before number `to` and before the schedule's end. `entries` are those
+// of all queues, as they are before the first of them.
+pub struct Stretch {
+    pub from: usize,
+    pub to: usize,
+    pub entries: [Entry; ENTRIES],
+}
 
 // The i-th answer, and why.
 fn write(answers: &mut [u8], reasons: &mut [u8], i: usize, r: Answer)
@@ -47,12 +55,24 @@ fn write(answers: &mut [u8], reasons: &mut [u8], i: usize, r: Answer)
     ensures { λ _. ⌜ Writes (sheetsOf (now (answers .entry)) (now (reasons .entry))) i r
         (sheetsOf (now (answers .exit)) (now (reasons .exit))) ⌝ }
 {
-    put_reason(reasons, i, r.code, r.cause);
     put(answers, i, r);
+    put_reason(reasons, i, r.code, r.cause);
 }
 
-// The records of a schedule, on lists that hold the cabinet as it starts. The buffers have room for them. They are counted here, so that the
-// compiler knows that each of them is there.
+// How many records a schedule has, as its length says.
+fn count(schedule: &[u8]) -> usize
+    ensures { λ r. ⌜ r ≡ commandsIn (now (schedule .entry)) ⌝ }
+{
+    let len = schedule.len();
+    if len < FIRST_COMMAND {
+        return 0;
+    }
+    (len - FIRST_COMMAND) / 6
+}
+
+// A stretch of a schedule's records, on lists that hold any cabinet that commands reach. What is returned is what is left of the stretch: the next
+// record's number, and the entries then. The buffers have room for all records before `to`. The schedule's records are counted here, so that the compiler
+// knows that each of them is there.
 pub fn play(
     table: &[u8],
     schedule: &[u8],
@@ -67,24 +87,20 @@ pub fn play(
     totals: &mut [u32; CHANNELS],
     answers: &mut [u8],
     reasons: &mut [u8],
-)
-    requires { ⌜ Roomy (commandsIn (now schedule)) (sheetsOf (now answers) (now reasons)) ⌝ }
-    ensures { λ _. ⌜ Plays (planOf (now (table .entry)) counts (now (programs .entry)) (now (wires .entry))) (now (schedule .entry))
-        (commandsIn (now (schedule .entry)))
+    stretch: Stretch,
+) -> Stretch
+    requires { ⌜ Roomy (stretch .to) (sheetsOf (now answers) (now reasons)) ⌝ }
+    ensures { λ r. ⌜ Plays (planOf (now (table .entry)) counts (now (programs .entry)) (now (wires .entry))) (now (schedule .entry)) stretch
         (storeOf (now (rows .entry)) (now (mails .entry)) (now (logs .entry)) (now (heads .entry)) (now (queues .entry)) (now (totals .entry)))
-        (sheetsOf (now (answers .entry)) (now (reasons .entry)))
+        (sheetsOf (now (answers .entry)) (now (reasons .entry))) r
         (storeOf (now (rows .exit)) (now (mails .exit)) (now (logs .exit)) (now (heads .exit)) (now (queues .exit)) (now (totals .exit)))
         (sheetsOf (now (answers .exit)) (now (reasons .exit))) ⌝ }
 {
-    let len = schedule.len();
-    if len < FIRST_COMMAND {
-        return;
-    }
-    let records = (len - FIRST_COMMAND) / 6;
-    let none = blank();
-    let mut entries = [none; ENTRIES];
-    let mut i = 0;
-    while i < records {
+    let to = stretch.to;
+    let end = least(to, count(schedule));
+    let mut entries = stretch.entries;
+    let mut i = stretch.from;
+    while i < end {
         let k = i;
         i += 1;
         let c = command_at(schedule, k);
@@ -167,7 +183,13 @@ pub fn play(
                     };
                 }
             }
+            // Never reached: `judge` passes none but the seven moves above, and a match over numbers wants the rest.
             _ => write(answers, reasons, k, refusal(32, 0, a)),
         }
+    }
+    Stretch {
+        from: i,
+        to: to,
+        entries: entries,
     }
 }

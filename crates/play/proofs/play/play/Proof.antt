@@ -1,21 +1,16 @@
-use mathlib.Core.Path.{_≡_, refl, ap, sym, _∙_}
+-- The loop of `play`. Whatever a record is, its answer comes after the judging: what is known there serves every arm.
+use mathlib.Core.Path.{_≡_, refl, ap, _∙_}
 use mathlib.Core.List.{[]}
-use Prim.Native.Nat.{ℕ, _+_, _-_, _*_, _%_, _≤_}
-use lib.ListN.{length, getD, set, replicate}
-use native.Mathlib.Omega.{arith}
+use Prim.Native.Nat.{ℕ, _+_, _-_, _*_, _%_, _≤_, _<_, min}
+use lib.ListN.{length, getD, set}
 use Rattle.plan.specs.Plan.{planOf}
-use Rattle.rules.specs.Schedule.{commandsIn}
-use Rattle.rules.specs.Sizes.{entriesMost}
-use Rattle.state.specs.declared.entry.Item.the-variants.{Word, Sync, Transfer}
+use Rattle.state.specs.declared.entry.Item.the-variants.{Sync}
 use Rattle.state.specs.Store.{storeOf, blankEntry}
-use Rattle.state.specs.Moved.{aloneOf, wordOf, aProcess, aBoard, aChannel}
-use Rattle.step.specs.Issues.{syncEntry}
-use Rattle.bus.specs.Transmits.{Oldest}
-use Rattle.rejoin.specs.Rebackups.{transferEntry}
 use Rattle.process.specs.Row.{checkpointIn}
 use Rattle.backup.specs.declared.place.Checkpoint.{Checkpoint}
-use Rattle.play.specs.Plays.{sheetsOf, Playing}
-use Rattle.play.proofs.Playing.{at-first, on-refused, on-made, on-unknown, at-last, none-joined, one-joined, default-free}
+use Rattle.play.specs.Plays.{sheetsOf}
+use Rattle.play.proofs.Sheets.{has-room}
+use Rattle.play.proofs.Playing.{Playing, at-first, Round, on-refused, on-made, on-unknown, at-last, none-joined, one-joined, default-free}
 use borrow.Author.Needs.{needs}
 use native.Mathlib.Omega.{arith}
 use Rattle.play.proofs.play.play.Statement.{statement}
@@ -25,48 +20,76 @@ use Rattle.play.proofs.play.play.Lts as lts
 use Rattle.bus.proofs.inject.inject.Reads as inject-reads
 use Rattle.bus.proofs.transmit.oldest.Reads as oldest-reads
 use Rattle.bus.proofs.transmit.transmit.Reads as transmit-reads
-use Rattle.play.proofs.play.write.Reads as write-reads
 use Rattle.command.proofs.judge.cause.Reads as cause-reads
 use Rattle.command.proofs.judge.judge.Reads as judge-reads
 use Rattle.crash.proofs.crash.crash.Reads as crash-reads
+use Rattle.play.proofs.play.count.Reads as count-reads
+use Rattle.play.proofs.play.write.Reads as write-reads
 use Rattle.process.proofs.checkpoint.snapshot.Reads as snapshot-reads
 use Rattle.records.proofs.schedule.command_at.Reads as command-at-reads
 use Rattle.rejoin.proofs.rebackup.rebackup.Reads as rebackup-reads
 use Rattle.rejoin.proofs.rejoin.rejoin.Reads as rejoin-reads
-use Rattle.state.proofs.entry.blank.Reads as blank-reads
 use Rattle.state.proofs.moved.refusal.Reads as refusal-reads
 use Rattle.step.proofs.issue.issue.Reads as issue-reads
 use Rattle.step.proofs.step.step.Reads as step-reads
 use Rattle.words.proofs.byte_word.Reads as byte-word-reads
 use Rattle.words.proofs.index16.Reads as index16-reads
+use Rattle.words.proofs.least.Reads as least-reads
 
 abbrev Inv-loop : tie.InvT-loop
-Inv-loop table schedule counts programs wires rows₀ mails₀ logs₀ heads₀ queues₀ totals₀ answers₀ reasons₀ len records entries₀ i₀ rows mails logs heads queues totals answers reasons entries i =
-    Playing (planOf table counts programs wires) schedule records (storeOf rows₀ mails₀ logs₀ heads₀ queues₀ totals₀) entries₀ (sheetsOf answers₀ reasons₀)
+Inv-loop table schedule counts programs wires rows₀ mails₀ logs₀ heads₀ queues₀ totals₀ answers₀ reasons₀ to end entries₀ i₀ rows mails logs heads queues totals answers reasons entries i =
+    Playing (planOf table counts programs wires) schedule i₀ end (storeOf rows₀ mails₀ logs₀ heads₀ queues₀ totals₀) entries₀ (sheetsOf answers₀ reasons₀)
     i (storeOf rows mails logs heads queues totals) entries (sheetsOf answers reasons)
 
 abbrev μ-loop : tie.MeasureT-loop
-μ-loop table schedule counts programs wires rows₀ mails₀ logs₀ heads₀ queues₀ totals₀ answers₀ reasons₀ len records entries₀ i₀ rows mails logs heads queues totals answers reasons entries i = records - i
+μ-loop table schedule counts programs wires rows₀ mails₀ logs₀ heads₀ queues₀ totals₀ answers₀ reasons₀ to end entries₀ i₀ rows mails logs heads queues totals answers reasons entries i = end - i
 
-returns : tie.Need-returns Inv-loop μ-loop
-returns c =
-    let s = c .before .before .before .before .before .args in
-    let none : commandsIn (s .schedule .now) ≤ 0 = (let t = c .if1 .taken in omega arith) in
-    at-last (planOf (s .table .now) (s .counts) (s .programs .now) (s .wires .now)) (s .schedule .now) (commandsIn (s .schedule .now))
-    (storeOf (s .rows .now) (s .mails .now) (s .logs .now) (s .heads .now) (s .queues .now) (s .totals .now)) (replicate entriesMost blankEntry)
-    (sheetsOf (s .answers .now) (s .reasons .now)) 0 _ _ _ refl
-    (at-first (planOf (s .table .now) (s .counts) (s .programs .now) (s .wires .now)) (s .schedule .now) (commandsIn (s .schedule .now))
-    (storeOf (s .rows .now) (s .mails .now) (s .logs .now) (s .heads .now) (s .queues .now) (s .totals .now)) _ (sheetsOf (s .answers .now) (s .reasons .now)))
-    none
+-- ---- once a record is judged
 
-blank-requires : tie.Need-blank-requires Inv-loop μ-loop
-blank-requires c κs = search needs
+abbrev Here : Type 0
+Here = tie.After-judge Inv-loop μ-loop
+
+abbrev first : Here → tie.Start Inv-loop μ-loop
+first g = g .before .before .before .before .before .before .before .before .before .before .before .before
+
+abbrev head : Here → tie.At-loop Inv-loop μ-loop
+head g = g .before .before .before .before
+
+round : (g : Here) → Round
+    (planOf (first g .args .table .now) (first g .args .counts) (first g .args .programs .now) (first g .args .wires .now)) (first g .args .schedule .now)
+    (first g .args .stretch .from) (g .before .before .before .before .before .before .least .result)
+    (storeOf (first g .args .rows .now) (first g .args .mails .now) (first g .args .logs .now) (first g .args .heads .now) (first g .args .queues .now)
+    (first g .args .totals .now))
+    (first g .args .stretch .entries) (sheetsOf (first g .args .answers .now) (first g .args .reasons .now)) (head g .loop .i)
+    (storeOf (head g .loop .rows) (head g .loop .mails) (head g .loop .logs) (head g .loop .heads) (head g .loop .queues) (head g .loop .totals))
+    (head g .loop .entries) (sheetsOf (head g .loop .answers) (head g .loop .reasons))
+    (g .before .before .command-at .result) (g .before .byte-word .result) (g .judge .result)
+round g = record {
+  so-far = head g .loop .inv;
+  few = (let a = g .before .before .before .before .before .before .least .ensures in let b = g .before .before .before .before .before .before .before .count .ensures in omega arith);
+  below = g .before .before .before .loop-test .taken;
+  is-c = g .before .before .command-at .ensures;
+  is-a = g .before .byte-word .ensures .0;
+  small = g .before .byte-word .ensures .1;
+  is-n = g .judge .ensures;
+}
+
+room : (g : Here) → (6 * head g .loop .i + 6 ≤ length (head g .loop .answers)) × (head g .loop .i < length (head g .loop .reasons))
+room g = has-room (first g .pre) (head g .loop .inv .long) (let a = g .before .before .before .before .before .before .least .ensures in let b = g .before .before .before .loop-test .taken in omega arith)
+
+less : (g : Here) → g .before .before .before .before .before .before .least .result - (head g .loop .i + 1) < g .before .before .before .before .before .before .least .result - head g .loop .i
+less g = let a = g .before .before .before .loop-test .taken in omega arith
+
+-- ---- the needs
+
+count-requires : tie.Need-count-requires Inv-loop μ-loop
+count-requires c κs = search needs
+
+least-requires : tie.Need-least-requires Inv-loop μ-loop
+least-requires c κs = search needs
 
 loop-holds : tie.Need-loop-holds Inv-loop μ-loop
-loop-holds c =
-    let s = c .before .before .before .before .before .before .args in
-    at-first (planOf (s .table .now) (s .counts) (s .programs .now) (s .wires .now)) (s .schedule .now) (commandsIn (s .schedule .now))
-    (storeOf (s .rows .now) (s .mails .now) (s .logs .now) (s .heads .now) (s .queues .now) (s .totals .now)) _ (sheetsOf (s .answers .now) (s .reasons .now))
+loop-holds c = at-first _ _ _ _ _ _ _
 
 add-i : tie.Need-add-i Inv-loop μ-loop
 add-i c = search needs
@@ -87,47 +110,20 @@ refusal-requires : tie.Need-refusal-requires Inv-loop μ-loop
 refusal-requires c κs = search needs
 
 write-requires : tie.Need-write-requires Inv-loop μ-loop
-write-requires c κs =
-    let z = c .before .before .before .before .before .before .before .before .before .before .before .before .before .before .before .before .pre in
-    let v = c .before .before .before .before .before .before .before .before .before .loop .inv in
-    let h = c .before .before .before .before .before .before .before .before .loop-test .taken in
-    let d = v .answers-long in
-    let e = v .reasons-long in
-    let f = z .answers-room in
-    let g = z .reasons-room in
-    (omega arith, omega arith)
+write-requires c κs = room (c .before .before .before .before .before)
 
 loop-less : tie.Need-loop-less Inv-loop μ-loop
-loop-less c =
-    let h = c .before .before .before .before .before .before .before .before .before .before .before .before .before .loop-test .taken in omega arith
+loop-less c = less (c .before .before .before .before .before .before .before .before .before .before)
 
 loop-again : tie.Need-loop-again Inv-loop μ-loop
 loop-again c =
-    let z = c .before .before .before .before .before .before .before .before .before .before .before .before .before .before .before .before .before .before .before .before .before in
-    let s = z .args in
-    let q = c .before .before .before .before .before .before .before .before .before .before .before .before .before .before .loop in
-    let x = c .before .before .before .before .before .before .before .before .before .before .before .before .command-at in
-    let g = c .before .before .before .before .before .before .before .before .before .before .before .byte-word in
-    let j = c .before .before .before .before .before .before .before .before .before .before .judge in
-    on-refused (planOf (s .table .now) (s .counts) (s .programs .now) (s .wires .now)) (s .schedule .now) (commandsIn (s .schedule .now))
-    (storeOf (s .rows .now) (s .mails .now) (s .logs .now) (s .heads .now) (s .queues .now) (s .totals .now)) _ (sheetsOf (s .answers .now) (s .reasons .now))
-    (z .pre) (q .i) (storeOf (q .rows) (q .mails) (q .logs) (q .heads) (q .queues) (q .totals)) (q .entries) (sheetsOf (q .answers) (q .reasons)) (q .inv)
-    (c .before .before .before .before .before .before .before .before .before .before .before .before .before .loop-test .taken) (x .result) (x .ensures) (g .result) (g .ensures .0) (g .ensures .1) (j .result) (j .ensures)
-    (c .before .before .before .before .before .before .before .before .before .if2 .taken) (c .before .before .before .before .before .before .cause .result) (c .before .before .before .before .before .before .cause .ensures) (c .before .before .before .before .before .refusal .result) (c .before .before .before .before .before .refusal .ensures) (sheetsOf _ _) (c .before .before .before .before .write .ensures)
+    on-refused (round (c .before .before .before .before .before .before .before .before .before .before)) (c .before .before .before .before .before .before .before .before .before .if1 .taken) (c .before .before .before .before .before .before .cause .ensures) (c .before .before .before .before .before .refusal .ensures) (c .before .before .before .before .write .ensures)
 
 step-requires : tie.Need-step-requires Inv-loop μ-loop
 step-requires c κs = search needs
 
 write-requires-2 : tie.Need-write-requires-2 Inv-loop μ-loop
-write-requires-2 c κs =
-    let z = c .before .before .before .before .before .before .before .before .before .before .before .before .before .before .before .before .before .before .before .before .before .pre in
-    let v = c .before .before .before .before .before .before .before .before .before .before .before .before .before .before .loop .inv in
-    let h = c .before .before .before .before .before .before .before .before .before .before .before .before .before .loop-test .taken in
-    let d = v .answers-long in
-    let e = v .reasons-long in
-    let f = z .answers-room in
-    let g = z .reasons-room in
-    (omega arith, omega arith)
+write-requires-2 c κs = room (c .before .before .before .before .before .before .before .before .before .before)
 
 mul-entries : tie.Need-mul-entries Inv-loop μ-loop
 mul-entries c = search needs
@@ -136,44 +132,24 @@ array-set-from-entries : tie.Need-array-set-from-entries Inv-loop μ-loop
 array-set-from-entries c = search needs
 
 loop-less-2 : tie.Need-loop-less-2 Inv-loop μ-loop
-loop-less-2 c =
-    let h = c .before .before .before .before .before .before .before .before .before .before .before .before .before .before .before .before .before .before .before .loop-test .taken in omega arith
+loop-less-2 c = less (c .before .before .before .before .before .before .before .before .before .before .before .before .before .before .before .before)
 
 loop-again-2 : tie.Need-loop-again-2 Inv-loop μ-loop
 loop-again-2 c =
-    let z = c .before .before .before .before .before .before .before .before .before .before .before .before .before .before .before .before .before .before .before .before .before .before .before .before .before .before .before in
-    let s = z .args in
-    let q = c .before .before .before .before .before .before .before .before .before .before .before .before .before .before .before .before .before .before .before .before .loop in
-    let x = c .before .before .before .before .before .before .before .before .before .before .before .before .before .before .before .before .before .before .command-at in
-    let g = c .before .before .before .before .before .before .before .before .before .before .before .before .before .before .before .before .before .byte-word in
-    let j = c .before .before .before .before .before .before .before .before .before .before .before .before .before .before .before .before .judge in
-    on-made (planOf (s .table .now) (s .counts) (s .programs .now) (s .wires .now)) (s .schedule .now) (commandsIn (s .schedule .now))
-    (storeOf (s .rows .now) (s .mails .now) (s .logs .now) (s .heads .now) (s .queues .now) (s .totals .now)) _ (sheetsOf (s .answers .now) (s .reasons .now))
-    (z .pre) (q .i) (storeOf (q .rows) (q .mails) (q .logs) (q .heads) (q .queues) (q .totals)) (q .entries) (sheetsOf (q .answers) (q .reasons)) (q .inv)
-    (c .before .before .before .before .before .before .before .before .before .before .before .before .before .before .before .before .before .before .before .loop-test .taken) (x .result) (x .ensures) (g .result) (g .ensures .0) (g .ensures .1) (j .result) (j .ensures)
-    (c .before .before .before .before .before .before .before .before .before .before .before .before .before .before .before .if2 .left) 1 (c .before .before .before .before .before .before .before .before .before .before .before .before .before .before .match .keys1) (aProcess (g .result)) 2 (wordOf (c .before .before .before .before .before .before .before .before .before .step .result .answer)) _ _ (sheetsOf _ _) (c .before .before .before .before .before .before .before .before .before .step .result) (c .before .before .before .before .before .write2 .ensures)
-    (c .before .before .before .before .before .before .before .before .before .step .ensures (s .counts) (q .logs) (q .heads))
-    (λ t ok holds b. (b, one-joined (q .entries) (c .before .before .before .before .before .before .before .before .before .step .result .at) _ (c .if3 .taken)))
+    let g = c .before .before .before .before .before .before .before .before .before .before .before .before .before .before .before .before in
+    let q = head g .loop in
+    on-made (round g) (c .before .before .before .before .before .before .before .before .before .before .before .before .before .before .before .if1 .left) 1 (c .before .before .before .before .before .before .before .before .before .before .before .before .before .before .match .keys1) (c .before .before .before .before .before .write2 .ensures) (c .before .before .before .before .before .before .before .before .before .step .ensures (first g .args .counts) (q .logs) (q .heads))
+    (λ t now ok holds b. (b, one-joined (q .entries) (c .before .before .before .before .before .before .before .before .before .step .result .at) _ (c .if2 .taken)))
 
 loop-less-3 : tie.Need-loop-less-3 Inv-loop μ-loop
-loop-less-3 c =
-    let h = c .before .before .before .before .before .before .before .before .before .before .before .before .before .before .before .before .before .before .before .loop-test .taken in omega arith
+loop-less-3 c = less (c .before .before .before .before .before .before .before .before .before .before .before .before .before .before .before .before)
 
 loop-again-3 : tie.Need-loop-again-3 Inv-loop μ-loop
 loop-again-3 c =
-    let z = c .before .before .before .before .before .before .before .before .before .before .before .before .before .before .before .before .before .before .before .before .before .before .before .before .before .before .before in
-    let s = z .args in
-    let q = c .before .before .before .before .before .before .before .before .before .before .before .before .before .before .before .before .before .before .before .before .loop in
-    let x = c .before .before .before .before .before .before .before .before .before .before .before .before .before .before .before .before .before .before .command-at in
-    let g = c .before .before .before .before .before .before .before .before .before .before .before .before .before .before .before .before .before .byte-word in
-    let j = c .before .before .before .before .before .before .before .before .before .before .before .before .before .before .before .before .judge in
-    on-made (planOf (s .table .now) (s .counts) (s .programs .now) (s .wires .now)) (s .schedule .now) (commandsIn (s .schedule .now))
-    (storeOf (s .rows .now) (s .mails .now) (s .logs .now) (s .heads .now) (s .queues .now) (s .totals .now)) _ (sheetsOf (s .answers .now) (s .reasons .now))
-    (z .pre) (q .i) (storeOf (q .rows) (q .mails) (q .logs) (q .heads) (q .queues) (q .totals)) (q .entries) (sheetsOf (q .answers) (q .reasons)) (q .inv)
-    (c .before .before .before .before .before .before .before .before .before .before .before .before .before .before .before .before .before .before .before .loop-test .taken) (x .result) (x .ensures) (g .result) (g .ensures .0) (g .ensures .1) (j .result) (j .ensures)
-    (c .before .before .before .before .before .before .before .before .before .before .before .before .before .before .before .if2 .left) 1 (c .before .before .before .before .before .before .before .before .before .before .before .before .before .before .match .keys1) (aProcess (g .result)) 2 (wordOf (c .before .before .before .before .before .before .before .before .before .step .result .answer)) _ _ (sheetsOf _ _) (c .before .before .before .before .before .before .before .before .before .step .result) (c .before .before .before .before .before .write2 .ensures)
-    (c .before .before .before .before .before .before .before .before .before .step .ensures (s .counts) (q .logs) (q .heads))
-    (λ t ok holds b. (b, none-joined (q .entries) (c .before .before .before .before .before .before .before .before .before .step .result .at) _ (c .if3 .left)))
+    let g = c .before .before .before .before .before .before .before .before .before .before .before .before .before .before .before .before in
+    let q = head g .loop in
+    on-made (round g) (c .before .before .before .before .before .before .before .before .before .before .before .before .before .before .before .if1 .left) 1 (c .before .before .before .before .before .before .before .before .before .before .before .before .before .before .match .keys1) (c .before .before .before .before .before .write2 .ensures) (c .before .before .before .before .before .before .before .before .before .step .ensures (first g .args .counts) (q .logs) (q .heads))
+    (λ t now ok holds b. (b, none-joined (q .entries) (c .before .before .before .before .before .before .before .before .before .step .result .at) _ (c .if2 .left)))
 
 index16-requires : tie.Need-index16-requires Inv-loop μ-loop
 index16-requires c κs = search needs
@@ -191,15 +167,7 @@ issue-requires : tie.Need-issue-requires Inv-loop μ-loop
 issue-requires c κs = search needs
 
 write-requires-3 : tie.Need-write-requires-3 Inv-loop μ-loop
-write-requires-3 c κs =
-    let z = c .before .before .before .before .before .before .before .before .before .before .before .before .before .before .before .before .before .before .before .before .before .before .pre in
-    let v = c .before .before .before .before .before .before .before .before .before .before .before .before .before .before .before .loop .inv in
-    let h = c .before .before .before .before .before .before .before .before .before .before .before .before .before .before .loop-test .taken in
-    let d = v .answers-long in
-    let e = v .reasons-long in
-    let f = z .answers-room in
-    let g = z .reasons-room in
-    (omega arith, omega arith)
+write-requires-3 c κs = room (c .before .before .before .before .before .before .before .before .before .before .before)
 
 mul-entries-2 : tie.Need-mul-entries-2 Inv-loop μ-loop
 mul-entries-2 c = search needs
@@ -208,48 +176,29 @@ array-set-from-entries-2 : tie.Need-array-set-from-entries-2 Inv-loop μ-loop
 array-set-from-entries-2 c = search needs
 
 loop-less-4 : tie.Need-loop-less-4 Inv-loop μ-loop
-loop-less-4 c =
-    let h = c .before .before .before .before .before .before .before .before .before .before .before .before .before .before .before .before .before .before .before .before .loop-test .taken in omega arith
+loop-less-4 c = less (c .before .before .before .before .before .before .before .before .before .before .before .before .before .before .before .before .before)
 
 loop-again-4 : tie.Need-loop-again-4 Inv-loop μ-loop
 loop-again-4 c =
-    let z = c .before .before .before .before .before .before .before .before .before .before .before .before .before .before .before .before .before .before .before .before .before .before .before .before .before .before .before .before in
-    let s = z .args in
-    let q = c .before .before .before .before .before .before .before .before .before .before .before .before .before .before .before .before .before .before .before .before .before .loop in
-    let x = c .before .before .before .before .before .before .before .before .before .before .before .before .before .before .before .before .before .before .before .command-at in
-    let g = c .before .before .before .before .before .before .before .before .before .before .before .before .before .before .before .before .before .before .byte-word in
-    let j = c .before .before .before .before .before .before .before .before .before .before .before .before .before .before .before .before .before .judge in
-    on-made (planOf (s .table .now) (s .counts) (s .programs .now) (s .wires .now)) (s .schedule .now) (commandsIn (s .schedule .now))
-    (storeOf (s .rows .now) (s .mails .now) (s .logs .now) (s .heads .now) (s .queues .now) (s .totals .now)) _ (sheetsOf (s .answers .now) (s .reasons .now))
-    (z .pre) (q .i) (storeOf (q .rows) (q .mails) (q .logs) (q .heads) (q .queues) (q .totals)) (q .entries) (sheetsOf (q .answers) (q .reasons)) (q .inv)
-    (c .before .before .before .before .before .before .before .before .before .before .before .before .before .before .before .before .before .before .before .before .loop-test .taken) (x .result) (x .ensures) (g .result) (g .ensures .0) (g .ensures .1) (j .result) (j .ensures)
-    (c .before .before .before .before .before .before .before .before .before .before .before .before .before .before .before .before .if2 .left) 2 (c .before .before .before .before .before .before .before .before .before .before .before .before .before .before .before .match .keys2) (aProcess (g .result)) 0 (syncEntry (q .rows) (g .result)) _ _ (sheetsOf _ _) (c .before .before .before .before .before .before .before .before .before .issue .result) (c .before .before .before .before .before .write3 .ensures)
-    (c .before .before .before .before .before .before .before .before .before .issue .ensures _ (q .mails) (q .logs) (q .heads) (q .totals))
-    (λ t ok holds b. (
+    let g = c .before .before .before .before .before .before .before .before .before .before .before .before .before .before .before .before .before in
+    let q = head g .loop in
+    on-made (round g) (c .before .before .before .before .before .before .before .before .before .before .before .before .before .before .before .before .if1 .left) 2 (c .before .before .before .before .before .before .before .before .before .before .before .before .before .before .before .match .keys2) (c .before .before .before .before .before .write3 .ensures) (c .before .before .before .before .before .before .before .before .before .issue .ensures _ (q .mails) (q .logs) (q .heads) (q .totals))
+    (λ t now ok holds b. (
       b,
-      ap (λ (k : Checkpoint). set (q .entries) (c .before .before .before .before .before .before .before .before .before .issue .result .at) (record { item = Sync (g .result) k })) (c .before .before .before .before .before .before .before .before .before .before .before .before .snapshot .ensures ∙ ap (λ (p : ℕ). checkpointIn (getD (q .rows) p [])) (c .before .before .before .before .before .before .before .before .before .before .before .before .before .before .index16 .ensures .1 (let y = ok .processes-high in omega arith)))
-          ∙ one-joined (q .entries) (c .before .before .before .before .before .before .before .before .before .issue .result .at) _ (c .if4 .taken),
+      ap (λ (k : Checkpoint). set (q .entries) (c .before .before .before .before .before .before .before .before .before .issue .result .at) (record { item = Sync (g .before .byte-word .result) k }))
+          (c .before .before .before .before .before .before .before .before .before .before .before .before .snapshot .ensures ∙ ap (λ (p : ℕ). checkpointIn (getD (q .rows) p [])) (c .before .before .before .before .before .before .before .before .before .before .before .before .before .before .index16 .ensures .1 (let y = ok .processes-high in omega arith)))
+          ∙ one-joined (q .entries) (c .before .before .before .before .before .before .before .before .before .issue .result .at) _ (c .if3 .taken),
     ))
 
 loop-less-5 : tie.Need-loop-less-5 Inv-loop μ-loop
-loop-less-5 c =
-    let h = c .before .before .before .before .before .before .before .before .before .before .before .before .before .before .before .before .before .before .before .before .loop-test .taken in omega arith
+loop-less-5 c = less (c .before .before .before .before .before .before .before .before .before .before .before .before .before .before .before .before .before)
 
 loop-again-5 : tie.Need-loop-again-5 Inv-loop μ-loop
 loop-again-5 c =
-    let z = c .before .before .before .before .before .before .before .before .before .before .before .before .before .before .before .before .before .before .before .before .before .before .before .before .before .before .before .before in
-    let s = z .args in
-    let q = c .before .before .before .before .before .before .before .before .before .before .before .before .before .before .before .before .before .before .before .before .before .loop in
-    let x = c .before .before .before .before .before .before .before .before .before .before .before .before .before .before .before .before .before .before .before .command-at in
-    let g = c .before .before .before .before .before .before .before .before .before .before .before .before .before .before .before .before .before .before .byte-word in
-    let j = c .before .before .before .before .before .before .before .before .before .before .before .before .before .before .before .before .before .judge in
-    on-made (planOf (s .table .now) (s .counts) (s .programs .now) (s .wires .now)) (s .schedule .now) (commandsIn (s .schedule .now))
-    (storeOf (s .rows .now) (s .mails .now) (s .logs .now) (s .heads .now) (s .queues .now) (s .totals .now)) _ (sheetsOf (s .answers .now) (s .reasons .now))
-    (z .pre) (q .i) (storeOf (q .rows) (q .mails) (q .logs) (q .heads) (q .queues) (q .totals)) (q .entries) (sheetsOf (q .answers) (q .reasons)) (q .inv)
-    (c .before .before .before .before .before .before .before .before .before .before .before .before .before .before .before .before .before .before .before .before .loop-test .taken) (x .result) (x .ensures) (g .result) (g .ensures .0) (g .ensures .1) (j .result) (j .ensures)
-    (c .before .before .before .before .before .before .before .before .before .before .before .before .before .before .before .before .if2 .left) 2 (c .before .before .before .before .before .before .before .before .before .before .before .before .before .before .before .match .keys2) (aProcess (g .result)) 0 (syncEntry (q .rows) (g .result)) _ _ (sheetsOf _ _) (c .before .before .before .before .before .before .before .before .before .issue .result) (c .before .before .before .before .before .write3 .ensures)
-    (c .before .before .before .before .before .before .before .before .before .issue .ensures _ (q .mails) (q .logs) (q .heads) (q .totals))
-    (λ t ok holds b. (b, none-joined (q .entries) (c .before .before .before .before .before .before .before .before .before .issue .result .at) _ (c .if4 .left)))
+    let g = c .before .before .before .before .before .before .before .before .before .before .before .before .before .before .before .before .before in
+    let q = head g .loop in
+    on-made (round g) (c .before .before .before .before .before .before .before .before .before .before .before .before .before .before .before .before .if1 .left) 2 (c .before .before .before .before .before .before .before .before .before .before .before .before .before .before .before .match .keys2) (c .before .before .before .before .before .write3 .ensures) (c .before .before .before .before .before .before .before .before .before .issue .ensures _ (q .mails) (q .logs) (q .heads) (q .totals))
+    (λ t now ok holds b. (b, none-joined (q .entries) (c .before .before .before .before .before .before .before .before .before .issue .result .at) _ (c .if3 .left)))
 
 index16-requires-2 : tie.Need-index16-requires-2 Inv-loop μ-loop
 index16-requires-2 c κs = search needs
@@ -273,39 +222,23 @@ transmit-requires : tie.Need-transmit-requires Inv-loop μ-loop
 transmit-requires c κs = search needs
 
 write-requires-4 : tie.Need-write-requires-4 Inv-loop μ-loop
-write-requires-4 c κs =
-    let z = c .before .before .before .before .before .before .before .before .before .before .before .before .before .before .before .before .before .before .before .before .before .before .before .before .before .before .pre in
-    let v = c .before .before .before .before .before .before .before .before .before .before .before .before .before .before .before .before .before .before .before .loop .inv in
-    let h = c .before .before .before .before .before .before .before .before .before .before .before .before .before .before .before .before .before .before .loop-test .taken in
-    let d = v .answers-long in
-    let e = v .reasons-long in
-    let f = z .answers-room in
-    let g = z .reasons-room in
-    (omega arith, omega arith)
+write-requires-4 c κs = room (c .before .before .before .before .before .before .before .before .before .before .before .before .before .before .before)
 
 loop-less-6 : tie.Need-loop-less-6 Inv-loop μ-loop
-loop-less-6 c =
-    let h = c .before .before .before .before .before .before .before .before .before .before .before .before .before .before .before .before .before .before .before .before .before .before .before .loop-test .taken in omega arith
+loop-less-6 c = less (c .before .before .before .before .before .before .before .before .before .before .before .before .before .before .before .before .before .before .before .before)
 
 loop-again-6 : tie.Need-loop-again-6 Inv-loop μ-loop
 loop-again-6 c =
-    let z = c .before .before .before .before .before .before .before .before .before .before .before .before .before .before .before .before .before .before .before .before .before .before .before .before .before .before .before .before .before .before .before in
-    let s = z .args in
-    let q = c .before .before .before .before .before .before .before .before .before .before .before .before .before .before .before .before .before .before .before .before .before .before .before .before .loop in
-    let x = c .before .before .before .before .before .before .before .before .before .before .before .before .before .before .before .before .before .before .before .before .before .before .command-at in
-    let g = c .before .before .before .before .before .before .before .before .before .before .before .before .before .before .before .before .before .before .before .before .before .byte-word in
-    let j = c .before .before .before .before .before .before .before .before .before .before .before .before .before .before .before .before .before .before .before .before .judge in
-    on-made (planOf (s .table .now) (s .counts) (s .programs .now) (s .wires .now)) (s .schedule .now) (commandsIn (s .schedule .now))
-    (storeOf (s .rows .now) (s .mails .now) (s .logs .now) (s .heads .now) (s .queues .now) (s .totals .now)) _ (sheetsOf (s .answers .now) (s .reasons .now))
-    (z .pre) (q .i) (storeOf (q .rows) (q .mails) (q .logs) (q .heads) (q .queues) (q .totals)) (q .entries) (sheetsOf (q .answers) (q .reasons)) (q .inv)
-    (c .before .before .before .before .before .before .before .before .before .before .before .before .before .before .before .before .before .before .before .before .before .before .before .loop-test .taken) (x .result) (x .ensures) (g .result) (g .ensures .0) (g .ensures .1) (j .result) (j .ensures)
-    (c .before .before .before .before .before .before .before .before .before .before .before .before .before .before .before .before .before .before .before .if2 .left) 3 (c .before .before .before .before .before .before .before .before .before .before .before .before .before .before .before .before .before .before .match .keys3) (Oldest (q .queues) (g .result) _) 0 blankEntry _ _ (sheetsOf _ _) (aloneOf (c .before .before .before .before .before .before .before .transmit .result)) (c .before .before .before .before .write4 .ensures)
-    (c .before .before .before .before .before .before .before .transmit .ensures (s .table .now) (s .counts) (s .programs .now))
-    (λ t ok holds b. (
+    let g = c .before .before .before .before .before .before .before .before .before .before .before .before .before .before .before .before .before .before .before .before in
+    let q = head g .loop in
+    on-made (round g) (c .before .before .before .before .before .before .before .before .before .before .before .before .before .before .before .before .before .before .before .if1 .left) 3 (c .before .before .before .before .before .before .before .before .before .before .before .before .before .before .before .before .before .before .match .keys3) (c .before .before .before .before .write4 .ensures) (c .before .before .before .before .before .before .before .transmit .ensures (first g .args .table .now) (first g .args .counts) (first g .args .programs .now))
+    (λ t now ok holds b. (
       record {
         board-there = b;
         oldest-is = default-free (q .entries) (c .before .before .before .before .before .before .before .before .before .before .before .before .before .before .before .oldest .result) _ _ (let y = holds .shape .entries-length in let v = c .before .before .before .before .before .before .before .before .before .before .before .before .before .before .before .oldest .ensures .0 in omega arith)
-            ∙ ap (λ (k : ℕ). getD (q .entries) k blankEntry) (c .before .before .before .before .before .before .before .before .before .before .before .before .before .before .before .oldest .ensures .1 (c .before .before .before .before .before .before .before .before .before .before .before .before .before .before .before .before .before .index162 .ensures .0) ∙ ap (λ (k : ℕ). 32 * k + getD (getD (q .queues) k []) 0 0 % 32) (c .before .before .before .before .before .before .before .before .before .before .before .before .before .before .before .before .before .index162 .ensures .1 (let y = ok .boards-high in omega arith)));
+            ∙ ap (λ (k : ℕ). getD (q .entries) k blankEntry)
+            (c .before .before .before .before .before .before .before .before .before .before .before .before .before .before .before .oldest .ensures .1 (c .before .before .before .before .before .before .before .before .before .before .before .before .before .before .before .before .before .index162 .ensures .0)
+            ∙ ap (λ (k : ℕ). 32 * k + getD (getD (q .queues) k []) 0 0 % 32) (c .before .before .before .before .before .before .before .before .before .before .before .before .before .before .before .before .before .index162 .ensures .1 (let y = ok .boards-high in omega arith)));
       },
       refl,
     ))
@@ -314,117 +247,55 @@ inject-requires : tie.Need-inject-requires Inv-loop μ-loop
 inject-requires c κs = search needs
 
 write-requires-5 : tie.Need-write-requires-5 Inv-loop μ-loop
-write-requires-5 c κs =
-    let z = c .before .before .before .before .before .before .before .before .before .before .before .before .before .before .before .before .before .before .before .before .before .pre in
-    let v = c .before .before .before .before .before .before .before .before .before .before .before .before .before .before .loop .inv in
-    let h = c .before .before .before .before .before .before .before .before .before .before .before .before .before .loop-test .taken in
-    let d = v .answers-long in
-    let e = v .reasons-long in
-    let f = z .answers-room in
-    let g = z .reasons-room in
-    (omega arith, omega arith)
+write-requires-5 c κs = room (c .before .before .before .before .before .before .before .before .before .before)
 
 loop-less-7 : tie.Need-loop-less-7 Inv-loop μ-loop
-loop-less-7 c =
-    let h = c .before .before .before .before .before .before .before .before .before .before .before .before .before .before .before .before .before .before .loop-test .taken in omega arith
+loop-less-7 c = less (c .before .before .before .before .before .before .before .before .before .before .before .before .before .before .before)
 
 loop-again-7 : tie.Need-loop-again-7 Inv-loop μ-loop
 loop-again-7 c =
-    let z = c .before .before .before .before .before .before .before .before .before .before .before .before .before .before .before .before .before .before .before .before .before .before .before .before .before .before in
-    let s = z .args in
-    let q = c .before .before .before .before .before .before .before .before .before .before .before .before .before .before .before .before .before .before .before .loop in
-    let x = c .before .before .before .before .before .before .before .before .before .before .before .before .before .before .before .before .before .command-at in
-    let g = c .before .before .before .before .before .before .before .before .before .before .before .before .before .before .before .before .byte-word in
-    let j = c .before .before .before .before .before .before .before .before .before .before .before .before .before .before .before .judge in
-    on-made (planOf (s .table .now) (s .counts) (s .programs .now) (s .wires .now)) (s .schedule .now) (commandsIn (s .schedule .now))
-    (storeOf (s .rows .now) (s .mails .now) (s .logs .now) (s .heads .now) (s .queues .now) (s .totals .now)) _ (sheetsOf (s .answers .now) (s .reasons .now))
-    (z .pre) (q .i) (storeOf (q .rows) (q .mails) (q .logs) (q .heads) (q .queues) (q .totals)) (q .entries) (sheetsOf (q .answers) (q .reasons)) (q .inv)
-    (c .before .before .before .before .before .before .before .before .before .before .before .before .before .before .before .before .before .before .loop-test .taken) (x .result) (x .ensures) (g .result) (g .ensures .0) (g .ensures .1) (j .result) (j .ensures)
-    (c .before .before .before .before .before .before .before .before .before .before .before .before .before .before .if2 .left) 4 (c .before .before .before .before .before .before .before .before .before .before .before .before .before .match .keys4) (aChannel (g .result)) 0 blankEntry _ _ (sheetsOf _ _) (aloneOf (c .before .before .before .before .before .before .before .inject .result)) (c .before .before .before .before .write5 .ensures)
-    (c .before .before .before .before .before .before .before .inject .ensures (s .table .now) (s .counts) (s .programs .now) (q .queues))
-    (λ t ok holds b. (b, refl))
+    let g = c .before .before .before .before .before .before .before .before .before .before .before .before .before .before .before in
+    let q = head g .loop in
+    on-made (round g) (c .before .before .before .before .before .before .before .before .before .before .before .before .before .before .if1 .left) 4 (c .before .before .before .before .before .before .before .before .before .before .before .before .before .match .keys4) (c .before .before .before .before .write5 .ensures) (c .before .before .before .before .before .before .before .inject .ensures (first g .args .table .now) (first g .args .counts) (first g .args .programs .now) (q .queues))
+    (λ t now ok holds b. (b, refl))
 
 crash-requires : tie.Need-crash-requires Inv-loop μ-loop
 crash-requires c κs = search needs
 
 write-requires-6 : tie.Need-write-requires-6 Inv-loop μ-loop
-write-requires-6 c κs =
-    let z = c .before .before .before .before .before .before .before .before .before .before .before .before .before .before .before .before .before .before .before .before .before .before .pre in
-    let v = c .before .before .before .before .before .before .before .before .before .before .before .before .before .before .before .loop .inv in
-    let h = c .before .before .before .before .before .before .before .before .before .before .before .before .before .before .loop-test .taken in
-    let d = v .answers-long in
-    let e = v .reasons-long in
-    let f = z .answers-room in
-    let g = z .reasons-room in
-    (omega arith, omega arith)
+write-requires-6 c κs = room (c .before .before .before .before .before .before .before .before .before .before .before)
 
 loop-less-8 : tie.Need-loop-less-8 Inv-loop μ-loop
-loop-less-8 c =
-    let h = c .before .before .before .before .before .before .before .before .before .before .before .before .before .before .before .before .before .before .before .loop-test .taken in omega arith
+loop-less-8 c = less (c .before .before .before .before .before .before .before .before .before .before .before .before .before .before .before .before)
 
 loop-again-8 : tie.Need-loop-again-8 Inv-loop μ-loop
 loop-again-8 c =
-    let z = c .before .before .before .before .before .before .before .before .before .before .before .before .before .before .before .before .before .before .before .before .before .before .before .before .before .before .before in
-    let s = z .args in
-    let q = c .before .before .before .before .before .before .before .before .before .before .before .before .before .before .before .before .before .before .before .before .loop in
-    let x = c .before .before .before .before .before .before .before .before .before .before .before .before .before .before .before .before .before .before .command-at in
-    let g = c .before .before .before .before .before .before .before .before .before .before .before .before .before .before .before .before .before .byte-word in
-    let j = c .before .before .before .before .before .before .before .before .before .before .before .before .before .before .before .before .judge in
-    on-made (planOf (s .table .now) (s .counts) (s .programs .now) (s .wires .now)) (s .schedule .now) (commandsIn (s .schedule .now))
-    (storeOf (s .rows .now) (s .mails .now) (s .logs .now) (s .heads .now) (s .queues .now) (s .totals .now)) _ (sheetsOf (s .answers .now) (s .reasons .now))
-    (z .pre) (q .i) (storeOf (q .rows) (q .mails) (q .logs) (q .heads) (q .queues) (q .totals)) (q .entries) (sheetsOf (q .answers) (q .reasons)) (q .inv)
-    (c .before .before .before .before .before .before .before .before .before .before .before .before .before .before .before .before .before .before .before .loop-test .taken) (x .result) (x .ensures) (g .result) (g .ensures .0) (g .ensures .1) (j .result) (j .ensures)
-    (c .before .before .before .before .before .before .before .before .before .before .before .before .before .before .before .if2 .left) 5 (c .before .before .before .before .before .before .before .before .before .before .before .before .before .before .match .keys5) (aBoard (g .result)) 0 blankEntry _ _ (sheetsOf _ _) (aloneOf (c .before .before .before .before .before .before .before .crash .result)) (c .before .before .before .before .write6 .ensures)
-    (c .before .before .before .before .before .before .before .crash .ensures (s .table .now))
-    (λ t ok holds b. (b, refl))
+    let g = c .before .before .before .before .before .before .before .before .before .before .before .before .before .before .before .before in
+    let q = head g .loop in
+    on-made (round g) (c .before .before .before .before .before .before .before .before .before .before .before .before .before .before .before .if1 .left) 5 (c .before .before .before .before .before .before .before .before .before .before .before .before .before .before .match .keys5) (c .before .before .before .before .write6 .ensures) (c .before .before .before .before .before .before .before .crash .ensures (first g .args .table .now))
+    (λ t now ok holds b. (b, refl))
 
 rejoin-requires : tie.Need-rejoin-requires Inv-loop μ-loop
 rejoin-requires c κs = search needs
 
 write-requires-7 : tie.Need-write-requires-7 Inv-loop μ-loop
-write-requires-7 c κs =
-    let z = c .before .before .before .before .before .before .before .before .before .before .before .before .before .before .before .before .before .pre in
-    let v = c .before .before .before .before .before .before .before .before .before .before .loop .inv in
-    let h = c .before .before .before .before .before .before .before .before .before .loop-test .taken in
-    let d = v .answers-long in
-    let e = v .reasons-long in
-    let f = z .answers-room in
-    let g = z .reasons-room in
-    (omega arith, omega arith)
+write-requires-7 c κs = room (c .before .before .before .before .before .before)
 
 loop-less-9 : tie.Need-loop-less-9 Inv-loop μ-loop
-loop-less-9 c =
-    let h = c .before .before .before .before .before .before .before .before .before .before .before .before .before .before .loop-test .taken in omega arith
+loop-less-9 c = less (c .before .before .before .before .before .before .before .before .before .before .before)
 
 loop-again-9 : tie.Need-loop-again-9 Inv-loop μ-loop
 loop-again-9 c =
-    let z = c .before .before .before .before .before .before .before .before .before .before .before .before .before .before .before .before .before .before .before .before .before .before in
-    let s = z .args in
-    let q = c .before .before .before .before .before .before .before .before .before .before .before .before .before .before .before .loop in
-    let x = c .before .before .before .before .before .before .before .before .before .before .before .before .before .command-at in
-    let g = c .before .before .before .before .before .before .before .before .before .before .before .before .byte-word in
-    let j = c .before .before .before .before .before .before .before .before .before .before .before .judge in
-    on-made (planOf (s .table .now) (s .counts) (s .programs .now) (s .wires .now)) (s .schedule .now) (commandsIn (s .schedule .now))
-    (storeOf (s .rows .now) (s .mails .now) (s .logs .now) (s .heads .now) (s .queues .now) (s .totals .now)) _ (sheetsOf (s .answers .now) (s .reasons .now))
-    (z .pre) (q .i) (storeOf (q .rows) (q .mails) (q .logs) (q .heads) (q .queues) (q .totals)) (q .entries) (sheetsOf (q .answers) (q .reasons)) (q .inv)
-    (c .before .before .before .before .before .before .before .before .before .before .before .before .before .before .loop-test .taken) (x .result) (x .ensures) (g .result) (g .ensures .0) (g .ensures .1) (j .result) (j .ensures)
-    (c .before .before .before .before .before .before .before .before .before .before .if2 .left) 6 (c .before .before .before .before .before .before .before .before .before .match .keys6) (aBoard (g .result)) 0 blankEntry _ _ (sheetsOf _ _) (aloneOf (c .before .before .before .before .before .before .before .rejoin .result)) (c .before .before .before .before .write7 .ensures)
-    (c .before .before .before .before .before .before .before .rejoin .ensures _ (q .rows) (q .mails) (q .logs) (q .heads) (q .totals))
-    (λ t ok holds b. (b, refl))
+    let g = c .before .before .before .before .before .before .before .before .before .before .before in
+    let q = head g .loop in
+    on-made (round g) (c .before .before .before .before .before .before .before .before .before .before .if1 .left) 6 (c .before .before .before .before .before .before .before .before .before .match .keys6) (c .before .before .before .before .write7 .ensures) (c .before .before .before .before .before .before .before .rejoin .ensures _ (q .rows) (q .mails) (q .logs) (q .heads) (q .totals))
+    (λ t now ok holds b. (b, refl))
 
 rebackup-requires : tie.Need-rebackup-requires Inv-loop μ-loop
 rebackup-requires c κs = search needs
 
 write-requires-8 : tie.Need-write-requires-8 Inv-loop μ-loop
-write-requires-8 c κs =
-    let z = c .before .before .before .before .before .before .before .before .before .before .before .before .before .before .before .before .before .before .before .before .before .before .before .pre in
-    let v = c .before .before .before .before .before .before .before .before .before .before .before .before .before .before .before .before .loop .inv in
-    let h = c .before .before .before .before .before .before .before .before .before .before .before .before .before .before .before .loop-test .taken in
-    let d = v .answers-long in
-    let e = v .reasons-long in
-    let f = z .answers-room in
-    let g = z .reasons-room in
-    (omega arith, omega arith)
+write-requires-8 c κs = room (c .before .before .before .before .before .before .before .before .before .before .before .before)
 
 mul-entries-3 : tie.Need-mul-entries-3 Inv-loop μ-loop
 mul-entries-3 c = search needs
@@ -433,93 +304,50 @@ array-set-from-entries-3 : tie.Need-array-set-from-entries-3 Inv-loop μ-loop
 array-set-from-entries-3 c = search needs
 
 loop-less-10 : tie.Need-loop-less-10 Inv-loop μ-loop
-loop-less-10 c =
-    let h = c .before .before .before .before .before .before .before .before .before .before .before .before .before .before .before .before .before .before .before .before .before .loop-test .taken in omega arith
+loop-less-10 c = less (c .before .before .before .before .before .before .before .before .before .before .before .before .before .before .before .before .before .before)
 
 loop-again-10 : tie.Need-loop-again-10 Inv-loop μ-loop
 loop-again-10 c =
-    let z = c .before .before .before .before .before .before .before .before .before .before .before .before .before .before .before .before .before .before .before .before .before .before .before .before .before .before .before .before .before in
-    let s = z .args in
-    let q = c .before .before .before .before .before .before .before .before .before .before .before .before .before .before .before .before .before .before .before .before .before .before .loop in
-    let x = c .before .before .before .before .before .before .before .before .before .before .before .before .before .before .before .before .before .before .before .before .command-at in
-    let g = c .before .before .before .before .before .before .before .before .before .before .before .before .before .before .before .before .before .before .before .byte-word in
-    let j = c .before .before .before .before .before .before .before .before .before .before .before .before .before .before .before .before .before .before .judge in
-    on-made (planOf (s .table .now) (s .counts) (s .programs .now) (s .wires .now)) (s .schedule .now) (commandsIn (s .schedule .now))
-    (storeOf (s .rows .now) (s .mails .now) (s .logs .now) (s .heads .now) (s .queues .now) (s .totals .now)) _ (sheetsOf (s .answers .now) (s .reasons .now))
-    (z .pre) (q .i) (storeOf (q .rows) (q .mails) (q .logs) (q .heads) (q .queues) (q .totals)) (q .entries) (sheetsOf (q .answers) (q .reasons)) (q .inv)
-    (c .before .before .before .before .before .before .before .before .before .before .before .before .before .before .before .before .before .before .before .before .before .loop-test .taken) (x .result) (x .ensures) (g .result) (g .ensures .0) (g .ensures .1) (j .result) (j .ensures)
-    (c .before .before .before .before .before .before .before .before .before .before .before .before .before .before .before .before .before .if2 .left) 7 (c .before .before .before .before .before .before .before .before .before .before .before .before .before .before .before .before .match .keys7) (aProcess (g .result)) 0 (transferEntry (g .result)) _ _ (sheetsOf _ _) (c .before .before .before .before .before .before .before .before .before .rebackup .result) (c .before .before .before .before .before .write8 .ensures)
-    (c .before .before .before .before .before .before .before .before .before .rebackup .ensures (s .table .now) (s .counts))
-    (λ t ok holds b. (b, one-joined (q .entries) (c .before .before .before .before .before .before .before .before .before .rebackup .result .at) _ (c .if5 .taken)))
+    let g = c .before .before .before .before .before .before .before .before .before .before .before .before .before .before .before .before .before .before in
+    let q = head g .loop in
+    on-made (round g) (c .before .before .before .before .before .before .before .before .before .before .before .before .before .before .before .before .before .if1 .left) 7 (c .before .before .before .before .before .before .before .before .before .before .before .before .before .before .before .before .match .keys7) (c .before .before .before .before .before .write8 .ensures) (c .before .before .before .before .before .before .before .before .before .rebackup .ensures (first g .args .table .now) (first g .args .counts))
+    (λ t now ok holds b. (b, one-joined (q .entries) (c .before .before .before .before .before .before .before .before .before .rebackup .result .at) _ (c .if4 .taken)))
 
 loop-less-11 : tie.Need-loop-less-11 Inv-loop μ-loop
-loop-less-11 c =
-    let h = c .before .before .before .before .before .before .before .before .before .before .before .before .before .before .before .before .before .before .before .before .before .loop-test .taken in omega arith
+loop-less-11 c = less (c .before .before .before .before .before .before .before .before .before .before .before .before .before .before .before .before .before .before)
 
 loop-again-11 : tie.Need-loop-again-11 Inv-loop μ-loop
 loop-again-11 c =
-    let z = c .before .before .before .before .before .before .before .before .before .before .before .before .before .before .before .before .before .before .before .before .before .before .before .before .before .before .before .before .before in
-    let s = z .args in
-    let q = c .before .before .before .before .before .before .before .before .before .before .before .before .before .before .before .before .before .before .before .before .before .before .loop in
-    let x = c .before .before .before .before .before .before .before .before .before .before .before .before .before .before .before .before .before .before .before .before .command-at in
-    let g = c .before .before .before .before .before .before .before .before .before .before .before .before .before .before .before .before .before .before .before .byte-word in
-    let j = c .before .before .before .before .before .before .before .before .before .before .before .before .before .before .before .before .before .before .judge in
-    on-made (planOf (s .table .now) (s .counts) (s .programs .now) (s .wires .now)) (s .schedule .now) (commandsIn (s .schedule .now))
-    (storeOf (s .rows .now) (s .mails .now) (s .logs .now) (s .heads .now) (s .queues .now) (s .totals .now)) _ (sheetsOf (s .answers .now) (s .reasons .now))
-    (z .pre) (q .i) (storeOf (q .rows) (q .mails) (q .logs) (q .heads) (q .queues) (q .totals)) (q .entries) (sheetsOf (q .answers) (q .reasons)) (q .inv)
-    (c .before .before .before .before .before .before .before .before .before .before .before .before .before .before .before .before .before .before .before .before .before .loop-test .taken) (x .result) (x .ensures) (g .result) (g .ensures .0) (g .ensures .1) (j .result) (j .ensures)
-    (c .before .before .before .before .before .before .before .before .before .before .before .before .before .before .before .before .before .if2 .left) 7 (c .before .before .before .before .before .before .before .before .before .before .before .before .before .before .before .before .match .keys7) (aProcess (g .result)) 0 (transferEntry (g .result)) _ _ (sheetsOf _ _) (c .before .before .before .before .before .before .before .before .before .rebackup .result) (c .before .before .before .before .before .write8 .ensures)
-    (c .before .before .before .before .before .before .before .before .before .rebackup .ensures (s .table .now) (s .counts))
-    (λ t ok holds b. (b, none-joined (q .entries) (c .before .before .before .before .before .before .before .before .before .rebackup .result .at) _ (c .if5 .left)))
+    let g = c .before .before .before .before .before .before .before .before .before .before .before .before .before .before .before .before .before .before in
+    let q = head g .loop in
+    on-made (round g) (c .before .before .before .before .before .before .before .before .before .before .before .before .before .before .before .before .before .if1 .left) 7 (c .before .before .before .before .before .before .before .before .before .before .before .before .before .before .before .before .match .keys7) (c .before .before .before .before .before .write8 .ensures) (c .before .before .before .before .before .before .before .before .before .rebackup .ensures (first g .args .table .now) (first g .args .counts))
+    (λ t now ok holds b. (b, none-joined (q .entries) (c .before .before .before .before .before .before .before .before .before .rebackup .result .at) _ (c .if4 .left)))
 
 refusal-requires-2 : tie.Need-refusal-requires-2 Inv-loop μ-loop
 refusal-requires-2 c κs = search needs
 
 write-requires-9 : tie.Need-write-requires-9 Inv-loop μ-loop
-write-requires-9 c κs =
-    let z = c .before .before .before .before .before .before .before .before .before .before .before .before .before .before .before .before .pre in
-    let v = c .before .before .before .before .before .before .before .before .before .loop .inv in
-    let h = c .before .before .before .before .before .before .before .before .loop-test .taken in
-    let d = v .answers-long in
-    let e = v .reasons-long in
-    let f = z .answers-room in
-    let g = z .reasons-room in
-    (omega arith, omega arith)
+write-requires-9 c κs = room (c .before .before .before .before .before)
 
 loop-less-12 : tie.Need-loop-less-12 Inv-loop μ-loop
-loop-less-12 c =
-    let h = c .before .before .before .before .before .before .before .before .before .before .before .before .before .loop-test .taken in omega arith
+loop-less-12 c = less (c .before .before .before .before .before .before .before .before .before .before)
 
 loop-again-12 : tie.Need-loop-again-12 Inv-loop μ-loop
 loop-again-12 c =
-    let z = c .before .before .before .before .before .before .before .before .before .before .before .before .before .before .before .before .before .before .before .before .before in
-    let s = z .args in
-    let q = c .before .before .before .before .before .before .before .before .before .before .before .before .before .before .loop in
-    let x = c .before .before .before .before .before .before .before .before .before .before .before .before .command-at in
-    let g = c .before .before .before .before .before .before .before .before .before .before .before .byte-word in
-    let j = c .before .before .before .before .before .before .before .before .before .before .judge in
-    on-unknown (planOf (s .table .now) (s .counts) (s .programs .now) (s .wires .now)) (s .schedule .now) (commandsIn (s .schedule .now))
-    (storeOf (s .rows .now) (s .mails .now) (s .logs .now) (s .heads .now) (s .queues .now) (s .totals .now)) _ (sheetsOf (s .answers .now) (s .reasons .now))
-    (z .pre) (q .i) (storeOf (q .rows) (q .mails) (q .logs) (q .heads) (q .queues) (q .totals)) (q .entries) (sheetsOf (q .answers) (q .reasons)) (q .inv)
-    (c .before .before .before .before .before .before .before .before .before .before .before .before .before .loop-test .taken) (x .result) (x .ensures) (g .result) (g .ensures .0) (g .ensures .1) (j .result) (j .ensures)
-    (c .before .before .before .before .before .before .before .before .before .if2 .left) (c .before .before .before .before .before .before .before .before .match .rest .0 .0 .0 .0 .0 .0 .1) (c .before .before .before .before .before .before .before .before .match .rest .0 .0 .0 .0 .0 .1) (c .before .before .before .before .before .before .before .before .match .rest .0 .0 .0 .0 .1) (c .before .before .before .before .before .before .before .before .match .rest .0 .0 .0 .1) (c .before .before .before .before .before .before .before .before .match .rest .0 .0 .1) (c .before .before .before .before .before .before .before .before .match .rest .0 .1) (c .before .before .before .before .before .before .before .before .match .rest .1) (c .before .before .before .before .before .refusal2 .result) (sheetsOf _ _) (c .before .before .before .before .write9 .ensures)
+    let m = c .before .before .before .before .before .before .before .before .match .rest in
+    on-unknown (round (c .before .before .before .before .before .before .before .before .before .before)) (c .before .before .before .before .before .before .before .before .before .if1 .left) (m .0 .0 .0 .0 .0 .0 .1) (m .0 .0 .0 .0 .0 .1) (m .0 .0 .0 .0 .1) (m .0 .0 .0 .1) (m .0 .0 .1) (m .0 .1) (m .1)
+    (c .before .before .before .before .write9 .ensures)
 
 same-length : tie.Need-same-length Inv-loop μ-loop
-same-length c =
-    c .before .loop .inv .answers-long
+same-length c = c .before .loop .inv .long .answers-long
 
 same-length-2 : tie.Need-same-length-2 Inv-loop μ-loop
-same-length-2 c =
-    c .before .loop .inv .reasons-long
+same-length-2 c = c .before .loop .inv .long .reasons-long
 
-returns-2 : tie.Need-returns-2 Inv-loop μ-loop
-returns-2 c =
-    let s = c .before .before .before .before .before .before .before .before .args in
-    let q = c .before .loop in
-    at-last (planOf (s .table .now) (s .counts) (s .programs .now) (s .wires .now)) (s .schedule .now) (commandsIn (s .schedule .now))
-    (storeOf (s .rows .now) (s .mails .now) (s .logs .now) (s .heads .now) (s .queues .now) (s .totals .now)) _ (sheetsOf (s .answers .now) (s .reasons .now))
-    (q .i) (storeOf (q .rows) (q .mails) (q .logs) (q .heads) (q .queues) (q .totals)) (q .entries) (sheetsOf (q .answers) (q .reasons))
-    (ap (replicate 512) (c .before .before .blank .ensures)) (q .inv) (c .loop-test .left)
+returns : tie.Need-returns Inv-loop μ-loop
+returns c =
+    at-last (c .before .before .before .least .ensures ∙ ap (min (c .before .before .before .before .before .before .before .before .before .args .stretch .to)) (c .before .before .before .before .count .ensures)) (c .before .loop .inv)
+    (λ h. let a = c .loop-test .left in omega arith)
 
 pub play-spec : {M : Type 1} → statement M
 play-spec =
@@ -527,8 +355,8 @@ play-spec =
     (tie.spec
     Inv-loop
     μ-loop
-    returns
-    blank-requires
+    count-requires
+    least-requires
     loop-holds
     add-i
     command-at-requires
@@ -595,4 +423,4 @@ play-spec =
     loop-again-12
     same-length
     same-length-2
-    returns-2)
+    returns)
