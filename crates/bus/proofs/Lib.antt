@@ -7,3 +7,4 @@ pub mod Injecting
 pub mod Carrying
 pub mod Popping
 pub mod Transmitting
+pub mod Originating

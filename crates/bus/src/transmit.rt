@@ -61,16 +61,11 @@ pub fn transmit(
     };
     pop(&mut queues[b]);
     match item {
-        Item::Word { channel, word } => transmit_word(
-            wires,
-            rows,
-            mails,
-            logs,
-            heads,
-            totals,
+        Item::Word {
             channel,
             word,
-        ),
+            place: _,
+        } => transmit_word(wires, rows, mails, logs, heads, totals, channel, word),
         Item::Sync {
             process,
             checkpoint,
