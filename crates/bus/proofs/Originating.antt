@@ -16,12 +16,11 @@ use Rattle.rules.specs.Origins.{oldestOrigin, toldBy}
 use Rattle.state.specs.declared.entry.Entry.{Entry}
 use Rattle.state.specs.declared.entry.Item.{Item}
 use Rattle.state.specs.declared.entry.Item.the-variants.{Word, Sync, Transfer}
-use Rattle.state.specs.Queue.{countIn}
+use Rattle.state.specs.Queue.{countIn, oldestOf}
 use Rattle.state.specs.Store.{itemOf, Store, Holds, blankEntry}
 use Rattle.state.specs.Moved.{Reachable}
 use Rattle.state.proofs.Ends.{sent-inside}
 use Rattle.state.proofs.Owners.{word-owner}
-use Rattle.bus.specs.Transmits.{oldestPlace}
 use Rattle.bus.specs.Origins.{FromEntry, CarriedFrom}
 use Rattle.bus.proofs.Transmitting.{none-waits, begins}
 
@@ -42,7 +41,7 @@ module _ {t : Table} {l : Plan} {s : Store} {entries : List Entry} {c : Cabinet}
   from-front (Transfer p) rest e o f = sym f
 
   -- x stands where the board's oldest entry does
-  pub carried-told : (x : Entry) → x ≡ getD entries (oldestPlace (s .queues) a) blankEntry → (code : ℕ) (o : Origin) → CarriedFrom (l .wires) code x o
+  pub carried-told : (x : Entry) → x ≡ getD entries (oldestOf (getD (s .queues) a []) a) blankEntry → (code : ℕ) (o : Origin) → CarriedFrom (l .wires) code x o
       → (code ≡ 4 → outboxAt c a ≡ [] → ⊥) → toldBy t (outboxAt c a) code transmitMove ≡ o
   carried-told x is-x code o f waited =
       by-eq code 4

@@ -1,6 +1,5 @@
 -- What moves 3 and 4 promise.
 pub mod Delivers
-pub mod Oldest
 pub mod Syncs
 pub mod Transfers
 pub mod Transmitted

@@ -2,7 +2,6 @@
 mod delivery;
 pub mod inject;
 pub mod origin;
-mod queue;
 mod sync;
 mod transfer;
 pub mod transmit;

@@ -8,10 +8,9 @@ use lib.Dec.{eqb, leb}
 use lib.ListN.{length, getD, replicate}
 use borrow.Author.Tests.{eqb-true, eq-eqb, ne-eqb, leb-true}
 use Rattle.facts.specs.Tests.{and-left, and-right}
-use Rattle.records.specs.Commands.{ScheduleJudged, judgedRun}
+use Rattle.records.specs.Commands.{ScheduleJudged}
 use Rattle.rules.specs.Transparency.{FailureTransparency}
 use Rattle.records.specs.declared.schedule.Judged.{Judged}
-use Rattle.records.proofs.Judged.{run-is}
 use Rattle.table.specs.Plan.{Plans, Decodes}
 use Rattle.table.specs.declared.Decoded.{Decoded}
 use Rattle.table.specs.declared.Plan.{Plan}
@@ -34,6 +33,8 @@ use Rattle.play.specs.Plays.{sheetsOf, Roomy, Played, Suited, Plays}
 use Rattle.outcome.specs.Starts.{Fresh, Placed, Seats}
 use Rattle.outcome.specs.Reports.{Reports}
 use Rattle.outcome.specs.Quiets.{Quiets}
+use Rattle.cabinet.specs.Judged.{judgedRun}
+use Rattle.cabinet.proofs.Judging.{run-is}
 use Rattle.cabinet.specs.Conducts.{Conducts}
 use Rattle.cabinet.specs.Runs.{ranBy, Runs}
 use Rattle.cabinet.specs.declared.run.Verdict.{Verdict}

@@ -3,10 +3,11 @@ use mathlib.Core.Path.{_∙_}
 use mathlib.Core.List.{List}
 use Prim.Native.Nat.{ℕ}
 use Rattle.rules.proofs.Valid.{processes-counted}
-use Rattle.records.specs.Commands.{ScheduleJudged, judgedRun}
+use Rattle.records.specs.Commands.{ScheduleJudged}
 use Rattle.records.specs.declared.schedule.Judged.{Judged}
-use Rattle.records.specs.declared.schedule.Lengths.{Lengths}
-use Rattle.records.proofs.Judged.{run-is}
+use Rattle.cabinet.specs.Judged.{judgedRun}
+use Rattle.cabinet.specs.declared.judge.Lengths.{Lengths}
+use Rattle.cabinet.proofs.Judging.{run-is}
 use Rattle.table.specs.Plan.{Decodes}
 use Rattle.table.specs.declared.Decoded.{Decoded}
 use Rattle.kunzeastylus.specs.Judges.{Judges}

@@ -1,7 +1,7 @@
 // The judging of a run, exported: by which number it would be refused.
 ghost use Rattle.kunzeastylus.specs.Judges.{Judges};
-use records::schedule::Lengths;
-use records::schedule::judge_run;
+use cabinet::judge::Lengths;
+use cabinet::judge::judge_run;
 use records::schedule::judge_schedule;
 use table::decode;
 

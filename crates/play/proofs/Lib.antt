@@ -1,5 +1,4 @@
 -- An answer's bytes:
-pub mod Putting
 pub mod Answers
 -- what records leave in the buffers,
 pub mod Sheets

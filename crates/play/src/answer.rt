@@ -9,6 +9,7 @@ ghost use Rattle.rules.specs.Run.{originBytes};
 ghost use Rattle.bus.specs.Origins.{originIn};
 ghost use Rattle.play.specs.Written.{sixBytes, reasonByte};
 use bus::origin::Origin;
+use records::store::put_six;
 use state::moved::Answer;
 use words::low_byte;
 
@@ -17,13 +18,7 @@ pub fn put(answers: &mut [u8], i: usize, r: Answer)
     requires { ⌜ 6 * i + 6 ≤ length (now answers) ⌝ }
     ensures { λ _. ⌜ now (answers .exit) ≡ sets (now (answers .entry)) (6 * i) (sixBytes r) ⌝ }
 {
-    let at = 6 * i;
-    answers[at] = low_byte(r.code);
-    answers[at + 1] = low_byte(r.a);
-    answers[at + 2] = low_byte(r.word / 16777216);
-    answers[at + 3] = low_byte(r.word / 65536);
-    answers[at + 4] = low_byte(r.word / 256);
-    answers[at + 5] = low_byte(r.word);
+    put_six(answers, 6 * i, low_byte(r.code), low_byte(r.a), r.word);
 }
 
 // A code is below 64, and a cause below 4.

@@ -41,7 +41,7 @@ use Rattle.step.specs.Parts.{owingIn, blameIn, wordEntry, SendTurns}
 use Rattle.state.specs.Channel.{fullIn}
 use Rattle.state.proofs.Held.{full-is, occupancy-small}
 use Rattle.state.proofs.Joining.{board-is, board-there, queue-has}
-use Rattle.step.proofs.Making.{its-index, its-board, answered, lengths, makes-alone, makes-joined}
+use Rattle.state.proofs.Making.{its-index, its-board, answered, lengths, makes-alone, makes-joined}
 use Rattle.step.proofs.Stepping.{machine-is, step-is, owing-is, blame-is, instructions-room, events-room}
 
 -- a word that joins a queue is no checkpoint
@@ -262,7 +262,7 @@ module _ (wires : List ℕ) (rows queues : List (List ℕ)) (totals : List ℕ) 
           let q = its-index reach (i .process-there) is-p in
           let j = rw (← q) at i in
           let hp = j .process-there in
-          let all : outboxMost ≤ countIn queues (boardIn its-row) = rw (← its-board reach h p hp is-b) many in
+          let all : outboxMost ≤ countIn queues (boardIn its-row) = rw (← its-board reach (board-there reach h p hp) is-b) many in
           rw (← q) (turned-away command p sendBlocked h
           (refused-38 reach h p hp n code register operand channel word (j .intends) none _ refl (rw (j .limit-is) fresh) (le-leb outboxMost _ all)) (f ∙ sym q) refl))
 
@@ -276,7 +276,7 @@ module _ (wires : List ℕ) (rows queues : List (List ℕ)) (totals : List ℕ) 
             let hp = j .process-there in
             let l = channel-inside reach h p hp n code register operand channel word (j .intends) in
             let kk : k ≡ channel = is-k (let z = reach .accepted .channels-high in omega arith) in
-            let few0 : countIn queues (boardIn its-row) < outboxMost = rw (← its-board reach h p hp is-b) few in
+            let few0 : countIn queues (boardIn its-row) < outboxMost = rw (← its-board reach (board-there reach h p hp) is-b) few in
             rw (← q) (turned-away command p sendHeld h
             (refused-39 reach h p hp n code register operand channel word (j .intends) none reader (is-reader ∙ ap (readerIn wires) kk ∙ planned .reader-at channel l)
             (rw (j .limit-is) fresh) (lt-leb outboxMost _ few0) (rw (← kk) e)) (f ∙ sym q) refl))
@@ -294,7 +294,7 @@ module _ (wires : List ℕ) (rows queues : List (List ℕ)) (totals : List ℕ) 
             let hp = j .process-there in
             let l = channel-inside reach h p hp n code register operand channel word (j .intends) in
             let kk : k ≡ channel = is-k (let z = reach .accepted .channels-high in omega arith) in
-            let bb = its-board reach h p hp is-b in
+            let bb = its-board reach (board-there reach h p hp) is-b in
             let few0 : countIn queues (boardIn its-row) < outboxMost = rw (← bb) few in
             let so = queued-so reach h p hp n code register operand channel word (j .intends) none reader (is-reader ∙ ap (readerIn wires) kk ∙ planned .reader-at channel l)
             (rw (j .limit-is) fresh) (lt-leb outboxMost _ few0) (rw (← kk) e) in

@@ -8,7 +8,7 @@ use Rattle.cabinet.proofs.run.run.Reads as reads
 use Rattle.cabinet.proofs.run.run.Lts as lts
 use Rattle.cabinet.proofs.run.conduct.Reads as conduct-reads
 use Rattle.table.proofs.decode.Reads as decode-reads
-use Rattle.records.proofs.schedule.judge_run.Reads as judge-run-reads
+use Rattle.cabinet.proofs.judge.judge_run.Reads as judge-run-reads
 use Rattle.records.proofs.schedule.judge_schedule.Reads as judge-schedule-reads
 
 decode-requires : tie.Need-decode-requires

@@ -18,7 +18,7 @@ use Rattle.play.proofs.play.play.Tie as tie
 use Rattle.play.proofs.play.play.Reads as reads
 use Rattle.play.proofs.play.play.Lts as lts
 use Rattle.bus.proofs.inject.inject.Reads as inject-reads
-use Rattle.bus.proofs.transmit.oldest.Reads as oldest-reads
+use Rattle.state.proofs.queue.oldest.Reads as oldest-reads
 use Rattle.bus.proofs.transmit.transmit.Reads as transmit-reads
 use Rattle.command.proofs.judge.cause.Reads as cause-reads
 use Rattle.command.proofs.judge.judge.Reads as judge-reads

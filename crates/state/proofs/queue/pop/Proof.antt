@@ -1,10 +1,10 @@
-use Rattle.bus.proofs.Popping.{popped}
+use Rattle.state.proofs.Popping.{popped}
 use native.Mathlib.Omega.{arith}
 use borrow.Author.Needs.{needs}
-use Rattle.bus.proofs.queue.pop.Statement.{statement}
-use Rattle.bus.proofs.queue.pop.Tie as tie
-use Rattle.bus.proofs.queue.pop.Reads as reads
-use Rattle.bus.proofs.queue.pop.Lts as lts
+use Rattle.state.proofs.queue.pop.Statement.{statement}
+use Rattle.state.proofs.queue.pop.Tie as tie
+use Rattle.state.proofs.queue.pop.Reads as reads
+use Rattle.state.proofs.queue.pop.Lts as lts
 use Rattle.std.proofs.num.wrapping_add_u32.Reads as wrapping-add-u32-reads
 use Rattle.std.proofs.num.wrapping_sub_u32.Reads as wrapping-sub-u32-reads
 

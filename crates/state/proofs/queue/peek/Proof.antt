@@ -1,10 +1,10 @@
 use borrow.Author.Tests.{eq-eqb, ne-eqb}
 use native.Mathlib.Omega.{arith}
 use borrow.Author.Needs.{needs}
-use Rattle.bus.proofs.queue.peek.Statement.{statement}
-use Rattle.bus.proofs.queue.peek.Tie as tie
-use Rattle.bus.proofs.queue.peek.Reads as reads
-use Rattle.bus.proofs.queue.peek.Lts as lts
+use Rattle.state.proofs.queue.peek.Statement.{statement}
+use Rattle.state.proofs.queue.peek.Tie as tie
+use Rattle.state.proofs.queue.peek.Reads as reads
+use Rattle.state.proofs.queue.peek.Lts as lts
 
 element-copy-out-if1 : tie.Need-element-copy-out-if1
 element-copy-out-if1 c = search needs

@@ -1,32 +1,29 @@
 -- A done move: what it promises of any lists, and how its promise is told from the rules' answer. No entry joins, or one at a place below 512.
 use mathlib.Core.Path.{_≡_, refl, ap, sym, _∙_, subst}
-use mathlib.Core.List.{List, []}
+use mathlib.Core.List.{List}
 use Prim.Native.Nat.{ℕ, _<_}
 use native.Mathlib.Omega.{arith}
-use lib.ListN.{length, getD, set}
+use lib.ListN.{length, set}
 use borrow.Author.Tests.{lt-ltb}
 use Rattle.plan.specs.Plan.{Plan, Planned}
-use Rattle.process.specs.Row.{boardIn}
 use Rattle.rules.specs.Table.{Table}
 use Rattle.rules.specs.Cabinet.{Cabinet}
 use Rattle.rules.specs.Moves as moves
 use Rattle.rules.specs.Moves.{Command, Result, accept, numbers, numbered}
 use Rattle.rules.specs.Reasons.{causeOf}
 use Rattle.state.specs.declared.entry.Entry.{Entry}
 use Rattle.state.specs.declared.moved.Answer.{Answer}
 use Rattle.state.specs.declared.moved.Moved.{Moved}
 use Rattle.state.specs.Store.{Store, storeOf, Holds}
 use Rattle.state.specs.Moved.{Reachable, Answered, SameLengths, Makes, movedOf, aloneOf}
-use Rattle.state.proofs.Joining.{board-there}
 
 -- of a process of the table, the index that its number is clamped to is the number
 pub its-index : {t : Table} {c : Cabinet} {p a : ℕ} → Reachable t c → a < length (t .processes) → (a < 16 → p ≡ a) → p ≡ a
 its-index reach ha is-p = is-p (let z = reach .accepted .processes-high in omega arith)
 
--- and of the number that its row has for its board
-pub its-board : {t : Table} {s : Store} {entries : List Entry} {c : Cabinet} {b : ℕ} → Reachable t c → Holds t s entries c → (p : ℕ) → p < length (t .processes)
-    → (boardIn (getD (s .rows) p []) < 16 → b ≡ boardIn (getD (s .rows) p [])) → b ≡ boardIn (getD (s .rows) p [])
-its-board reach h p hp is-b = is-b (let l = board-there reach h p hp in let z = reach .accepted .boards-high in omega arith)
+-- and of a board
+pub its-board : {t : Table} {c : Cabinet} {b a : ℕ} → Reachable t c → a < t .boards → (a < 16 → b ≡ a) → b ≡ a
+its-board reach ha is-b = is-b (let z = reach .accepted .boards-high in omega arith)
 
 -- the rules accept
 pub answered : {t : Table} {s : Store} {entries : List Entry} {c : Cabinet} {command : Command} {result : Result} {r : Answer} (d : Cabinet) (x : moves.Answer)
@@ -34,7 +31,7 @@ pub answered : {t : Table} {s : Store} {entries : List Entry} {c : Cabinet} {com
 answered {t} {s} {entries} {c} {command} {result} {r} d x e g cause h =
     subst (λ (z : Result). Answered t s entries c command z r) (sym e) (record { answer-is = g; cause-is = cause; holds = h })
 
--- a step and an issue leave logs and heads alone
+-- a move that leaves logs and heads alone
 pub lengths : {rows mails logs heads queues rows′ mails′ queues′ : List (List ℕ)} {totals totals′ : List ℕ} → length rows′ ≡ length rows → length mails′ ≡ length mails
     → length queues′ ≡ length queues → length totals′ ≡ length totals
     → SameLengths (storeOf rows mails logs heads queues totals) (storeOf rows′ mails′ logs heads queues′ totals′)

@@ -1,10 +1,10 @@
-use Rattle.records.proofs.Judged.{run-table, run-schedule, run-answers, run-reasons, run-report, run-accepted}
+use Rattle.cabinet.proofs.Judging.{run-table, run-schedule, run-answers, run-reasons, run-report, run-accepted}
 use borrow.Author.Needs.{needs}
 use native.Mathlib.Omega.{arith}
-use Rattle.records.proofs.schedule.judge_run.Statement.{statement}
-use Rattle.records.proofs.schedule.judge_run.Tie as tie
-use Rattle.records.proofs.schedule.judge_run.Reads as reads
-use Rattle.records.proofs.schedule.judge_run.Lts as lts
+use Rattle.cabinet.proofs.judge.judge_run.Statement.{statement}
+use Rattle.cabinet.proofs.judge.judge_run.Tie as tie
+use Rattle.cabinet.proofs.judge.judge_run.Reads as reads
+use Rattle.cabinet.proofs.judge.judge_run.Lts as lts
 
 returns : tie.Need-returns
 returns c = run-table _ _ _ _ (c .if1 .taken)
