@@ -11,10 +11,12 @@ use backup::limits::LOG;
 use backup::place::HEAD;
 use outcome::quiet::quiescent;
 use outcome::report::write_report;
-use outcome::start::seat;
+use outcome::start::start;
 use plan::BOARDS;
 use plan::CHANNELS;
 use plan::PROCESSES;
+use play::play::Stretch;
+use play::play::count;
 use play::play::play;
 use process::row::ROW;
 use records::schedule::judge_schedule;
@@ -54,7 +56,22 @@ fn conduct(
     let mut heads = [[0u32; HEAD]; PROCESSES];
     let mut queues = [[0u32; QUEUE_ROW]; BOARDS];
     let mut totals = [0u32; CHANNELS];
-    seat(&mut rows, &primary, &standby, counts.processes);
+    let entries = start(
+        &mut rows,
+        &mut mails,
+        &mut logs,
+        &mut heads,
+        &mut queues,
+        &mut totals,
+        &primary,
+        &standby,
+        counts.processes,
+    );
+    let all = Stretch {
+        from: 0,
+        to: count(schedule),
+        entries: entries,
+    };
     play(
         table,
         schedule,
@@ -69,6 +86,7 @@ fn conduct(
         &mut totals,
         answers,
         reasons,
+        all,
     );
     write_report(&rows, counts.processes, report);
     quiescent(table, counts, &programs, &rows, &mails, &queues)

@@ -4,7 +4,7 @@ use mathlib.Core.List.{List, [], _∷_, _++_}
 use Prim.Native.Nat.{ℕ, zero, suc, _+_, _-_, _≤_, _<_, min}
 use native.Mathlib.Omega.{arith}
 use lib.ListN.{length, getD, set, take, drop, length-drop}
-use lib.Seq.{take-suc, take-add, getD-drop, drop-drop, length-take-le}
+use lib.Seq.{take-suc, take-all, take-add, getD-drop, drop-drop, length-take-le}
 use borrow.Author.Tests.{lt-ltb, le-ltb}
 use Rattle.records.specs.Commands.{commandOf}
 use Rattle.records.specs.declared.schedule.Command as code
@@ -89,6 +89,10 @@ module _ (schedule : List ℕ) (i : ℕ) where
       let a : k - i ≡ (j - i) + (k - j) = omega arith in
       let b : i + (j - i) ≡ j = omega arith in
       rw (a, take-add (j - i) (k - j) (drop i (decodeSchedule schedule)), drop-drop (j - i) i (decodeSchedule schedule), b)
+
+-- all of them
+pub between-all : (schedule : List ℕ) → between schedule 0 (commandsIn schedule) ≡ decodeSchedule schedule
+between-all schedule = let a = commands-many schedule in take-all (commandsIn schedule - 0) (decodeSchedule schedule) (omega arith)
 
 -- a single one
 between-one : (schedule : List ℕ) (i : ℕ) → i < commandsIn schedule → between schedule i (i + 1) ≡ getD (decodeSchedule schedule) i (command 0 0 0) ∷ []

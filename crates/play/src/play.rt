@@ -84,7 +84,7 @@ fn write(answers: &mut [u8], reasons: &mut [u8], origins: &mut [u8], i: usize, r
 }
 
 // How many records a schedule has, as its length says.
-fn count(schedule: &[u8]) -> usize
+pub fn count(schedule: &[u8]) -> usize
     ensures { λ r. ⌜ r ≡ commandsIn (now (schedule .entry)) ⌝ }
 {
     let len = schedule.len();
