@@ -134,7 +134,13 @@ pub fn play(
         let a = byte_word(c.a);
         let number = judge(counts, c);
         if number != 0 {
-            write(answers, reasons, origins, k, refusal(number, cause(number, mv), a));
+            write(
+                answers,
+                reasons,
+                origins,
+                k,
+                refusal(number, cause(number, mv), a),
+            );
             continue;
         }
         match mv {
