@@ -185,42 +185,43 @@ module _ {l : Plan} {schedule : List ℕ} {from end : ℕ} {s₀ : Store} {entri
       on s entries sheets′ r noOrigin w (λ t now u. refused (u .planned) c n (p .is-n) now a (p .is-a) cause (u .holds) z e f)
       (λ t now u. refused-origin (u .planned) c n (p .is-n) now a (p .is-a) z)
 
-  -- What tells the origin of the word that move k puts on the bus is o. A word that is carried was waiting.
-  abbrev Told : ℕ → Moved → Origin → Type 0
-  Told k m o =
-      (t : Table) (now : Cabinet) → Suited t l now s entries → a < mostOf (moveOf k) t
+  -- What tells the origin of the word that move k puts on the bus is o, where the move has what it asks. A word that is carried was waiting.
+  abbrev Told : (Table → List Entry → Type 0) → ℕ → Moved → Origin → Type 0
+  Told asks k m o =
+      (t : Table) (now : Cabinet) → Suited t l now s entries → a < mostOf (moveOf k) t → asks t entries
       → (moveOf k ≡ transmitMove → m .answer .code ≡ 4 → outboxAt now a ≡ [] → ⊥) → toldBy t (outboxAt now a) (m .answer .code) (moveOf k) ≡ o
 
-  told-by : (k : ℕ) → c .mv ≡ k → (m : Moved) (o : Origin) → Told k m o → (t : Table) (now : Cabinet) → Suited t l now s entries
-      → a < mostOf (moveOf k) t → numbers (turn t now (commandOf c) .answer) .code ≡ m .answer .code
-      → originOf (turn t now (commandOf c) .answer) ≡ o
-  told-by k is-k m o tells t now u inside code-is =
+  told-by : (asks : Table → List Entry → Type 0) (k : ℕ) → c .mv ≡ k → (m : Moved) (o : Origin) → Told asks k m o
+      → (t : Table) (now : Cabinet) → Suited t l now s entries → a < mostOf (moveOf k) t → asks t entries
+      → numbers (turn t now (commandOf c) .answer) .code ≡ m .answer .code → originOf (turn t now (commandOf c) .answer) ≡ o
+  told-by asks k is-k m o tells t now u inside asked code-is =
       let x : Command = commandOf c in
       origin-told t now x
       ∙ ap (λ (j : ℕ). toldBy t (outboxAt now (c .a)) j (moveOf (c .mv))) code-is
       ∙ ap (λ (b : ℕ). toldBy t (outboxAt now b) (m .answer .code) (moveOf (c .mv))) (sym (p .is-a))
       ∙ ap (λ (j : ℕ). toldBy t (outboxAt now a) (m .answer .code) (moveOf j)) is-k
-      ∙ tells t now u inside (λ e f g. carried-waited t now x (ap moveOf is-k ∙ e) (code-is ∙ f) (ap (outboxAt now) (sym (p .is-a)) ∙ g))
+      ∙ tells t now u inside asked (λ e f g. carried-waited t now x (ap moveOf is-k ∙ e) (code-is ∙ f) (ap (outboxAt now) (sym (p .is-a)) ∙ g))
 
   -- one that is its move: what the rules call the move of number k
   pub on-made : n ≡ 0 → (k : ℕ) → c .mv ≡ k → {asks : Table → List Entry → Type 0} {joins : ℕ} {entry : Entry} {s′ : Store} {entries′ : List Entry}
       {sheets′ : Sheets} {m : Moved} {o : Origin} → Writes sheets i (m .answer) o sheets′
       → Makes (ruleOf (moveOf k) (c .word)) asks joins l s a entry s′ m
       → ((t : Table) (now : Cabinet) → Accepted t → Holds t s entries now → a < mostOf (moveOf k) t → asks t entries × (entries′ ≡ joined entries (m .at) entry))
-      → Told k m o → Next s′ entries′ sheets′
+      → Told asks k m o → Next s′ entries′ sheets′
   unfolding turn
-  on-made z k is-k {s′ = s′} {entries′ = entries′} {sheets′ = sheets′} {m = m} {o = o} w h given tells =
+  on-made z k is-k {asks = asks} {entry = entry} {s′ = s′} {entries′ = entries′} {sheets′ = sheets′} {m = m} {o = o} w h given tells =
       let inside : (t : Table) (now : Cabinet) → Suited t l now s entries → a < mostOf (moveOf k) t =
       λ t now u. passes (u .planned) c n (p .is-n) now a (p .is-a) k is-k z .a-inside in
+      let there : (t : Table) (now : Cabinet) → Suited t l now s entries → asks t entries × (entries′ ≡ joined entries (m .at) entry) =
+      λ t now u. given t now (u .reached .accepted) (u .holds) (inside t now u) in
       let answers : (t : Table) (now : Cabinet) → Suited t l now s entries
       → Answered t s′ entries′ now (commandOf c) (judged t now (commandOf c)) (m .answer) =
       λ t now u.
-      let there = given t now (u .reached .accepted) (u .holds) (inside t now u) in
-      subst (λ (l : List Entry). Answered t s′ l now (commandOf c) (judged t now (commandOf c)) (m .answer)) (sym (there .1))
+      subst (λ (l : List Entry). Answered t s′ l now (commandOf c) (judged t now (commandOf c)) (m .answer)) (sym (there t now u .1))
       (made (u .planned) c n (p .is-n) now a (p .is-a) k is-k z
-      (h .made t entries now (commandOf c) (u .reached) (u .planned) (u .holds) (sym (p .is-a)) (there .0))) in
+      (h .made t entries now (commandOf c) (u .reached) (u .planned) (u .holds) (sym (p .is-a)) (there t now u .0))) in
       on s′ entries′ sheets′ (m .answer) o w answers (λ t now u.
-      told-by k is-k m o tells t now u (inside t now u) (ap (λ (y : Numbers). y .code) (answers t now u .answer-is)))
+      told-by asks k is-k m o tells t now u (inside t now u) (there t now u .0) (ap (λ (y : Numbers). y .code) (answers t now u .answer-is)))
 
   -- and no other passes
   pub on-unknown : n ≡ 0 → (c .mv ≡ 1 → ⊥) → (c .mv ≡ 2 → ⊥) → (c .mv ≡ 3 → ⊥) → (c .mv ≡ 4 → ⊥) → (c .mv ≡ 5 → ⊥) → (c .mv ≡ 6 → ⊥) → (c .mv ≡ 7 → ⊥)
