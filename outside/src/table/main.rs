@@ -13,7 +13,7 @@ use outside::rules::reader::{judge_run, judge_table};
 use outside::rules::sample::{sample_schedule, SAMPLE};
 
 const SEED: u64 = 0xD1B5_4A32_D192_ED03;
-const RUNS: u32 = 200_000;
+const RUNS: u32 = 300_000;
 
 /// The numbers of a run: 0, and the refusals.
 const NUMBERS: [u8; 15] = [0, 1, 2, 3, 4, 5, 6, 7, 8, 47, 9, 10, 11, 12, 51];
