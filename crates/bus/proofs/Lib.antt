@@ -6,3 +6,4 @@ pub mod Transferring
 pub mod Injecting
 pub mod Carrying
 pub mod Transmitting
+pub mod Originating

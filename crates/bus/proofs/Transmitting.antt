@@ -57,11 +57,11 @@ no-fourth n no-word no-checkpoint no-transfer =
 -- ---- the queue
 
 -- the oldest entry and the others
-record Begins (c : Cabinet) (b count : ℕ) (i : rules.Item) : Type 0 where
-  fewer : ℕ
-  rest : List rules.Item
-  is-count : count ≡ suc fewer
-  is-queue : outboxAt c b ≡ i ∷ rest
+pub record Begins (c : Cabinet) (b count : ℕ) (i : rules.Item) : Type 0 where
+  pub fewer : ℕ
+  pub rest : List rules.Item
+  pub is-count : count ≡ suc fewer
+  pub is-queue : outboxAt c b ≡ i ∷ rest
 
 module _ {t : Table} {s : Store} {entries : List Entry} {c : Cabinet} (h : Holds t s entries c) (b : ℕ) (hb : b < t .boards) where
   refused-34 : getD (getD (s .queues) b []) 2 0 ≢ 0 → transmit t c b ≡ refuse transmitDead
@@ -72,14 +72,16 @@ module _ {t : Table} {s : Store} {entries : List Entry} {c : Cabinet} (h : Holds
   unfolding transmit guard
   live z = rw (at-dead h b hb, eq-eqb _ 0 z)
 
-  refused-42 : getD (getD (s .queues) b []) 2 0 ≡ 0 → countIn (s .queues) b ≡ 0 → transmit t c b ≡ refuse outboxEmpty
-  unfolding transmitOldest outboxIn ring
-  refused-42 z e =
-      live z
-      ∙ ap (transmitOldest t c b) (at-outbox h b hb
-      ∙ ap (λ (n : ℕ). map (λ (x : Entry). itemOf (x .item)) (ring blankEntry entries b (firstIn (s .queues) b) n)) e)
+  pub none-waits : countIn (s .queues) b ≡ 0 → outboxAt c b ≡ []
+  unfolding outboxIn ring
+  none-waits e =
+      at-outbox h b hb ∙ ap (λ (n : ℕ). map (λ (x : Entry). itemOf (x .item)) (ring blankEntry entries b (firstIn (s .queues) b) n)) e
 
-  begins : countIn (s .queues) b ≢ 0 → Begins c b (countIn (s .queues) b) (itemOf (getD entries (oldestOf (getD (s .queues) b []) b) blankEntry .item))
+  refused-42 : getD (getD (s .queues) b []) 2 0 ≡ 0 → countIn (s .queues) b ≡ 0 → transmit t c b ≡ refuse outboxEmpty
+  unfolding transmitOldest
+  refused-42 z e = live z ∙ ap (transmitOldest t c b) (none-waits e)
+
+  pub begins : countIn (s .queues) b ≢ 0 → Begins c b (countIn (s .queues) b) (itemOf (getD entries (oldestOf (getD (s .queues) b []) b) blankEntry .item))
   unfolding outboxIn
   begins n = go (countIn (s .queues) b) n (at-outbox h b hb)
     where
@@ -96,11 +98,11 @@ module _ {t : Table} {s : Store} {entries : List Entry} {c : Cabinet} (h : Holds
 -- ---- a word leaves
 
 module _ {t : Table} {s : Store} {entries : List Entry} {c : Cabinet} (reach : Reachable t c) (h : Holds t s entries c) (b : ℕ) (hb : b < t .boards)
-    (channel word fewer : ℕ) (rest : List rules.Item) (is-count : countIn (s .queues) b ≡ suc fewer)
-    (is-word : itemOf (getD entries (oldestOf (getD (s .queues) b []) b) blankEntry .item) ≡ rules.message (mailOf channel word))
-    (is-queue : outboxAt c b ≡ rules.message (mailOf channel word) ∷ rest) where
+    (channel word pc fewer : ℕ) (rest : List rules.Item) (is-count : countIn (s .queues) b ≡ suc fewer)
+    (is-word : itemOf (getD entries (oldestOf (getD (s .queues) b []) b) blankEntry .item) ≡ rules.message (mailOf channel word) pc)
+    (is-queue : outboxAt c b ≡ rules.message (mailOf channel word) pc ∷ rest) where
   there : channel < length (t .channels)
-  there = sent-inside (reach .accepted) channel (word-owner reach b (mailOf channel word) rest is-queue .0)
+  there = sent-inside (reach .accepted) channel (word-owner reach b (mailOf channel word) pc rest is-queue .0)
 
   abbrev left-cabinet : Cabinet
   left-cabinet = withOutbox b rest c
@@ -109,7 +111,7 @@ module _ {t : Table} {s : Store} {entries : List Entry} {c : Cabinet} (reach : R
   on-bus : OnBus t (s .totals) channel left-cabinet
   on-bus = record {
     total-is = λ k l.
-        let a = flight-leave k (c .outboxes) b (rules.message (mailOf channel word)) rest is-queue in
+        let a = flight-leave k (c .outboxes) b (rules.message (mailOf channel word) pc) rest is-queue in
         let d = occupancy-outbox t c b rest k (same k channel) 0 (omega arith) in
         h .totalled .total-is k l ∙ omega arith;
     totals-length = h .totalled .totals-length;
@@ -152,14 +154,14 @@ module _ {t : Table} {s : Store} {entries : List Entry} {c : Cabinet} (reach : R
       (r : Answer) (command : Command) → Planned t (planOf table counts programs wires)
       → Carries wires (s .rows) (s .mails) (s .logs) (s .heads) (s .totals) channel word rows′ mails′ logs′ heads′ totals′ r
       → Answered t (storeOf rows′ mails′ logs′ heads′ (set (s .queues) b (poppedIn (getD (s .queues) b []))) totals′) entries c command
-      (transmitItem t left-cabinet (rules.message (mailOf channel word))) r
+      (transmitItem t left-cabinet (rules.message (mailOf channel word) pc)) r
   unfolding transmitItem numbers causeOf
   word-answered {table} {counts} {programs} rows′ mails′ logs′ heads′ totals′ r command planned carried =
       let queues′ : List (List ℕ) = set (s .queues) b (poppedIn (getD (s .queues) b [])) in
       let after = carried .holds t table counts programs queues′ between entries left-cabinet (reach .accepted) planned word-left on-bus there
-      (word-owner reach b (mailOf channel word) rest is-queue .0) (room-for-oldest reach b (mailOf channel word) rest is-queue) in
+      (word-owner reach b (mailOf channel word) pc rest is-queue .0) (room-for-oldest reach b (mailOf channel word) pc rest is-queue) in
       subst (λ (z : Answer). Answered t (storeOf rows′ mails′ logs′ heads′ queues′ totals′) entries c command
-      (transmitItem t left-cabinet (rules.message (mailOf channel word))) z) (sym (carried .answer-is))
+      (transmitItem t left-cabinet (rules.message (mailOf channel word) pc)) z) (sym (carried .answer-is))
       (record { answer-is = refl; cause-is = refl; holds = after })
 
 -- ---- what the move promises
@@ -232,14 +234,14 @@ module _ (wires : List ℕ) (rows mails logs heads queues : List (List ℕ)) (to
           (subst (λ (y : Result). Answered t (storeOf rows′ mails′ logs′ heads′ (set queues a (poppedIn (getD queues a []))) totals′) entries c command y r)
           (sym rule) (carried t table counts programs entries c command reach planned h hb first q)))
 
-      pub transmits-word : (channel word : ℕ) → i ≡ Word channel word → (rows′ mails′ logs′ heads′ : List (List ℕ)) (totals′ : List ℕ)
+      pub transmits-word : (channel word pc : ℕ) → i ≡ Word channel word pc → (rows′ mails′ logs′ heads′ : List (List ℕ)) (totals′ : List ℕ)
           → Carries wires rows mails logs heads totals channel word rows′ mails′ logs′ heads′ totals′ r
           → Transmits wires rows mails logs heads queues totals a x rows′ mails′ logs′ heads′ (set queues b queue′) totals′ r
-      transmits-word channel word is-word rows′ mails′ logs′ heads′ totals′ carried =
-          transmits-so (rules.message (mailOf channel word)) (ap itemOf is-word) rows′ mails′ logs′ heads′ totals′
+      transmits-word channel word pc is-word rows′ mails′ logs′ heads′ totals′ carried =
+          transmits-so (rules.message (mailOf channel word) pc) (ap itemOf is-word) rows′ mails′ logs′ heads′ totals′
           (let z = ap (λ (y : Answer). y .code) (carried .answer-is) in omega arith) (carried .same-lengths queues)
           (λ t table counts programs entries c command reach planned h hb first q.
-          word-answered reach h a hb channel word (q .fewer) (q .rest) (q .is-count) first (q .is-queue)
+          word-answered reach h a hb channel word pc (q .fewer) (q .rest) (q .is-count) first (q .is-queue)
           rows′ mails′ logs′ heads′ totals′ r command planned carried)
 
       pub transmits-sync : (process : ℕ) (checkpoint : code.Checkpoint) → i ≡ Sync process checkpoint → (rows′ logs′ heads′ : List (List ℕ))

@@ -6,3 +6,4 @@ pub mod Transmitted
 pub mod Carries
 pub mod Injects
 pub mod Transmits
+pub mod Origins

@@ -45,7 +45,11 @@ pub fn transmit(
         return refusal(42, 0, a);
     };
     pop(&mut queues[b]);
-    if let Item::Word { channel, word } = item {
+    if let Item::Word {
+        channel,
+        word,
+        place: _,
+    } = item {
         return transmit_word(wires, rows, mails, logs, heads, totals, channel, word);
     }
     if let Item::Sync {

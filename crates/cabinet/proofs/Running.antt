@@ -23,7 +23,7 @@ use Rattle.rules.specs.Cabinet.{Cabinet, started, quiescent}
 use Rattle.rules.specs.Moves.{Command, runFrom, numbers}
 use Rattle.rules.specs.Run.{Buffers, buffersOf, lengthsOf, ranOf, answerBytes, reportBytes, validateRun, ranFrom, refusedWith, run, accepted}
 use Rattle.rules.proofs.Valid.{valid, test-passed, processes-counted, decoded-accepted}
-use Rattle.rules.proofs.AcceptedRun.{one-answer-each, table-valid, schedule-valid, answers-fit, reasons-fit, report-fits}
+use Rattle.rules.proofs.AcceptedRun.{one-answer-each, table-valid, schedule-valid, answers-fit, reasons-fit, report-fits, origins-fit}
 use Rattle.rules.proofs.Theorem.{failure-transparency}
 use Rattle.state.specs.declared.entry.Entry.{Entry}
 use Rattle.state.specs.Store.{Store, Holds}
@@ -32,7 +32,7 @@ use Rattle.plan.specs.Plan as plans
 use Rattle.plan.specs.Plan.{planOf}
 use Rattle.play.specs.declared.play.Stretch.{Stretch}
 use Rattle.play.specs.Plays.{Sheets, sheetsOf, Roomy, between, Suited, Played, Plays}
-use Rattle.play.proofs.Sheets.{answers-front, reasons-front}
+use Rattle.play.proofs.Sheets.{answers-front, reasons-front, origins-front}
 use Rattle.play.proofs.Playing.{commands-many, between-all}
 use Rattle.outcome.specs.Starts.{Placed, Starts}
 use Rattle.outcome.specs.Reports.{Reports}
@@ -58,6 +58,15 @@ passed : (table schedule : List ℕ) (buffers : Buffers) → validateRun table s
 unfolding accepted ranFrom
 passed table schedule buffers h = rw h
 
+-- an accepted run has room for its records
+has-room : (table schedule : List ℕ) (buffers : Buffers) → accepted table schedule buffers ≡ true
+    → Roomy (commandsIn schedule) (sheetsOf (buffers .answers) (buffers .reasons) (buffers .origins))
+has-room table schedule buffers acc = record {
+  answers-room = answers-fit table schedule buffers acc;
+  reasons-room = reasons-fit table schedule buffers acc;
+  origins-room = origins-fit table schedule buffers acc;
+}
+
 -- a stretch of all records that was played to its end
 all-played : {l : plans.Plan} {schedule : List ℕ} {n : ℕ} {entries : List Entry} {s s′ : Store} {before after : Sheets} {r : Stretch} → n ≡ commandsIn schedule
     → Plays l schedule (record { from = 0; to = n; entries = entries }) s before r s′ after → (t : Table) (c : Cabinet) → Suited t l c s entries
@@ -67,11 +76,11 @@ all-played {schedule = schedule} {s′ = s′} {before = before} {after = after}
     let all : r .from ≡ commandsIn schedule = by-lt (r .from) (commandsIn schedule) (λ k. absurd (h .ended (omega arith) k)) (λ k. omega arith) in
     subst (λ (done : List Command). Played t c done s′ (r .entries) before 0 after) (ap (between schedule 0) all ∙ between-all schedule) (h .played t c u)
 
-module _ (table schedule : List ℕ) (plan : Plan) (answers reasons report answers′ reasons′ report′ : List ℕ) (n : ℕ) (so-many : n ≡ commandsIn schedule)
-    (s₀ s : Store) (entries₀ : List Entry) (r : Stretch) (quiet : Bool)
+module _ (table schedule : List ℕ) (plan : Plan) (answers reasons report origins answers′ reasons′ report′ origins′ : List ℕ) (n : ℕ)
+    (so-many : n ≡ commandsIn schedule) (s₀ s : Store) (entries₀ : List Entry) (r : Stretch) (quiet : Bool)
     (starts : Starts (plan .primary) (plan .standby) (plan .counts .processes) s₀ entries₀)
     (plays : Plays (planOf table (plan .counts) (plan .programs) (plan .wires)) schedule (record { from = 0; to = n; entries = entries₀ }) s₀
-    (sheetsOf answers reasons) r s (sheetsOf answers′ reasons′))
+    (sheetsOf answers reasons origins) r s (sheetsOf answers′ reasons′ origins′))
     (reports : Reports (s .rows) (plan .counts .processes) report report′)
     (quiets : Quiets table (plan .counts) (plan .programs) (s .rows) (s .mails) (s .queues) quiet) where
   abbrev t : Table
@@ -80,11 +89,11 @@ module _ (table schedule : List ℕ) (plan : Plan) (answers reasons report answe
   abbrev end : Cabinet
   end = runFrom t (started t) (decodeSchedule schedule) .cabinet
 
-  pub conducts : Conducts table schedule plan (buffersOf answers reasons report) quiet (buffersOf answers′ reasons′ report′)
+  pub conducts : Conducts table schedule plan (buffersOf answers reasons report origins) quiet (buffersOf answers′ reasons′ report′ origins′)
   unfolding ranFrom runFrom
   conducts = record {
     conducted = λ ok plans.
-        let before = buffersOf answers reasons report in
+        let before = buffersOf answers reasons report origins in
         let acc = passed table schedule before ok in
         let tv = table-valid table schedule before acc in
         let at : Accepted t = decoded-accepted table tv in
@@ -95,22 +104,29 @@ module _ (table schedule : List ℕ) (plan : Plan) (answers reasons report answe
         let played = all-played so-many plays t (started t) (record { reached = begins; planned = planned; holds = starts .holds t at placed }) in
         let reach : Reachable t end = record { accepted = at; commands = decodeSchedule schedule; is-reached = refl } in
         let many : commandsIn schedule ≡ length (decodeSchedule schedule) = sym (commands-many schedule) in
-        let roomy : Roomy (length (runFrom t (started t) (decodeSchedule schedule) .answers)) (sheetsOf answers reasons) =
-        rw (one-answer-each t (started t) (decodeSchedule schedule), commands-many schedule)
-        (record { answers-room = answers-fit table schedule before acc; reasons-room = reasons-fit table schedule before acc }) in
+        let roomy : Roomy (length (runFrom t (started t) (decodeSchedule schedule) .answers)) (sheetsOf answers reasons origins) =
+        rw (one-answer-each t (started t) (decodeSchedule schedule), commands-many schedule) (has-room table schedule before acc) in
         let room : 20 * plan .counts .processes ≤ length report = rw (planned .processes-is, processes-counted table) (report-fits table schedule before acc) in
         let w = reports .reported t (s .mails) (s .logs) (s .heads) (s .queues) (s .totals) (r .entries) end reach (played .holds) (planned .processes-is) room in
         let q = quiets .answers t (plan .wires) (s .logs) (s .heads) (s .totals) (r .entries) end reach planned (played .holds) in
         let a = answers-front (played .wrote) roomy in
         let b = reasons-front (played .wrote) roomy in
-        λ i. record { number = 0; records = many i; quiet = q i; buffers = record { answers = a i; reasons = b i; report = w i } };
+        let o = origins-front (played .wrote) roomy in
+        λ i. record { number = 0; records = many i; quiet = q i; buffers = record { answers = a i; reasons = b i; report = w i; origins = o i } };
   }
 
 -- ---- the call
 
 module _ (table schedule : List ℕ) (before : Buffers) (d : Decoded) (j : Judged) (is-d : Decodes table d) (is-j : ScheduleJudged schedule j) where
   abbrev number : ℕ
-  number = judgedRun (d .number) (d .plan .counts .processes) j (record { answers = length (before .answers); reasons = length (before .reasons); report = length (before .report) })
+  number =
+      judgedRun (d .number) (d .plan .counts .processes) j
+      (record {
+        answers = length (before .answers);
+        reasons = length (before .reasons);
+        report = length (before .report);
+        origins = length (before .origins);
+      })
 
   judged : number ≡ validateRun table schedule (lengthsOf before)
   judged = run-is table schedule _ (d .number) (d .plan .counts .processes) j (is-d .number-is) (λ z. is-d .accepted z .planned .processes-is ∙ processes-counted table) is-j
@@ -123,10 +139,8 @@ module _ (table schedule : List ℕ) (before : Buffers) (d : Decoded) (j : Judge
   }
 
   -- a run that is not refused has room for its records
-  pub roomy : (n : ℕ) → n ≡ number → n ≡ 0 → Roomy (commandsIn schedule) (sheetsOf (before .answers) (before .reasons))
-  roomy n e z =
-      let acc = passed table schedule before (sym judged ∙ sym e ∙ z) in
-      record { answers-room = answers-fit table schedule before acc; reasons-room = reasons-fit table schedule before acc }
+  pub roomy : (n : ℕ) → n ≡ number → n ≡ 0 → Roomy (commandsIn schedule) (sheetsOf (before .answers) (before .reasons) (before .origins))
+  roomy n e z = has-room table schedule before (passed table schedule before (sym judged ∙ sym e ∙ z))
 
   pub accepts : (n : ℕ) → n ≡ number → n ≡ 0 → (quiet : Bool) (after : Buffers) → Conducts table schedule (d .plan) before quiet after
       → Runs table schedule before (record { number = 0; records = j .records; quiet = quiet }) after

@@ -9,7 +9,7 @@ use Rattle.cabinet.specs.declared.judge.Lengths.{Lengths}
 
 -- the rules' lengths of the lent buffers
 abbrev pub lengthsIn : Lengths → run.Lengths
-lengthsIn l = record { answers = l .answers; reasons = l .reasons; report = l .report }
+lengthsIn l = record { answers = l .answers; reasons = l .reasons; report = l .report; origins = l .origins }
 
 -- 0, or the number that refuses a run: from the table's number and its processes, the judged schedule, and the buffers' lengths.
 -- (proofs/Judging.antt: of the table and the schedule that were judged it is the rules' `validateRun`.)
@@ -19,4 +19,5 @@ judgedRun number processes judged lengths =
     (orNumber (eqb (judged .number) 0) (judged .number)
     (orNumber (leb (6 * judged .records) (lengths .answers) && leb (judged .records) (lengths .reasons)) 11
     (orNumber (leb (20 * processes) (lengths .report)) 12
-    0)))
+    (orNumber (leb (2 * judged .records) (lengths .origins)) 51
+    0))))

@@ -8,11 +8,12 @@ pub struct Lengths {
     pub answers: usize,
     pub reasons: usize,
     pub report: usize,
+    pub origins: usize,
 }
 
 // 0, or the number that refuses a run, lowest first: those of the table, those of the schedule, then
 // "11 answer buffer under six bytes a record; 12 report buffer under 20 bytes a process"; W-206: 11 also for a buffer of reasons under one
-// byte a record.
+// byte a record; W-212: "51, that buffer is under two bytes a record, after 12".
 pub fn judge_run(table_number: u8, processes: usize, schedule: Judged, lengths: Lengths) -> u8
     ensures { λ r. ⌜ r ≡ judgedRun «table_number» processes schedule lengths ⌝ }
 {
@@ -21,6 +22,7 @@ pub fn judge_run(table_number: u8, processes: usize, schedule: Judged, lengths: 
     let answers = lengths.answers;
     let reasons = lengths.reasons;
     let report = lengths.report;
+    let origins = lengths.origins;
     if table_number != 0 {
         return table_number;
     }
@@ -35,6 +37,9 @@ pub fn judge_run(table_number: u8, processes: usize, schedule: Judged, lengths: 
     }
     if report / 20 < processes {
         return 12;
+    }
+    if origins / 2 < records {
+        return 51;
     }
     0
 }

@@ -13,7 +13,7 @@ use Rattle.table.specs.declared.Decoded.{Decoded}
 use Rattle.kunzeastylus.specs.Judges.{Judges}
 
 pub together : (table schedule : List ℕ) (d : Decoded) (j : Judged) (l : Lengths) → Decodes table d → ScheduleJudged schedule j
-    → Judges table schedule (l .answers) (l .reasons) (l .report) (judgedRun (d .number) (d .plan .counts .processes) j l)
+    → Judges table schedule (l .answers) (l .reasons) (l .report) (l .origins) (judgedRun (d .number) (d .plan .counts .processes) j l)
 together table schedule d j l e f = record {
   number-is = run-is table schedule l (d .number) (d .plan .counts .processes) j (e .number-is) (λ z. e .accepted z .planned .processes-is ∙ processes-counted table) f;
 }

@@ -108,9 +108,11 @@ pub fn run_line(
     answers: &mut [u8],
     reasons: &mut [u8],
     report: &mut [u8],
+    origins: &mut [u8],
 ) -> Verdict
-    ensures { λ r. ⌜ RunsLine first (now (schedule .entry)) (buffersOf (now (answers .entry)) (now (reasons .entry)) (now (report .entry))) r
-        (buffersOf (now (answers .exit)) (now (reasons .exit)) (now (report .exit))) ⌝ }
+    ensures { λ r. ⌜ RunsLine first (now (schedule .entry))
+        (buffersOf (now (answers .entry)) (now (reasons .entry)) (now (report .entry)) (now (origins .entry))) r
+        (buffersOf (now (answers .exit)) (now (reasons .exit)) (now (report .exit)) (now (origins .exit))) ⌝ }
 {
     let made = make_table(first);
     let number = made.number;
@@ -122,5 +124,5 @@ pub fn run_line(
             quiet: false,
         };
     }
-    run(&table, schedule, answers, reasons, report)
+    run(&table, schedule, answers, reasons, report, origins)
 }

@@ -10,12 +10,15 @@ use Rattle.records.specs.Commands.{commandOf}
 use Rattle.records.specs.declared.schedule.Command as code
 use Rattle.rules.specs.Table.{Table}
 use Rattle.rules.specs.Judge.{Accepted}
-use Rattle.rules.specs.Cabinet.{Cabinet, started}
+use Rattle.rules.specs.Machine.{Origin}
+use Rattle.rules.specs.Cabinet.{Cabinet, started, outboxAt}
 use Rattle.rules.specs.Moves as rules
-use Rattle.rules.specs.Moves.{Command, judged, turn, runFrom, moveOf}
+use Rattle.rules.specs.Moves.{Command, Numbers, transmitMove, moveOf, judged, numbers, originOf, noOrigin, turn, runFrom}
+use Rattle.rules.specs.Origins.{toldBy}
 use Rattle.rules.specs.Schedule.{command, commandsIn, decodeSchedule}
 use Rattle.rules.proofs.AcceptedRun.{one-answer-each}
 use Rattle.rules.proofs.Recovery.{run-parts}
+use Rattle.rules.proofs.Origins.{origin-told, carried-waited}
 use Rattle.rules.proofs.Valid.{length-sixes}
 use Rattle.state.specs.declared.entry.Entry.{Entry}
 use Rattle.state.specs.declared.moved.Answer.{Answer}
@@ -23,7 +26,7 @@ use Rattle.state.specs.declared.moved.Moved.{Moved}
 use Rattle.state.specs.Store.{Store, Holds}
 use Rattle.state.specs.Moved.{Reachable, Answered, Makes, joined, refusalOf}
 use Rattle.command.specs.Judges.{judgeOf, causeBy}
-use Rattle.command.proofs.Judging.{ruleOf, mostOf, passes, made, refused, known}
+use Rattle.command.proofs.Judging.{ruleOf, mostOf, passes, made, refused, refused-origin, known}
 use Rattle.plan.specs.Plan.{Plan, Planned}
 use Rattle.play.specs.declared.play.Stretch.{Stretch}
 use Rattle.play.specs.Plays.{Sheets, AsLong, Writes, between, Suited, Played, Plays}
@@ -60,11 +63,12 @@ module _ {t : Table} {c : Cabinet} where
   suited-on {xs = xs} h k = record { reached = reached-on (h .reached) xs; planned = h .planned; holds = k .holds }
 
   -- one command
-  pub played-one : {s : Store} {entries : List Entry} {before after : Sheets} {i : ℕ} {r : Answer} → Reachable t c → (x : Command) → x .a < 256
-      → Answered t s entries c x (judged t c x) r → Writes before i r after → Played t c (x ∷ []) s entries before i after
+  pub played-one : {s : Store} {entries : List Entry} {before after : Sheets} {i : ℕ} {r : Answer} {o : Origin} → Reachable t c → (x : Command)
+      → x .a < 256 → Answered t s entries c x (judged t c x) r → originOf (turn t c x .answer) ≡ o → Writes before i r o after
+      → Played t c (x ∷ []) s entries before i after
   unfolding runFrom turn
-  played-one reach x small h w =
-      record { holds = h .holds; wrote = wrote-one w (turn t c x .answer) (h .answer-is) (h .cause-is) (answer-fits reach x small) }
+  played-one reach x small h g w =
+      record { holds = h .holds; wrote = wrote-one w (turn t c x .answer) (h .answer-is) (h .cause-is) g (answer-fits reach x small) }
 
 -- ---- the records of a schedule
 
@@ -148,10 +152,11 @@ module _ {l : Plan} {schedule : List ℕ} {from end : ℕ} {s₀ : Store} {entri
   Next s′ entries′ sheets′ = Playing l schedule from end s₀ entries₀ sheets₀ (i + 1) s′ entries′ sheets′
 
   -- what the rules make of the record is played with those before it
-  on : (s′ : Store) (entries′ : List Entry) (sheets′ : Sheets) (r : Answer) → Writes sheets i r sheets′
+  on : (s′ : Store) (entries′ : List Entry) (sheets′ : Sheets) (r : Answer) (o : Origin) → Writes sheets i r o sheets′
       → ((t : Table) (now : Cabinet) → Suited t l now s entries → Answered t s′ entries′ now (commandOf c) (judged t now (commandOf c)) r)
+      → ((t : Table) (now : Cabinet) → Suited t l now s entries → originOf (turn t now (commandOf c) .answer) ≡ o)
       → Next s′ entries′ sheets′
-  on s′ entries′ sheets′ r w answers =
+  on s′ entries′ sheets′ r o w answers comes =
       let before = p .so-far in
       let below = p .below in
       let few = p .few in
@@ -165,7 +170,7 @@ module _ {l : Plan} {schedule : List ℕ} {from end : ℕ} {s₀ : Store} {entri
             let fit = suited-on u done in
             let x : Command = commandOf c in
             let low : x .a < 256 = (let e = p .is-a in let f = p .small in omega arith) in
-            let one = played-one (fit .reached) x low (answers t _ fit) w in
+            let one = played-one (fit .reached) x low (answers t _ fit) (comes t _ fit) w in
             let so-many = between-length schedule from i (omega arith) in
             let all : between schedule from (i + 1) ≡ between schedule from i ++ (x ∷ []) =
             between-parts schedule from i (i + 1) forward (omega arith)
@@ -175,27 +180,55 @@ module _ {l : Plan} {schedule : List ℕ} {from end : ℕ} {s₀ : Store} {entri
 
   -- a record that is refused before its move is looked at
   pub on-refused : (n ≡ 0 → ⊥) → {cause : ℕ} → cause ≡ causeBy n (moveOf (c .mv)) → {r : Answer} → r ≡ refusalOf n cause a → {sheets′ : Sheets}
-      → Writes sheets i r sheets′ → Next s entries sheets′
+      → Writes sheets i r noOrigin sheets′ → Next s entries sheets′
   on-refused z {cause} e {r} f {sheets′} w =
-      on s entries sheets′ r w (λ t now u. refused (u .planned) c n (p .is-n) now a (p .is-a) cause (u .holds) z e f)
+      on s entries sheets′ r noOrigin w (λ t now u. refused (u .planned) c n (p .is-n) now a (p .is-a) cause (u .holds) z e f)
+      (λ t now u. refused-origin (u .planned) c n (p .is-n) now a (p .is-a) z)
+
+  -- What tells the origin of the word that move k puts on the bus is o, where the move has what it asks. A word that is carried was waiting.
+  abbrev Told : (Table → List Entry → Type 0) → ℕ → Moved → Origin → Type 0
+  Told asks k m o =
+      (t : Table) (now : Cabinet) → Suited t l now s entries → a < mostOf (moveOf k) t → asks t entries
+      → (moveOf k ≡ transmitMove → m .answer .code ≡ 4 → outboxAt now a ≡ [] → ⊥) → toldBy t (outboxAt now a) (m .answer .code) (moveOf k) ≡ o
+
+  told-by : (asks : Table → List Entry → Type 0) (k : ℕ) → c .mv ≡ k → (m : Moved) (o : Origin) → Told asks k m o
+      → (t : Table) (now : Cabinet) → Suited t l now s entries → a < mostOf (moveOf k) t → asks t entries
+      → numbers (turn t now (commandOf c) .answer) .code ≡ m .answer .code → originOf (turn t now (commandOf c) .answer) ≡ o
+  told-by asks k is-k m o tells t now u inside asked code-is =
+      let x : Command = commandOf c in
+      origin-told t now x
+      ∙ ap (λ (j : ℕ). toldBy t (outboxAt now (c .a)) j (moveOf (c .mv))) code-is
+      ∙ ap (λ (b : ℕ). toldBy t (outboxAt now b) (m .answer .code) (moveOf (c .mv))) (sym (p .is-a))
+      ∙ ap (λ (j : ℕ). toldBy t (outboxAt now a) (m .answer .code) (moveOf j)) is-k
+      ∙ tells t now u inside asked (λ e f g. carried-waited t now x (ap moveOf is-k ∙ e) (code-is ∙ f) (ap (outboxAt now) (sym (p .is-a)) ∙ g))
 
   -- one that is its move: what the rules call the move of number k
   pub on-made : n ≡ 0 → (k : ℕ) → c .mv ≡ k → {asks : Table → List Entry → Type 0} {joins : ℕ} {entry : Entry} {s′ : Store} {entries′ : List Entry}
-      {sheets′ : Sheets} {m : Moved} → Writes sheets i (m .answer) sheets′ → Makes (ruleOf (moveOf k) (c .word)) asks joins l s a entry s′ m
+      {sheets′ : Sheets} {m : Moved} {o : Origin} → Writes sheets i (m .answer) o sheets′
+      → Makes (ruleOf (moveOf k) (c .word)) asks joins l s a entry s′ m
       → ((t : Table) (now : Cabinet) → Accepted t → Holds t s entries now → a < mostOf (moveOf k) t → asks t entries × (entries′ ≡ joined entries (m .at) entry))
-      → Next s′ entries′ sheets′
-  on-made z k is-k {s′ = s′} {entries′ = entries′} {sheets′ = sheets′} {m = m} w h given =
-      on s′ entries′ sheets′ (m .answer) w (λ t now u.
-      let there = given t now (u .reached .accepted) (u .holds) (passes (u .planned) c n (p .is-n) now a (p .is-a) k is-k z .a-inside) in
-      subst (λ (l : List Entry). Answered t s′ l now (commandOf c) (judged t now (commandOf c)) (m .answer)) (sym (there .1))
+      → Told asks k m o → Next s′ entries′ sheets′
+  unfolding turn
+  on-made z k is-k {asks = asks} {entry = entry} {s′ = s′} {entries′ = entries′} {sheets′ = sheets′} {m = m} {o = o} w h given tells =
+      let inside : (t : Table) (now : Cabinet) → Suited t l now s entries → a < mostOf (moveOf k) t =
+      λ t now u. passes (u .planned) c n (p .is-n) now a (p .is-a) k is-k z .a-inside in
+      let there : (t : Table) (now : Cabinet) → Suited t l now s entries → asks t entries × (entries′ ≡ joined entries (m .at) entry) =
+      λ t now u. given t now (u .reached .accepted) (u .holds) (inside t now u) in
+      let answers : (t : Table) (now : Cabinet) → Suited t l now s entries
+      → Answered t s′ entries′ now (commandOf c) (judged t now (commandOf c)) (m .answer) =
+      λ t now u.
+      subst (λ (l : List Entry). Answered t s′ l now (commandOf c) (judged t now (commandOf c)) (m .answer)) (sym (there t now u .1))
       (made (u .planned) c n (p .is-n) now a (p .is-a) k is-k z
-      (h .made t entries now (commandOf c) (u .reached) (u .planned) (u .holds) (sym (p .is-a)) (there .0))))
+      (h .made t entries now (commandOf c) (u .reached) (u .planned) (u .holds) (sym (p .is-a)) (there t now u .0))) in
+      on s′ entries′ sheets′ (m .answer) o w answers (λ t now u.
+      told-by asks k is-k m o tells t now u (inside t now u) (there t now u .0) (ap (λ (y : Numbers). y .code) (answers t now u .answer-is)))
 
   -- and no other passes
   pub on-unknown : n ≡ 0 → (c .mv ≡ 1 → ⊥) → (c .mv ≡ 2 → ⊥) → (c .mv ≡ 3 → ⊥) → (c .mv ≡ 4 → ⊥) → (c .mv ≡ 5 → ⊥) → (c .mv ≡ 6 → ⊥) → (c .mv ≡ 7 → ⊥)
-      → {r : Answer} {sheets′ : Sheets} → Writes sheets i r sheets′ → Next s entries sheets′
+      → {r : Answer} {sheets′ : Sheets} → Writes sheets i r noOrigin sheets′ → Next s entries sheets′
   on-unknown z h1 h2 h3 h4 h5 h6 h7 {r} {sheets′} w =
-      on s entries sheets′ r w (λ t now u. absurd (known (u .planned) c n (p .is-n) now a (p .is-a) z h1 h2 h3 h4 h5 h6 h7))
+      on s entries sheets′ r noOrigin w (λ t now u. absurd (known (u .planned) c n (p .is-n) now a (p .is-a) z h1 h2 h3 h4 h5 h6 h7))
+      (λ t now u. absurd (known (u .planned) c n (p .is-n) now a (p .is-a) z h1 h2 h3 h4 h5 h6 h7))
 
 -- all of the stretch is done
 pub at-last : {l : Plan} {schedule : List ℕ} {stretch : Stretch} {end : ℕ} {s₀ s : Store} {sheets₀ sheets : Sheets} {i : ℕ} {entries : List Entry}

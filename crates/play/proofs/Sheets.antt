@@ -7,13 +7,15 @@ use lib.ListN.{length, set, drop, length-map, length-set}
 use lib.Seq.{sets, sets-eq, length-sets}
 use Rattle.rules.specs.Bytes.{wordBytes, allBytes, written}
 use Rattle.rules.specs.Moves as rules
-use Rattle.rules.specs.Moves.{Numbers, numbered, numbers}
+use Rattle.rules.specs.Machine.{Origin}
+use Rattle.rules.specs.Moves.{Numbers, numbered, numbers, originOf}
 use Rattle.rules.specs.Reasons.{causeOf, reasonOf}
-use Rattle.rules.specs.Run.{answerBytes}
+use Rattle.rules.specs.Run.{answerBytes, originBytes}
 use Rattle.rules.proofs.OneCause.{answer-small}
+use Rattle.rules.proofs.Buffers.{length-bytes}
 use Rattle.state.specs.declared.moved.Answer.{Answer}
 use Rattle.play.specs.Written.{sixBytes, reasonByte}
-use Rattle.play.specs.Plays.{Sheets, Roomy, AsLong, Writes, Wrote}
+use Rattle.play.specs.Plays.{Sheets, Roomy, RoomAt, AsLong, Writes, Wrote}
 use Rattle.play.proofs.Answers.{Fits}
 
 -- ---- bytes
@@ -27,16 +29,18 @@ bytes-more : {A : Type 0} (bytes : A → List ℕ) (l more : List A) → allByte
 bytes-more bytes [] more = refl
 bytes-more bytes (x ∷ l) more = ap (λ (r : List ℕ). bytes x ++ r) (bytes-more bytes l more) ∙ sym (append-assoc (bytes x) (allBytes bytes l) (allBytes bytes more))
 
--- the bytes of all answers
+-- the bytes of all answers, and of all their origins
 abbrev bytesOf : List rules.Answer → List ℕ
 bytesOf answers = allBytes answerBytes (map numbers answers)
 
-six-each : (l : List Numbers) → length (allBytes answerBytes l) ≡ 6 * length l
-six-each [] = refl
-six-each (y ∷ l) = let a = six-each l in omega arith
+abbrev originsOf : List rules.Answer → List ℕ
+originsOf answers = allBytes originBytes (map originOf answers)
 
 bytes-length : (answers : List rules.Answer) → length (bytesOf answers) ≡ 6 * length answers
-bytes-length answers = six-each (map numbers answers) ∙ ap (λ (n : ℕ). 6 * n) (length-map answers numbers)
+bytes-length answers = length-bytes answerBytes 6 (map numbers answers) (λ _. refl) ∙ ap (λ (n : ℕ). 6 * n) (length-map answers numbers)
+
+origins-length : (answers : List rules.Answer) → length (originsOf answers) ≡ 2 * length answers
+origins-length answers = length-bytes originBytes 2 (map originOf answers) (λ _. refl) ∙ ap (λ (n : ℕ). 2 * n) (length-map answers originOf)
 
 -- the bytes that the code writes are the answer's
 same-bytes : (x : Answer) (n : Numbers) → n ≡ numbered (x .code) (x .a) (x .word) → n .code < 256 → n .a < 256 → sixBytes x ≡ answerBytes n
@@ -59,16 +63,17 @@ same-reason x code cause e f =
 -- ---- the buffers
 
 pub wrote-none : (sheets : Sheets) (i : ℕ) → Wrote sheets i [] sheets
-wrote-none sheets i = record { answers-are = refl; reasons-are = refl }
+wrote-none sheets i = record { answers-are = refl; reasons-are = refl; origins-are = refl }
 
 -- one answer of the code is the rules' answer
-pub wrote-one : {before after : Sheets} {i : ℕ} {r : Answer} → Writes before i r after → (x : rules.Answer) → numbers x ≡ numbered (r .code) (r .a) (r .word)
-    → causeOf x ≡ r .cause → Fits x → Wrote before i (x ∷ []) after
-wrote-one {before} {i = i} {r = r} w x e f size = record {
+pub wrote-one : {before after : Sheets} {i : ℕ} {r : Answer} {o : Origin} → Writes before i r o after → (x : rules.Answer)
+    → numbers x ≡ numbered (r .code) (r .a) (r .word) → causeOf x ≡ r .cause → originOf x ≡ o → Fits x → Wrote before i (x ∷ []) after
+wrote-one {before} {i = i} {r = r} w x e f g size = record {
   answers-are =
       w .answers-are
       ∙ ap (sets (before .answers) (6 * i)) (same-bytes r (numbers x) e (size .code-small) (size .a-small) ∙ sym (append-nil (answerBytes (numbers x))));
   reasons-are = w .reasons-are ∙ ap (set (before .reasons) i) (same-reason x (r .code) (r .cause) (ap (λ (m : Numbers). m .code) e) f);
+  origins-are = w .origins-are ∙ ap (λ (y : Origin). sets (before .origins) (2 * i) (originBytes y)) (sym g);
 }
 
 -- answers behind others are written as all of them together
@@ -77,6 +82,7 @@ pub wrote-more : {before middle after : Sheets} {i j : ℕ} {xs ys : List rules.
 wrote-more {before} {i = i} {j = j} {xs = xs} {ys = ys} h k e =
     let m = bytes-length xs in
     let n = length-map xs reasonOf in
+    let o = origins-length xs in
     record {
       answers-are =
           k .answers-are
@@ -88,6 +94,11 @@ wrote-more {before} {i = i} {j = j} {xs = xs} {ys = ys} h k e =
           ∙ ap (λ (l : List ℕ). sets l j (map reasonOf ys)) (h .reasons-are)
           ∙ sets-more (map reasonOf xs) (map reasonOf ys) (before .reasons) i j (omega arith)
           ∙ ap (sets (before .reasons) i) (sym (map-append reasonOf xs ys));
+      origins-are =
+          k .origins-are
+          ∙ ap (λ (l : List ℕ). sets l (2 * j) (originsOf ys)) (h .origins-are)
+          ∙ sets-more (originsOf xs) (originsOf ys) (before .origins) (2 * i) (2 * j) (omega arith)
+          ∙ ap (sets (before .origins) (2 * i)) (sym (ap (allBytes originBytes) (map-append originOf xs ys) ∙ bytes-more originBytes (map originOf xs) (map originOf ys)));
     }
 
 -- the answers to all records from the first on stand at the buffers' front
@@ -103,23 +114,25 @@ module _ {before after : Sheets} {xs : List rules.Answer} (w : Wrote before 0 xs
   pub reasons-front : after .reasons ≡ written (map reasonOf xs) (before .reasons)
   reasons-front = w .reasons-are ∙ at-front (map reasonOf xs) (before .reasons) (let a = length-map xs reasonOf in let b = room .reasons-room in omega arith)
 
+  pub origins-front : after .origins ≡ written (originsOf xs) (before .origins)
+  origins-front = w .origins-are ∙ at-front (originsOf xs) (before .origins) (let a = origins-length xs in let b = room .origins-room in omega arith)
+
 -- ---- how long they are
 
 pub as-long : (sheets : Sheets) → AsLong sheets sheets
-as-long sheets = record { answers-long = refl; reasons-long = refl }
+as-long sheets = record { answers-long = refl; reasons-long = refl; origins-long = refl }
 
-pub still-long : {first before after : Sheets} {i : ℕ} {r : Answer} → AsLong first before → Writes before i r after → AsLong first after
-still-long {before = before} {i = i} {r = r} h w = record {
+pub still-long : {first before after : Sheets} {i : ℕ} {r : Answer} {o : Origin} → AsLong first before → Writes before i r o after → AsLong first after
+still-long {before = before} {i = i} {r = r} {o = o} h w = record {
   answers-long = ap length (w .answers-are) ∙ length-sets (before .answers) (6 * i) (sixBytes r) ∙ h .answers-long;
   reasons-long = ap length (w .reasons-are) ∙ length-set (before .reasons) i _ ∙ h .reasons-long;
+  origins-long = ap length (w .origins-are) ∙ length-sets (before .origins) (2 * i) (originBytes o) ∙ h .origins-long;
 }
 
 -- where there was room for so many records there is room for one of them
-pub has-room : {first sheets : Sheets} {records i : ℕ} → Roomy records first → AsLong first sheets → i < records
-    → (6 * i + 6 ≤ length (sheets .answers)) × (i < length (sheets .reasons))
-has-room room long below =
-    let a = room .answers-room in
-    let b = room .reasons-room in
-    let c = long .answers-long in
-    let d = long .reasons-long in
-    (omega arith, omega arith)
+pub has-room : {first sheets : Sheets} {records i : ℕ} → Roomy records first → AsLong first sheets → i < records → RoomAt i sheets
+has-room room long below = record {
+  answers-there = (let a = room .answers-room in let b = long .answers-long in omega arith);
+  reasons-there = (let a = room .reasons-room in let b = long .reasons-long in omega arith);
+  origins-there = (let a = room .origins-room in let b = long .origins-long in omega arith);
+}

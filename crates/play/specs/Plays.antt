@@ -1,17 +1,18 @@
 -- A stretch of a schedule's records, one after the other. "Each schedule record, refused or not, gets the cabinet that the last one left".
 use mathlib.Core.Path.{_≡_}
 use mathlib.Core.List.{List, map}
-use Prim.Native.Nat.{ℕ, _-_, _*_, _≤_, _<_}
+use Prim.Native.Nat.{ℕ, _+_, _-_, _*_, _≤_, _<_}
 use lib.ListN.{length, set, take, drop}
 use lib.Seq.{sets}
 use Rattle.rules.specs.Table.{Table}
 use Rattle.rules.specs.Bytes.{allBytes}
+use Rattle.rules.specs.Machine.{Origin}
 use Rattle.rules.specs.Cabinet.{Cabinet}
 use Rattle.rules.specs.Moves as rules
-use Rattle.rules.specs.Moves.{Command, numbers, runFrom}
+use Rattle.rules.specs.Moves.{Command, numbers, originOf, runFrom}
 use Rattle.rules.specs.Reasons.{reasonOf}
 use Rattle.rules.specs.Schedule.{commandsIn, decodeSchedule}
-use Rattle.rules.specs.Run.{answerBytes}
+use Rattle.rules.specs.Run.{answerBytes, originBytes}
 use Rattle.plan.specs.Plan.{Plan, Planned}
 use Rattle.state.specs.declared.entry.Entry.{Entry}
 use Rattle.state.specs.declared.moved.Answer.{Answer}
@@ -26,29 +27,40 @@ use Rattle.play.specs.Written.{sixBytes, reasonByte}
 pub record Sheets : Type 0 where
   pub answers : List ℕ
   pub reasons : List ℕ
+  pub origins : List ℕ
 
-abbrev pub sheetsOf : List ℕ → List ℕ → Sheets
-sheetsOf answers reasons = record { answers = answers; reasons = reasons }
+abbrev pub sheetsOf : List ℕ → List ℕ → List ℕ → Sheets
+sheetsOf answers reasons origins = record { answers = answers; reasons = reasons; origins = origins }
 
 -- they have room for so many records
 pub record Roomy (records : ℕ) (sheets : Sheets) : Type 0 where
   pub answers-room : 6 * records ≤ length (sheets .answers)
   pub reasons-room : records ≤ length (sheets .reasons)
+  pub origins-room : 2 * records ≤ length (sheets .origins)
+
+-- and for record i
+pub record RoomAt (i : ℕ) (sheets : Sheets) : Type 0 where
+  pub answers-there : 6 * i + 6 ≤ length (sheets .answers)
+  pub reasons-there : i < length (sheets .reasons)
+  pub origins-there : 2 * i + 2 ≤ length (sheets .origins)
 
 -- they are as long as these
 pub record AsLong (before after : Sheets) : Type 0 where
   pub answers-long : length (after .answers) ≡ length (before .answers)
   pub reasons-long : length (after .reasons) ≡ length (before .reasons)
+  pub origins-long : length (after .origins) ≡ length (before .origins)
 
--- the i-th answer and its reason were written
-pub record Writes (before : Sheets) (i : ℕ) (r : Answer) (after : Sheets) : Type 0 where
+-- the i-th answer, its reason and where its word comes from were written
+pub record Writes (before : Sheets) (i : ℕ) (r : Answer) (o : Origin) (after : Sheets) : Type 0 where
   pub answers-are : after .answers ≡ sets (before .answers) (6 * i) (sixBytes r)
   pub reasons-are : after .reasons ≡ set (before .reasons) i (reasonByte (r .code) (r .cause))
+  pub origins-are : after .origins ≡ sets (before .origins) (2 * i) (originBytes o)
 
--- the rules' answers to the records from number i on, and their reasons, were written at those records' places
+-- the rules' answers to the records from number i on, with their reasons and origins, were written at those records' places
 pub record Wrote (before : Sheets) (i : ℕ) (answers : List rules.Answer) (after : Sheets) : Type 0 where
   pub answers-are : after .answers ≡ sets (before .answers) (6 * i) (allBytes answerBytes (map numbers answers))
   pub reasons-are : after .reasons ≡ sets (before .reasons) i (map reasonOf answers)
+  pub origins-are : after .origins ≡ sets (before .origins) (2 * i) (allBytes originBytes (map originOf answers))
 
 -- ---- the records
 

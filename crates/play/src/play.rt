@@ -1,17 +1,22 @@
 // The loop over a schedule's records: each is judged, its move made, and its answer written. The loop alone holds the entries of all queues, one
 // flat array: it hands a carry the oldest entry of a board, and makes the entry by which a step, a sync or a resync ends.
 ghost use mathlib.Core.Path.{_≡_};
-ghost use Prim.Native.Nat.{_*_, _+_, _≤_, _<_};
-ghost use lib.ListN.{length};
 ghost use Rattle.rules.specs.Schedule.{commandsIn};
+ghost use Rattle.rules.specs.Moves.{noOrigin};
 ghost use Rattle.plan.specs.Plan.{planOf};
 ghost use Rattle.state.specs.Store.{storeOf};
-ghost use Rattle.play.specs.Plays.{sheetsOf, Writes, Roomy, Plays};
+ghost use Rattle.bus.specs.Origins.{originIn};
+ghost use Rattle.play.specs.Plays.{sheetsOf, RoomAt, Writes, Roomy, Plays};
 use crate::answer::put;
+use crate::answer::put_origin;
 use crate::answer::put_reason;
 use backup::limits::LOG;
 use backup::place::HEAD;
 use bus::inject::inject;
+use bus::origin::Origin;
+use bus::origin::carried;
+use bus::origin::fed;
+use bus::origin::nowhere;
 use bus::transmit::transmit;
 use command::judge::cause;
 use command::judge::judge;
@@ -23,6 +28,7 @@ use plan::PROCESSES;
 use plan::PROGRAMS;
 use plan::WIRES;
 use process::checkpoint::snapshot;
+use process::row::PC;
 use process::row::ROW;
 use records::schedule::FIRST_COMMAND;
 use records::schedule::command_at;
@@ -40,6 +46,7 @@ use step::step::step;
 use words::byte_word;
 use words::index16;
 use words::least;
+use words::low_byte;
 
 // Records of a schedule that are to be played: those from number `from` on, before number `to` and before the schedule's end. `entries` are those
 // of all queues, as they are before the first of them.
@@ -49,14 +56,31 @@ pub struct Stretch {
     pub entries: [Entry; ENTRIES],
 }
 
-// The i-th answer, and why.
-fn write(answers: &mut [u8], reasons: &mut [u8], i: usize, r: Answer)
-    requires { ⌜ (6 * i + 6 ≤ length (now answers)) × (i < length (now reasons)) ⌝ }
-    ensures { λ _. ⌜ Writes (sheetsOf (now (answers .entry)) (now (reasons .entry))) i r
-        (sheetsOf (now (answers .exit)) (now (reasons .exit))) ⌝ }
+// The i-th answer, why, and where its word on the bus comes from.
+fn write_from(
+    answers: &mut [u8],
+    reasons: &mut [u8],
+    origins: &mut [u8],
+    i: usize,
+    r: Answer,
+    o: Origin,
+)
+    requires { ⌜ RoomAt i (sheetsOf (now answers) (now reasons) (now origins)) ⌝ }
+    ensures { λ _. ⌜ Writes (sheetsOf (now (answers .entry)) (now (reasons .entry)) (now (origins .entry))) i r (originIn o)
+        (sheetsOf (now (answers .exit)) (now (reasons .exit)) (now (origins .exit))) ⌝ }
 {
     put(answers, i, r);
     put_reason(reasons, i, r.code, r.cause);
+    put_origin(origins, i, o);
+}
+
+// The i-th answer, of a record that puts no word on the bus.
+fn write(answers: &mut [u8], reasons: &mut [u8], origins: &mut [u8], i: usize, r: Answer)
+    requires { ⌜ RoomAt i (sheetsOf (now answers) (now reasons) (now origins)) ⌝ }
+    ensures { λ _. ⌜ Writes (sheetsOf (now (answers .entry)) (now (reasons .entry)) (now (origins .entry))) i r noOrigin
+        (sheetsOf (now (answers .exit)) (now (reasons .exit)) (now (origins .exit))) ⌝ }
+{
+    write_from(answers, reasons, origins, i, r, nowhere());
 }
 
 // How many records a schedule has, as its length says.
@@ -87,14 +111,15 @@ pub fn play(
     totals: &mut [u32; CHANNELS],
     answers: &mut [u8],
     reasons: &mut [u8],
+    origins: &mut [u8],
     stretch: Stretch,
 ) -> Stretch
-    requires { ⌜ Roomy (stretch .to) (sheetsOf (now answers) (now reasons)) ⌝ }
+    requires { ⌜ Roomy (stretch .to) (sheetsOf (now answers) (now reasons) (now origins)) ⌝ }
     ensures { λ r. ⌜ Plays (planOf (now (table .entry)) counts (now (programs .entry)) (now (wires .entry))) (now (schedule .entry)) stretch
         (storeOf (now (rows .entry)) (now (mails .entry)) (now (logs .entry)) (now (heads .entry)) (now (queues .entry)) (now (totals .entry)))
-        (sheetsOf (now (answers .entry)) (now (reasons .entry))) r
+        (sheetsOf (now (answers .entry)) (now (reasons .entry)) (now (origins .entry))) r
         (storeOf (now (rows .exit)) (now (mails .exit)) (now (logs .exit)) (now (heads .exit)) (now (queues .exit)) (now (totals .exit)))
-        (sheetsOf (now (answers .exit)) (now (reasons .exit))) ⌝ }
+        (sheetsOf (now (answers .exit)) (now (reasons .exit)) (now (origins .exit))) ⌝ }
 {
     let to = stretch.to;
     let end = least(to, count(schedule));
@@ -109,20 +134,29 @@ pub fn play(
         let a = byte_word(c.a);
         let number = judge(counts, c);
         if number != 0 {
-            write(answers, reasons, k, refusal(number, cause(number, mv), a));
+            write(
+                answers,
+                reasons,
+                origins,
+                k,
+                refusal(number, cause(number, mv), a),
+            );
             continue;
         }
         match mv {
             1 => {
+                let p = index16(a);
+                let place = low_byte(rows[p][PC]);
                 let m = step(table, programs, wires, rows, mails, queues, totals, a);
                 let at = m.at;
                 let r = m.answer;
-                write(answers, reasons, k, r);
+                write(answers, reasons, origins, k, r);
                 if at < ENTRIES {
                     entries[at] = Entry {
                         item: Item::Word {
                             channel: r.a,
                             word: r.word,
+                            place: place,
                         },
                     };
                 }
@@ -133,7 +167,7 @@ pub fn play(
                 let m = issue(rows, queues, a);
                 let at = m.at;
                 let r = m.answer;
-                write(answers, reasons, k, r);
+                write(answers, reasons, origins, k, r);
                 if at < ENTRIES {
                     entries[at] = Entry {
                         item: Item::Sync {
@@ -147,11 +181,12 @@ pub fn play(
                 let b = index16(a);
                 let e = entries[oldest(&queues[b], b)];
                 let r = transmit(wires, rows, mails, logs, heads, queues, totals, a, e);
-                write(answers, reasons, k, r);
+                let o = carried(wires, r.code, e);
+                write_from(answers, reasons, origins, k, r, o);
             }
             4 => {
                 let r = inject(wires, rows, mails, logs, heads, totals, a, word);
-                write(answers, reasons, k, r);
+                write_from(answers, reasons, origins, k, r, fed(r.code));
             }
             5 => {
                 let r = crash(
@@ -166,17 +201,17 @@ pub fn play(
                     totals,
                     a,
                 );
-                write(answers, reasons, k, r);
+                write(answers, reasons, origins, k, r);
             }
             6 => {
                 let r = rejoin(queues, a);
-                write(answers, reasons, k, r);
+                write(answers, reasons, origins, k, r);
             }
             7 => {
                 let m = rebackup(programs, wires, rows, mails, logs, heads, queues, totals, a);
                 let at = m.at;
                 let r = m.answer;
-                write(answers, reasons, k, r);
+                write(answers, reasons, origins, k, r);
                 if at < ENTRIES {
                     entries[at] = Entry {
                         item: Item::Transfer { process: a },
@@ -184,7 +219,7 @@ pub fn play(
                 }
             }
             // Never reached: `judge` passes none but the seven moves above, and a match over numbers wants the rest.
-            _ => write(answers, reasons, k, refusal(32, 0, a)),
+            _ => write(answers, reasons, origins, k, refusal(32, 0, a)),
         }
     }
     Stretch {

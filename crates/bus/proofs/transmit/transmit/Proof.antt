@@ -92,7 +92,7 @@ returns-3 c =
     let y = c .transmit-word in
     transmits-word (s .wires .now) (s .rows .now) (s .mails .now) (s .logs .now) (s .heads .now) (s .queues .now) (s .totals .now)
     (s .a) (b .result) (s .oldest) _ (b .ensures .1) (test .if1 .left) (i .0 .0) (sym (seen .peek .ensures) ∙ i .1)
-    (left .pop .last .0) (left .pop .ensures) (x .0 .0) (x .0 .1 .0) (x .1)
+    (left .pop .last .0) (left .pop .ensures) (x .0 .0) (x .0 .1 .0) (x .0 .1 .1 .0) (x .1)
     (y .last .1 .0) (y .last .1 .1 .0) (y .last .1 .1 .1 .0) (y .last .1 .1 .1 .1 .0) (y .last .1 .1 .1 .1 .1 .0) (y .ensures)
 
 enum-known-item-3 : tie.Need-enum-known-item-3

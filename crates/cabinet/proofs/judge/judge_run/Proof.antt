@@ -1,4 +1,4 @@
-use Rattle.cabinet.proofs.Judging.{run-table, run-schedule, run-answers, run-reasons, run-report, run-accepted}
+use Rattle.cabinet.proofs.Judging.{run-table, run-schedule, run-answers, run-reasons, run-report, run-origins, run-accepted}
 use borrow.Author.Needs.{needs}
 use native.Mathlib.Omega.{arith}
 use Rattle.cabinet.proofs.judge.judge_run.Statement.{statement}
@@ -25,8 +25,13 @@ returns-5 c =
 
 returns-6 : tie.Need-returns-6
 returns-6 c =
-    run-accepted _ _ _ _ (c .before .before .before .before .if1 .left) (c .before .before .before .if2 .left) (c .before .before .if3 .left)
-    (c .before .if4 .left) (c .if5 .left)
+    run-origins _ _ _ _ (c .before .before .before .before .before .if1 .left) (c .before .before .before .before .if2 .left)
+    (c .before .before .before .if3 .left) (c .before .before .if4 .left) (c .before .if5 .left) (c .if6 .taken)
+
+returns-7 : tie.Need-returns-7
+returns-7 c =
+    run-accepted _ _ _ _ (c .before .before .before .before .before .if1 .left) (c .before .before .before .before .if2 .left)
+    (c .before .before .before .if3 .left) (c .before .before .if4 .left) (c .before .if5 .left) (c .if6 .left)
 
 pub judge-run-spec : {M : Type 1} → statement M
-judge-run-spec = tie.close (tie.spec returns returns-2 returns-3 returns-4 returns-5 returns-6)
+judge-run-spec = tie.close (tie.spec returns returns-2 returns-3 returns-4 returns-5 returns-6 returns-7)
