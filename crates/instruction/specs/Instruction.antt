@@ -118,7 +118,14 @@ pub record Loads (row : List ℕ) (code a x : ℕ) (row′ : List ℕ) : Type 0 
   pub is : row′ ≡ loadedIn code a (mailIn x) row
   pub fits : mailIn x .channel < 2 ^ 32
 
--- What a SET, an ADD or a JUMP does to registers and place: machine and nothing else.
+-- What a SET, an ADD or a JUMP leaves in register a, and its next place, by what stood there, the sum of an ADD and the place behind it.
+abbrev pub wordAfter : ℕ → ℕ → ℕ → ℕ → ℕ
+wordAfter code old sum operand = cond (eqb code 6) old (cond (eqb code 1) operand sum)
+
+abbrev pub placeAfter : ℕ → ℕ → ℕ → ℕ → ℕ
+placeAfter code old next operand = cond (eqb (cond (eqb code 6) old 0) 0) next operand
+
+-- What it does to registers and place: machine and nothing else.
 abbrev pub Evaluates : List ℕ → ℕ → ℕ → ℕ → List ℕ → Type 0
 Evaluates row code a operand row′ =
     (program : List Instruction) (n : ℕ) (mail log head : List ℕ) → Kept row mail log head → Intends program row mail n code a operand Internal
