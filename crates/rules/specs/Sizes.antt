@@ -49,6 +49,10 @@ scheduleHead = 3
 abbrev pub commandsMost : ℕ
 commandsMost = 10000
 
+-- W-213: "or over 500 records"
+abbrev pub sweepMost : ℕ
+sweepMost = 500
+
 -- ---- the cabinet
 
 -- "each board has one queue, at most 32 entries"
