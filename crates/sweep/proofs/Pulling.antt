@@ -1,0 +1,160 @@
+-- A schedule with the crash put in: its bytes are a sound schedule, and its commands are the rules' `pulledAt`.
+use mathlib.Core.Path.{_≡_, refl, ap, sym, _∙_}
+use mathlib.Core.Bool.{true, _&&_}
+use mathlib.Core.List.{List, [], _∷_, _++_, append-assoc}
+use Prim.Native.Nat.{ℕ, zero, suc, _+_, _-_, _*_, _/_, _%_, _^_, _≤_, _<_}
+use native.Mathlib.Omega.{arith}
+use lib.Dec.{eqb, leb}
+use lib.ListN.{length, take, drop, length-append, length-drop}
+use lib.Seq.{sets, sets-eq, length-take-le, take-at, take-all, drop-drop}
+use borrow.Author.Tests.{eqb-true, leb-true}
+use Rattle.facts.specs.Tests.{and-left, and-right}
+use Rattle.facts.specs.Laying.{sets-append, sets-front}
+use Rattle.rules.specs.Sizes.{commandsMost, sweepMost}
+use Rattle.rules.specs.Bytes.{sixes}
+use Rattle.rules.specs.Format.{lengthField, versionIn}
+use Rattle.rules.specs.Schedule.{commandsIn, command, decodeSchedule, scheduleOk, validateSchedule}
+use Rattle.rules.specs.Sweep.{pulledAt}
+use Rattle.rules.proofs.Valid.{test-passed, further-passed}
+use Rattle.records.proofs.Judged.{Whole, accepted-0}
+use Rattle.sweep.specs.Pulled.{crashBytes, recordAt, pulledMost, pulledBytes, HasPlace}
+
+-- ---- a sound schedule
+
+pub record Sound (schedule : List ℕ) : Type 0 where
+  pub long : 3 ≤ length schedule
+  pub whole : 3 + 6 * commandsIn schedule ≡ length schedule
+  pub few : commandsIn schedule ≤ commandsMost
+  pub version : versionIn schedule ≡ 1
+
+pub sound : (schedule : List ℕ) → validateSchedule schedule ≡ 0 → Sound schedule
+unfolding validateSchedule scheduleOk
+sound schedule h =
+    let long = leb 3 (length schedule) in
+    let field = eqb (2 + lengthField schedule) (length schedule) in
+    let whole = eqb (3 + 6 * commandsIn schedule) (length schedule) in
+    let few = leb (commandsIn schedule) commandsMost in
+    let ok = test-passed (scheduleOk schedule) 8 _ h in
+    let later = and-right field (whole && few) (and-right long (field && (whole && few)) ok) in
+    record {
+      long = leb-true 3 (length schedule) (and-left long (field && (whole && few)) ok);
+      whole = eqb-true (3 + 6 * commandsIn schedule) (length schedule) (and-left whole few later);
+      few = leb-true (commandsIn schedule) commandsMost (and-right whole few later);
+      version = eqb-true (versionIn schedule) 1 (test-passed (eqb (versionIn schedule) 1) 9 0 (further-passed (scheduleOk schedule) 8 _ h));
+    }
+
+pub has-place : (schedule : List ℕ) (place : ℕ) → Sound schedule → commandsIn schedule ≤ sweepMost → place ≤ commandsIn schedule → HasPlace schedule place
+has-place schedule place s few h = let w = s .whole in record { there = omega arith; short = omega arith }
+
+-- ---- six bytes put in between two records are one command more
+
+pulled-sixes : (place n : ℕ) (body : List ℕ) (b : ℕ) → place ≤ n → 6 * n ≤ length body
+    → sixes command (suc n) (take (6 * place) body ++ (crashBytes b ++ drop (6 * place) body)) ≡ pulledAt (sixes command n body) place b
+pulled-sixes zero n body b h l = refl
+pulled-sixes (suc place) zero body b h l = absurd (omega arith)
+pulled-sixes (suc place) (suc n) [] b h l = absurd (omega arith)
+pulled-sixes (suc place) (suc n) (x0 ∷ []) b h l = absurd (omega arith)
+pulled-sixes (suc place) (suc n) (x0 ∷ x1 ∷ []) b h l = absurd (omega arith)
+pulled-sixes (suc place) (suc n) (x0 ∷ x1 ∷ x2 ∷ []) b h l = absurd (omega arith)
+pulled-sixes (suc place) (suc n) (x0 ∷ x1 ∷ x2 ∷ x3 ∷ []) b h l = absurd (omega arith)
+pulled-sixes (suc place) (suc n) (x0 ∷ x1 ∷ x2 ∷ x3 ∷ x4 ∷ []) b h l = absurd (omega arith)
+pulled-sixes (suc place) (suc n) (x0 ∷ x1 ∷ x2 ∷ x3 ∷ x4 ∷ x5 ∷ body) b h l =
+    let six : 6 * suc place ≡ suc (suc (suc (suc (suc (suc (6 * place)))))) = omega arith in
+    rw (six, pulled-sixes place n body b (omega arith) (omega arith))
+
+-- ---- the whole schedule
+
+module _ (schedule : List ℕ) (place b : ℕ) where
+  pub length-pulled : HasPlace schedule place → length (pulledBytes schedule place b) ≡ 6 + length schedule
+  unfolding pulledBytes
+  length-pulled h =
+      let there = h .there in
+      let before : length (take (suc (6 * place)) (drop 2 schedule)) ≡ suc (6 * place) =
+      length-take-le (suc (6 * place)) (drop 2 schedule) (let e = length-drop 2 schedule in omega arith) in
+      let behind = length-drop (recordAt place) schedule in
+      let all = length-append (take (suc (6 * place)) (drop 2 schedule)) (crashBytes b ++ drop (recordAt place) schedule) in
+      omega arith
+
+  -- one record more
+  pulled-more : HasPlace schedule place → Sound schedule → commandsIn (pulledBytes schedule place b) ≡ suc (commandsIn schedule)
+  pulled-more h s = let e = length-pulled h in let w = s .whole in omega arith
+
+version-kept : (schedule : List ℕ) (place b : ℕ) → 3 ≤ length schedule → versionIn (pulledBytes schedule place b) ≡ versionIn schedule
+unfolding pulledBytes
+version-kept [] place b h = absurd (omega arith)
+version-kept (x0 ∷ []) place b h = absurd (omega arith)
+version-kept (x0 ∷ x1 ∷ []) place b h = absurd (omega arith)
+version-kept (x0 ∷ x1 ∷ v ∷ body) place b h = refl
+
+field-true : (schedule : List ℕ) (place b : ℕ) → lengthField (pulledBytes schedule place b) ≡ length schedule + 4
+unfolding pulledBytes
+field-true schedule place b = omega arith
+
+commands-put : (schedule : List ℕ) (n place b : ℕ) → 3 ≤ length schedule → 3 + 6 * n ≤ length schedule → place ≤ n
+    → sixes command (suc n) (drop 3 (pulledBytes schedule place b)) ≡ pulledAt (sixes command n (drop 3 schedule)) place b
+unfolding pulledBytes
+commands-put [] n place b h l k = absurd (omega arith)
+commands-put (x0 ∷ []) n place b h l k = absurd (omega arith)
+commands-put (x0 ∷ x1 ∷ []) n place b h l k = absurd (omega arith)
+commands-put (x0 ∷ x1 ∷ v ∷ body) n place b h l k =
+    let three : recordAt place ≡ suc (suc (suc (6 * place))) = omega arith in
+    rw three (pulled-sixes place n body b k (omega arith))
+
+module _ (schedule : List ℕ) (place b : ℕ) (valid : validateSchedule schedule ≡ 0) (few : commandsIn schedule ≤ sweepMost) (h : place ≤ commandsIn schedule) where
+  pub pulled-count : commandsIn (pulledBytes schedule place b) ≡ suc (commandsIn schedule)
+  pulled-count = let s = sound schedule valid in pulled-more schedule place b (has-place schedule place s few h) s
+
+  pub pulled-valid : validateSchedule (pulledBytes schedule place b) ≡ 0
+  pulled-valid =
+      let s = sound schedule valid in
+      let long = s .long in
+      let whole = s .whole in
+      let p = pulledBytes schedule place b in
+      let e = length-pulled schedule place b (has-place schedule place s few h) in
+      let f = field-true schedule place b in
+      let n = pulled-count in
+      let w : Whole p = record { long = omega arith; true-field = omega arith; whole = omega arith; few = omega arith } in
+      sym (accepted-0 p (record { number = 0; records = commandsIn p }) w (version-kept schedule place b long ∙ s .version) refl refl .number-is)
+
+  pub pulled-decoded : decodeSchedule (pulledBytes schedule place b) ≡ pulledAt (decodeSchedule schedule) place b
+  unfolding decodeSchedule
+  pulled-decoded =
+      let s = sound schedule valid in
+      let whole = s .whole in
+      rw pulled-count (commands-put schedule (commandsIn schedule) place b (s .long) (omega arith) h)
+
+-- ---- the bytes that the code puts together
+
+-- a copy to a place of a list is a store of what was copied
+pub laid : (l src : List ℕ) (at n : ℕ) → n ≡ length src → at + length src ≤ length l → take at l ++ (take n src ++ drop n (drop at l)) ≡ sets l at src
+laid l src at n e h =
+    let all : take n src ≡ src = take-all n src (omega arith) in
+    let rest : drop n (drop at l) ≡ drop (at + length src) l = drop-drop n at l ∙ ap (λ (m : ℕ). drop (at + m) l) e in
+    (λ i. take at l ++ (all i ++ rest i)) ∙ sym (append-assoc (take at l) src (drop (at + length src) l)) ∙ sym (sets-eq src l at h)
+
+-- stores one behind the other, the next of which begins where the last one ends
+laid-on : (l a b : List ℕ) (at : ℕ) → at ≡ length a → sets (sets l 0 a) at b ≡ sets l 0 (a ++ b)
+laid-on l a b at e = ap (λ (n : ℕ). sets (sets l 0 a) n b) (e ∙ omega arith) ∙ sets-append l 0 a b
+
+module _ (l schedule before : List ℕ) (place b high low : ℕ) (h : HasPlace schedule place) (is-high : high ≡ (length schedule + 4) / 2 ^ 8)
+    (is-low : low ≡ (length schedule + 4) % 2 ^ 8) (is-before : before ≡ take (suc (6 * place)) (drop 2 schedule)) where
+  -- the two length bytes, what stands before the crash, the crash, what stands behind it
+  pub put-together : (behind : List ℕ) (at : ℕ) → behind ≡ drop (recordAt place) schedule → at ≡ recordAt place
+      → sets (sets (sets (sets l 0 (high ∷ low ∷ [])) 2 before) at (crashBytes b)) (at + 6) behind ≡ sets l 0 (pulledBytes schedule place b)
+  unfolding pulledBytes
+  put-together behind at is-behind is-at =
+      let there = h .there in
+      let two : List ℕ = high ∷ low ∷ [] in
+      let long : length before ≡ suc (6 * place) =
+      ap length is-before ∙ length-take-le (suc (6 * place)) (drop 2 schedule) (let e = length-drop 2 schedule in omega arith) in
+      let front : length (two ++ before) ≡ at = omega arith in
+      let longer = length-append (two ++ before) (crashBytes b) in
+      ap (λ (m : List ℕ). sets (sets m at (crashBytes b)) (at + 6) behind) (laid-on l two before 2 refl)
+      ∙ ap (λ (m : List ℕ). sets m (at + 6) behind) (laid-on l (two ++ before) (crashBytes b) at (sym front))
+      ∙ laid-on l ((two ++ before) ++ crashBytes b) behind (at + 6) (omega arith)
+      ∙ ap (sets l 0) (append-assoc (two ++ before) (crashBytes b) behind)
+      ∙ (λ i. sets l 0 (is-high i ∷ is-low i ∷ (is-before i ++ (crashBytes b ++ is-behind i))))
+
+-- the front of a list of which so many bytes were stored
+pub front-is : (l new : List ℕ) (n : ℕ) → n ≡ length new → length new ≤ length l → take n (sets l 0 new) ≡ new
+front-is l new n e h = ap (take n) (sets-front l new h) ∙ take-at new (drop (length new) l) n (sym e)

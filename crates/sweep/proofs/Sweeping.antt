@@ -1,0 +1,103 @@
+-- The call: refused with a number alone, or the three counts of all runs.
+use mathlib.Core.Path.{_≡_, refl, ap, sym, _∙_}
+use mathlib.Core.Bool.{Bool, true, false, cond}
+use mathlib.Core.List.{List}
+use Prim.Native.Nat.{ℕ, suc, _+_, _*_, _≤_, _<_}
+use native.Mathlib.Omega.{arith}
+use lib.Dec.{eqb, leb}
+use lib.ListN.{length}
+use borrow.Author.Tests.{eqb-true, eqb-false, ne-eqb, leb-true}
+use Rattle.facts.specs.Tests.{and-left}
+use Rattle.rules.specs.Sizes.{sweepMost}
+use Rattle.rules.specs.Format.{orNumber, decodeTable, validateTable}
+use Rattle.rules.specs.Schedule.{commandsIn, decodeSchedule, validateSchedule}
+use Rattle.rules.specs.Sweep as rules
+use Rattle.rules.specs.Sweep.{countOf, isQuiet, isHeld, isFree, sweepable, validateSweep, sweep}
+use Rattle.rules.proofs.Sweep.{swept-together}
+use Rattle.rules.proofs.Valid.{test-passed}
+use Rattle.records.specs.Commands.{ScheduleJudged}
+use Rattle.records.specs.declared.schedule.Judged.{Judged}
+use Rattle.table.specs.Plan.{Decodes}
+use Rattle.table.specs.declared.Decoded.{Decoded}
+use Rattle.sweep.specs.Judged.{judgedSweep}
+use Rattle.sweep.specs.Counted.{Counted, countPlaces, Admitted}
+use Rattle.sweep.specs.Sweeps.{sweptBy, Sweeps}
+use Rattle.sweep.specs.declared.tally.Tally.{Tally}
+use Rattle.sweep.specs.declared.Swept.{Swept}
+use Rattle.sweep.proofs.Judging.{commands-many, records-are, sweep-is}
+
+-- ---- a sweep that is not refused
+
+-- a number that is handed on unless it is 0
+handed-on : (n further : ℕ) → orNumber (eqb n 0) n further ≡ 0 → (n ≡ 0) × (further ≡ 0)
+handed-on n further h = go (eqb n 0) refl h
+  where
+    go : (b : Bool) → eqb n 0 ≡ b → orNumber b n further ≡ 0 → (n ≡ 0) × (further ≡ 0)
+    go true e k = (eqb-true n 0 e, k)
+    go false e k = absurd (eqb-false n 0 e k)
+
+module _ (table schedule : List ℕ) (valid : validateSweep table schedule ≡ 0) where
+  pub table-sound : validateTable table ≡ 0
+  unfolding validateSweep
+  table-sound = handed-on (validateTable table) _ valid .0
+
+  pub schedule-sound : validateSchedule schedule ≡ 0
+  unfolding validateSweep
+  schedule-sound = handed-on (validateSchedule schedule) _ (handed-on (validateTable table) _ valid .1) .0
+
+  pub records-few : commandsIn schedule ≤ sweepMost
+  unfolding validateSweep sweepable
+  records-few =
+      let later = handed-on (validateSchedule schedule) _ (handed-on (validateTable table) _ valid .1) .1 in
+      leb-true (commandsIn schedule) sweepMost (and-left (leb (commandsIn schedule) sweepMost) _ (test-passed (sweepable schedule) 51 0 later))
+
+-- ---- the three together, and none grows large
+
+together-so : (table schedule : List ℕ) (r : Swept) → sweptBy r ≡ sweep table schedule → r .number ≡ 0
+    → r .quiet + (r .held + r .free) ≡ suc (length (decodeSchedule schedule)) * decodeTable table .boards
+together-so table schedule r e z =
+    let q = ap (λ (x : rules.Swept). x .quiet) e in
+    let h = ap (λ (x : rules.Swept). x .held) e in
+    let f = ap (λ (x : rules.Swept). x .free) e in
+    let n = ap (λ (x : rules.Swept). x .number) e in
+    let s = swept-together table schedule (sym n ∙ z) in
+    (λ i. q i + (h i + f i)) ∙ s
+
+-- ---- the call
+
+module _ (table schedule : List ℕ) (d : Decoded) (j : Judged) (is-d : Decodes table d) (is-j : ScheduleJudged schedule j) (n : ℕ)
+    (is-n : (j .number ≡ 0 → j .records ≡ commandsIn schedule) → n ≡ judgedSweep (d .number) j schedule) where
+  pub number-is : n ≡ validateSweep table schedule
+  number-is = is-n (records-are schedule j is-j) ∙ sweep-is table schedule (d .number) j (is-d .number-is) is-j
+
+  pub refuses : (n ≡ 0 → ⊥) → Sweeps table schedule (record { number = n; quiet = 0; held = 0; free = 0 })
+  unfolding sweep
+  refuses h = record {
+    swept = rw (← number-is, ne-eqb n 0 h);
+    together = λ z. absurd (h z);
+  }
+
+  module _ (z : n ≡ 0) where
+    valid : validateSweep table schedule ≡ 0
+    valid = sym number-is ∙ z
+
+    pub admitted : Admitted table schedule (d .plan .counts)
+    admitted =
+        let planned = is-d .accepted (is-d .number-is ∙ table-sound table schedule valid) .planned in
+        record { valid = valid; boards-is = planned .boards-is; processes-is = planned .processes-is }
+
+    pub records-is : j .records ≡ commandsIn schedule
+    records-is = records-are schedule j is-j (is-j .number-is ∙ schedule-sound table schedule valid)
+
+    -- all runs, counted
+    counts-so : (x : Tally) → Counted (countPlaces (decodeTable table) (decodeSchedule schedule) (suc (length (decodeSchedule schedule)))) x
+        → rules.sweptOf 0 (x .quiet) (x .held) (x .free) ≡ sweep table schedule
+    unfolding sweep countOf
+    counts-so x c = rw (valid, c .quiet-is, c .held-is, c .free-is)
+
+    pub sweeps : (x : Tally) → Counted (countPlaces (decodeTable table) (decodeSchedule schedule) (suc (j .records))) x
+        → Sweeps table schedule (record { number = 0; quiet = x .quiet; held = x .held; free = x .free })
+    sweeps x c =
+        let many : j .records ≡ length (decodeSchedule schedule) = records-is ∙ sym (commands-many schedule) in
+        let so = counts-so x (rw many at c) in
+        record { swept = so; together = together-so table schedule _ so }
