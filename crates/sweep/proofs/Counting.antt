@@ -11,8 +11,13 @@ use Rattle.facts.specs.Sums.{sumBelow}
 use Rattle.rules.specs.Table.{Table}
 use Rattle.rules.specs.Moves.{Command}
 use Rattle.rules.specs.Sweep.{Ending, isQuiet, isHeld, isFree, endingAt}
-use Rattle.sweep.specs.Counted.{Counted, countOne, countBoards, countPlaces}
+use Rattle.rules.specs.Format.{decodeTable}
+use Rattle.rules.specs.Schedule.{commandsIn, decodeSchedule}
+use Rattle.rules.proofs.Valid.{decoded-accepted}
+use Rattle.plan.specs.declared.Counts.{Counts}
+use Rattle.sweep.specs.Counted.{Counted, countOne, countBoards, countPlaces, Admitted}
 use Rattle.sweep.specs.declared.tally.Tally.{Tally}
+use Rattle.sweep.proofs.Admitting.{table-sound, records-few}
 
 abbrev pub tallied : ℕ → ℕ → ℕ → Tally
 tallied quiet held free = record { quiet = quiet; held = held; free = free }
@@ -79,3 +84,23 @@ module _ (t : Table) (commands : List Command) where
       few-of (countPlaces t commands n) (16 * n) r c
       (λ test. sum-few (λ place. countBoards t commands place (t .boards) test) n
       (λ place. let l = count-few (λ i. test (endingAt t commands place i)) (t .boards) in omega arith))
+
+-- ---- the loops' ends
+
+module _ (table schedule : List ℕ) (counts : Counts) (ok : Admitted table schedule counts) where
+  abbrev t : Table
+  t = decodeTable table
+
+  pub boards-most : counts .boards ≤ 16
+  boards-most = let h = decoded-accepted table (table-sound table schedule (ok .valid)) .boards-high in let e = ok .boards-is in omega arith
+
+  pub all-boards : (place b : ℕ) → b ≤ counts .boards → counts .boards ≤ b → (r : Tally) → Counted (countBoards t (decodeSchedule schedule) place b) r
+      → Counted (countBoards t (decodeSchedule schedule) place (t .boards)) r
+  all-boards place b l end r c = let e = ok .boards-is in let f : b ≡ t .boards = omega arith in rw f at c
+
+  pub records-most : commandsIn schedule ≤ 500
+  records-most = records-few table schedule (ok .valid)
+
+  pub all-places : (place records : ℕ) → place ≤ records + 1 → records < place → (r : Tally) → Counted (countPlaces t (decodeSchedule schedule) place) r
+      → Counted (countPlaces t (decodeSchedule schedule) (suc records)) r
+  all-places place records l end r c = let f : place ≡ suc records = omega arith in rw f at c

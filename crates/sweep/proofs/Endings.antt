@@ -4,28 +4,33 @@ use mathlib.Core.Bool.{Bool, true, false, not, cond, _&&_}
 use mathlib.Core.List.{List, [], _∷_, _++_, append-assoc}
 use Prim.Native.Nat.{ℕ, zero, suc, _+_, _*_, _≤_, _<_}
 use native.Mathlib.Omega.{arith}
+use native.Mathlib.Numerals.{add-one}
 use native.Mathlib.Nat.{not-suc-le-zero, le-of-suc-le-suc}
 use lib.Dec.{eqb, leb}
-use lib.ListN.{length, getD, drop}
-use lib.Seq.{getD-append-add}
-use borrow.Author.Tests.{le-leb, not-true, not-false}
-use Rattle.facts.specs.Tests.{anyBelow, and-both, any-same, no-such}
+use lib.ListN.{length, getD, drop, take, replicate, length-replicate}
+use lib.Seq.{getD-append-add, sets}
+use borrow.Author.Tests.{eq-eqb, ne-eqb, le-leb}
+use Rattle.facts.specs.Tests.{anyBelow, no-way, and-both, any-same, none-below}
 use Rattle.rules.specs.Sizes.{sweepMost, processesMost}
 use Rattle.rules.specs.Table.{Table}
 use Rattle.rules.specs.Cabinet.{Process, Cabinet, nobody, processAt, quiescent}
 use Rattle.rules.specs.Bytes.{byteAt, allBytes, written}
 use Rattle.rules.specs.Format.{processesIn, decodeTable, validateTable}
 use Rattle.rules.specs.Schedule.{commandsIn, decodeSchedule, validateSchedule}
-use Rattle.rules.specs.Run.{Buffers, Ran, lengthsOf, reportBytes, validateRun, ranFrom, run, accepted}
+use Rattle.rules.specs.Run.{Buffers, buffersOf, Ran, lengthsOf, reportBytes, validateRun, ranFrom, run, accepted}
 use Rattle.rules.specs.Transparent.{finished}
-use Rattle.rules.specs.Sweep.{Ending, quietEnd, heldEnd, freeEnd, someHeld, endingOf}
+use Rattle.rules.specs.Sweep.{Ending, quietEnd, heldEnd, freeEnd, someHeld, endingOf, endingAt}
 use Rattle.rules.proofs.Valid.{processes-counted, decoded-accepted}
 use Rattle.rules.proofs.AcceptedRun.{run-is, quiet-is}
 use Rattle.rules.proofs.Buffers.{processes-stay}
 use Rattle.cabinet.specs.Runs.{ranBy, Runs}
 use Rattle.cabinet.specs.declared.run.Verdict.{Verdict}
-use Rattle.sweep.specs.Counted.{Counted, countOne, heldIn, Ends}
+use Rattle.plan.specs.declared.Counts.{Counts}
+use Rattle.sweep.specs.Pulled.{pulledMost, pulledBytes, HasPlace}
+use Rattle.sweep.specs.Counted.{Counted, countOne, heldIn, Ends, Admitted}
 use Rattle.sweep.specs.declared.tally.Tally.{Tally}
+use Rattle.sweep.proofs.Pulling.{sound, has-place, length-pulled, pulled-count, pulled-valid, pulled-decoded, front-is}
+use Rattle.sweep.proofs.Admitting.{table-sound, schedule-sound, records-few}
 
 -- ---- a report's byte
 
@@ -46,6 +51,29 @@ held-report c buffer n e =
     rw e
     (any-same (λ p. not (eqb (byteAt (written (allBytes reportBytes (c .processes)) buffer) (20 * p + 3)) 0)) (λ p. not (eqb (processAt c p .suppress) 0)) (length (c .processes))
     (λ p h. ap (λ (v : ℕ). not (eqb v 0)) (held-byte (c .processes) _ p h)))
+
+-- ---- and the look through them
+
+some-such : (f : ℕ → Bool) (n j : ℕ) → j < n → f j ≡ true → anyBelow f n ≡ true
+some-such f n j l e = go (anyBelow f n) refl
+  where
+    go : (b : Bool) → anyBelow f n ≡ b → anyBelow f n ≡ true
+    go true k = k
+    go false k = absurd (no-way (let z = none-below f n k j l in cc))
+
+module _ (report : List ℕ) where
+  pub held-found : (n processes p : ℕ) → (processes ≤ 16 → n ≡ processes) → p < n → (byteAt report (20 * p + 3) ≡ 0 → ⊥)
+      → processes ≤ 16 → true ≡ heldIn report processes
+  held-found n processes p same l other low =
+      let e = same low in
+      sym (some-such (λ q. not (eqb (byteAt report (20 * q + 3)) 0)) processes p (omega arith) (ap not (ne-eqb (byteAt report (20 * p + 3)) 0 other)))
+
+  pub held-on : (p : ℕ) → heldIn report p ≡ false → byteAt report (20 * p + 3) ≡ 0 → heldIn report (p + 1) ≡ false
+  held-on p none e = rw (add-one, eq-eqb (byteAt report (20 * p + 3)) 0 e) none
+
+  pub held-none : (n processes p : ℕ) → (processes ≤ 16 → n ≡ processes) → p ≤ n → heldIn report p ≡ false → n ≤ p → processes ≤ 16
+      → false ≡ heldIn report processes
+  held-none n processes p same l none end low = let e = same low in let f : p ≡ processes = omega arith in sym (rw f at none)
 
 -- ---- a run that is accepted
 
@@ -79,17 +107,71 @@ module _ (table schedule : List ℕ) (before : Buffers) (fit : 6 * suc sweepMost
         let many : processes ≡ length (end .processes) = e ∙ sym (processes-stay (decodeTable table) (decodeSchedule schedule)) in
         rw (ends-quiet, reported, held-report end (before .report) processes many)
 
--- ---- the ending, counted
+-- ---- the ending, counted: with the buffers of a sweep
 
-pub ends-so : (table schedule : List ℕ) (before : Buffers) (processes : ℕ) (r : Verdict) (after : Buffers) → 6 * suc sweepMost ≤ length (before .answers)
-    → suc sweepMost ≤ length (before .reasons) → 20 * processesMost ≤ length (before .report) → Runs table schedule before r after
-    → (held : Bool) → (processes ≤ processesMost → held ≡ heldIn (after .report) processes) → (e : Ending) → cond (r .quiet) quietEnd (cond held heldEnd freeEnd) ≡ e
-    → (tally : Tally) → Counted (countOne e) tally → Ends table schedule processes tally
-ends-so table schedule before processes r after fit fit′ fit″ runs held h e same tally counted = record {
-  ends = λ valid sound few many.
-      let high = decoded-accepted table valid .processes-high in
-      let is : endingOf (decodeTable table) (finished (decodeTable table) (decodeSchedule schedule)) ≡ e =
-      ended-so table schedule before fit fit′ fit″ valid sound few r after runs processes many
-      ∙ ap (λ (b : Bool). cond (r .quiet) quietEnd (cond b heldEnd freeEnd)) (sym (h (omega arith))) ∙ same in
-      rw is counted;
-}
+-- a fresh array
+abbrev zeros : ℕ → List ℕ
+zeros n = replicate n 0
+
+length-zeros : (n : ℕ) → length (zeros n) ≡ n
+length-zeros n = length-replicate {A = ℕ} n 0
+
+-- six bytes and one for each record, twenty for each process
+abbrev buffers : Buffers
+buffers = buffersOf (zeros 3006) (zeros 501) (zeros 320)
+
+module _ (table schedule : List ℕ) (processes : ℕ) (r : Verdict) (after : Buffers) (runs : Runs table schedule buffers r after) where
+  ends-so : (e : Ending) → (processes ≤ processesMost → cond (r .quiet) quietEnd (cond (heldIn (after .report) processes) heldEnd freeEnd) ≡ e)
+      → (tally : Tally) → Counted (countOne e) tally → Ends table schedule processes tally
+  ends-so e same tally counted = record {
+    ends = λ valid sound few many.
+        let high = decoded-accepted table valid .processes-high in
+        let n = length-zeros 3006 in
+        let n′ = length-zeros 501 in
+        let n″ = length-zeros 320 in
+        rw (ended-so table schedule buffers (omega arith) (omega arith) (omega arith) valid sound few r after runs processes many ∙ same (omega arith)) counted;
+  }
+
+  pub quiet-ends : r .quiet ≡ true → Ends table schedule processes (record { quiet = 1; held = 0; free = 0 })
+  quiet-ends q = ends-so quietEnd (λ _. rw q) _ (record { quiet-is = refl; held-is = refl; free-is = refl })
+
+  module _ (unquiet : r .quiet ≡ false) (held : Bool) (is-held : processes ≤ processesMost → held ≡ heldIn (after .report) processes) where
+    pub held-ends : held ≡ true → Ends table schedule processes (record { quiet = 0; held = 1; free = 0 })
+    held-ends h = ends-so heldEnd (λ low. rw (unquiet, ← is-held low, h)) _ (record { quiet-is = refl; held-is = refl; free-is = refl })
+
+    pub free-ends : held ≡ false → Ends table schedule processes (record { quiet = 0; held = 0; free = 1 })
+    free-ends h = ends-so freeEnd (λ low. rw (unquiet, ← is-held low, h)) _ (record { quiet-is = refl; held-is = refl; free-is = refl })
+
+-- ---- with the crash put in
+
+module _ (table schedule : List ℕ) (counts : Counts) (place : ℕ) (ok : Admitted table schedule counts) (h : place ≤ commandsIn schedule) where
+  abbrev scheduled : validateSchedule schedule ≡ 0
+  scheduled = schedule-sound table schedule (ok .valid)
+
+  abbrev swept : commandsIn schedule ≤ sweepMost
+  swept = records-few table schedule (ok .valid)
+
+  pub pull-place : HasPlace schedule place
+  pull-place = has-place schedule place (sound schedule scheduled) swept h
+
+  module _ (b : ℕ) (l : List ℕ) (put : l ≡ sets (zeros 3009) 0 (pulledBytes schedule place b)) where
+    -- the front of what the crash was put into is the run's schedule
+    front : take (length schedule + 6) l ≡ pulledBytes schedule place b
+    front =
+        let many = length-pulled schedule place b pull-place in
+        let short = pull-place .short in
+        let room = length-zeros 3009 in
+        ap (take (length schedule + 6)) put ∙ front-is (zeros 3009) (pulledBytes schedule place b) (length schedule + 6) (omega arith) (omega arith)
+
+    pub pull-long : length schedule + 6 ≡ length (take (length schedule + 6) l)
+    pull-long = let many = length-pulled schedule place b pull-place in let e = ap length front in omega arith
+
+    pub pull-counted : (r : Tally) → Ends table (take (length schedule + 6) l) (counts .processes) r
+        → Counted (countOne (endingAt (decodeTable table) (decodeSchedule schedule) place b)) r
+    unfolding endingAt
+    pull-counted r ends =
+        let here : Ends table (pulledBytes schedule place b) (counts .processes) r = rw front at ends in
+        let few = swept in
+        let count = pulled-count schedule place b scheduled swept h in
+        rw (pulled-decoded schedule place b scheduled swept h) at
+        (here .ends (table-sound table schedule (ok .valid)) (pulled-valid schedule place b scheduled swept h) (omega arith) (ok .processes-is))

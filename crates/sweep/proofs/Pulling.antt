@@ -1,14 +1,15 @@
 -- A schedule with the crash put in: its bytes are a sound schedule, and its commands are the rules' `pulledAt`.
 use mathlib.Core.Path.{_≡_, refl, ap, sym, _∙_}
 use mathlib.Core.Bool.{true, _&&_}
-use mathlib.Core.List.{List, [], _∷_, _++_, append-assoc}
+use mathlib.Core.List.{List, [], _∷_, _++_, append-assoc, append-nil}
 use Prim.Native.Nat.{ℕ, zero, suc, _+_, _-_, _*_, _/_, _%_, _^_, _≤_, _<_}
 use native.Mathlib.Omega.{arith}
 use lib.Dec.{eqb, leb}
-use lib.ListN.{length, take, drop, length-append, length-drop}
-use lib.Seq.{sets, sets-eq, length-take-le, take-at, take-all, drop-drop}
+use lib.ListN.{length, take, drop, length-append, length-drop, drop-of-length-le}
+use lib.Seq.{sets, sets-eq, length-take-le, take-at, take-length, drop-drop}
 use borrow.Author.Tests.{eqb-true, leb-true}
 use Rattle.facts.specs.Tests.{and-left, and-right}
+use Rattle.facts.specs.Lists.{part-rest}
 use Rattle.facts.specs.Laying.{sets-append, sets-front}
 use Rattle.rules.specs.Sizes.{commandsMost, sweepMost}
 use Rattle.rules.specs.Bytes.{sixes}
@@ -125,35 +126,42 @@ module _ (schedule : List ℕ) (place b : ℕ) (valid : validateSchedule schedul
 
 -- ---- the bytes that the code puts together
 
--- a copy to a place of a list is a store of what was copied
-pub laid : (l src : List ℕ) (at n : ℕ) → n ≡ length src → at + length src ≤ length l → take at l ++ (take n src ++ drop n (drop at l)) ≡ sets l at src
-laid l src at n e h =
-    let all : take n src ≡ src = take-all n src (omega arith) in
-    let rest : drop n (drop at l) ≡ drop (at + length src) l = drop-drop n at l ∙ ap (λ (m : ℕ). drop (at + m) l) e in
-    (λ i. take at l ++ (all i ++ rest i)) ∙ sym (append-assoc (take at l) src (drop (at + length src) l)) ∙ sym (sets-eq src l at h)
+-- a copy to a part of a list, from a place on, is a store of what was copied
+pub laid : (l src part : List ℕ) (at : ℕ) → at + length src ≤ length l → part ≡ take (length src) src ++ drop (length src) (take (length l - at) (drop at l))
+    → take at l ++ (part ++ drop (length l - at) (drop at l)) ≡ sets l at src
+laid l src part at h e =
+    let none : drop (length l - at) (drop at l) ≡ [] = drop-of-length-le (drop at l) {i = length l - at} (let d = length-drop at l in omega arith) in
+    let is-part : part ≡ src ++ drop (at + length src) l =
+    e ∙ (λ i. take-length src i ++ drop (length src) (part-rest l at i)) ∙ ap (λ (m : List ℕ). src ++ m) (drop-drop (length src) at l) in
+    (λ i. take at l ++ (is-part i ++ none i)) ∙ ap (λ (m : List ℕ). take at l ++ m) (append-nil (src ++ drop (at + length src) l))
+    ∙ sym (append-assoc (take at l) src (drop (at + length src) l)) ∙ sym (sets-eq src l at h)
 
 -- stores one behind the other, the next of which begins where the last one ends
 laid-on : (l a b : List ℕ) (at : ℕ) → at ≡ length a → sets (sets l 0 a) at b ≡ sets l 0 (a ++ b)
 laid-on l a b at e = ap (λ (n : ℕ). sets (sets l 0 a) n b) (e ∙ omega arith) ∙ sets-append l 0 a b
 
-module _ (l schedule before : List ℕ) (place b high low : ℕ) (h : HasPlace schedule place) (is-high : high ≡ (length schedule + 4) / 2 ^ 8)
-    (is-low : low ≡ (length schedule + 4) % 2 ^ 8) (is-before : before ≡ take (suc (6 * place)) (drop 2 schedule)) where
-  -- the two length bytes, what stands before the crash, the crash, what stands behind it
-  pub put-together : (behind : List ℕ) (at : ℕ) → behind ≡ drop (recordAt place) schedule → at ≡ recordAt place
-      → sets (sets (sets (sets l 0 (high ∷ low ∷ [])) 2 before) at (crashBytes b)) (at + 6) behind ≡ sets l 0 (pulledBytes schedule place b)
-  unfolding pulledBytes
-  put-together behind at is-behind is-at =
-      let there = h .there in
-      let two : List ℕ = high ∷ low ∷ [] in
-      let long : length before ≡ suc (6 * place) =
-      ap length is-before ∙ length-take-le (suc (6 * place)) (drop 2 schedule) (let e = length-drop 2 schedule in omega arith) in
-      let front : length (two ++ before) ≡ at = omega arith in
-      let longer = length-append (two ++ before) (crashBytes b) in
-      ap (λ (m : List ℕ). sets (sets m at (crashBytes b)) (at + 6) behind) (laid-on l two before 2 refl)
-      ∙ ap (λ (m : List ℕ). sets m (at + 6) behind) (laid-on l (two ++ before) (crashBytes b) at (sym front))
-      ∙ laid-on l ((two ++ before) ++ crashBytes b) behind (at + 6) (omega arith)
-      ∙ ap (sets l 0) (append-assoc (two ++ before) (crashBytes b) behind)
-      ∙ (λ i. sets l 0 (is-high i ∷ is-low i ∷ (is-before i ++ (crashBytes b ++ is-behind i))))
+-- the two length bytes, what stands before the crash, the crash, what stands behind it
+pub put-together : (l schedule : List ℕ) (place b : ℕ) → HasPlace schedule place → (l1 l2 l3 l4 : List ℕ)
+    → l1 ≡ sets l 0 ((length schedule + 4) / 256 ∷ (length schedule + 4) % 256 ∷ [])
+    → l2 ≡ sets l1 2 (take (recordAt place - 2) (drop 2 schedule))
+    → l3 ≡ sets l2 (recordAt place) (crashBytes b)
+    → l4 ≡ sets l3 (recordAt place + 6) (take (length schedule - recordAt place) (drop (recordAt place) schedule))
+    → l4 ≡ sets l 0 (pulledBytes schedule place b)
+unfolding pulledBytes
+put-together l schedule place b h l1 l2 l3 l4 e1 e2 e3 e4 =
+    let there = h .there in
+    let at : ℕ = recordAt place in
+    let two : List ℕ = (length schedule + 4) / 256 ∷ (length schedule + 4) % 256 ∷ [] in
+    let before : List ℕ = take (suc (6 * place)) (drop 2 schedule) in
+    let behind : List ℕ = drop at schedule in
+    let less : at - 2 ≡ suc (6 * place) = omega arith in
+    let long : length before ≡ suc (6 * place) = length-take-le (suc (6 * place)) (drop 2 schedule) (let e = length-drop 2 schedule in omega arith) in
+    let longer = length-append before (crashBytes b) in
+    let f2 : l2 ≡ sets l 0 (two ++ before) = e2 ∙ (λ i. sets (e1 i) 2 (take (less i) (drop 2 schedule))) ∙ laid-on l two before 2 refl in
+    let f3 : l3 ≡ sets l 0 ((two ++ before) ++ crashBytes b) =
+    e3 ∙ ap (λ (m : List ℕ). sets m at (crashBytes b)) f2 ∙ laid-on l (two ++ before) (crashBytes b) at (omega arith) in
+    e4 ∙ (λ i. sets (f3 i) (at + 6) (part-rest schedule at i)) ∙ laid-on l ((two ++ before) ++ crashBytes b) behind (at + 6) (omega arith)
+    ∙ ap (sets l 0) (append-assoc (two ++ before) (crashBytes b) behind)
 
 -- the front of a list of which so many bytes were stored
 pub front-is : (l new : List ℕ) (n : ℕ) → n ≡ length new → length new ≤ length l → take n (sets l 0 new) ≡ new

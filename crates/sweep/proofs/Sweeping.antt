@@ -1,20 +1,14 @@
 -- The call: refused with a number alone, or the three counts of all runs.
-use mathlib.Core.Path.{_≡_, refl, ap, sym, _∙_}
-use mathlib.Core.Bool.{Bool, true, false, cond}
+use mathlib.Core.Path.{_≡_, ap, sym, _∙_}
 use mathlib.Core.List.{List}
-use Prim.Native.Nat.{ℕ, suc, _+_, _*_, _≤_, _<_}
-use native.Mathlib.Omega.{arith}
-use lib.Dec.{eqb, leb}
+use Prim.Native.Nat.{ℕ, suc, _+_, _*_}
 use lib.ListN.{length}
-use borrow.Author.Tests.{eqb-true, eqb-false, ne-eqb, leb-true}
-use Rattle.facts.specs.Tests.{and-left}
-use Rattle.rules.specs.Sizes.{sweepMost}
-use Rattle.rules.specs.Format.{orNumber, decodeTable, validateTable}
-use Rattle.rules.specs.Schedule.{commandsIn, decodeSchedule, validateSchedule}
+use borrow.Author.Tests.{ne-eqb}
+use Rattle.rules.specs.Format.{decodeTable}
+use Rattle.rules.specs.Schedule.{commandsIn, decodeSchedule}
 use Rattle.rules.specs.Sweep as rules
-use Rattle.rules.specs.Sweep.{countOf, isQuiet, isHeld, isFree, sweepable, validateSweep, sweep}
+use Rattle.rules.specs.Sweep.{countOf, validateSweep, sweep}
 use Rattle.rules.proofs.Sweep.{swept-together}
-use Rattle.rules.proofs.Valid.{test-passed}
 use Rattle.records.specs.Commands.{ScheduleJudged}
 use Rattle.records.specs.declared.schedule.Judged.{Judged}
 use Rattle.table.specs.Plan.{Decodes}
@@ -24,34 +18,10 @@ use Rattle.sweep.specs.Counted.{Counted, countPlaces, Admitted}
 use Rattle.sweep.specs.Sweeps.{sweptBy, Sweeps}
 use Rattle.sweep.specs.declared.tally.Tally.{Tally}
 use Rattle.sweep.specs.declared.Swept.{Swept}
+use Rattle.sweep.proofs.Admitting.{table-sound, schedule-sound}
 use Rattle.sweep.proofs.Judging.{commands-many, records-are, sweep-is}
 
--- ---- a sweep that is not refused
-
--- a number that is handed on unless it is 0
-handed-on : (n further : ℕ) → orNumber (eqb n 0) n further ≡ 0 → (n ≡ 0) × (further ≡ 0)
-handed-on n further h = go (eqb n 0) refl h
-  where
-    go : (b : Bool) → eqb n 0 ≡ b → orNumber b n further ≡ 0 → (n ≡ 0) × (further ≡ 0)
-    go true e k = (eqb-true n 0 e, k)
-    go false e k = absurd (eqb-false n 0 e k)
-
-module _ (table schedule : List ℕ) (valid : validateSweep table schedule ≡ 0) where
-  pub table-sound : validateTable table ≡ 0
-  unfolding validateSweep
-  table-sound = handed-on (validateTable table) _ valid .0
-
-  pub schedule-sound : validateSchedule schedule ≡ 0
-  unfolding validateSweep
-  schedule-sound = handed-on (validateSchedule schedule) _ (handed-on (validateTable table) _ valid .1) .0
-
-  pub records-few : commandsIn schedule ≤ sweepMost
-  unfolding validateSweep sweepable
-  records-few =
-      let later = handed-on (validateSchedule schedule) _ (handed-on (validateTable table) _ valid .1) .1 in
-      leb-true (commandsIn schedule) sweepMost (and-left (leb (commandsIn schedule) sweepMost) _ (test-passed (sweepable schedule) 51 0 later))
-
--- ---- the three together, and none grows large
+-- ---- the three together
 
 together-so : (table schedule : List ℕ) (r : Swept) → sweptBy r ≡ sweep table schedule → r .number ≡ 0
     → r .quiet + (r .held + r .free) ≡ suc (length (decodeSchedule schedule)) * decodeTable table .boards
