@@ -2,4 +2,5 @@
 pub mod Judges
 pub mod Packed
 pub mod Label
+pub mod Sweep
 pub mod Tables

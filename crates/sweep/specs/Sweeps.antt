@@ -4,10 +4,15 @@ use mathlib.Core.Path.{_≡_}
 use mathlib.Core.List.{List}
 use Prim.Native.Nat.{ℕ, suc, _+_, _*_}
 use lib.ListN.{length}
+use Rattle.rules.specs.Sizes.{sweepMost, boardsMost}
 use Rattle.rules.specs.Format.{decodeTable}
 use Rattle.rules.specs.Schedule.{decodeSchedule}
 use Rattle.rules.specs.Sweep as rules
 use Rattle.sweep.specs.declared.Swept.{Swept}
+
+-- the most runs of a sweep: 501 places, 16 boards
+abbrev pub runsMost : ℕ
+runsMost = suc sweepMost * boardsMost
 
 -- what a call returned, as the rules' outcome of a sweep
 abbrev pub sweptBy : Swept → rules.Swept
