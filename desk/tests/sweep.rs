@@ -62,7 +62,7 @@ fn stored() {
 fn lists() {
     let input = input("swept");
     let mut all: Vec<String> = Vec::new();
-    for (ending, count) in Ending::ALL.into_iter().zip([79, 14, 18]) {
+    for (ending, count) in Ending::ALL.into_iter().zip([81, 14, 16]) {
         let list = printed(&["--list", ending.name(), SWEPT], &[]);
         assert_eq!((list.lines().count(), &list), (count, &map(&input).list(ending)), "{}", ending.name());
         all.extend(list.lines().map(str::to_string));
@@ -129,7 +129,7 @@ fn folded() {
 #[test]
 fn required() {
     let counts = printed(&[SWEPT], &[]);
-    complains(&["--require-quiet", SWEPT], &[], 4, &counts, "sweep: 32 of 111 runs end unquiet");
+    complains(&["--require-quiet", SWEPT], &[], 4, &counts, "sweep: 30 of 111 runs end unquiet");
     let all_quiet = idle(&[Record::step(0)]);
     assert!(printed(&["--require-quiet", "-"], &all_quiet).contains("6 runs: each board pulled at each of 2 places"));
     assert_eq!(printed(&["--require-quiet", "--list", "open", "-"], &all_quiet), "");

@@ -17,7 +17,7 @@ use outside::rules::simulator::Cabinet;
 use outside::rules::sweep::{sweep, Swept};
 
 const SEED: u64 = 0x9E37_79B9_7F4A_7C15;
-const SWEEPS: u64 = 1_500;
+const SWEEPS: u64 = 10_000;
 
 /// What was compared so far.
 #[derive(Default)]
