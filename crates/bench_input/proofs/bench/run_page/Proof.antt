@@ -20,6 +20,9 @@ slice-aggregate-run-2 c = search needs
 slice-aggregate-run-3 : tie.Need-slice-aggregate-run-3
 slice-aggregate-run-3 c = search needs
 
+slice-aggregate-run-4 : tie.Need-slice-aggregate-run-4
+slice-aggregate-run-4 c = search needs
+
 run-requires : tie.Need-run-requires
 run-requires c κs = search needs
 
@@ -53,6 +56,7 @@ run-page-spec =
     slice-aggregate-run
     slice-aggregate-run-2
     slice-aggregate-run-3
+    slice-aggregate-run-4
     run-requires
     byte-requires
     byte-wide-requires
