@@ -56,6 +56,7 @@ pub mod Sweep
 pub mod PutIn
 -- Tables and runs in bytes. What lists give is computed of two of them before it is proved of all.
 pub mod Valid
+pub mod Scheduled
 pub mod FirstVersion
 pub mod ReadBack
 pub mod EncodeCases

@@ -68,7 +68,7 @@ module _ (t : Table) (c : Cabinet) (r : Command) where
     suppresses = λ _ _ _ _ _ _ _. (refl, λ h. h);
     sends = λ _ _ _ _ _ _ _ _ _. (refl, λ h. h);
     issues = λ _ _ _ _ _. (refl, λ h. h);
-    transmits = λ _ _ _ _ _ _. (refl, λ h. h);
+    transmits = λ _ _ _ _ _ _ _. (refl, λ h. h);
     syncs = λ _ _ p s rest _. landed-unhurt p _ (protected (processAt c p)) (withProcess p (keeps s (processAt c p)) (withOutbox (r .a) rest c)) (λ h. h);
     completes = λ _ _ _ _ _ _. (refl, λ h. h);
     injects = λ _ _ _ _. (refl, λ h. h);

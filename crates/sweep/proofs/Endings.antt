@@ -1,35 +1,35 @@
 -- How a run ends, by what it returned and wrote: `quiet`, and the hold-back bytes of the report.
 use mathlib.Core.Path.{_≡_, refl, ap, sym, _∙_}
-use mathlib.Core.Bool.{Bool, true, false, not, cond, _&&_}
+use mathlib.Core.Bool.{Bool, true, false, not, cond}
 use mathlib.Core.List.{List, [], _∷_, _++_, append-assoc}
 use Prim.Native.Nat.{ℕ, zero, suc, _+_, _*_, _≤_, _<_}
 use native.Mathlib.Omega.{arith}
 use native.Mathlib.Numerals.{add-one}
 use native.Mathlib.Nat.{not-suc-le-zero, le-of-suc-le-suc}
 use lib.Dec.{eqb, leb}
-use lib.ListN.{length, getD, drop, take, replicate, length-replicate}
+use lib.ListN.{length, getD, take, replicate, length-replicate}
 use lib.Seq.{getD-append-add, sets}
 use borrow.Author.Tests.{eq-eqb, ne-eqb, le-leb}
 use Rattle.facts.specs.Tests.{anyBelow, no-way, and-both, any-same, none-below}
 use Rattle.rules.specs.Sizes.{sweepMost, processesMost}
-use Rattle.rules.specs.Table.{Table}
 use Rattle.rules.specs.Cabinet.{Process, Cabinet, nobody, processAt, quiescent}
 use Rattle.rules.specs.Bytes.{byteAt, allBytes, written}
 use Rattle.rules.specs.Format.{processesIn, decodeTable, validateTable}
 use Rattle.rules.specs.Schedule.{commandsIn, decodeSchedule, validateSchedule}
-use Rattle.rules.specs.Run.{Buffers, buffersOf, Ran, lengthsOf, reportBytes, validateRun, ranFrom, run, accepted}
+use Rattle.rules.specs.Run.{Buffers, buffersOf, Ran, reportBytes, validateRun, ranFrom, run, accepted}
 use Rattle.rules.specs.Transparent.{finished}
 use Rattle.rules.specs.Sweep.{Ending, quietEnd, heldEnd, freeEnd, someHeld, endingOf, endingAt}
 use Rattle.rules.proofs.Valid.{processes-counted, decoded-accepted}
 use Rattle.rules.proofs.AcceptedRun.{run-is, quiet-is}
+use Rattle.rules.proofs.Scheduled.{scheduled}
 use Rattle.rules.proofs.Buffers.{processes-stay}
-use Rattle.cabinet.specs.Runs.{ranBy, Runs}
+use Rattle.cabinet.specs.Runs.{Runs}
 use Rattle.cabinet.specs.declared.run.Verdict.{Verdict}
 use Rattle.plan.specs.declared.Counts.{Counts}
-use Rattle.sweep.specs.Pulled.{pulledMost, pulledBytes, HasPlace}
+use Rattle.sweep.specs.Pulled.{pulledBytes, HasPlace}
 use Rattle.sweep.specs.Counted.{Counted, countOne, heldIn, Ends, Admitted}
 use Rattle.sweep.specs.declared.tally.Tally.{Tally}
-use Rattle.sweep.proofs.Pulling.{sound, has-place, length-pulled, pulled-count, pulled-valid, pulled-decoded, front-is}
+use Rattle.sweep.proofs.Pulling.{has-place, length-pulled, pulled-count, pulled-valid, pulled-decoded, front-is}
 use Rattle.sweep.proofs.Admitting.{table-sound, schedule-sound, records-few}
 
 -- ---- a report's byte
@@ -78,7 +78,7 @@ module _ (report : List ℕ) where
 -- ---- a run that is accepted
 
 module _ (table schedule : List ℕ) (before : Buffers) (fit : 6 * suc sweepMost ≤ length (before .answers)) (fit′ : suc sweepMost ≤ length (before .reasons))
-    (fit″ : 20 * processesMost ≤ length (before .report)) (valid : validateTable table ≡ 0) (sound : validateSchedule schedule ≡ 0)
+    (fit″ : 20 * processesMost ≤ length (before .report)) (fit‴ : 2 * suc sweepMost ≤ length (before .origins)) (valid : validateTable table ≡ 0) (sound : validateSchedule schedule ≡ 0)
     (few : commandsIn schedule ≤ suc sweepMost) where
   runs-through : accepted table schedule before ≡ true
   unfolding accepted validateRun ranFrom
@@ -87,7 +87,7 @@ module _ (table schedule : List ℕ) (before : Buffers) (fit : 6 * suc sweepMost
       let m = processes-counted table in
       let enough = and-both (leb (6 * commandsIn schedule) (length (before .answers))) (leb (commandsIn schedule) (length (before .reasons)))
       (le-leb (6 * commandsIn schedule) (length (before .answers)) (omega arith)) (le-leb (commandsIn schedule) (length (before .reasons)) (omega arith)) in
-      rw (valid, sound, enough, le-leb (20 * processesIn table) (length (before .report)) (omega arith))
+      rw (valid, sound, enough, le-leb (20 * processesIn table) (length (before .report)) (omega arith), le-leb (2 * commandsIn schedule) (length (before .origins)) (omega arith))
 
   module _ (r : Verdict) (after : Buffers) (runs : Runs table schedule before r after) where
     abbrev end : Cabinet
@@ -116,9 +116,9 @@ zeros n = replicate n 0
 length-zeros : (n : ℕ) → length (zeros n) ≡ n
 length-zeros n = length-replicate {A = ℕ} n 0
 
--- six bytes and one for each record, twenty for each process
+-- six bytes, one and two for each record, twenty for each process
 abbrev buffers : Buffers
-buffers = buffersOf (zeros 3006) (zeros 501) (zeros 320)
+buffers = buffersOf (zeros 3006) (zeros 501) (zeros 320) (zeros 1002)
 
 module _ (table schedule : List ℕ) (processes : ℕ) (r : Verdict) (after : Buffers) (runs : Runs table schedule buffers r after) where
   ends-so : (e : Ending) → (processes ≤ processesMost → cond (r .quiet) quietEnd (cond (heldIn (after .report) processes) heldEnd freeEnd) ≡ e)
@@ -129,7 +129,8 @@ module _ (table schedule : List ℕ) (processes : ℕ) (r : Verdict) (after : Bu
         let n = length-zeros 3006 in
         let n′ = length-zeros 501 in
         let n″ = length-zeros 320 in
-        rw (ended-so table schedule buffers (omega arith) (omega arith) (omega arith) valid sound few r after runs processes many ∙ same (omega arith)) counted;
+        let n‴ = length-zeros 1002 in
+        rw (ended-so table schedule buffers (omega arith) (omega arith) (omega arith) (omega arith) valid sound few r after runs processes many ∙ same (omega arith)) counted;
   }
 
   pub quiet-ends : r .quiet ≡ true → Ends table schedule processes (record { quiet = 1; held = 0; free = 0 })
@@ -145,14 +146,14 @@ module _ (table schedule : List ℕ) (processes : ℕ) (r : Verdict) (after : Bu
 -- ---- with the crash put in
 
 module _ (table schedule : List ℕ) (counts : Counts) (place : ℕ) (ok : Admitted table schedule counts) (h : place ≤ commandsIn schedule) where
-  abbrev scheduled : validateSchedule schedule ≡ 0
-  scheduled = schedule-sound table schedule (ok .valid)
+  abbrev sound-schedule : validateSchedule schedule ≡ 0
+  sound-schedule = schedule-sound table schedule (ok .valid)
 
   abbrev swept : commandsIn schedule ≤ sweepMost
   swept = records-few table schedule (ok .valid)
 
   pub pull-place : HasPlace schedule place
-  pull-place = has-place schedule place (sound schedule scheduled) swept h
+  pull-place = has-place schedule place (scheduled schedule sound-schedule) swept h
 
   module _ (b : ℕ) (l : List ℕ) (put : l ≡ sets (zeros 3009) 0 (pulledBytes schedule place b)) where
     -- the front of what the crash was put into is the run's schedule
@@ -172,6 +173,6 @@ module _ (table schedule : List ℕ) (counts : Counts) (place : ℕ) (ok : Admit
     pull-counted r ends =
         let here : Ends table (pulledBytes schedule place b) (counts .processes) r = rw front at ends in
         let few = swept in
-        let count = pulled-count schedule place b scheduled swept h in
-        rw (pulled-decoded schedule place b scheduled swept h) at
-        (here .ends (table-sound table schedule (ok .valid)) (pulled-valid schedule place b scheduled swept h) (omega arith) (ok .processes-is))
+        let count = pulled-count schedule place b sound-schedule swept h in
+        rw (pulled-decoded schedule place b sound-schedule swept h) at
+        (here .ends (table-sound table schedule (ok .valid)) (pulled-valid schedule place b sound-schedule swept h) (omega arith) (ok .processes-is))

@@ -1,20 +1,20 @@
 -- A sweep judged: a record of move 5 looked for, and the numbers in their order.
 use mathlib.Core.Path.{_≡_, refl, ap, sym, _∙_}
-use mathlib.Core.Bool.{Bool, true, false, not, cond, _&&_, _||_}
+use mathlib.Core.Bool.{Bool, true, false, cond, _||_}
 use mathlib.Core.List.{List, [], _∷_}
 use Prim.Native.Nat.{ℕ, zero, suc, _≤_, _<_}
 use native.Mathlib.Omega.{arith}
 use native.Mathlib.Nat.{not-suc-le-zero, le-of-suc-le-suc}
-use lib.Dec.{eqb, leb}
+use lib.Dec.{eqb}
 use lib.ListN.{length, getD}
 use borrow.Author.Tests.{eq-eqb, ne-eqb, le-leb, lt-leb}
 use Rattle.facts.specs.Tests.{by-eq}
 use Rattle.rules.specs.Moves as rules
 use Rattle.rules.specs.Sizes.{sweepMost}
 use Rattle.rules.specs.Format.{orNumber, validateTable}
-use Rattle.rules.specs.Schedule.{commandsIn, command, decodeSchedule, validateSchedule}
+use Rattle.rules.specs.Schedule.{commandsIn, command, decodeSchedule}
 use Rattle.rules.specs.Sweep.{isBarred, anyBarred, sweepable, validateSweep}
-use Rattle.rules.proofs.Valid.{length-sixes}
+use Rattle.rules.proofs.Scheduled.{commands-counted}
 use Rattle.records.specs.Commands.{ScheduleJudged, commandOf}
 use Rattle.records.specs.declared.schedule.Command.{Command}
 use Rattle.records.specs.declared.schedule.Judged.{Judged}
@@ -35,10 +35,6 @@ none-barred : (l : List rules.Command) (d : rules.Command) → ((k : ℕ) → k 
 none-barred [] d h = refl
 none-barred (r ∷ l) d h = rw (h zero (omega arith)) (none-barred l d (λ k j. h (suc k) (omega arith)))
 
-pub commands-many : (schedule : List ℕ) → length (decodeSchedule schedule) ≡ commandsIn schedule
-unfolding decodeSchedule
-commands-many schedule = length-sixes command (commandsIn schedule) _
-
 module _ (schedule : List ℕ) (n : ℕ) where
   -- none of the first i is one
   abbrev pub NoneBefore : ℕ → Type 0
@@ -47,7 +43,7 @@ module _ (schedule : List ℕ) (n : ℕ) where
   pub barred-found : (i : ℕ) (c : Command) → i < n → commandOf c ≡ getD (decodeSchedule schedule) i (command 0 0 0) → c .mv ≡ 5
       → n ≡ commandsIn schedule → true ≡ anyBarred (decodeSchedule schedule)
   barred-found i c h e five many =
-      let l = commands-many schedule in
+      let l = commands-counted schedule in
       sym (barred-at (decodeSchedule schedule) i (command 0 0 0) (omega arith) (sym (ap isBarred e) ∙ eq-eqb (c .mv) 5 five))
 
   pub not-barred : (i : ℕ) (c : Command) → commandOf c ≡ getD (decodeSchedule schedule) i (command 0 0 0) → (c .mv ≡ 5 → ⊥)
@@ -56,7 +52,7 @@ module _ (schedule : List ℕ) (n : ℕ) where
 
   pub none-found : (i : ℕ) → NoneBefore i → n ≤ i → n ≡ commandsIn schedule → false ≡ anyBarred (decodeSchedule schedule)
   none-found i h end many =
-      let l = commands-many schedule in
+      let l = commands-counted schedule in
       sym (none-barred (decodeSchedule schedule) (command 0 0 0) (λ k j. h k (omega arith)))
 
 -- ---- the numbers in order

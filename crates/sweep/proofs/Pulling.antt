@@ -1,50 +1,22 @@
 -- A schedule with the crash put in: its bytes are a sound schedule, and its commands are the rules' `pulledAt`.
 use mathlib.Core.Path.{_≡_, refl, ap, sym, _∙_}
-use mathlib.Core.Bool.{true, _&&_}
 use mathlib.Core.List.{List, [], _∷_, _++_, append-assoc, append-nil}
-use Prim.Native.Nat.{ℕ, zero, suc, _+_, _-_, _*_, _/_, _%_, _^_, _≤_, _<_}
+use Prim.Native.Nat.{ℕ, zero, suc, _+_, _-_, _*_, _/_, _%_, _≤_}
 use native.Mathlib.Omega.{arith}
-use lib.Dec.{eqb, leb}
 use lib.ListN.{length, take, drop, length-append, length-drop, drop-of-length-le}
 use lib.Seq.{sets, sets-eq, length-take-le, take-at, take-length, drop-drop}
-use borrow.Author.Tests.{eqb-true, leb-true}
-use Rattle.facts.specs.Tests.{and-left, and-right}
 use Rattle.facts.specs.Lists.{part-rest}
 use Rattle.facts.specs.Laying.{sets-append, sets-front}
-use Rattle.rules.specs.Sizes.{commandsMost, sweepMost}
+use Rattle.rules.specs.Sizes.{sweepMost}
 use Rattle.rules.specs.Bytes.{sixes}
 use Rattle.rules.specs.Format.{lengthField, versionIn}
-use Rattle.rules.specs.Schedule.{commandsIn, command, decodeSchedule, scheduleOk, validateSchedule}
+use Rattle.rules.specs.Schedule.{commandsIn, command, decodeSchedule, validateSchedule}
 use Rattle.rules.specs.Sweep.{pulledAt}
-use Rattle.rules.proofs.Valid.{test-passed, further-passed}
+use Rattle.rules.proofs.Scheduled.{Scheduled, scheduled}
 use Rattle.records.proofs.Judged.{Whole, accepted-0}
-use Rattle.sweep.specs.Pulled.{crashBytes, recordAt, pulledMost, pulledBytes, HasPlace}
+use Rattle.sweep.specs.Pulled.{crashBytes, recordAt, pulledBytes, HasPlace}
 
--- ---- a sound schedule
-
-pub record Sound (schedule : List ℕ) : Type 0 where
-  pub long : 3 ≤ length schedule
-  pub whole : 3 + 6 * commandsIn schedule ≡ length schedule
-  pub few : commandsIn schedule ≤ commandsMost
-  pub version : versionIn schedule ≡ 1
-
-pub sound : (schedule : List ℕ) → validateSchedule schedule ≡ 0 → Sound schedule
-unfolding validateSchedule scheduleOk
-sound schedule h =
-    let long = leb 3 (length schedule) in
-    let field = eqb (2 + lengthField schedule) (length schedule) in
-    let whole = eqb (3 + 6 * commandsIn schedule) (length schedule) in
-    let few = leb (commandsIn schedule) commandsMost in
-    let ok = test-passed (scheduleOk schedule) 8 _ h in
-    let later = and-right field (whole && few) (and-right long (field && (whole && few)) ok) in
-    record {
-      long = leb-true 3 (length schedule) (and-left long (field && (whole && few)) ok);
-      whole = eqb-true (3 + 6 * commandsIn schedule) (length schedule) (and-left whole few later);
-      few = leb-true (commandsIn schedule) commandsMost (and-right whole few later);
-      version = eqb-true (versionIn schedule) 1 (test-passed (eqb (versionIn schedule) 1) 9 0 (further-passed (scheduleOk schedule) 8 _ h));
-    }
-
-pub has-place : (schedule : List ℕ) (place : ℕ) → Sound schedule → commandsIn schedule ≤ sweepMost → place ≤ commandsIn schedule → HasPlace schedule place
+pub has-place : (schedule : List ℕ) (place : ℕ) → Scheduled schedule → commandsIn schedule ≤ sweepMost → place ≤ commandsIn schedule → HasPlace schedule place
 has-place schedule place s few h = let w = s .whole in record { there = omega arith; short = omega arith }
 
 -- ---- six bytes put in between two records are one command more
@@ -77,7 +49,7 @@ module _ (schedule : List ℕ) (place b : ℕ) where
       omega arith
 
   -- one record more
-  pulled-more : HasPlace schedule place → Sound schedule → commandsIn (pulledBytes schedule place b) ≡ suc (commandsIn schedule)
+  pulled-more : HasPlace schedule place → Scheduled schedule → commandsIn (pulledBytes schedule place b) ≡ suc (commandsIn schedule)
   pulled-more h s = let e = length-pulled h in let w = s .whole in omega arith
 
 version-kept : (schedule : List ℕ) (place b : ℕ) → 3 ≤ length schedule → versionIn (pulledBytes schedule place b) ≡ versionIn schedule
@@ -103,11 +75,11 @@ commands-put (x0 ∷ x1 ∷ v ∷ body) n place b h l k =
 
 module _ (schedule : List ℕ) (place b : ℕ) (valid : validateSchedule schedule ≡ 0) (few : commandsIn schedule ≤ sweepMost) (h : place ≤ commandsIn schedule) where
   pub pulled-count : commandsIn (pulledBytes schedule place b) ≡ suc (commandsIn schedule)
-  pulled-count = let s = sound schedule valid in pulled-more schedule place b (has-place schedule place s few h) s
+  pulled-count = let s = scheduled schedule valid in pulled-more schedule place b (has-place schedule place s few h) s
 
   pub pulled-valid : validateSchedule (pulledBytes schedule place b) ≡ 0
   pulled-valid =
-      let s = sound schedule valid in
+      let s = scheduled schedule valid in
       let long = s .long in
       let whole = s .whole in
       let p = pulledBytes schedule place b in
@@ -120,7 +92,7 @@ module _ (schedule : List ℕ) (place b : ℕ) (valid : validateSchedule schedul
   pub pulled-decoded : decodeSchedule (pulledBytes schedule place b) ≡ pulledAt (decodeSchedule schedule) place b
   unfolding decodeSchedule
   pulled-decoded =
-      let s = sound schedule valid in
+      let s = scheduled schedule valid in
       let whole = s .whole in
       rw pulled-count (commands-put schedule (commandsIn schedule) place b (s .long) (omega arith) h)
 

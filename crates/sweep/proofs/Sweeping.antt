@@ -17,6 +17,7 @@ use Rattle.rules.specs.Sweep as rules
 use Rattle.rules.specs.Sweep.{countOf, isQuiet, isHeld, isFree, validateSweep, sweep}
 use Rattle.rules.proofs.Sweep.{three-together, swept-together}
 use Rattle.rules.proofs.Valid.{decoded-accepted}
+use Rattle.rules.proofs.Scheduled.{commands-counted}
 use Rattle.records.specs.Commands.{ScheduleJudged}
 use Rattle.records.specs.declared.schedule.Judged.{Judged}
 use Rattle.table.specs.Plan.{Decodes}
@@ -27,7 +28,7 @@ use Rattle.sweep.specs.Sweeps.{runsMost, sweptBy, Sweeps}
 use Rattle.sweep.specs.declared.tally.Tally.{Tally}
 use Rattle.sweep.specs.declared.Swept.{Swept}
 use Rattle.sweep.proofs.Admitting.{table-sound, schedule-sound, records-few}
-use Rattle.sweep.proofs.Judging.{commands-many, records-are, sweep-is}
+use Rattle.sweep.proofs.Judging.{records-are, sweep-is}
 
 -- ---- the three together
 
@@ -50,7 +51,7 @@ few-so : (table schedule : List ℕ) (b : Bool) → eqb (validateSweep table sch
 few-so table schedule true v t commands is-t is-commands r e =
     let valid = eqb-true (validateSweep table schedule) 0 v in
     let places : suc (length commands) ≤ suc sweepMost =
-    rw is-commands (let a = commands-many schedule in let b = records-few table schedule valid in omega arith) in
+    rw is-commands (let a = commands-counted schedule in let b = records-few table schedule valid in omega arith) in
     let boards : t .boards ≤ boardsMost = rw is-t (decoded-accepted table (table-sound table schedule valid) .boards-high) in
     let a = mul-le-mul-right {m = suc (length commands)} {n = suc sweepMost} (t .boards) places in
     let b = mul-le-mul-left {m = t .boards} {n = boardsMost} (suc sweepMost) boards in
@@ -98,6 +99,6 @@ module _ (table schedule : List ℕ) (d : Decoded) (j : Judged) (is-d : Decodes 
     pub sweeps : (x : Tally) → Counted (countPlaces (decodeTable table) (decodeSchedule schedule) (suc (j .records))) x
         → Sweeps table schedule (record { number = 0; quiet = x .quiet; held = x .held; free = x .free })
     sweeps x c =
-        let many : j .records ≡ length (decodeSchedule schedule) = records-is ∙ sym (commands-many schedule) in
+        let many : j .records ≡ length (decodeSchedule schedule) = records-is ∙ sym (commands-counted schedule) in
         let so = counts-so x (rw many at c) in
         record { swept = so; together = together-so table schedule _ so }

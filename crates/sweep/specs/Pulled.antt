@@ -1,5 +1,4 @@
 -- The bytes of a schedule with one crash put in, which is what each run of a sweep is given.
-use mathlib.Core.Path.{_≡_}
 use mathlib.Core.List.{List, [], _∷_, _++_}
 use Prim.Native.Nat.{ℕ, suc, _+_, _*_, _/_, _%_, _^_, _≤_}
 use lib.ListN.{length, take, drop}

@@ -15,10 +15,12 @@ use plan::Counts;
 use plan::PROCESSES;
 use words::most16;
 
-// Buffers for a run with the crash: six bytes and one for each record, twenty for each process.
+// Buffers for a run with the crash: six bytes, one and two for each record, twenty for each process.
 const ANSWERS: usize = 6 * (SWEEP_MOST + 1);
 
 const REASONS: usize = SWEEP_MOST + 1;
+
+const ORIGINS: usize = 2 * (SWEEP_MOST + 1);
 
 const LINE: usize = 20;
 
@@ -49,7 +51,15 @@ fn ending(table: &[u8], schedule: &[u8], processes: usize) -> Tally
     let mut answers = [0u8; ANSWERS];
     let mut reasons = [0u8; REASONS];
     let mut report = [0u8; REPORT];
-    let v = run(table, schedule, &mut answers, &mut reasons, &mut report);
+    let mut origins = [0u8; ORIGINS];
+    let v = run(
+        table,
+        schedule,
+        &mut answers,
+        &mut reasons,
+        &mut report,
+        &mut origins,
+    );
     if v.quiet {
         return Tally {
             quiet: 1,

@@ -1,7 +1,6 @@
 use mathlib.Core.Path.{sym, _∙_}
 use Rattle.sweep.proofs.Judging.{number-of-table, number-of-schedule, too-many, has-barred, all-fine}
 use borrow.Author.Needs.{needs}
-use native.Mathlib.Omega.{arith}
 use Rattle.sweep.proofs.judge.judge_sweep.Statement.{statement}
 use Rattle.sweep.proofs.judge.judge_sweep.Tie as tie
 use Rattle.sweep.proofs.judge.judge_sweep.Reads as reads

@@ -1,6 +1,5 @@
 use Rattle.sweep.proofs.Pulling.{laid}
 use borrow.Author.Needs.{needs}
-use native.Mathlib.Omega.{arith}
 use Rattle.sweep.proofs.pulled.lay.Statement.{statement}
 use Rattle.sweep.proofs.pulled.lay.Tie as tie
 use Rattle.sweep.proofs.pulled.lay.Reads as reads

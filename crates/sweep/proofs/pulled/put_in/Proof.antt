@@ -1,6 +1,5 @@
 use Rattle.sweep.proofs.Pulling.{put-together}
 use borrow.Author.Needs.{needs}
-use native.Mathlib.Omega.{arith}
 use Rattle.sweep.proofs.pulled.put_in.Statement.{statement}
 use Rattle.sweep.proofs.pulled.put_in.Tie as tie
 use Rattle.sweep.proofs.pulled.put_in.Reads as reads
