@@ -46,8 +46,8 @@ same-length c = search needs
 
 returns : tie.Need-returns
 returns c =
-    let s = c .before .before .before .before .before .before .before .before .before .before .before .before .before .before .before .before .before .before .args in
-    run-page (s .table .now) (s .schedule .now) (c .before .before .before .before .before .before .before .before .before .before .before .run .result) _ (c .before .before .before .before .before .before .before .before .before .before .before .run .ensures) (c .before .before .before .before .before .before .byte-wide .result) (c .before .before .before .before .before .before .byte-wide .ensures .0 ∙ c .before .before .before .before .before .before .before .byte .ensures) _ _ _ (c .before .before .print .ensures)
+    let s = c .before .before .before .before .before .before .before .before .before .before .before .before .before .before .before .before .before .before .before .before .args in
+    run-page (s .table .now) (s .schedule .now) (c .before .before .before .before .before .before .before .before .before .before .before .before .run .result) _ (c .before .before .before .before .before .before .before .before .before .before .before .before .run .ensures) (c .before .before .before .before .before .before .byte-wide .result) (c .before .before .before .before .before .before .byte-wide .ensures .0 ∙ c .before .before .before .before .before .before .before .byte .ensures) _ _ _ (c .before .before .print .ensures)
 
 pub run-page-spec : {M : Type 1} → statement M
 run-page-spec =
