@@ -16,12 +16,13 @@ use Rattle.rules.specs.Reasons.{reasonOf}
 use Rattle.rules.specs.Transparent.{answered, originated, finished}
 use Rattle.rules.specs.Bytes.{allBytes, written}
 use Rattle.rules.specs.Format.{processesIn, decodeTable}
-use Rattle.rules.specs.Schedule.{commandsIn, decodeSchedule, command}
+use Rattle.rules.specs.Schedule.{commandsIn, decodeSchedule}
 use Rattle.rules.specs.Run.{Buffers, lengthsOf, answerBytes, originBytes, reportBytes, validateRun, ranFrom, refusedWith, run}
 use Rattle.rules.specs.Run.{accepted}
 use Rattle.rules.proofs.Guards.{Leaves, after-run}
 use Rattle.rules.proofs.Crashed.{crash-length}
-use Rattle.rules.proofs.Valid.{length-sixes, processes-counted}
+use Rattle.rules.proofs.Valid.{processes-counted}
+use Rattle.rules.proofs.Scheduled.{commands-counted}
 use Rattle.rules.proofs.AcceptedRun.{one-answer-each, answered-length, originated-length, run-is}
 use Rattle.rules.proofs.AcceptedRun.{answers-fit, reasons-fit, report-fits, origins-fit}
 
@@ -74,20 +75,16 @@ processes-stay t commands =
 -- ---- the buffers of a run
 
 module _ (table schedule : List ℕ) where
-  commands-counted : length (decodeSchedule schedule) ≡ commandsIn schedule
-  unfolding decodeSchedule
-  commands-counted = length-sixes command (commandsIn schedule) (drop 3 schedule)
-
   answer-bytes : length (allBytes answerBytes (answered (decodeTable table) (decodeSchedule schedule))) ≡ 6 * commandsIn schedule
   answer-bytes =
       length-bytes answerBytes 6 (answered (decodeTable table) (decodeSchedule schedule)) (λ x. refl)
-      ∙ ap (λ (n : ℕ). 6 * n) (answered-length (decodeTable table) (decodeSchedule schedule) ∙ commands-counted)
+      ∙ ap (λ (n : ℕ). 6 * n) (answered-length (decodeTable table) (decodeSchedule schedule) ∙ commands-counted schedule)
 
   reason-bytes : length (map reasonOf (runFrom (decodeTable table) (started (decodeTable table)) (decodeSchedule schedule) .answers)) ≡ commandsIn schedule
   reason-bytes =
       let t = decodeTable table in
       let l = runFrom t (started t) (decodeSchedule schedule) .answers in
-      length-map l reasonOf ∙ one-answer-each t (started t) (decodeSchedule schedule) ∙ commands-counted
+      length-map l reasonOf ∙ one-answer-each t (started t) (decodeSchedule schedule) ∙ commands-counted schedule
 
   report-bytes : length (allBytes reportBytes (finished (decodeTable table) (decodeSchedule schedule) .processes)) ≡ 20 * processesIn table
   report-bytes =
@@ -97,7 +94,7 @@ module _ (table schedule : List ℕ) where
   origin-bytes : length (allBytes originBytes (originated (decodeTable table) (decodeSchedule schedule))) ≡ 2 * commandsIn schedule
   origin-bytes =
       length-bytes originBytes 2 (originated (decodeTable table) (decodeSchedule schedule)) (λ x. refl)
-      ∙ ap (λ (n : ℕ). 2 * n) (originated-length (decodeTable table) (decodeSchedule schedule) ∙ commands-counted)
+      ∙ ap (λ (n : ℕ). 2 * n) (originated-length (decodeTable table) (decodeSchedule schedule) ∙ commands-counted schedule)
 
 -- What a run leaves of a lent buffer: its length, and the bytes behind the first n.
 pub record Lent (n : ℕ) (before after : List ℕ) : Type 0 where
