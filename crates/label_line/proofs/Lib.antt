@@ -4,6 +4,7 @@ pub mod Serials
 pub mod Phases
 pub mod Turns
 pub mod Plain
+pub mod Flowing
 pub mod Spacing
 pub mod Tables
 pub mod Labelling

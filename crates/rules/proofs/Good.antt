@@ -100,6 +100,7 @@ pub record Late (t : Table) (p : ℕ) (items : List Item) (x : Process) (m : Mac
   pub no-items : items ≡ []
   pub few : x .suppress ≤ limitOf t p
   pub acts : List Act
+  pub short : length acts ≤ instructionsMost
   pub replay : Replay (codeOf t p) (x .machine) (x .suppress) acts m
   pub low : x .machine .pc ≤ length (codeOf t p)
 

@@ -17,7 +17,7 @@ use Rattle.rules.specs.Judge.{Accepted}
 use Rattle.rules.proofs.Steps.{Steps}
 use Rattle.rules.proofs.Runs.{Run, here, more, _then_, isSend, count1, countOf, Allows, within-snoc}
 use Rattle.rules.proofs.Tables.{step-low, limit-high}
-use Rattle.rules.proofs.Ahead.{Ahead, level, checkpoints, checkpoints-append, ahead-later, ahead-silent, ahead-send, ahead-issue, UpToEnd, up-to-end, ahead-total}
+use Rattle.rules.proofs.Ahead.{Ahead, level, checkpoints, checkpoints-append, ahead-later, ahead-silent, ahead-send, ahead-issue, UpToEnd, up-to-end, ahead-total, ahead-left}
 use Rattle.rules.proofs.Good.{stateOf, Replay, Link, trailing, coming, Backed, Alone, Late, Good, backed, alone, late, backed-sent, backed-trailing, good-backed}
 use Rattle.rules.proofs.Links.{link-later, link-silent, link-send, coming-some}
 use Rattle.rules.proofs.Tally.{count-snoc}
@@ -86,6 +86,7 @@ module _ {t : Table} (ok : Accepted t) {p : ℕ} (hp : p < length (t .processes)
         no-items = h .no-items;
         few = h .few;
         acts = h .acts;
+        short = h .short;
         replay = replay-later mail (h .replay);
         low = (unfold delivered in h .low);
       }
@@ -117,6 +118,7 @@ module _ {t : Table} (ok : Accepted t) {p : ℕ} (hp : p < length (t .processes)
         no-items = h .no-items;
         few = h .few;
         acts = v .acts;
+        short = (let l = h .short in let w = v .fewer in omega arith);
         replay = subst (λ (j : ℕ). Replay (codeOf t p) n j (v .acts) m) (sym z) (v .replay);
         low = step-low t ok p hp e;
       }
@@ -153,6 +155,7 @@ module _ {t : Table} (ok : Accepted t) {p : ℕ} (hp : p < length (t .processes)
         no-items = h .no-items;
         few = (let l = h .few in omega arith);
         acts = v .acts;
+        short = (let l = h .short in let w = v .fewer in omega arith);
         replay = v .replay;
         low = step-low t ok p hp e;
       }
@@ -233,6 +236,7 @@ module _ {t : Table} (ok : Accepted t) {p : ℕ} (hp : p < length (t .processes)
         no-items = refl;
         few = rw sent-is (backed-sent h);
         acts = l .before;
+        short = ahead-left (l .ahead) (h .few) .instructions;
         replay = rw (machine-is, sent-is) (l .replay);
         low = subst (λ (a : Machine). a .pc ≤ length (codeOf t p)) (sym machine-is) (h .kept .low);
       }

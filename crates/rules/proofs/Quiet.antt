@@ -25,7 +25,7 @@ use Rattle.rules.proofs.References.{run-append, injections-append, step
 
 -- ---- what quiescence says
 
-stuck : (code : List Instruction) (m : Machine) → idle (localStep code m) ≡ true → (n : Machine) (k : Act) → Steps code m k n → ⊥
+pub stuck : (code : List Instruction) (m : Machine) → idle (localStep code m) ≡ true → (n : Machine) (k : Act) → Steps code m k n → ⊥
 stuck code m h n k e = no-way (let a = ap idle (e .is) in cc)
 
 empty-is : {A : Type 0} (l : List A) → isEmpty l ≡ true → l ≡ []
@@ -43,26 +43,9 @@ pub record CaughtUp (t : Table) (c : Cabinet) (s : Reference) (n : ℕ) : Type 0
   pub caught-up : (j : ℕ) → j < n → machineAt end j ≡ processAt c j .machine
   pub as-before : (j : ℕ) → n ≤ j → machineAt end j ≡ machineAt s j
 
-module _ {t : Table} {c : Cabinet} {s : Reference} (inv : Invariant t c s) (quiet : quiescent t c ≡ true) where
-  all-idle : (p : ℕ) → p < length (c .processes) → idle (localStep (codeOf t p) (processAt c p .machine)) ≡ true
-  unfolding quiescent
-  all-idle =
-      all-below (λ p. idle (localStep (codeOf t p) (processAt c p .machine))) (length (c .processes)) (and-left _ (allOf isEmpty (c .outboxes)) quiet)
-
-  all-empty : (b : ℕ) → outboxAt c b ≡ []
-  unfolding quiescent
-  all-empty b =
-      by-lt b (length (c .outboxes))
-      (λ h. empty-is (outboxAt c b) (all-of isEmpty (c .outboxes)
-      (and-right (allBelow (λ p. idle (localStep (codeOf t p) (processAt c p .machine))) (length (c .processes))) _ quiet) b [] h))
-      (λ h. List·getD-eq-default (c .outboxes) [] h)
-
-  catch-up : (p : ℕ) → p < length (c .processes) → UpToEnd (codeOf t p) (machineAt s p) (processAt c p .machine)
-  catch-up p hp =
-      good-quiet
-      (subst (λ (l : List Item). Good t p (mine t p l) (processAt c p) (machineAt s p)) (all-empty (processAt c p .board)) (inv .good p hp))
-      (stuck (codeOf t p) (processAt c p .machine) (all-idle p hp))
-
+-- where silent steps take each of them there
+module _ {t : Table} {c : Cabinet} {s : Reference} (inv : Invariant t c s)
+    (catch-up : (p : ℕ) → p < length (c .processes) → UpToEnd (codeOf t p) (machineAt s p) (processAt c p .machine)) where
   one-more : (n : ℕ) → n < length (c .processes) → CaughtUp t c s n → UpToEnd (codeOf t n) (machineAt s n) (processAt c n .machine) → CaughtUp t c s (suc n)
   unfolding withMachine
   one-more n hn r v =
@@ -97,18 +80,44 @@ module _ {t : Table} {c : Cabinet} {s : Reference} (inv : Invariant t c s) (quie
       }
   up-to (suc n) h = one-more n h (up-to n (omega arith)) (catch-up n h)
 
+  pub each-caught-up : CaughtUp t c s (length (c .processes))
+  each-caught-up = up-to (length (c .processes)) (omega arith)
+
+-- the machines are then ours
+pub same-machines : {t : Table} {c : Cabinet} {s : Reference} → Invariant t c s → (r : CaughtUp t c s (length (c .processes)))
+    → r .end .machines ≡ map (λ (x : Process). x .machine) (c .processes)
+same-machines {c = c} inv r =
+    let n : length (r .end .machines) ≡ length (c .processes) = r .same-number ∙ sym (inv .same-number) in
+    ext-getD booted (r .end .machines) (map (λ (x : Process). x .machine) (c .processes)) (n ∙ sym (length-map (c .processes) (λ (x : Process). x .machine)))
+    (λ i h. let h′ : i < length (c .processes) = rw n at h in r .caught-up i h′ ∙ sym (getD-map (λ (x : Process). x .machine) (c .processes) i nobody booted h′))
+
+-- ---- at a quiet end
+
+module _ {t : Table} {c : Cabinet} {s : Reference} (inv : Invariant t c s) (quiet : quiescent t c ≡ true) where
+  pub all-idle : (p : ℕ) → p < length (c .processes) → idle (localStep (codeOf t p) (processAt c p .machine)) ≡ true
+  unfolding quiescent
+  all-idle =
+      all-below (λ p. idle (localStep (codeOf t p) (processAt c p .machine))) (length (c .processes)) (and-left _ (allOf isEmpty (c .outboxes)) quiet)
+
+  pub all-empty : (b : ℕ) → outboxAt c b ≡ []
+  unfolding quiescent
+  all-empty b =
+      by-lt b (length (c .outboxes))
+      (λ h. empty-is (outboxAt c b) (all-of isEmpty (c .outboxes)
+      (and-right (allBelow (λ p. idle (localStep (codeOf t p) (processAt c p .machine))) (length (c .processes))) _ quiet) b [] h))
+      (λ h. List·getD-eq-default (c .outboxes) [] h)
+
+  catch-up : (p : ℕ) → p < length (c .processes) → UpToEnd (codeOf t p) (machineAt s p) (processAt c p .machine)
+  catch-up p hp =
+      good-quiet
+      (subst (λ (l : List Item). Good t p (mine t p l) (processAt c p) (machineAt s p)) (all-empty (processAt c p .board)) (inv .good p hp))
+      (stuck (codeOf t p) (processAt c p .machine) (all-idle p hp))
+
   pub all-caught-up : CaughtUp t c s (length (c .processes))
-  all-caught-up = up-to (length (c .processes)) (omega arith)
+  all-caught-up = each-caught-up inv catch-up
 
-  -- ---- what is so at the end
-
+  -- none could step further
   module _ (r : CaughtUp t c s (length (c .processes))) where
-    pub same-machines : r .end .machines ≡ map (λ (x : Process). x .machine) (c .processes)
-    same-machines =
-        let n : length (r .end .machines) ≡ length (c .processes) = r .same-number ∙ sym (inv .same-number) in
-        ext-getD booted (r .end .machines) (map (λ (x : Process). x .machine) (c .processes)) (n ∙ sym (length-map (c .processes) (λ (x : Process). x .machine)))
-        (λ i h. let h′ : i < length (c .processes) = rw n at h in r .caught-up i h′ ∙ sym (getD-map (λ (x : Process). x .machine) (c .processes) i nobody booted h′))
-
     idle-refused : (p : ℕ) (o : Outcome) → idle o ≡ true → stepped t (r .end) p o ≡ none
     unfolding stepped
     idle-refused p halted h = refl

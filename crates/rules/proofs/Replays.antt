@@ -2,8 +2,9 @@
 use mathlib.Core.Path.{_≡_, refl, _∙_, subst}
 use mathlib.Core.Bool.{Bool, true, false}
 use mathlib.Core.List.{List, [], _∷_, _++_}
-use Prim.Native.Nat.{ℕ, suc}
+use Prim.Native.Nat.{ℕ, suc, _<_}
 use native.Mathlib.Omega.{arith}
+use lib.ListN.{length}
 use Rattle.facts.specs.Tests.{no-way}
 use Rattle.rules.specs.Table.{Instruction}
 use Rattle.rules.specs.Machine.{Mail, Machine, Act, internal, took, sent, delivered}
@@ -30,9 +31,10 @@ replay-none {code} {a} e = record { ran = subst (λ (m : Machine). Run code a []
 
 -- ---- the left end steps
 
--- what is left of a replay
-pub record Replays (code : List Instruction) (a : Machine) (n : ℕ) (b : Machine) : Type 0 where
+-- what is left of a replay that had more acts
+pub record Replays (code : List Instruction) (a : Machine) (n : ℕ) (b : Machine) (before : List Act) : Type 0 where
   pub acts : List Act
+  pub fewer : length acts < length before
   pub replay : Replay code a n acts b
 
 -- the last act of a list that has a send doesn't depend on what went before
@@ -43,6 +45,7 @@ last-act (k ∷ ks) n e b d = refl
 -- the machine's own step is the first of the run
 first-step : {code : List Instruction} {a c b : Machine} {n : ℕ} {ks : List Act} {k : Act} → Run code a ks b → suc n ≡ sends ks → lastSend true ks ≡ true
     → Steps code a k c → (js : List Act) × Run code c js b × (suc n ≡ oneSend k (sends js)) × (lastSend (isSend k) js ≡ true)
+    × (length js < length ks)
 first-step here s l e = absurd (omega arith)
 first-step {code} {b = b} {n = n} {k = k} (more {k = j} {ks = js} f r) s l e =
     let same : j ≡ k = same-act f e in (
@@ -50,23 +53,26 @@ first-step {code} {b = b} {n = n} {k = k} (more {k = j} {ks = js} f r) s l e =
       subst (λ (m : Machine). Run code m js b) (same-machine f e) r,
       subst (λ (i : Act). suc n ≡ oneSend i (sends js)) same s,
       subst (λ (i : Act). lastSend (isSend i) js ≡ true) same l,
+      omega arith,
     )
 
 pub replay-silent : {code : List Instruction} {a c b : Machine} {n : ℕ} {ks : List Act} {k : Act} → Replay code a (suc n) ks b → Steps code a k c
-    → isSend k ≡ false → Replays code c (suc n) b
-replay-silent {code} {c = c} {b = b} {n = n} {k = k} h e s = let v = first-step (h .ran) (h .sent-so) (h .sealed) e in go k s (v .0) (v .1) (v .2) (v .3)
+    → isSend k ≡ false → Replays code c (suc n) b ks
+replay-silent {code} {c = c} {b = b} {n = n} {ks = ks} {k = k} h e s =
+    let v = first-step (h .ran) (h .sent-so) (h .sealed) e in go k s (v .0) (v .1) (v .2) (v .3) (v .4)
   where
-    go : (j : Act) → isSend j ≡ false → (js : List Act) → Run code c js b → suc n ≡ oneSend j (sends js) → lastSend (isSend j) js ≡ true → Replays code c (suc n) b
-    go internal s′ js r i l = record { acts = js; replay = record { ran = r; sent-so = i; sealed = last-act js n i true false ∙ l } }
-    go (took x) s′ js r i l = record { acts = js; replay = record { ran = r; sent-so = i; sealed = last-act js n i true false ∙ l } }
-    go (sent x) s′ js r i l = absurd (no-way (cc))
+    go : (j : Act) → isSend j ≡ false → (js : List Act) → Run code c js b → suc n ≡ oneSend j (sends js) → lastSend (isSend j) js ≡ true → length js < length ks
+        → Replays code c (suc n) b ks
+    go internal s′ js r i l w = record { acts = js; fewer = w; replay = record { ran = r; sent-so = i; sealed = last-act js n i true false ∙ l } }
+    go (took x) s′ js r i l w = record { acts = js; fewer = w; replay = record { ran = r; sent-so = i; sealed = last-act js n i true false ∙ l } }
+    go (sent x) s′ js r i l w = absurd (no-way (cc))
 
 pub replay-send : {code : List Instruction} {a c b : Machine} {n : ℕ} {x : Mail} {ks : List Act} → Replay code a (suc n) ks b → Steps code a (sent x) c
-    → Replays code c n b
+    → Replays code c n b ks
 replay-send h e =
     let v = first-step (h .ran) (h .sent-so) (h .sealed) e in
     let i = v .2 in
-    record { acts = v .0; replay = record { ran = v .1; sent-so = omega arith; sealed = v .3 } }
+    record { acts = v .0; fewer = v .4; replay = record { ran = v .1; sent-so = omega arith; sealed = v .3 } }
 
 -- nothing left to suppress: the machine is the reference one
 none-last : (ks : List Act) → 0 ≡ sends ks → lastSend false ks ≡ true → ⊥

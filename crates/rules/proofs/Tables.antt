@@ -144,6 +144,12 @@ module _ (t : Table) (ok : Accepted t) where
       (and-right (leb limitLeast (limitOf t p)) _ (all-of (λ (x : Placement). limitOk (x .limit)) (t .processes) (ok .limits) p nowhere h)))
       (λ h. subst (λ (x : Placement). x .limit ≤ limitMost) (sym (List·getD-eq-default (t .processes) nowhere h)) (omega arith))
 
+  pub limit-low : (p : ℕ) → p < length (t .processes) → limitLeast ≤ limitOf t p
+  unfolding limitsOk
+  limit-low p h =
+      leb-true limitLeast (limitOf t p)
+      (and-left _ (leb (limitOf t p) limitMost) (all-of (λ (x : Placement). limitOk (x .limit)) (t .processes) (ok .limits) p nowhere h))
+
 -- ---- what an instruction of an accepted table does
 
 -- the program counter stays within the n instructions, and a word goes out on a channel of p's own

@@ -24,7 +24,7 @@ same-machine l p j y e =
     (λ h. ap (λ (m : List Process). getD m j nobody .machine) (set-out l p y h))
 
 -- the outboxes change, and no word on any channel with them
-same-totals : (t : Table) (c : Cabinet) (p : ℕ) (y : Process) (qs : List (List Item)) → y .machine ≡ processAt c p .machine
+pub same-totals : (t : Table) (c : Cabinet) (p : ℕ) (y : Process) (qs : List (List Item)) → y .machine ≡ processAt c p .machine
     → ((k : ℕ) → inFlight k qs ≡ inFlight k (c .outboxes)) → SameTotals t c (record { processes = set (c .processes) p y; outboxes = qs; dead = c .dead })
 unfolding occupancy
 same-totals t c p y qs e f k =

@@ -43,7 +43,7 @@ finish t commands f true q =
           ∙ append-nil (injections (f .actions))
           ∙ f .injected;
       same-trace = r .same-trace ∙ f .traced;
-      same-end = λ _. same-machines (f .invariant) q r;
+      same-end = λ _. same-machines (f .invariant) r;
       no-step = λ _. no-more (f .invariant) q r;
     }
 
