@@ -160,7 +160,9 @@ fn complaints() {
     // Each ending is explained.
     let help = String::from_utf8(help.stdout).expect("text");
     let meaning = help.split_once("What an ending means:\n").expect("what the endings mean").1;
-    for (start, words) in [("  quiet  ", "nothing is left to do"), ("  hold-back left  ", "64 further steps"), ("  none left  ", "stands still")] {
+    for (start, words) in
+        [("  quiet  ", "nothing is left to do"), ("  hold-back left  ", "64 further steps"), ("  none left  ", "stands still")]
+    {
         assert!(meaning.split_once(start).is_some_and(|(_, rest)| rest.contains(words)), "{start}: {help}");
     }
 }

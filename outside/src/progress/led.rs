@@ -10,8 +10,8 @@ use outside::rules::run::Outcome;
 use outside::rules::sample::{carry, give_back, resync, step, sync};
 use outside::rules::simulator::Cabinet;
 
-/// A schedule has 10,000 records at most, and what is tried at an end needs some.
-const RECORDS_MOST: usize = 9_500;
+/// A schedule has 10,000 records at most; a round, and what is tried at an end, need some of them.
+const RECORDS_MOST: usize = 9_000;
 
 #[derive(Clone)]
 pub struct Led<'t> {
@@ -128,7 +128,10 @@ impl<'t> Led<'t> {
         let other = codes.zip(&self.wanted).position(|(code, wanted)| !wanted.met(code));
         if returned != wanted || lent.report != report || other.is_some() {
             println!("table {:02X?}\nschedule {:02X?}", encode_table(self.table), encode_schedule(&self.records));
-            println!("returned {returned:#x}, by the simulator {wanted:#x}; report {:?}, by the simulator {report:?}", lent.report);
+            println!(
+                "returned {returned:#x}, by the simulator {wanted:#x}; report {:?}, by the simulator {report:?}",
+                lent.report
+            );
             if let Some(i) = other {
                 let at = from + i;
                 println!("record {} is answered {}: {:?} is wanted", at + 1, lent.answers[6 * at], self.wanted[i]);

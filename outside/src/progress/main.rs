@@ -158,7 +158,7 @@ fn often(seen: &mut Seen, random: &mut Random) {
     let table = row(random);
     let crashes = 3 + random.below(6) as usize;
     let mut records = crash_after_crash(random, &table, crashes, 600);
-    records.truncate(random.below(records.len() as u32 + 1) as usize);
+    records.truncate(random.below(records.len().min(4_000) as u32 + 1) as usize);
     seen.run(random, &table, &records);
 }
 
