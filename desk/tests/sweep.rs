@@ -157,6 +157,14 @@ fn complaints() {
     assert!(printed(&["-"], &idle(&[Record::step(0); 500])).contains("1503 runs"));
     let help = swept(&["--help"], &[]);
     assert!(help.status.code() == Some(0) && help.stdout.starts_with(b"usage: ./sweep") && help.stderr.is_empty());
+    // Each ending is explained.
+    let help = String::from_utf8(help.stdout).expect("text");
+    let meaning = help.split_once("What an ending means:\n").expect("what the endings mean").1;
+    for (start, words) in
+        [("  quiet  ", "nothing is left to do"), ("  hold-back left  ", "64 further steps"), ("  none left  ", "stands still")]
+    {
+        assert!(meaning.split_once(start).is_some_and(|(_, rest)| rest.contains(words)), "{start}: {help}");
+    }
 }
 
 /// No records: one place.

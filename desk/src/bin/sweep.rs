@@ -20,6 +20,11 @@ as ./run takes them; the schedule has at most 500 records, and no crash.
   --list ENDING    instead, the places that end so, quiet, held or open, each as ./explain --pull takes it: BOARD@N
   --require-quiet  ends with 4 where a run ends unquiet
   --hex, --bytes   FILE is hex text, or bytes, whatever it looks like
+What an ending means:
+  quiet            nothing is left to do: every queue is empty, and each process has halted or waits for a word
+  hold-back left   a stand-by hasn't caught up yet. At most 64 further steps of it, none of them refused, and it is level
+  none left        something is still to be done: a carry, a step, or a sync that is owed and then a step. Or the cabinet stands still, which it
+                   does only where a channel is full and its reader leaves it unread; then nothing helps but a feed or another crash
 What is refused prints `refused` and the number (docs/NUMBERS.md), says why on standard error, and ends with 3.";
 
 /// What is printed.

@@ -1,11 +1,14 @@
-//! One run of the label line by the proved call and by the simulator, compared byte by byte; and its labels, held against the sequence.
+//! One run of the label line by the proved call and by the simulator, compared byte by byte; its labels, held against the sequence; and that its end
+//! is quiet or goes on, and is never a standstill.
 use crate::call::ks_label_run;
 use outside::rules::answer::Answer;
 use outside::rules::generate::{encode_schedule, encode_table};
 use outside::rules::lent::Lent;
 use outside::rules::line::{fault, seen, table, SERIAL_MOST};
+use outside::rules::progress::{standing, Standing, Wanted};
 use outside::rules::reader::{record, Record};
 use outside::rules::run::{run, Outcome};
+use outside::rules::simulator::Cabinet;
 
 /// What lies in buffers before a run.
 const FILLER: u8 = 0xEE;
@@ -14,6 +17,8 @@ const FILLER: u8 = 0xEE;
 pub struct Counts {
     pub runs: u64,
     pub quiet: u64,
+    /// Unquiet ends at which the proved call did what could be done next.
+    pub went_on: u64,
     pub crashed: u64,
     /// Runs with three crashes or more, and the most of one run.
     pub thrice: u64,
@@ -62,7 +67,34 @@ fn wrong(counts: &mut Counts, first: u32, records: &[Record], buffers: Lent<usiz
     counts.crashes = counts.crashes.max(crashes);
     counts.cartons = counts.cartons.max(cartons.len());
     counts.labels = counts.labels.max(outlet.len() / 2);
-    fault(first, &cartons, &outlet, wanted.outcome.quiet)
+    fault(first, &cartons, &outlet, wanted.outcome.quiet).or_else(|| match wanted.outcome.number {
+        0 => stuck(counts, first, records),
+        _ => None,
+    })
+}
+
+/// What is wrong with the end of an accepted run, if it is neither quiet nor goes on: a standstill, or something that can be done and isn't.
+fn stuck(counts: &mut Counts, first: u32, records: &[Record]) -> Option<&'static str> {
+    let table = table(first);
+    let mut cabinet = Cabinet::new(&table);
+    records.iter().for_each(|&record| {
+        cabinet.answer(record);
+    });
+    let next = match standing(&table, &cabinet) {
+        Standing::Quiet => return None,
+        Standing::Standstill => return Some("a standstill"),
+        Standing::GoesOn(next) => next.records(),
+    };
+    let (further, wanted): (Vec<Record>, Vec<Wanted>) = next.into_iter().unzip();
+    let all = [records, &further].concat();
+    if all.len() > 10_000 {
+        return None;
+    }
+    let mut lent = Lent::needed(all.len(), 2).filled(FILLER);
+    ks_label_run(first, &encode_schedule(&all), lent.lend());
+    let codes = lent.answers[6 * records.len()..].chunks_exact(6).map(|answer| answer[0]);
+    counts.went_on += 1;
+    codes.zip(wanted).any(|(code, wanted)| !wanted.met(code)).then_some("what can be done next isn't")
 }
 
 /// One run by both; a difference ends the program.

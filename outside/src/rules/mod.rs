@@ -13,6 +13,7 @@ pub mod loops;
 pub mod origins;
 pub mod page;
 pub mod plain;
+pub mod progress;
 pub mod reader;
 pub mod reasons;
 pub mod repairs;
@@ -20,6 +21,7 @@ pub mod run;
 pub mod sample;
 pub mod simulator;
 pub mod sweep;
+pub mod tables;
 
 #[cfg(test)]
 mod marked;

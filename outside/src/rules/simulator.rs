@@ -26,7 +26,7 @@ enum Waiting {
     },
 }
 
-#[derive(Clone, Debug)]
+#[derive(Clone, Debug, PartialEq, Eq)]
 pub struct Process<'t> {
     program: &'t [Instruction],
     limit: u8,
@@ -67,8 +67,18 @@ impl<'t> Process<'t> {
     }
 
     /// The instruction at its place, if it isn't halted.
-    fn instruction(&self) -> Option<Instruction> {
+    pub fn instruction(&self) -> Option<Instruction> {
         self.program.get(self.place as usize).copied()
+    }
+
+    /// "halted or would answer 36"
+    pub fn rests(&self) -> bool {
+        match self.instruction() {
+            None => true,
+            Some(Instruction::Take { channel, .. }) => self.oldest(1 << channel).is_none(),
+            Some(Instruction::First { mask, .. }) => self.oldest(mask).is_none(),
+            Some(_) => false,
+        }
     }
 
     /// A word reaches the inbox and the backup record, if there is one; a resync that waits will bring it there too.
@@ -208,6 +218,17 @@ impl<'t> Cabinet<'t> {
 
     pub fn dead(&self, board: u8) -> bool {
         self.dead[board as usize]
+    }
+
+    /// How many entries a board's queue has.
+    pub fn queued(&self, board: u8) -> usize {
+        self.queues[board as usize].len()
+    }
+
+    /// Whether boards, queues and all processes but one are as they are there.
+    pub fn same_but(&self, p: usize, there: &Cabinet) -> bool {
+        let mut pairs = self.processes.iter().zip(&there.processes).enumerate();
+        self.dead == there.dead && self.queues == there.queues && pairs.all(|(i, (ours, theirs))| i == p || ours == theirs)
     }
 
     /// "A channel is held when its unread words and those in the queues are 8 or more together. A channel read by the outside is
@@ -471,13 +492,7 @@ impl<'t> Cabinet<'t> {
 
     /// "Quiet: each process is halted or would answer 36, and no queue has an entry."
     pub fn quiet(&self) -> bool {
-        let rests = |process: &Process| match process.instruction() {
-            None => true,
-            Some(Instruction::Take { channel, .. }) => process.oldest(1 << channel).is_none(),
-            Some(Instruction::First { mask, .. }) => process.oldest(mask).is_none(),
-            Some(_) => false,
-        };
-        self.queues.iter().all(VecDeque::is_empty) && self.processes.iter().all(rests)
+        self.queues.iter().all(VecDeque::is_empty) && self.processes.iter().all(Process::rests)
     }
 
     /// "The report: board, place, unread count and hold-back, a byte each, then four registers."

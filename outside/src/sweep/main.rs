@@ -6,15 +6,13 @@ mod call;
 mod time;
 
 use outside::random::Random;
-use outside::rules::busy::busy;
 use outside::rules::damage::{damage_schedule, damage_table, DAMAGES};
-use outside::rules::generate::{continued, encode_schedule, encode_table, table};
-use outside::rules::loops::loops;
+use outside::rules::generate::{continued, encode_schedule, encode_table};
 use outside::rules::reader::{Channel, Process, Record, Table, OUTSIDE};
-use outside::rules::repairs::row;
 use outside::rules::sample::{crash, give_back, resync, sample_schedule, step, SAMPLE};
 use outside::rules::simulator::Cabinet;
 use outside::rules::sweep::{sweep, Swept};
+use outside::rules::tables::of_any_kind;
 
 const SEED: u64 = 0x9E37_79B9_7F4A_7C15;
 const SWEEPS: u64 = 10_000;
@@ -90,15 +88,7 @@ fn named(seen: &mut Seen) {
 
 /// A sound table, and a schedule of it with no crash: most of its records suit the cabinet as it is without one, and some suit it after one.
 fn random_sweep(seen: &mut Seen, random: &mut Random) {
-    let made = match random.below(6) {
-        0 => loops(random),
-        1 => row(random),
-        2 | 3 => {
-            let (boards, processes) = (2 + random.below(4) as u8, 1 + random.below(6) as u8);
-            busy(random, boards, processes)
-        }
-        _ => table(random),
-    };
+    let made = of_any_kind(random);
     let length = random.pick(&[0, 1, 5, 20, 40, 80]);
     let mut records = continued(random, &made, Cabinet::new(&made), length);
     for _ in 0..random.below(6) {
