@@ -67,6 +67,10 @@ pub mod MoveCases
 pub mod LongCases
 pub mod LimitCases
 pub mod RejoinCases
+pub mod Sweep
+pub mod PutIn
+pub mod SweepCases
+pub mod BackCases
 pub mod ReasonCases
 pub mod FormatCases
 pub mod PageCases
@@ -80,6 +84,7 @@ pub mod OriginCases
 -- W-206: one byte never fits two causes.
 pub mod OneCause
 -- Demand 3 of every accepted run.
+pub mod Back
 pub mod Theorem
 -- W-212 of every accepted run: an origin names a SEND.
 pub mod Senders

@@ -1,12 +1,15 @@
 -- W-212: what tells the origin of an answer, of every command in every cabinet: its move, its code and, of a carry, the oldest entry before it.
 -- This is what code that writes the origins rests on.
-use mathlib.Core.Path.{_≡_, refl}
+use mathlib.Core.Path.{_≡_, refl, sym}
 use mathlib.Core.Bool.{Bool, true, false, cond}
+use mathlib.Core.List.{List, [], _∷_}
 use Prim.Native.Nat.{ℕ}
+use borrow.Author.Tests.{eqb-true}
 use Rattle.rules.specs.Table.{Table}
-use Rattle.rules.specs.Cabinet.{Cabinet, processAt, outboxAt, protected}
+use Rattle.rules.specs.Cabinet.{Item, Cabinet, processAt, outboxAt, protected}
 use Rattle.rules.specs.Moves.{Command, Move, stepMove, issueMove, transmitMove, injectMove, crashMove, rejoinMove, rebackupMove, unknown, moveOf}
-use Rattle.rules.specs.Moves.{Refusal, Answer, syncKept, syncLost, droppedFrom, refused, numbers, originOf, turn}
+use Rattle.rules.specs.Moves.{Refusal, strayWord, noOrigin, Answer, syncKept, syncLost, droppedFrom, refused, numbers, originOf, turn}
+use Rattle.rules.specs.Back.{Session, isBack, isBare, goBack, backward, stride}
 use Rattle.rules.specs.Origins.{toldBy}
 use Rattle.rules.proofs.Decoded.{refusalNumber-not-4}
 use Rattle.rules.proofs.Guards.{Done, yields-turn}
@@ -50,3 +53,23 @@ module _ (t : Table) (c : Cabinet) (r : Command) where
 
   pub origin-told : originOf (turn t c r .answer) ≡ toldBy t (outboxAt c (r .a)) (numbers (turn t c r .answer) .code) (moveOf (r .move))
   origin-told = yields-turn t c r Told each-told refused-told
+
+-- of every record of a session: a move 8 puts no word on the bus
+back-told : (s : Session) (r : Command) (bare : Bool) (kept : List Cabinet)
+    → originOf (cond bare (goBack s r kept) (record { session = s; answer = refused strayWord (r .a) }) .answer) ≡ noOrigin
+unfolding originOf goBack
+back-told s r true [] = refl
+back-told s r true (c ∷ older) = refl
+back-told s r false kept = refl
+
+eight-told : (t : Table) (q : List Item) (code n : ℕ) → n ≡ 8 → toldBy t q code (moveOf n) ≡ noOrigin
+eight-told t q code n e = rw e
+
+pub stride-told : (t : Table) (s : Session) (r : Command)
+    → originOf (stride t s r .answer) ≡ toldBy t (outboxAt (s .cabinet) (r .a)) (numbers (stride t s r .answer) .code) (moveOf (r .move))
+unfolding stride backward
+stride-told t s r = go (isBack r) refl
+  where
+    go : (b : Bool) → isBack r ≡ b → originOf (stride t s r .answer) ≡ toldBy t (outboxAt (s .cabinet) (r .a)) (numbers (stride t s r .answer) .code) (moveOf (r .move))
+    go true e = rw (e, back-told s r (isBare r) (s .kept)) (sym (eight-told t (outboxAt (s .cabinet) (r .a)) _ (r .move) (eqb-true (r .move) 8 e)))
+    go false e = rw e (origin-told t (s .cabinet) r)

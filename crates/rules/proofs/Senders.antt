@@ -1,5 +1,5 @@
 -- W-212: what an origin says. The word was fed, or at that place of that process stands a SEND to its channel: of every plain run, and so of the
--- bytes of every accepted run.
+-- bytes of every accepted run, as far as its records stand.
 use mathlib.Core.Path.{_≡_, refl, subst}
 use mathlib.Core.Bool.{Bool, true, false, cond}
 use mathlib.Core.Option.{Option, none, some}
@@ -14,8 +14,9 @@ use Rattle.rules.specs.Machine.{Mail, BusWord, sentFrom, fromOutside, Ma
 use Rattle.rules.specs.Reference.{Reference, Action, inject, step, posted, withMachine, stepped, act, andThen, referenceStart, referenceRun}
 use Rattle.rules.specs.Origins.{SendsAt, Genuine, was-fed, was-sent, AllGenuine, none-shown, one-shown}
 use Rattle.rules.specs.Format.{decodeTable}
+use Rattle.rules.specs.Schedule.{decodeSchedule}
 use Rattle.rules.specs.Run.{Buffers, run, accepted}
-use Rattle.rules.specs.Transparent.{busOf}
+use Rattle.rules.specs.Transparent.{busOrder}
 use Rattle.rules.specs.Transparency.{answersIn, originsIn}
 use Rattle.rules.proofs.Steps.{Steps, executes}
 use Rattle.rules.proofs.Theorem.{failure-transparency}
@@ -99,7 +100,7 @@ module _ (t : Table) where
 -- ---- of what an accepted run leaves in its buffers
 
 pub bus-genuine : (table schedule : List ℕ) (buffers : Buffers) → accepted table schedule buffers ≡ true
-    → (let r = run table schedule buffers in AllGenuine (decodeTable table) (busOf (answersIn r) (originsIn r)))
+    → (let r = run table schedule buffers in AllGenuine (decodeTable table) (busOrder (decodeSchedule schedule) (answersIn r) (originsIn r)))
 bus-genuine table schedule buffers h =
     let x = failure-transparency table schedule buffers h in
     subst (AllGenuine (decodeTable table)) (x .same-trace) (plain-genuine (decodeTable table) (x .actions) (x .end) (x .ran))

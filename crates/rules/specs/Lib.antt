@@ -7,6 +7,7 @@ pub mod Reference
 pub mod Cabinet
 pub mod Answers
 pub mod Moves
+pub mod Back
 pub mod Reasons
 pub mod Judge
 pub mod Bounds
@@ -23,3 +24,4 @@ pub mod Schedule
 pub mod Run
 pub mod Transparency
 pub mod Page
+pub mod Sweep

@@ -49,6 +49,14 @@ scheduleHead = 3
 abbrev pub commandsMost : ℕ
 commandsMost = 10000
 
+-- W-213: "or over 500 records"
+abbrev pub sweepMost : ℕ
+sweepMost = 500
+
+-- W-214: "Of the others 64 are kept to go back to"
+abbrev pub keptMost : ℕ
+keptMost = 64
+
 -- ---- the cabinet
 
 -- "each board has one queue, at most 32 entries"
