@@ -11,7 +11,7 @@ use Rattle.facts.specs.Tests.{and-left, and-right}
 use Rattle.rules.specs.Table.{Table}
 use Rattle.rules.specs.Cabinet.{Cabinet, quiescent}
 use Rattle.rules.specs.Moves.{Command, numbers, originOf, turn, runFrom}
-use Rattle.rules.specs.Back.{Session, opened, stride, playFrom}
+use Rattle.rules.specs.Undo.{Session, opened, stride, playFrom}
 use Rattle.rules.specs.Reasons.{reasonOf}
 use Rattle.rules.specs.Judge.{Accepted}
 use Rattle.rules.specs.Transparent.{shown, shownFrom, ended, ListTransparent}

@@ -12,7 +12,7 @@ use Rattle.facts.specs.Tests.{no-way}
 use Rattle.rules.specs.Table.{Table}
 use Rattle.rules.specs.Cabinet.{Process, Cabinet, started, placed}
 use Rattle.rules.specs.Moves.{Command, deliver}
-use Rattle.rules.specs.Back.{opened, playFrom}
+use Rattle.rules.specs.Undo.{opened, playFrom}
 use Rattle.rules.specs.Reasons.{reasonOf}
 use Rattle.rules.specs.Transparent.{finished, shown, shownFrom, ended}
 use Rattle.rules.specs.Bytes.{allBytes, written}
@@ -22,7 +22,7 @@ use Rattle.rules.specs.Run.{Buffers, lengthsOf, answerBytes, originBytes
 use Rattle.rules.proofs.Guards.{Leaves, after-run}
 use Rattle.rules.proofs.Crashed.{crash-length}
 use Rattle.rules.proofs.Valid.{length-sixes, processes-counted}
-use Rattle.rules.proofs.Back.{standingIn, ended-is}
+use Rattle.rules.proofs.Standing.{standingIn, ended-is}
 use Rattle.rules.proofs.AcceptedRun.{one-shown-each, shown-length, shownFrom-length, run-is, answers-fit, reasons-fit, report-fits, origins-fit}
 
 -- ---- written bytes

@@ -6,7 +6,7 @@ use mathlib.Core.List.{List, [], _∷_, map}
 use Prim.Native.Nat.{ℕ}
 use lib.Dec.{eqb}
 use Rattle.rules.specs.Machine.{Mail, Origin, BusWord}
-use Rattle.rules.specs.Moves.{Command, Answer, stepDone, issueDone, crashDone, rejoinDone, rebackupDone, takenBack, received, queued, suppressed, transmitted, injected, syncKept, syncLost, transferKept, refused, Numbers, numbered, numbers}
+use Rattle.rules.specs.Moves.{Command, Answer, stepDone, issueDone, crashDone, rejoinDone, rebackupDone, undoDone, received, queued, suppressed, transmitted, injected, syncKept, syncLost, transferKept, refused, Numbers, numbered, numbers}
 use Rattle.rules.specs.Transparent.{traceOf, busOf, fedOf}
 
 -- document 01's own numbers: "5 sync carried [..] (process, 0)"
@@ -17,7 +17,7 @@ numbersBefore issueDone = numbers issueDone
 numbersBefore crashDone = numbers crashDone
 numbersBefore rejoinDone = numbers rejoinDone
 numbersBefore rebackupDone = numbers rebackupDone
-numbersBefore takenBack = numbers takenBack
+numbersBefore undoDone = numbers undoDone
 numbersBefore (received x) = numbers (received x)
 numbersBefore (queued x) = numbers (queued x)
 numbersBefore (suppressed x) = numbers (suppressed x)
@@ -36,7 +36,7 @@ same-code issueDone = refl
 same-code crashDone = refl
 same-code rejoinDone = refl
 same-code rebackupDone = refl
-same-code takenBack = refl
+same-code undoDone = refl
 same-code (received x) = refl
 same-code (queued x) = refl
 same-code (suppressed x) = refl
@@ -58,7 +58,7 @@ same-added issueDone others = refl
 same-added crashDone others = refl
 same-added rejoinDone others = refl
 same-added rebackupDone others = refl
-same-added takenBack others = refl
+same-added undoDone others = refl
 same-added (received x) others = refl
 same-added (queued x) others = refl
 same-added (suppressed x) others = refl
@@ -86,7 +86,7 @@ same-addedFrom o issueDone others = refl
 same-addedFrom o crashDone others = refl
 same-addedFrom o rejoinDone others = refl
 same-addedFrom o rebackupDone others = refl
-same-addedFrom o takenBack others = refl
+same-addedFrom o undoDone others = refl
 same-addedFrom o (received x) others = refl
 same-addedFrom o (queued x) others = refl
 same-addedFrom o (suppressed x) others = refl

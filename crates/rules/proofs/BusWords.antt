@@ -7,7 +7,7 @@ use Prim.Native.Nat.{ℕ}
 use lib.Dec.{eqb}
 use Rattle.rules.specs.Machine.{Origin}
 use Rattle.rules.specs.Moves.{Command, Answer, Numbers, numbers, originOf}
-use Rattle.rules.specs.Back.{Noted, standing, answersOf, originsOf}
+use Rattle.rules.specs.Undo.{Noted, standing, answersOf, originsOf}
 use Rattle.rules.specs.Transparent.{traceOf, busOf, busOrder, wordOrder, withoutOrigins}
 use Rattle.rules.specs.Schedule.{decodeSchedule}
 use Rattle.rules.specs.Run.{Ran}

@@ -15,7 +15,7 @@ use Rattle.rules.specs.Machine.{sentFrom, fromOutside}
 use Rattle.rules.specs.Reference.{Reference, Action, inject, referenceStart, referenceRun}
 use Rattle.rules.specs.Cabinet.{Process, processAt, protected}
 use Rattle.rules.specs.Moves.{guard, Command, Numbers, runFrom}
-use Rattle.rules.specs.Back.{standing}
+use Rattle.rules.specs.Undo.{standing}
 use Rattle.rules.specs.Transparent.{busOf, fedOf, busOrder, fedIn, machinesOf, finished, ended}
 use Rattle.rules.specs.Rebackup.{anyCompletes}
 use Rattle.rules.specs.Recovery.{Repairs}

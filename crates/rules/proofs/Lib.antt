@@ -70,7 +70,7 @@ pub mod RejoinCases
 pub mod Sweep
 pub mod PutIn
 pub mod SweepCases
-pub mod BackCases
+pub mod UndoCases
 pub mod ReasonCases
 pub mod FormatCases
 pub mod PageCases
@@ -84,7 +84,9 @@ pub mod OriginCases
 -- W-206: one byte never fits two causes.
 pub mod OneCause
 -- Demand 3 of every accepted run.
-pub mod Back
+pub mod Undo
+pub mod Standing
+pub mod Undoes
 pub mod Theorem
 -- W-212 of every accepted run: an origin names a SEND.
 pub mod Senders

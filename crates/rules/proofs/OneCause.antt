@@ -2,7 +2,7 @@
 use mathlib.Core.Path.{_≡_, refl}
 use Prim.Native.Nat.{ℕ, _+_, _*_, _≤_, _<_}
 use native.Mathlib.Omega.{arith}
-use Rattle.rules.specs.Moves.{Refusal, unknownMove, strayWord, noProcess, noBoard, noChannel, transmitDead, crashDead, isHalted, noWordToTake, noWordForFirst, eventsFull, instructionsFull, sendBlocked, syncBlocked, rebackupBlocked, sendHeld, injectHeld, noBackup, syncWaits, rebackupWaits, outboxEmpty, notOutside, notBacked, boardLive, unready, hasBackup, noneKept, refusalNumber, Answer, stepDone, issueDone, crashDone, rejoinDone, rebackupDone, takenBack, received, queued, suppressed, transmitted, injected, syncKept, syncLost, transferKept, refused, numbers}
+use Rattle.rules.specs.Moves.{Refusal, unknownMove, strayWord, noProcess, noBoard, noChannel, transmitDead, crashDead, isHalted, noWordToTake, noWordForFirst, eventsFull, instructionsFull, sendBlocked, syncBlocked, rebackupBlocked, sendHeld, injectHeld, noBackup, syncWaits, rebackupWaits, outboxEmpty, notOutside, notBacked, boardLive, unready, hasBackup, noneKept, refusalNumber, Answer, stepDone, issueDone, crashDone, rejoinDone, rebackupDone, undoDone, received, queued, suppressed, transmitted, injected, syncKept, syncLost, transferKept, refused, numbers}
 use Rattle.rules.specs.Reasons.{refusalCause, causeOf, reasonOf}
 
 -- no code is above 53, and no cause above 3
@@ -50,7 +50,7 @@ answer-small issueDone = small (omega arith) (omega arith)
 answer-small crashDone = small (omega arith) (omega arith)
 answer-small rejoinDone = small (omega arith) (omega arith)
 answer-small rebackupDone = small (omega arith) (omega arith)
-answer-small takenBack = small (omega arith) (omega arith)
+answer-small undoDone = small (omega arith) (omega arith)
 answer-small (received x) = small (omega arith) (omega arith)
 answer-small (queued x) = small (omega arith) (omega arith)
 answer-small (suppressed x) = small (omega arith) (omega arith)

@@ -12,7 +12,7 @@ use Rattle.rules.specs.Table.{TAKE, SEND, JUMP}
 use Rattle.rules.specs.Machine.{Mail, BusWord, sentFrom, fromOutside}
 use Rattle.rules.specs.Reference.{Action, inject, referenceStart, referenceRun}
 use Rattle.rules.specs.Moves.{guard, Command}
-use Rattle.rules.specs.Back.{standing}
+use Rattle.rules.specs.Undo.{standing}
 use Rattle.rules.specs.Transparent.{traceOf, busOf, busOrder, wordOrder}
 use Rattle.rules.specs.Format.{decodeTable}
 use Rattle.rules.specs.Run.{run}

@@ -9,7 +9,7 @@ use Rattle.rules.specs.Table.{Table}
 use Rattle.rules.specs.Cabinet.{Item, Cabinet, processAt, outboxAt, protected}
 use Rattle.rules.specs.Moves.{Command, Move, stepMove, issueMove, transmitMove, injectMove, crashMove, rejoinMove, rebackupMove, unknown, moveOf}
 use Rattle.rules.specs.Moves.{Refusal, strayWord, noOrigin, Answer, syncKept, syncLost, droppedFrom, refused, numbers, originOf, turn}
-use Rattle.rules.specs.Back.{Session, isBack, isBare, goBack, backward, stride}
+use Rattle.rules.specs.Undo.{Session, isUndo, isBare, undone, undo, stride}
 use Rattle.rules.specs.Origins.{toldBy}
 use Rattle.rules.proofs.Decoded.{refusalNumber-not-4}
 use Rattle.rules.proofs.Guards.{Done, yields-turn}
@@ -55,21 +55,21 @@ module _ (t : Table) (c : Cabinet) (r : Command) where
   origin-told = yields-turn t c r Told each-told refused-told
 
 -- of every record of a session: a move 8 puts no word on the bus
-back-told : (s : Session) (r : Command) (bare : Bool) (kept : List Cabinet)
-    → originOf (cond bare (goBack s r kept) (record { session = s; answer = refused strayWord (r .a) }) .answer) ≡ noOrigin
-unfolding originOf goBack
-back-told s r true [] = refl
-back-told s r true (c ∷ older) = refl
-back-told s r false kept = refl
+undo-told : (s : Session) (r : Command) (bare : Bool) (kept : List Cabinet)
+    → originOf (cond bare (undone s r kept) (record { session = s; answer = refused strayWord (r .a) }) .answer) ≡ noOrigin
+unfolding originOf undone
+undo-told s r true [] = refl
+undo-told s r true (c ∷ older) = refl
+undo-told s r false kept = refl
 
 eight-told : (t : Table) (q : List Item) (code n : ℕ) → n ≡ 8 → toldBy t q code (moveOf n) ≡ noOrigin
 eight-told t q code n e = rw e
 
 pub stride-told : (t : Table) (s : Session) (r : Command)
     → originOf (stride t s r .answer) ≡ toldBy t (outboxAt (s .cabinet) (r .a)) (numbers (stride t s r .answer) .code) (moveOf (r .move))
-unfolding stride backward
-stride-told t s r = go (isBack r) refl
+unfolding stride undo
+stride-told t s r = go (isUndo r) refl
   where
-    go : (b : Bool) → isBack r ≡ b → originOf (stride t s r .answer) ≡ toldBy t (outboxAt (s .cabinet) (r .a)) (numbers (stride t s r .answer) .code) (moveOf (r .move))
-    go true e = rw (e, back-told s r (isBare r) (s .kept)) (sym (eight-told t (outboxAt (s .cabinet) (r .a)) _ (r .move) (eqb-true (r .move) 8 e)))
+    go : (b : Bool) → isUndo r ≡ b → originOf (stride t s r .answer) ≡ toldBy t (outboxAt (s .cabinet) (r .a)) (numbers (stride t s r .answer) .code) (moveOf (r .move))
+    go true e = rw (e, undo-told s r (isBare r) (s .kept)) (sym (eight-told t (outboxAt (s .cabinet) (r .a)) _ (r .move) (eqb-true (r .move) 8 e)))
     go false e = rw e (origin-told t (s .cabinet) r)

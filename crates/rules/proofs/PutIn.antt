@@ -17,7 +17,7 @@ use Rattle.rules.specs.Judge.{Accepted}
 use Rattle.rules.specs.Transparent.{finished}
 use Rattle.rules.specs.Recovery.{isCrash, anyCrash}
 use Rattle.rules.specs.Sweep.{crashOf, isBarred, anyBarred}
-use Rattle.rules.specs.Back.{isBack}
+use Rattle.rules.specs.Undo.{isUndo}
 use Rattle.rules.proofs.Guards.{Done, yields-turn}
 use Rattle.rules.proofs.Recovery.{backed-again, next-crash}
 
@@ -88,7 +88,7 @@ run-unhurt : (t : Table) (c : Cabinet) (commands : List Command) → anyBarred c
 unfolding runFrom
 run-unhurt t c [] h live = (refl, live)
 run-unhurt t c (r ∷ rs) h live =
-    let one = or-left (eqb (r .move) 5) (isBack r) (or-left (isBarred r) (anyBarred rs) h) in
+    let one = or-left (eqb (r .move) 5) (isUndo r) (or-left (isBarred r) (anyBarred rs) h) in
     let now = turn-unhurt t c r one in
     let rest = run-unhurt t (turn t c r .cabinet) rs (or-right (isBarred r) (anyBarred rs) h) (now .1 live) in
     (rw (now .0) (rest .0), rest .1)

@@ -9,7 +9,7 @@ use Rattle.backup.specs.Replica.{fit, arriveNumber, countNumber}
 use Rattle.rules.specs.Machine.{Mail, Origin, sentFrom, fromOutside}
 use Rattle.rules.specs.Reference.{Reference, Action, inject, step, referenceStart, referenceRun}
 use Rattle.rules.specs.Moves.{guard, Numbers}
-use Rattle.rules.specs.Back.{standing}
+use Rattle.rules.specs.Undo.{standing}
 use Rattle.rules.specs.Transparent.{busOf, fedOf, busOrder, fedIn, machinesOf, ended}
 use Rattle.rules.specs.Format.{decodeTable}
 use Rattle.rules.specs.Run.{run}

@@ -16,13 +16,13 @@ use Rattle.facts.specs.Sums.{sumBelow}
 use Rattle.rules.specs.Table.{Table}
 use Rattle.rules.specs.Cabinet.{started}
 use Rattle.rules.specs.Moves.{Command, turn, Outcomes, runFrom}
-use Rattle.rules.specs.Back.{opened, isBack, anyBack}
+use Rattle.rules.specs.Undo.{opened, isUndo, anyUndo}
 use Rattle.rules.specs.Transparent.{finished, ended}
 use Rattle.rules.specs.Sweep.{crashOf, pulledAt, Ending, quietEnd, heldEnd, freeEnd, endingOf, endingAt, isQuiet, isHeld, isFree, countOf, isBarred, anyBarred, Swept, sweptOf, validateSweep, sweep}
 use Rattle.rules.specs.Format.{decodeTable}
 use Rattle.rules.specs.Schedule.{decodeSchedule}
 use Rattle.rules.proofs.Recovery.{run-parts}
-use Rattle.rules.proofs.Back.{one-more, keeps-none, goes-on}
+use Rattle.rules.proofs.Undo.{one-more, keeps-none, forward-many}
 
 -- ---- "the three together make (n + 1) × B"
 
@@ -60,22 +60,22 @@ three-together t commands =
 
 -- ---- what the runs share
 
-no-back : (commands : List Command) → anyBarred commands ≡ false → anyBack commands ≡ false
-no-back [] h = refl
-no-back (r ∷ rs) h =
+no-undo : (commands : List Command) → anyBarred commands ≡ false → anyUndo commands ≡ false
+no-undo [] h = refl
+no-undo (r ∷ rs) h =
     let one = or-left (isBarred r) (anyBarred rs) h in
-    rw (or-right (eqb (r .move) 5) (isBack r) one) (no-back rs (or-right (isBarred r) (anyBarred rs) h))
+    rw (or-right (eqb (r .move) 5) (isUndo r) one) (no-undo rs (or-right (isBarred r) (anyBarred rs) h))
 
-pulled-forward : (commands : List Command) (place b : ℕ) → anyBack commands ≡ false → anyBack (pulledAt commands place b) ≡ false
+pulled-forward : (commands : List Command) (place b : ℕ) → anyUndo commands ≡ false → anyUndo (pulledAt commands place b) ≡ false
 pulled-forward commands zero b h = h
 pulled-forward [] (suc place) b h = refl
 pulled-forward (r ∷ rs) (suc place) b h =
-    rw (or-left (isBack r) (anyBack rs) h) (pulled-forward rs place b (or-right (isBack r) (anyBack rs) h))
+    rw (or-left (isUndo r) (anyUndo rs) h) (pulled-forward rs place b (or-right (isUndo r) (anyUndo rs) h))
 
 -- with no move 8 a run is the cabinet's own
-pub ended-forward : (t : Table) (commands : List Command) → anyBack commands ≡ false → ended t commands ≡ finished t commands
+pub ended-forward : (t : Table) (commands : List Command) → anyUndo commands ≡ false → ended t commands ≡ finished t commands
 unfolding opened
-ended-forward t commands h = goes-on t (started t) 0 (opened t) [] (keeps-none t (started t)) commands h .1 .cabinet-is
+ended-forward t commands h = forward-many t (started t) 0 (opened t) [] (keeps-none t (started t)) commands h .1 .cabinet-is
 
 -- the run with the crash at one place goes on from the cabinet that the records before it leave, which is the same for all boards
 pub pulled-ends : (t : Table) (commands : List Command) (place b : ℕ) → anyBarred commands ≡ false
@@ -84,7 +84,7 @@ unfolding endingAt runFrom
 pulled-ends t commands place b h =
     let parts = run-parts t (started t) (take place commands) (crashOf b ∷ drop place commands) in
     ap (endingOf t)
-    (ended-forward t (pulledAt commands place b) (pulled-forward commands place b (no-back commands h)) ∙ ap (λ (x : Outcomes). x .cabinet) parts)
+    (ended-forward t (pulledAt commands place b) (pulled-forward commands place b (no-undo commands h)) ∙ ap (λ (x : Outcomes). x .cabinet) parts)
 
 -- and those records are one more at each place
 pub next-place : (t : Table) (commands : List Command) (place : ℕ) (d : Command) → place < length commands

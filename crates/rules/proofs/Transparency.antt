@@ -16,12 +16,13 @@ use Rattle.rules.proofs.References.{run-append, injections-append}
 use Rattle.rules.proofs.Follow.{Follows}
 use Rattle.rules.proofs.Start.{reached}
 use Rattle.rules.proofs.Quiet.{all-caught-up, same-machines, no-more}
-use Rattle.rules.proofs.Back.{standingIn, ended-is, answers-are, origins-are}
+use Rattle.rules.proofs.Standing.{standingIn, ended-is, answers-are, origins-are}
 
 -- demand 3 of the cabinet's own moves, which take nothing back
-abbrev MovesTransparent : Table → List Command → Type 0
+abbrev pub MovesTransparent : Table → List Command → Type 0
 MovesTransparent t commands =
-    Transparent t (fedOf commands (answered t commands)) (busOf (answered t commands) (originated t commands)) (quiescent t (finished t commands)) (machinesOf (finished t commands))
+    Transparent t (fedOf commands (answered t commands)) (busOf (answered t commands) (originated t commands))
+    (quiescent t (finished t commands)) (machinesOf (finished t commands))
 
 -- at a quiet end the reference machine goes on to the running machines
 finish : (t : Table) (commands : List Command) → Follows t (finished t commands) (referenceStart t) (busOf (answered t commands) (originated t commands)) (fedOf commands (answered t commands))
@@ -52,7 +53,7 @@ finish t commands f true q =
       no-step = λ _. no-more (f .invariant) q r;
     }
 
-moves-transparent : (t : Table) → Accepted t → (commands : List Command) → MovesTransparent t commands
+pub moves-transparent : (t : Table) → Accepted t → (commands : List Command) → MovesTransparent t commands
 moves-transparent t ok commands = finish t commands (reached t ok commands .follows) (quiescent t (finished t commands)) refl
 
 -- of any list, with records taken back or without: that of the records which stand

@@ -63,7 +63,7 @@ pub data Answer : Type 0 where
   -- a step, a sync, a crash, a return and a resync that are done
   stepDone issueDone crashDone rejoinDone rebackupDone : Answer
   -- a record was taken back (W-214)
-  takenBack : Answer
+  undoDone : Answer
   received queued suppressed : Mail → Answer
   -- on the bus: a word that was carried, and one that was fed
   transmitted : BusWord → Answer
@@ -94,7 +94,7 @@ numbers issueDone = numbered 0 0 0
 numbers crashDone = numbered 0 0 0
 numbers rejoinDone = numbered 0 0 0
 numbers rebackupDone = numbered 0 0 0
-numbers takenBack = numbered 7 0 0
+numbers undoDone = numbered 7 0 0
 numbers (received x) = numbered 1 (x .channel) (x .word)
 numbers (queued x) = numbered 2 (x .channel) (x .word)
 numbers (suppressed x) = numbered 3 (x .channel) (x .word)
@@ -119,7 +119,7 @@ originOf issueDone = noOrigin
 originOf crashDone = noOrigin
 originOf rejoinDone = noOrigin
 originOf rebackupDone = noOrigin
-originOf takenBack = noOrigin
+originOf undoDone = noOrigin
 originOf (received x) = noOrigin
 originOf (queued x) = noOrigin
 originOf (suppressed x) = noOrigin

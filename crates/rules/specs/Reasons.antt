@@ -5,7 +5,7 @@ use Rattle.rules.specs.Moves.{Refusal, unknownMove, strayWord, noProcess
 use Rattle.rules.specs.Moves.{noWordToTake, noWordForFirst, eventsFull, instructionsFull, sendBlocked, syncBlocked, rebackupBlocked}
 use Rattle.rules.specs.Moves.{sendHeld, injectHeld, noBackup, syncWaits, rebackupWaits, outboxEmpty, notOutside, notBacked, boardLive}
 use Rattle.rules.specs.Moves.{unready, hasBackup, noneKept, Answer, stepDone, issueDone, crashDone, rejoinDone, rebackupDone, received, queued}
-use Rattle.rules.specs.Moves.{suppressed, transmitted, injected, syncKept, syncLost, transferKept, takenBack, refused, numbers}
+use Rattle.rules.specs.Moves.{suppressed, transmitted, injected, syncKept, syncLost, transferKept, undoDone, refused, numbers}
 
 -- "The cause is 0 except here."
 unfoldable pub refusalCause : Refusal → ℕ
@@ -53,7 +53,7 @@ causeOf issueDone = 1
 causeOf crashDone = 2
 causeOf rejoinDone = 3
 causeOf rebackupDone = 3
-causeOf takenBack = 0
+causeOf undoDone = 0
 causeOf (received x) = 0
 causeOf (queued x) = 0
 causeOf (suppressed x) = 0

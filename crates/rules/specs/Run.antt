@@ -9,7 +9,7 @@ use Rattle.rules.specs.Table.{Table}
 use Rattle.rules.specs.Machine.{Origin, register}
 use Rattle.rules.specs.Cabinet.{Process, quiescent}
 use Rattle.rules.specs.Moves.{Command, Numbers, numbers, originOf}
-use Rattle.rules.specs.Back.{opened, playFrom}
+use Rattle.rules.specs.Undo.{opened, playFrom}
 use Rattle.rules.specs.Reasons.{reasonOf}
 use Rattle.rules.specs.Bytes.{wordBytes, allBytes, written}
 use Rattle.rules.specs.Format.{processesIn, orNumber, decodeTable, validateTable}

@@ -11,7 +11,7 @@ use Rattle.rules.specs.Sizes.{sweepMost}
 use Rattle.rules.specs.Table.{Table}
 use Rattle.rules.specs.Cabinet.{Cabinet, nobody, processAt, quiescent}
 use Rattle.rules.specs.Moves.{Command}
-use Rattle.rules.specs.Back.{isBack, playFrom, opened}
+use Rattle.rules.specs.Undo.{isUndo, playFrom, opened}
 use Rattle.rules.specs.Transparent.{ended}
 use Rattle.rules.specs.Format.{orNumber, decodeTable, validateTable}
 use Rattle.rules.specs.Schedule.{commandsIn, decodeSchedule, validateSchedule}
@@ -79,7 +79,7 @@ sweptOf number quiet held free = record { number = number; quiet = quiet; held =
 
 -- "the schedule has a record of move 5, whatever its a and word"; W-214: "refuses schedules with move 8 by 52"
 abbrev pub isBarred : Command → Bool
-isBarred r = eqb (r .move) 5 || isBack r
+isBarred r = eqb (r .move) 5 || isUndo r
 
 abbrev pub anyBarred : List Command → Bool
 anyBarred [] = false

@@ -10,7 +10,7 @@ use Rattle.rules.specs.Machine.{Mail, Origin, BusWord, Machine}
 use Rattle.rules.specs.Reference.{Reference, Action, step, referenceStart, referenceRun, act, injections}
 use Rattle.rules.specs.Cabinet.{Process, Cabinet, started, quiescent}
 use Rattle.rules.specs.Moves.{Command, Answer, Numbers, numbers, originOf, runFrom}
-use Rattle.rules.specs.Back.{Session, opened, isBack, backKey, stride, playFrom, Noted, noteOf, standing, commandsOf, answersOf, originsOf}
+use Rattle.rules.specs.Undo.{Session, opened, isUndo, undoKey, stride, playFrom, Noted, noteOf, standing, commandsOf, answersOf, originsOf}
 
 -- Of a table, the words that were fed, the bus order, whether the end was quiet, and the machines at the end: some plain run of the table
 -- explains them. It rests on nothing else of our cabinet.
@@ -120,7 +120,7 @@ abbrev pub answerNext : Table → List Command → Command → Answer
 answerNext t commands r = stride t (sessionAfter t commands) r .answer
 
 -- A list of commands, and a move 8 behind it that is answered 7.
-pub record TakesBack (t : Table) (commands : List Command) : Type 0 where
+pub record Undoes (t : Table) (commands : List Command) : Type 0 where
   -- "the last record not yet taken back": what stands is what stood before it was given, and it
   pub last : Command
   pub front : List Command
@@ -128,10 +128,10 @@ pub record TakesBack (t : Table) (commands : List Command) : Type 0 where
   pub is-given : commands ≡ front ++ (last ∷ behind)
   pub is-last : standingAfter t commands ≡ standingAfter t front ++ (noteOf last (answerNext t front last) ∷ [])
   -- "A move 8 is itself never taken back."
-  pub no-back : isBack last ≡ false
+  pub no-undo : isUndo last ≡ false
   -- "The cabinet is then exactly as before that record"
-  pub as-before : ended t (commands ++ (backKey ∷ [])) ≡ ended t front
+  pub as-before : ended t (commands ++ (undoKey ∷ [])) ≡ ended t front
   -- "The same record given next, with nothing between, gets the same answer."
-  pub same-answer : answerNext t (commands ++ (backKey ∷ [])) last ≡ answerNext t front last
+  pub same-answer : answerNext t (commands ++ (undoKey ∷ [])) last ≡ answerNext t front last
   -- it doesn't stand any more
-  pub stands-now : standingAfter t (commands ++ (backKey ∷ [])) ≡ standingAfter t front
+  pub stands-now : standingAfter t (commands ++ (undoKey ∷ [])) ≡ standingAfter t front

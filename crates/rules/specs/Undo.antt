@@ -9,7 +9,7 @@ use Rattle.rules.specs.Sizes.{keptMost}
 use Rattle.rules.specs.Table.{Table}
 use Rattle.rules.specs.Machine.{Origin}
 use Rattle.rules.specs.Cabinet.{Cabinet, started}
-use Rattle.rules.specs.Moves.{Command, strayWord, noneKept, Answer, takenBack, refused, Numbers, numbers, originOf, turn, runFrom}
+use Rattle.rules.specs.Moves.{Command, strayWord, noneKept, Answer, undoDone, refused, Numbers, numbers, originOf, turn, runFrom}
 
 -- ---- one record
 
@@ -30,15 +30,15 @@ pub record Stride : Type 0 where
   pub answer : Answer
 
 -- "Move 8"
-abbrev pub isBack : Command → Bool
-isBack r = eqb (r .move) 8
+abbrev pub isUndo : Command → Bool
+isUndo r = eqb (r .move) 8
 
-abbrev pub anyBack : List Command → Bool
-anyBack [] = false
-anyBack (r ∷ rs) = isBack r || anyBack rs
+abbrev pub anyUndo : List Command → Bool
+anyUndo [] = false
+anyUndo (r ∷ rs) = isUndo r || anyUndo rs
 
-abbrev pub backKey : Command
-backKey = record { move = 8; a = 0; word = 0 }
+abbrev pub undoKey : Command
+undoKey = record { move = 8; a = 0; word = 0 }
 
 -- "with a and word 0"
 abbrev pub isBare : Command → Bool
@@ -46,14 +46,14 @@ isBare r = eqb (r .a) 0 && eqb (r .word) 0
 
 -- "takes back the last record not yet taken back, refused ones included, and answers 7". "53, no record is kept to go back to, move 8's last
 -- refusal." "The cabinet is then exactly as before that record". "A move 8 is itself never taken back": it keeps nothing.
-unfoldable pub goBack : Session → Command → List Cabinet → Stride
-goBack s r [] = record { session = s; answer = refused noneKept (r .a) }
-goBack s r (c ∷ older) = record { session = record { cabinet = c; kept = older }; answer = takenBack }
+unfoldable pub undone : Session → Command → List Cabinet → Stride
+undone s r [] = record { session = s; answer = refused noneKept (r .a) }
+undone s r (c ∷ older) = record { session = record { cabinet = c; kept = older }; answer = undoDone }
 
 -- "Move 8, with a and word 0 (else 32, cause 1)"
-unfoldable pub backward : Session → Command → Stride
-unfolding goBack
-backward s r = cond (isBare r) (goBack s r (s .kept)) (record { session = s; answer = refused strayWord (r .a) })
+unfoldable pub undo : Session → Command → Stride
+unfolding undone
+undo s r = cond (isBare r) (undone s r (s .kept)) (record { session = s; answer = refused strayWord (r .a) })
 
 -- any other record, refused or not: the cabinet before it is kept. "Of the others 64 are kept to go back to: only a 65th pushes out the oldest,
 -- for good."
@@ -64,16 +64,16 @@ forward t s r =
     record { session = record { cabinet = now .cabinet; kept = take keptMost (s .cabinet ∷ s .kept) }; answer = now .answer }
 
 unfoldable pub stride : Table → Session → Command → Stride
-unfolding backward forward
-stride t s r = cond (isBack r) (backward s r) (forward t s r)
+unfolding undo forward
+stride t s r = cond (isUndo r) (undo s r) (forward t s r)
 
 -- ---- a list of records
 
-pub record Played : Type 0 where
+pub record Strides : Type 0 where
   pub session : Session
   pub answers : List Answer
 
-unfoldable pub playFrom : Table → Session → List Command → Played
+unfoldable pub playFrom : Table → Session → List Command → Strides
 unfolding stride
 playFrom t s [] = record { session = s; answers = [] }
 playFrom t s (r ∷ rs) =
@@ -105,7 +105,7 @@ behindFirst (x ∷ l) = l
 
 -- An answer 7 takes back the last record that stands; a move 8 never stands itself. What stands is listed with the last record first.
 abbrev pub standsAfter : List Noted → Noted → List Noted
-standsAfter l x = cond (isBack (x .command)) (cond (eqb (x .answer .code) 7) (behindFirst l) l) (x ∷ l)
+standsAfter l x = cond (isUndo (x .command)) (cond (eqb (x .answer .code) 7) (behindFirst l) l) (x ∷ l)
 
 abbrev pub standsWith : List Noted → List Noted → List Noted
 standsWith l [] = l
