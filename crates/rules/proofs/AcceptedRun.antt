@@ -90,7 +90,8 @@ module _ (table schedule : List ℕ) (buffers : Buffers) (h : accepted table sch
       let fifty-one = leb (2 * commandsIn schedule) (length (buffers .origins)) in
       let both = number-passed (validateSchedule schedule) _ (number-passed (validateTable table) _ run-valid .1) .1 in
       let after-eleven = further-passed eleven 10 _ both in
-      (test-passed eleven 10 _ both, test-passed twelve 11 _ after-eleven, test-passed fifty-one 50 _ (further-passed twelve 11 _ after-eleven))
+      let after-twelve = further-passed twelve 11 _ after-eleven in
+      (test-passed eleven 10 _ both, test-passed twelve 11 _ after-eleven, test-passed fifty-one 50 _ after-twelve)
 
   pub answers-fit : 6 * commandsIn schedule ≤ length (buffers .answers)
   answers-fit = leb-true _ _ (and-left (leb (6 * commandsIn schedule) (length (buffers .answers))) _ (room-tested .0))

@@ -74,7 +74,8 @@ ahead-issue (issuing f r) h = issuing f (ahead-issue r h)
 
 -- ---- the left end: what the reference machine does when an item is transmitted
 
-pub record UpToSend (t : Table) (p : ℕ) (u : List Act) (a : Machine) (x : Mail) (pc : ℕ) (q : List Item) (v : List Act) (b : Machine) : Type 0 where
+pub record UpToSend (t : Table) (p : ℕ) (u : List Act) (a : Machine) (x : Mail) (pc : ℕ) (q : List Item) (v : List Act) (b : Machine)
+    : Type 0 where
   pub acts : List Act
   pub mid : Machine
   pub last : Machine
@@ -85,8 +86,8 @@ pub record UpToSend (t : Table) (p : ℕ) (u : List Act) (a : Machine) (x : Mail
   pub from-there : mid .pc ≡ pc
   pub rest : Ahead t p (u ++ (acts ++ (sent x ∷ []))) last q v b
 
-pub up-to-send : {t : Table} {p : ℕ} {u v : List Act} {a b : Machine} {q : List Item} {x : Mail} {pc : ℕ} → Ahead t p u a (message x pc ∷ q) v b
-    → UpToSend t p u a x pc q v b
+pub up-to-send : {t : Table} {p : ℕ} {u v : List Act} {a b : Machine} {q : List Item} {x : Mail} {pc : ℕ}
+    → Ahead t p u a (message x pc ∷ q) v b → UpToSend t p u a x pc q v b
 up-to-send {u = u} {x = x} (silent {k = k} e h r) =
     let w = up-to-send r in
     record {

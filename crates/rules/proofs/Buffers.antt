@@ -18,12 +18,14 @@ use Rattle.rules.specs.Transparent.{finished, shown, shownFrom, ended}
 use Rattle.rules.specs.Bytes.{allBytes, written}
 use Rattle.rules.specs.Format.{processesIn, decodeTable}
 use Rattle.rules.specs.Schedule.{commandsIn, decodeSchedule, command}
-use Rattle.rules.specs.Run.{Buffers, lengthsOf, answerBytes, originBytes, reportBytes, validateRun, ranFrom, refusedWith, run, accepted}
+use Rattle.rules.specs.Run.{Buffers, lengthsOf, answerBytes, originBytes, reportBytes, validateRun, ranFrom, refusedWith, run}
+use Rattle.rules.specs.Run.{accepted}
 use Rattle.rules.proofs.Guards.{Leaves, after-run}
 use Rattle.rules.proofs.Crashed.{crash-length}
 use Rattle.rules.proofs.Valid.{length-sixes, processes-counted}
 use Rattle.rules.proofs.Standing.{standingIn, ended-is}
-use Rattle.rules.proofs.AcceptedRun.{one-shown-each, shown-length, shownFrom-length, run-is, answers-fit, reasons-fit, report-fits, origins-fit}
+use Rattle.rules.proofs.AcceptedRun.{one-shown-each, shown-length, shownFrom-length, run-is}
+use Rattle.rules.proofs.AcceptedRun.{answers-fit, reasons-fit, report-fits, origins-fit}
 
 -- ---- written bytes
 

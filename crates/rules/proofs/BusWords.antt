@@ -1,5 +1,5 @@
--- W-212: "Equal now means these agree as well." So channel and word agree as they did: without its origins the new bus order is the old one.
--- Who needs channel and word alone, as the label line does, takes `wordOrder`.
+-- W-212: "Equal now means these agree as well." So channel and word agree as they did: without its origins the bus order is the one that was
+-- compared before. Who needs channel and word alone, as the label line does, takes `wordOrder`.
 use mathlib.Core.Path.{_≡_, refl, ap, _∙_}
 use mathlib.Core.Bool.{Bool, true, false, cond}
 use mathlib.Core.List.{List, [], _∷_, map}
@@ -22,7 +22,8 @@ one-more : (n : Numbers) (o : Origin) (l : List Numbers) (origins : List Origin)
 unfolding busOf traceOf
 one-more n o l origins h = rw (← h) (go (eqb (n .code) 4))
   where
-    go : (b : Bool) → withoutOrigins (cond b (record { mail = record { channel = n .a; word = n .word }; origin = o } ∷ busOf l origins) (busOf l origins))
+    go : (b : Bool)
+        → withoutOrigins (cond b (record { mail = record { channel = n .a; word = n .word }; origin = o } ∷ busOf l origins) (busOf l origins))
         ≡ cond b (record { channel = n .a; word = n .word } ∷ withoutOrigins (busOf l origins)) (withoutOrigins (busOf l origins))
     go true = refl
     go false = refl

@@ -81,7 +81,8 @@ module _ {t : Table} (ok : Accepted t) {p : ℕ} (hp : p < length (t .processes)
   unfolding counts
   counts-coming {items} {x} {m} mail pc h l = go (l .old) (l .is-items) (l .to-snapshot) (l .none-else)
     where
-      go : (old : List Item) → message mail pc ∷ items ≡ old ++ (transfer p ∷ l .new) → Ahead t p (l .before) m old (l .until) (stateOf t p (h .standby .replica))
+      go : (old : List Item) → message mail pc ∷ items ≡ old ++ (transfer p ∷ l .new)
+          → Ahead t p (l .before) m old (l .until) (stateOf t p (h .standby .replica))
           → checkpoints old + checkpoints (l .new) ≡ 0 → Transmitted t p items mail pc (counts x) m
       go [] e a n = absurd (no-way (cc))
       go (y ∷ old) e a n =

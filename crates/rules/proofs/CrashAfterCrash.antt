@@ -53,7 +53,9 @@ abbrev pub years : List Command
 years = first ++ (second ++ third)
 
 abbrev lent : Buffers
-lent = buffersOf (replicate (6 * length years) 0) (replicate (length years) 0) (replicate (20 * processesIn warehouse) 0) (replicate (2 * length years) 0)
+lent =
+    buffersOf (replicate (6 * length years) 0) (replicate (length years) 0) (replicate (20 * processesIn warehouse) 0)
+    (replicate (2 * length years) 0)
 
 -- ---- what it gives
 

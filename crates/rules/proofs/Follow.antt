@@ -38,8 +38,8 @@ pub record Follows (t : Table) (c : Cabinet) (s : Reference) (trace : List BusWo
   pub injected : injections actions ≡ fed
 
 -- one after another
-pub follows-then : {t : Table} {c d : Cabinet} {s : Reference} {tr tr′ : List BusWord} {fd fd′ : List Mail} (f : Follows t c s tr fd) → Follows t d (f .end) tr′ fd′
-    → Follows t d s (tr ++ tr′) (fd ++ fd′)
+pub follows-then : {t : Table} {c d : Cabinet} {s : Reference} {tr tr′ : List BusWord} {fd fd′ : List Mail} (f : Follows t c s tr fd)
+    → Follows t d (f .end) tr′ fd′ → Follows t d s (tr ++ tr′) (fd ++ fd′)
 follows-then {t} {s = s} {tr = tr} {tr′ = tr′} f g =
     record {
       actions = f .actions ++ g .actions;
@@ -168,10 +168,12 @@ module _ {t : Table} (ok : Accepted t) {c : Cabinet} {s : Reference} (inv : Inva
 
   pub follow-sending : (m : Machine) (mail : Mail) → localStep (codeOf t p) (processAt c p .machine) ≡ moved m (sent mail)
       → processAt c p .suppress ≡ 0 → owing (limitOf t p) (processAt c p) ≡ false
-      → Follows t (withProcess p (advanced m (counting oneSent (processAt c p)) 0 (processAt c p)) (enqueue (processAt c p .board) (message mail (processAt c p .machine .pc)) c)) s [] []
+      → Follows t (withProcess p (advanced m (counting oneSent (processAt c p)) 0 (processAt c p))
+      (enqueue (processAt c p .board) (message mail (processAt c p .machine .pc)) c)) s [] []
   unfolding advanced
   follow-sending m mail e z limit =
-      wait-joined (advanced m (counting oneSent (processAt c p)) 0 (processAt c p)) (message mail (processAt c p .machine .pc)) refl (same-seat (same-boards refl refl))
+      wait-joined (advanced m (counting oneSent (processAt c p)) 0 (processAt c p)) (message mail (processAt c p .machine .pc)) refl
+      (same-seat (same-boards refl refl))
       (step-own t ok p (in-table inv hp) (record { is = e }))
       (good-send ok (in-table inv hp) (inv .good p hp) z (record { is = e }) (allows-act (limitOf t p) (processAt c p) (sent mail) refl limit))
 

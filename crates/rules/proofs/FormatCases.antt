@@ -81,7 +81,8 @@ runs =
     ∷ case (outcome (withLength (1 ∷ 1 ∷ 0 ∷ 0 ∷ 0 ∷ 0 ∷ 0 ∷ [])) (buffer 5) (buffer 1) (buffer 19) (buffer 1))
     ((11 ∷ []) ∷ buffer 5 ∷ buffer 1 ∷ buffer 19 ∷ buffer 1 ∷ [])
     -- W-206: "A buffer for this list under one byte a record makes the run answer 11."
-    ∷ case (outcome (withLength (1 ∷ 1 ∷ 0 ∷ 0 ∷ 0 ∷ 0 ∷ 0 ∷ [])) (buffer 6) [] (buffer 19) (buffer 1)) ((11 ∷ []) ∷ buffer 6 ∷ [] ∷ buffer 19 ∷ buffer 1 ∷ [])
+    ∷ case (outcome (withLength (1 ∷ 1 ∷ 0 ∷ 0 ∷ 0 ∷ 0 ∷ 0 ∷ [])) (buffer 6) [] (buffer 19) (buffer 1))
+    ((11 ∷ []) ∷ buffer 6 ∷ [] ∷ buffer 19 ∷ buffer 1 ∷ [])
     ∷ case (outcome (withLength (1 ∷ 1 ∷ 0 ∷ 0 ∷ 0 ∷ 0 ∷ 0 ∷ [])) (buffer 6) (buffer 1) (buffer 19) (buffer 1))
     ((12 ∷ []) ∷ buffer 6 ∷ buffer 1 ∷ buffer 19 ∷ buffer 1 ∷ [])
     -- W-212: "51, that buffer is under two bytes a record, after 12"

@@ -127,15 +127,15 @@ module _ {t : Table} {c : Cabinet} {s : Reference} (inv : Invariant t c s) (p : 
 
 -- its backup stands where it stood, too
 pub change-same : {t : Table} {c : Cabinet} {s : Reference} (inv : Invariant t c s) (p : ℕ) (hp : p < length (c .processes)) (x : Process) → SameSeat x (processAt c p)
-    → (m : Machine) (outboxes : List (List Item)) → OthersStay t p outboxes c → Good t p (mine t p (getD outboxes (processAt c p .board) [])) x m → (trace : List BusWord)
-    → length outboxes ≡ length (c .outboxes) → Invariant t (changed p x outboxes c) (put p m trace s)
+    → (m : Machine) (outboxes : List (List Item)) → OthersStay t p outboxes c → Good t p (mine t p (getD outboxes (processAt c p .board) [])) x m
+    → (trace : List BusWord) → length outboxes ≡ length (c .outboxes) → Invariant t (changed p x outboxes c) (put p m trace s)
 change-same inv p hp x seat =
     change inv p hp x (seat .board) (seated-same seat (inv .seated p hp))
 
 -- ---- a word arrives
 
-pub deliver-keeps : {t : Table} {c : Cabinet} {s : Reference} (word : BusWord) → Accepted t → Invariant t c s → RoomFor t c (word .mail .channel)
-    → Invariant t (deliver t (word .mail) c) (posted t word s)
+pub deliver-keeps : {t : Table} {c : Cabinet} {s : Reference} (word : BusWord) → Accepted t → Invariant t c s
+    → RoomFor t c (word .mail .channel) → Invariant t (deliver t (word .mail) c) (posted t word s)
 unfolding deliver posted receive
 deliver-keeps {t} {c} {s} word ok inv room =
     let mail : Mail = word .mail in

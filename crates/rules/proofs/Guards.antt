@@ -52,14 +52,17 @@ module _ (t : Table) (c : Cabinet) (r : Command) (P : Move → Cabinet → Answe
     -- a SEND whose word joins the queue
     pub sends : r .a < length (t .processes) → (m : Machine) (mail : Mail) → localStep (codeOf t (r .a)) (x .machine) ≡ moved m (sent mail)
         → x .suppress ≡ 0 → owing (limitOf t (r .a)) x ≡ false → leb outboxMost (length (outboxAt c (x .board))) ≡ false → full t c (mail .channel) ≡ false
-        → P stepMove (withProcess (r .a) (advanced m (counting oneSent x) 0 x) (enqueue (x .board) (message mail (x .machine .pc)) c)) (queued mail)
+        → P stepMove
+        (withProcess (r .a) (advanced m (counting oneSent x) 0 x) (enqueue (x .board) (message mail (x .machine .pc)) c)) (queued mail)
     pub issues : r .a < length (t .processes) → protected x ≡ true → waiting (r .a) (outboxAt c (x .board)) ≡ false
         → leb outboxMost (length (outboxAt c (x .board))) ≡ false
         → P issueMove (withProcess (r .a) (issued x) (enqueue (x .board) (checkpoint (r .a) (snapshot x)) c)) issueDone
     -- a word is carried
-    pub transmits : r .a < t .boards → deadAt c (r .a) ≡ false → (mail : Mail) (pc : ℕ) (rest : List Item) → outboxAt c (r .a) ≡ message mail pc ∷ rest
+    pub transmits : r .a < t .boards → deadAt c (r .a) ≡ false → (mail : Mail) (pc : ℕ) (rest : List Item)
+        → outboxAt c (r .a) ≡ message mail pc ∷ rest
         → (let sender = channelAt t (mail .channel) .sender in
-        P transmitMove (deliver t mail (withProcess sender (counts (processAt c sender)) (withOutbox (r .a) rest c))) (transmitted (sentFrom sender pc mail)))
+        P transmitMove (deliver t mail (withProcess sender (counts (processAt c sender)) (withOutbox (r .a) rest c)))
+        (transmitted (sentFrom sender pc mail)))
     -- a sync is carried
     pub syncs : r .a < t .boards → deadAt c (r .a) ≡ false → (p : ℕ) (s : Checkpoint) (rest : List Item) → outboxAt c (r .a) ≡ checkpoint p s ∷ rest
         → P transmitMove (withProcess p (keeps s (processAt c p)) (withOutbox (r .a) rest c)) (landed p s (processAt c p))

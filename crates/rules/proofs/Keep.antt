@@ -51,7 +51,8 @@ module _ (t : Table) (c : Cabinet) (small : length (c .processes) ≤ environmen
 
   pub sent-room : (p : ℕ) (m : Machine) (mail : Mail) → localStep (codeOf t p) (processAt c p .machine) ≡ moved m (sent mail) → full t c (mail .channel) ≡ false
       → (counted : Since)
-      → Room t [] (withProcess p (advanced m counted 0 (processAt c p)) (enqueue (processAt c p .board) (message mail (processAt c p .machine .pc)) c))
+      → Room t []
+      (withProcess p (advanced m counted 0 (processAt c p)) (enqueue (processAt c p .board) (message mail (processAt c p .machine .pc)) c))
   sent-room p m mail e free counted =
       step-room p m (sent mail) e (mail .channel ∷ []) (admit t c (mail .channel) small free rm) counted 0 _
       (λ k. let j = flight-join k (c .outboxes) (processAt c p .board) (message mail (processAt c p .machine .pc)) in omega arith)
@@ -94,7 +95,8 @@ module _ (t : Table) (c : Cabinet) (small : length (c .processes) ≤ environmen
   unfolding counts
   word-room b mail pc rest e =
       let sender : ℕ = channelAt t (mail .channel) .sender in
-      deliver-room t _ mail (called-room b sender (message mail pc) rest (mail .channel ∷ []) e (λ k. omega arith) (counts (processAt c sender)) refl
+      deliver-room t _ mail
+      (called-room b sender (message mail pc) rest (mail .channel ∷ []) e (λ k. omega arith) (counts (processAt c sender)) refl
       (backup-some count (processAt c sender .standby)))
 
   pub sync-room : (b p : ℕ) (s : Checkpoint) (rest : List Item) → outboxAt c b ≡ checkpoint p s ∷ rest

@@ -77,7 +77,9 @@ module _ {t : Table} {p : ℕ} {s : Standby} {items : List Item} {m : Machine} {
         uncounted = l .uncounted;
         old = l .old;
         new = l .new ++ (message mail (b .pc) ∷ []);
-        is-items = ap (λ (q : List Item). q ++ (message mail (b .pc) ∷ [])) (l .is-items) ∙ append-assoc (l .old) (transfer p ∷ l .new) (message mail (b .pc) ∷ []);
+        is-items =
+            ap (λ (q : List Item). q ++ (message mail (b .pc) ∷ [])) (l .is-items)
+            ∙ append-assoc (l .old) (transfer p ∷ l .new) (message mail (b .pc) ∷ []);
         before = l .before;
         until = l .until;
         to-snapshot = l .to-snapshot;

@@ -1,6 +1,6 @@
--- W-212, computed: "A program with two sends of the same word can hide a wrong jump there." Two tables that differ in where a JUMP goes, with a
--- crash among the records: answers, reasons and report are the same byte for byte, and so is the bus order of channels and words. The origins
--- are not.
+-- W-212, computed: "A program with two sends of the same word can hide a wrong jump there." Two tables that differ in where a JUMP goes, with
+-- a crash among the records: answers, reasons and report are the same byte for byte, and so is the bus order of channels and words. The
+-- origins are not.
 use mathlib.Core.Path.{_≡_, refl, ap, sym, _∙_}
 use mathlib.Core.Option.{some}
 use mathlib.Core.List.{List, [], _∷_, _++_}
@@ -30,7 +30,8 @@ jumpingTo place =
 -- a word is carried, a second one waits when its board crashes; on the other board the first is held back, and the second carried
 abbrev crashing : List Command
 crashing =
-    feed 0 7 ∷ (times 3 (step 0 ∷ []) ++ (carry 0 ∷ step 0 ∷ feed 0 9 ∷ (times 3 (step 0 ∷ []) ++ (crash 0 ∷ (times 7 (step 0 ∷ []) ++ (carry 1 ∷ step 0 ∷ []))))))
+    feed 0 7 ∷ (times 3 (step 0 ∷ []) ++ (carry 0 ∷ step 0
+    ∷ feed 0 9 ∷ (times 3 (step 0 ∷ []) ++ (crash 0 ∷ (times 7 (step 0 ∷ []) ++ (carry 1 ∷ step 0 ∷ []))))))
 
 -- all that could be seen before W-212: the page, and the reasons
 abbrev seen : ℕ → List (List ℕ)
@@ -40,8 +41,8 @@ abbrev seenBoth : List (List ℕ)
 seenBoth =
     (17 ∷ 4 ∷ 0 ∷ 8 ∷ 16 ∷ 0 ∷ 17 ∷ 4 ∷ 0 ∷ 8 ∷ 2 ∷ 4 ∷ 0 ∷ 12 ∷ 0 ∷ 4 ∷ 0 ∷ 8 ∷ 16 ∷ 0 ∷ [])
     ∷ (20 ∷ [])
-    ∷ (1 ∷ 4 ∷ 0 ∷ 7 ∷ []) ∷ (2 ∷ 1 ∷ 0 ∷ 7 ∷ []) ∷ (3 ∷ 0 ∷ 0 ∷ 0 ∷ []) ∷ (4 ∷ 2 ∷ 1 ∷ 7 ∷ []) ∷ (5 ∷ 4 ∷ 1 ∷ 7 ∷ []) ∷ (6 ∷ 0 ∷ 0 ∷ 0 ∷ [])
-    ∷ (7 ∷ 4 ∷ 0 ∷ 9 ∷ []) ∷ (8 ∷ 1 ∷ 0 ∷ 9 ∷ []) ∷ (9 ∷ 0 ∷ 0 ∷ 0 ∷ []) ∷ (10 ∷ 2 ∷ 1 ∷ 9 ∷ []) ∷ (11 ∷ 0 ∷ 0 ∷ 0 ∷ [])
+    ∷ (1 ∷ 4 ∷ 0 ∷ 7 ∷ []) ∷ (2 ∷ 1 ∷ 0 ∷ 7 ∷ []) ∷ (3 ∷ 0 ∷ 0 ∷ 0 ∷ []) ∷ (4 ∷ 2 ∷ 1 ∷ 7 ∷ []) ∷ (5 ∷ 4 ∷ 1 ∷ 7 ∷ [])
+    ∷ (6 ∷ 0 ∷ 0 ∷ 0 ∷ []) ∷ (7 ∷ 4 ∷ 0 ∷ 9 ∷ []) ∷ (8 ∷ 1 ∷ 0 ∷ 9 ∷ []) ∷ (9 ∷ 0 ∷ 0 ∷ 0 ∷ []) ∷ (10 ∷ 2 ∷ 1 ∷ 9 ∷ []) ∷ (11 ∷ 0 ∷ 0 ∷ 0 ∷ [])
     ∷ (12 ∷ 1 ∷ 0 ∷ 7 ∷ []) ∷ (13 ∷ 0 ∷ 0 ∷ 0 ∷ []) ∷ (14 ∷ 3 ∷ 1 ∷ 7 ∷ []) ∷ (15 ∷ 0 ∷ 0 ∷ 0 ∷ [])
     ∷ (16 ∷ 1 ∷ 0 ∷ 9 ∷ []) ∷ (17 ∷ 0 ∷ 0 ∷ 0 ∷ []) ∷ (18 ∷ 2 ∷ 1 ∷ 9 ∷ []) ∷ (19 ∷ 4 ∷ 1 ∷ 9 ∷ []) ∷ (20 ∷ 0 ∷ 0 ∷ 0 ∷ [])
     ∷ (0 ∷ 1 ∷ 0 ∷ 0 ∷ 0 ∷ 9 ∷ 0 ∷ 0 ∷ 0 ∷ [])
@@ -59,9 +60,9 @@ words place = let r = runOf (jumpingTo place) crashing in wordOrder crashing (an
 abbrev wordsBoth : List Mail
 wordsBoth = mail 0 7 ∷ mail 1 7 ∷ mail 0 9 ∷ mail 1 9 ∷ []
 
-pub same-words : words 2 ∷ words 4 ∷ [] ≡ wordsBoth ∷ wordsBoth ∷ []
+pub words-agree : words 2 ∷ words 4 ∷ [] ≡ wordsBoth ∷ wordsBoth ∷ []
 unfolding traceOf standing run guard fit arriveNumber countNumber
-same-words = refl
+words-agree = refl
 
 -- and what is compared now
 abbrev bus : ℕ → List BusWord

@@ -1,5 +1,5 @@
--- W-212: what tells the origin of an answer, of every command in every cabinet: its move, its code and, of a carry, the oldest entry before it.
--- This is what code that writes the origins rests on.
+-- W-212: what tells the origin of an answer, of every command in every cabinet: its move, its code and, of a carry, the oldest entry before
+-- it. This is what code that writes the origins rests on.
 use mathlib.Core.Path.{_≡_, refl, sym}
 use mathlib.Core.Bool.{Bool, true, false, cond}
 use mathlib.Core.List.{List, [], _∷_}
@@ -7,8 +7,8 @@ use Prim.Native.Nat.{ℕ}
 use borrow.Author.Tests.{eqb-true}
 use Rattle.rules.specs.Table.{Table}
 use Rattle.rules.specs.Cabinet.{Item, Cabinet, processAt, outboxAt, protected}
-use Rattle.rules.specs.Moves.{Command, Move, stepMove, issueMove, transmitMove, injectMove, crashMove, rejoinMove, rebackupMove, unknown, moveOf}
-use Rattle.rules.specs.Moves.{Refusal, strayWord, noOrigin, Answer, syncKept, syncLost, droppedFrom, refused, numbers, originOf, turn}
+use Rattle.rules.specs.Moves.{Command, Move, stepMove, issueMove, transmitMove, injectMove, crashMove, rejoinMove, rebackupMove, unknown}
+use Rattle.rules.specs.Moves.{moveOf, Refusal, strayWord, noOrigin, Answer, syncKept, syncLost, droppedFrom, refused, numbers, originOf, turn}
 use Rattle.rules.specs.Undo.{Session, isUndo, isBare, undone, undo, stride}
 use Rattle.rules.specs.Origins.{toldBy}
 use Rattle.rules.proofs.Decoded.{refusalNumber-not-4}

@@ -10,9 +10,10 @@ use lib.ListN.{length, getD}
 use borrow.Author.Tests.{eqb-true}
 use Rattle.facts.specs.Tests.{no-way}
 use Rattle.rules.specs.Table.{Table, Instruction, SET, ADD, TAKE, FIRST, SEND, JUMP, NONE, environment, channelAt, codeOf}
-use Rattle.rules.specs.Machine.{Mail, BusWord, sentFrom, fromOutside, Machine, booted, internal, took, sent, Outcome, halted, noMail}
-use Rattle.rules.specs.Machine.{moved, Pull, nothing, found, pull, bit, take1, first1, execute, localStep}
-use Rattle.rules.specs.Reference.{Reference, Action, inject, step, posted, withMachine, stepped, act, andThen, referenceStart, referenceRun}
+use Rattle.rules.specs.Machine.{Mail, BusWord, sentFrom, fromOutside, Machine, booted, internal, took, sent}
+use Rattle.rules.specs.Machine.{Outcome, halted, noMail, moved, Pull, nothing, found, pull, bit, take1, first1, execute, localStep}
+use Rattle.rules.specs.Reference.{Reference, Action, inject, step, posted, withMachine, stepped, act, andThen}
+use Rattle.rules.specs.Reference.{referenceStart, referenceRun}
 use Rattle.rules.specs.Cabinet.{Cabinet, started}
 use Rattle.rules.specs.Moves.{Command, strayWord, noneKept, Answer, refused, numbers, originOf, turn, runFrom}
 use Rattle.rules.specs.Undo.{Session, opened, isUndo, isBare, undone, undo, stride, playFrom, Noted, standsAfter, commandsOf}
@@ -51,7 +52,9 @@ is-send (SET a v) m n x e = absurd (no-way (cc))
 is-send (ADD a b) m n x e = absurd (no-way (cc))
 is-send (TAKE a k) m n x e = absurd (taken-sends-not a m n x (pull (eqb k) (m .mailbox)) e)
 is-send (FIRST a k) m n x e = absurd (first-sends-not a m n x (pull (bit k) (m .mailbox)) e)
-is-send (SEND a k) m n x e = (a, (let same : record { channel = k; word = getD (m .registers) a 0 } ≡ x = cc in subst (λ (y : Mail). SEND a k ≡ SEND a (y .channel)) same refl))
+is-send (SEND a k) m n x e =
+    let same : record { channel = k; word = getD (m .registers) a 0 } ≡ x = cc in
+    (a, ap (λ (y : Mail). SEND a (y .channel)) same)
 is-send (JUMP a k) m n x e = absurd (no-way (cc))
 is-send NONE m n x e = absurd (no-way (cc))
 
@@ -64,37 +67,40 @@ sends-at t p {m} {n} {x} e =
 -- ---- one action, and any list
 
 module _ (t : Table) where
-  step-genuine : (s : Reference) (p : ℕ) (o : Outcome) → localStep (codeOf t p) (getD (s .machines) p booted) ≡ o → AllGenuine t (s .trace)
-      → (e : Reference) → stepped t s p o ≡ some e → AllGenuine t (e .trace)
+  at-end : (s e : Reference) → s ≡ e → AllGenuine t (s .trace) → AllGenuine t (e .trace)
+  at-end s e same g = subst (λ (z : Reference). AllGenuine t (z .trace)) same g
+
+  step-genuine : (s : Reference) (p : ℕ) (o : Outcome) → localStep (codeOf t p) (getD (s .machines) p booted) ≡ o
+      → AllGenuine t (s .trace) → (e : Reference) → stepped t s p o ≡ some e → AllGenuine t (e .trace)
   unfolding stepped posted withMachine
   step-genuine s p halted h g e k = absurd (no-way (cc))
   step-genuine s p noMail h g e k = absurd (no-way (cc))
-  step-genuine s p (moved m internal) h g e k = let same : withMachine p m s ≡ e = cc in subst (λ (z : Reference). AllGenuine t (z .trace)) same g
-  step-genuine s p (moved m (took x)) h g e k = let same : withMachine p m s ≡ e = cc in subst (λ (z : Reference). AllGenuine t (z .trace)) same g
+  step-genuine s p (moved m internal) h g e k = at-end (withMachine p m s) e (cc) g
+  step-genuine s p (moved m (took x)) h g e k = at-end (withMachine p m s) e (cc) g
   step-genuine s p (moved m (sent x)) h g e k =
-      let same : posted t (sentFrom p (getD (s .machines) p booted .pc) x) (withMachine p m s) ≡ e = cc in
-      subst (λ (z : Reference). AllGenuine t (z .trace)) same (both-genuine g (one-shown (was-sent (sends-at t p (record { is = h }))) none-shown))
+      at-end (posted t (sentFrom p (getD (s .machines) p booted .pc) x) (withMachine p m s)) e (cc)
+      (both-genuine g (one-shown (was-sent (sends-at t p (record { is = h }))) none-shown))
 
   act-genuine : (s : Reference) (a : Action) → AllGenuine t (s .trace) → (e : Reference) → act t s a ≡ some e → AllGenuine t (e .trace)
   unfolding act posted
   act-genuine s (inject x) g e k = go (ltb (x .channel) (length (t .channels))) (eqb (channelAt t (x .channel) .sender) environment) refl k
     where
-      go : (a b : Bool) → eqb (channelAt t (x .channel) .sender) environment ≡ b → cond a (cond b (some (posted t (fromOutside x) s)) none) none ≡ some e
-          → AllGenuine t (e .trace)
-      go true true h f =
-          let same : posted t (fromOutside x) s ≡ e = cc in
-          subst (λ (z : Reference). AllGenuine t (z .trace)) same (both-genuine g (one-shown (was-fed (eqb-true _ _ h)) none-shown))
+      go : (a b : Bool) → eqb (channelAt t (x .channel) .sender) environment ≡ b
+          → cond a (cond b (some (posted t (fromOutside x) s)) none) none ≡ some e → AllGenuine t (e .trace)
+      go true true h f = at-end (posted t (fromOutside x) s) e (cc) (both-genuine g (one-shown (was-fed (eqb-true _ _ h)) none-shown))
       go true false h f = absurd (no-way (cc))
       go false b h f = absurd (no-way (cc))
   act-genuine s (step p) g e k = go (ltb p (length (s .machines))) k
     where
-      go : (a : Bool) → cond a (stepped t s p (localStep (codeOf t p) (getD (s .machines) p booted))) none ≡ some e → AllGenuine t (e .trace)
+      go : (a : Bool) → cond a (stepped t s p (localStep (codeOf t p) (getD (s .machines) p booted))) none ≡ some e
+          → AllGenuine t (e .trace)
       go true f = step-genuine s p (localStep (codeOf t p) (getD (s .machines) p booted)) refl g e f
       go false f = absurd (no-way (cc))
 
-  run-genuine : (l : List Action) (s : Reference) → AllGenuine t (s .trace) → (e : Reference) → referenceRun t s l ≡ some e → AllGenuine t (e .trace)
+  run-genuine : (l : List Action) (s : Reference) → AllGenuine t (s .trace) → (e : Reference) → referenceRun t s l ≡ some e
+      → AllGenuine t (e .trace)
   unfolding referenceRun
-  run-genuine [] s g e k = let same : s ≡ e = cc in subst (λ (z : Reference). AllGenuine t (z .trace)) same g
+  run-genuine [] s g e k = at-end s e (cc) g
   run-genuine (a ∷ l) s g e k = go (act t s a) (λ u h. act-genuine s a g u h) (λ u h. run-genuine l u h e) k
     where
       go : (o : Option Reference) → ((u : Reference) → o ≡ some u → AllGenuine t (u .trace))

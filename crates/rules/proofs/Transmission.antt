@@ -76,9 +76,12 @@ module _ {t : Table} (ok : Accepted t) {c : Cabinet} {s : Reference} (inv : Inva
 
   -- ---- a word
 
-  follow-word : (mail : Mail) (pc : ℕ) (rest : List Item) → senderOf t mail ≡ p → outboxAt c (processAt c p .board) ≡ message mail pc ∷ rest → RoomFor t c (mail .channel)
-      → Transmitted t p (mine t p (getD (set (c .outboxes) (processAt c p .board) rest) (processAt c p .board) [])) mail pc (counts (processAt c p)) (machineAt s p)
-      → Follows t (deliver t mail (withProcess p (counts (processAt c p)) (withOutbox (processAt c p .board) rest c))) s (sentFrom p pc mail ∷ []) []
+  follow-word : (mail : Mail) (pc : ℕ) (rest : List Item) → senderOf t mail ≡ p → outboxAt c (processAt c p .board) ≡ message mail pc ∷ rest
+      → RoomFor t c (mail .channel)
+      → Transmitted t p (mine t p (getD (set (c .outboxes) (processAt c p .board) rest) (processAt c p .board) [])) mail pc
+      (counts (processAt c p)) (machineAt s p)
+      → Follows t (deliver t mail (withProcess p (counts (processAt c p)) (withOutbox (processAt c p .board) rest c))) s
+      (sentFrom p pc mail ∷ []) []
   unfolding counts posted withMachine injections
   follow-word mail pc rest is-own oldest room v =
       let B : ℕ = processAt c p .board in
@@ -88,7 +91,8 @@ module _ {t : Table} (ok : Accepted t) {c : Cabinet} {s : Reference} (inv : Inva
       let sends-it : Steps (codeOf t p) (machineAt mid p) (sent mail) (v .last) =
       subst (λ (m : Machine). Steps (codeOf t p) m (sent mail) (v .last)) (sym (put-get p (v .mid) s (in-reference inv hp))) (v .sends-it) in
       let acts = act-sent t mid p (subst (λ (n : ℕ). p < n) (sym (put-length p (v .mid) s)) (in-reference inv hp)) sends-it in
-      let from-there : machineAt mid p .pc ≡ pc = ap (λ (m : Machine). m .pc) (put-get p (v .mid) s (in-reference inv hp)) ∙ v .from-there in
+      let from-there : machineAt mid p .pc ≡ pc =
+      ap (λ (m : Machine). m .pc) (put-get p (v .mid) s (in-reference inv hp)) ∙ v .from-there in
       record {
         actions = steps p (v .steps .acts) ++ (Action.step p ∷ []);
         end = end;
@@ -143,8 +147,8 @@ module _ {t : Table} (ok : Accepted t) {c : Cabinet} {s : Reference} (inv : Inva
 
   -- ---- each, from the board that p runs on
 
-  transmits-word : (b : ℕ) (mail : Mail) (pc : ℕ) (rest : List Item) → processAt c p .board ≡ b → senderOf t mail ≡ p → outboxAt c b ≡ message mail pc ∷ rest
-      → RoomFor t c (mail .channel)
+  transmits-word : (b : ℕ) (mail : Mail) (pc : ℕ) (rest : List Item) → processAt c p .board ≡ b → senderOf t mail ≡ p
+      → outboxAt c b ≡ message mail pc ∷ rest → RoomFor t c (mail .channel)
       → Follows t (deliver t mail (withProcess p (counts (processAt c p)) (withOutbox b rest c))) s (sentFrom p pc mail ∷ []) []
   transmits-word b mail pc rest runs is-own =
       subst (λ (B : ℕ). outboxAt c B ≡ message mail pc ∷ rest → RoomFor t c (mail .channel)
@@ -168,7 +172,8 @@ module _ {t : Table} (ok : Accepted t) {c : Cabinet} {s : Reference} (inv : Inva
 
 module _ {t : Table} (ok : Accepted t) {c : Cabinet} {s : Reference} (inv : Invariant t c s) where
   pub follow-transmit : Roomy t c → (b : ℕ) (mail : Mail) (pc : ℕ) (rest : List Item) → outboxAt c b ≡ message mail pc ∷ rest
-      → Follows t (deliver t mail (withProcess (senderOf t mail) (counts (processAt c (senderOf t mail))) (withOutbox b rest c))) s (sentFrom (senderOf t mail) pc mail ∷ []) []
+      → Follows t (deliver t mail (withProcess (senderOf t mail) (counts (processAt c (senderOf t mail))) (withOutbox b rest c))) s
+      (sentFrom (senderOf t mail) pc mail ∷ []) []
   follow-transmit roomy b mail pc rest oldest =
       let o = owner t c s b (message mail pc) rest inv oldest in
       transmits-word ok inv (senderOf t mail) (o .there) b mail pc rest (o .runs) refl oldest (roomy .for-oldest b mail pc rest oldest)
@@ -194,7 +199,8 @@ module _ {t : Table} (ok : Accepted t) {c : Cabinet} {s : Reference} (inv : Inva
       record {
         actions = Action.inject mail ∷ [];
         end = posted t (fromOutside mail) s;
-        ran = run-one t s (Action.inject mail) (posted t (fromOutside mail) s) (rw (lt-ltb (mail .channel) (length (t .channels)) h, eq-eqb (senderOf t mail) environment outside));
+        ran = run-one t s (Action.inject mail) (posted t (fromOutside mail) s)
+            (rw (lt-ltb (mail .channel) (length (t .channels)) h, eq-eqb (senderOf t mail) environment outside));
         invariant = deliver-keeps (fromOutside mail) ok inv (roomy .for-feed (mail .channel) outside free);
         traced = refl;
         injected = refl;

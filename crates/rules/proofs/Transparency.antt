@@ -25,7 +25,8 @@ MovesTransparent t commands =
     (quiescent t (finished t commands)) (machinesOf (finished t commands))
 
 -- at a quiet end the reference machine goes on to the running machines
-finish : (t : Table) (commands : List Command) → Follows t (finished t commands) (referenceStart t) (busOf (answered t commands) (originated t commands)) (fedOf commands (answered t commands))
+finish : (t : Table) (commands : List Command)
+    → Follows t (finished t commands) (referenceStart t) (busOf (answered t commands) (originated t commands)) (fedOf commands (answered t commands))
     → (quiet : Bool) → quiescent t (finished t commands) ≡ quiet → MovesTransparent t commands
 unfolding referenceStart
 finish t commands f false q =

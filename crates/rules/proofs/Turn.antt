@@ -9,7 +9,8 @@ use Rattle.rules.specs.Table.{Table}
 use Rattle.rules.specs.Machine.{Mail, Origin, BusWord}
 use Rattle.rules.specs.Reference.{Reference}
 use Rattle.rules.specs.Cabinet.{Cabinet, processAt, protected}
-use Rattle.rules.specs.Moves.{Command, Move, transmitMove, moveOf, Refusal, Answer, syncKept, syncLost, droppedFrom, refused, Numbers, numbers, originOf, turn, runFrom}
+use Rattle.rules.specs.Moves.{Command, Move, transmitMove, moveOf, Refusal, Answer, syncKept, syncLost, droppedFrom, refused}
+use Rattle.rules.specs.Moves.{Numbers, numbers, originOf, turn, runFrom}
 use Rattle.rules.specs.Judge.{Accepted}
 use Rattle.rules.specs.Rebackup.{busWords}
 use Rattle.rules.specs.Transparent.{traceOf, busOf, fedOf}
@@ -110,7 +111,8 @@ fed-cons r a rs l =
 
 -- the run of a list from cabinet c, followed from s
 pub record FollowsRun (t : Table) (c : Cabinet) (s : Reference) (commands : List Command) : Type 0 where
-  pub follows : Follows t (runFrom t c commands .cabinet) s (busOf (map numbers (runFrom t c commands .answers)) (map originOf (runFrom t c commands .answers)))
+  pub follows : Follows t (runFrom t c commands .cabinet) s
+      (busOf (map numbers (runFrom t c commands .answers)) (map originOf (runFrom t c commands .answers)))
       (fedOf commands (map numbers (runFrom t c commands .answers)))
   pub room : Room t [] (runFrom t c commands .cabinet)
 
@@ -124,6 +126,8 @@ run-follows {t} ok c s inv rm (r ∷ rs) =
     let l : List Numbers = map numbers (runFrom t (turn t c r .cabinet) rs .answers) in
     let origins : List Origin = map originOf (runFrom t (turn t c r .cabinet) rs .answers) in
     record {
-      follows = subst₂ (Follows t (runFrom t c (r ∷ rs) .cabinet) s) (bus-cons (numbers a) (originOf a) l origins) (fed-cons r a rs l) (follows-then f (g .follows));
+      follows =
+          subst₂ (Follows t (runFrom t c (r ∷ rs) .cabinet) s) (bus-cons (numbers a) (originOf a) l origins) (fed-cons r a rs l)
+          (follows-then f (g .follows));
       room = g .room;
     }

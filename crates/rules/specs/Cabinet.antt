@@ -38,10 +38,10 @@ pub record Process : Type 0 where
   pub since : Since
   pub standby : Option Standby
 
--- "An entry of an outgoing queue is a word or a sync". A word names its channel and so, by the table, its sender; beside it is the place of its
--- SEND (W-212). W-210: "its snapshot and
--- copies of all its unread words join the queue as one entry", a state transfer to a new backup (document 02: resync). It names the process:
--- snapshot and copies stand in the record that is being made, which from issue on saves what arrives.
+-- "An entry of an outgoing queue is a word or a sync". A word names its channel and so, by the table, its sender; beside it stands "the place
+-- of its SEND" (W-212). W-210: "its snapshot and copies of all its unread words join the queue as one entry", a state transfer to a new backup
+-- (document 02: resync). It names the process: snapshot and copies stand in the record that is being made, which from issue on saves what
+-- arrives.
 pub data Item : Type 0 where
   message : Mail → ℕ → Item
   checkpoint : ℕ → Checkpoint → Item

@@ -9,7 +9,8 @@ use lib.ListN.{length, getD}
 use Rattle.rules.specs.Table.{Table, SET, SEND, environment, channelAt, codeOf}
 use Rattle.rules.specs.Machine.{Mail, Origin, BusWord, sentFrom, outside, fromOutside}
 use Rattle.rules.specs.Cabinet.{Item, message, checkpoint, transfer}
-use Rattle.rules.specs.Moves.{Move, stepMove, issueMove, transmitMove, injectMove, crashMove, rejoinMove, rebackupMove, unknown, noOrigin}
+use Rattle.rules.specs.Moves.{Move, stepMove, issueMove, transmitMove, injectMove, crashMove, rejoinMove, rebackupMove, unknown}
+use Rattle.rules.specs.Moves.{noOrigin}
 
 -- ---- an origin is one
 

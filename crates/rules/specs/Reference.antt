@@ -7,7 +7,8 @@ use Prim.Native.Nat.{ℕ, zero, suc}
 use lib.Dec.{eqb, ltb}
 use lib.ListN.{length, getD, set}
 use Rattle.rules.specs.Table.{Table, environment, channelAt, codeOf}
-use Rattle.rules.specs.Machine.{Mail, BusWord, sentFrom, fromOutside, Machine, booted, Act, internal, took, sent, Outcome, halted, noMail, moved, localStep, delivered}
+use Rattle.rules.specs.Machine.{Mail, BusWord, sentFrom, fromOutside, Machine, booted, Act, internal, took, sent}
+use Rattle.rules.specs.Machine.{Outcome, halted, noMail, moved, localStep, delivered}
 
 -- "It holds for each process four registers and a place, all 0 at first, and an inbox [..]. Beside them is its bus order."
 pub record Reference : Type 0 where
@@ -24,7 +25,7 @@ unfoldable pub referenceStart : Table → Reference
 unfolding booted
 referenceStart t = record { machines = map (λ _. booted) (t .processes); trace = [] }
 
--- channel and word go to the end of the bus order and, unless the outside reads the channel, of the reader's inbox
+-- channel and word, with where they come from, go to the end of the bus order and, unless the outside reads the channel, of the reader's inbox
 -- (a reader of 255 is no machine of the list, and a store there changes nothing)
 unfoldable pub posted : Table → BusWord → Reference → Reference
 unfolding booted delivered

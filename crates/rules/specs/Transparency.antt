@@ -30,7 +30,8 @@ abbrev pub originsIn : Ran → List Origin
 originsIn r = readOrigins (r .records) (r .buffers .origins)
 
 -- Of the bytes of a table and a schedule, and of what a run of them returned and left in its buffers: what was fed and the bus order are
--- read out of the answers and the origins there, and quiet is the one returned. "those that the five moves give after our last record" are the rules' own.
+-- read out of the answers and the origins there, and quiet is the one returned. "those that the five moves give after our last record" are
+-- the rules' own.
 abbrev pub FailureTransparency : List ℕ → List ℕ → Ran → Type 0
 FailureTransparency table schedule r =
     let commands = decodeSchedule schedule in
