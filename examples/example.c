@@ -72,11 +72,11 @@ static struct piece first_records(size_t records) {
 
 /* What a run of so many records on so many processes is lent to write to. */
 struct lent {
-    struct piece answers, reasons, report;
+    struct piece answers, reasons, report, origins;
 };
 
 static struct lent lend(size_t records, size_t processes) {
-    struct lent l = {piece(KS_RECORD * records), piece(KS_REASON * records), piece(KS_REPORT * processes)};
+    struct lent l = {piece(KS_RECORD * records), piece(KS_REASON * records), piece(KS_REPORT * processes), piece(KS_ORIGIN * records)};
     return l;
 }
 
@@ -84,21 +84,23 @@ static void give_back(struct lent l) {
     free(l.answers.at);
     free(l.reasons.at);
     free(l.report.at);
+    free(l.origins.at);
 }
 
 static uint64_t run(struct piece t, struct piece schedule, struct lent l) {
     return ks_run(t.at, t.len, schedule.at, schedule.len, l.answers.at, l.answers.len, l.reasons.at, l.reasons.len, l.report.at,
-                  l.report.len);
+                  l.report.len, l.origins.at, l.origins.len);
 }
 
 static uint64_t label_run(uint32_t first, struct piece schedule, struct lent l) {
     return ks_label_run(first, schedule.at, schedule.len, l.answers.at, l.answers.len, l.reasons.at, l.reasons.len, l.report.at,
-                        l.report.len);
+                        l.report.len, l.origins.at, l.origins.len);
 }
 
-/* How a run would be judged with buffers shorter by so many bytes. */
-static uint32_t judge(struct piece t, struct piece schedule, struct lent l, size_t answers, size_t reasons, size_t report) {
-    return ks_judge(t.at, t.len, schedule.at, schedule.len, l.answers.len - answers, l.reasons.len - reasons, l.report.len - report);
+/* How a run would be judged with answers, reasons, report and origins shorter by so many bytes. */
+static uint32_t judge(struct piece t, struct piece schedule, struct lent l, const size_t less[4]) {
+    return ks_judge(t.at, t.len, schedule.at, schedule.len, l.answers.len - less[0], l.reasons.len - less[1], l.report.len - less[2],
+                    l.origins.len - less[3]);
 }
 
 static void show_record(const char *name, const uint32_t *state) {
@@ -134,12 +136,13 @@ static void board_programmer(void) {
 static void driver_bench(void) {
     struct piece sound = table_of_version(1), other = table_of_version(9), schedule = first_records(20);
     struct lent l = lend(20, 1);
-    printf("driver bench\njudged %u", judge(sound, schedule, l, 0, 0, 0));
-    printf(" %u", judge(other, schedule, l, 0, 0, 0));
-    printf(" %u", judge(sound, schedule, l, 1, 0, 0));
-    printf(" %u", judge(sound, schedule, l, 0, 1, 0));
-    printf(" %u\n", judge(sound, schedule, l, 0, 0, 1));
-    printf("refused %u\n", (unsigned)ks_number(run(other, schedule, l)));
+    static const size_t none[4] = {0}, less[4][4] = {{1, 0, 0, 0}, {0, 1, 0, 0}, {0, 0, 1, 0}, {0, 0, 0, 1}};
+    printf("driver bench\njudged %u", judge(sound, schedule, l, none));
+    printf(" %u", judge(other, schedule, l, none));
+    for (size_t i = 0; i < 4; i++) {
+        printf(" %u", judge(sound, schedule, l, less[i]));
+    }
+    printf("\nrefused %u\n", (unsigned)ks_number(run(other, schedule, l)));
     uint64_t result = run(sound, schedule, l);
     printf("records %u\n", ks_records(result));
     for (size_t i = 0; i < ks_records(result); i++) {
@@ -157,8 +160,8 @@ static void driver_bench(void) {
     give_back(l);
 }
 
-/* A board is pulled: what is on the bus until then, fed or carried, why each answer is what it is, and with how much unread and held back the
- * stand-by begins. */
+/* A board is pulled: what is on the bus until then, each word fed or with its sender and the place of its SEND, why each answer is what it is,
+ * and with how much unread and held back the stand-by begins. */
 static void service_desk(void) {
     struct piece sound = table_of_version(1), schedule = first_records(11);
     struct lent l = lend(11, 1);
@@ -167,7 +170,11 @@ static void service_desk(void) {
     for (size_t i = 0; i < ks_records(result); i++) {
         if (ks_code(l.answers.at, i) == KS_ON_THE_BUS) {
             printf(" %u:%u", ks_a(l.answers.at, i), ks_answer_word(l.answers.at, i));
-            printf("%s", ks_cause(l.reasons.at, i) == KS_CAUSE_FED ? " (fed)" : "");
+            if (ks_sender(l.origins.at, i) == KS_OUTSIDE) {
+                printf(" (fed)");
+            } else {
+                printf(" (process %u, place %u)", ks_sender(l.origins.at, i), ks_sent_at(l.origins.at, i));
+            }
         }
     }
     printf("\nreasons");
@@ -234,6 +241,11 @@ static void planners_office(void) {
 }
 
 int main(void) {
+    if (ks_abi() != KS_ABI) {
+        fprintf(stderr, "example: libkunzeastylus.a has the calls of ABI %u, the header those of ABI %u: take both from one release\n",
+                (unsigned)ks_abi(), (unsigned)KS_ABI);
+        return 1;
+    }
     board_programmer();
     driver_bench();
     service_desk();

@@ -8,6 +8,8 @@
  * memcpy and memset. Each lent piece of memory is a pointer and a length, or an array of a fixed length. Its pointer is not null, not even
  * where the length is 0, and what is lent to be written overlaps nothing else that is lent. Otherwise the calls ask nothing of their caller:
  * any bytes, any lengths.
+ *
+ * A program that was built with another header would link, and lend what the library doesn't expect: so compare KS_ABI with ks_abi() first.
  */
 #ifndef KUNZEASTYLUS_H
 #define KUNZEASTYLUS_H
@@ -18,6 +20,10 @@
 #ifdef __cplusplus
 extern "C" {
 #endif
+
+/* ---- which calls these are: the number goes up when a signature or a layout changes */
+
+#define KS_ABI 2
 
 /* ---- sizes, in bytes unless said */
 
@@ -32,6 +38,7 @@ extern "C" {
 #define KS_RECORD 6             /* a schedule's record, and an answer: code, a, word */
 #define KS_REASON 1             /* of each record in the list of reasons: the answer's code times 4, plus its cause */
 #define KS_REPORT 20            /* of each process */
+#define KS_ORIGIN 2             /* of each record in the list of origins: sender and place of the word that it put on the bus */
 #define KS_LABEL_TABLE 84       /* a label line's table */
 #define KS_STATE 135            /* a backup record, in numbers of 32 bits */
 #define KS_CALL 10              /* a call of the backup record, in numbers of 32 bits */
@@ -41,7 +48,7 @@ extern "C" {
 enum ks_instruction { KS_SET = 1, KS_ADD = 2, KS_TAKE = 3, KS_FIRST = 4, KS_SEND = 5, KS_JUMP = 6 };
 enum ks_move { KS_STEP = 1, KS_SYNC = 2, KS_CARRY = 3, KS_FEED = 4, KS_CRASH = 5, KS_RETURN = 6, KS_RESYNC = 7 };
 enum { KS_SCANNER = 0, KS_PRINTER = 1, KS_OUTLET = 2 }; /* the label line's channels */
-enum { KS_OUTSIDE = 255 }; /* as the sender or the reader of a channel */
+enum { KS_OUTSIDE = 255 }; /* as the sender or the reader of a channel, and as the sender of a word that is fed */
 
 /* ---- why a run is refused, the lowest number first, but KS_LIMIT between 8 and 9; 0 is accepted */
 
@@ -60,7 +67,8 @@ enum ks_refusal {
     KS_ANSWERS_SHORT = 11,    /* answer buffer under six bytes a record, or buffer of reasons under one */
     KS_REPORT_SHORT = 12,     /* report buffer under 20 bytes a process */
     KS_FIRST_SERIAL = 46,     /* of the label line: a first serial above 4,294,957,295 */
-    KS_LIMIT = 47             /* a process's limit outside 1 to 16 */
+    KS_LIMIT = 47,            /* a process's limit outside 1 to 16 */
+    KS_ORIGINS_SHORT = 51     /* buffer of origins under two bytes a record */
 };
 
 /* ---- why a table is not written or not taken apart, beside 1 to 8 and KS_LIMIT of ks_refusal, and after those */
@@ -158,14 +166,19 @@ enum ks_asked { KS_NEW = 0, KS_ARRIVE = 1, KS_COUNT = 2, KS_BACKUP_SYNC = 3, KS_
 
 /* ---- the calls */
 
+/* The KS_ABI that the library was built for. */
+uint32_t ks_abi(void);
+
 /* The run of a schedule on a table. The result is unpacked by ks_number, ks_quiet and ks_records. An accepted run writes six bytes a record
- * to answers, one byte a record to reasons and 20 bytes a process to report, and nothing beyond those; a refused one writes nothing at all. */
+ * to answers, one byte a record to reasons, 20 bytes a process to report and two bytes a record to origins, and nothing beyond those; a refused
+ * one writes nothing at all. The two bytes of origins are the sender and the place of its SEND for a word that the record carried, KS_OUTSIDE and
+ * 0 for a word that it fed, and 255 and 255 where no word was on the bus. */
 uint64_t ks_run(const uint8_t *table, size_t table_len, const uint8_t *schedule, size_t schedule_len, uint8_t *answers, size_t answers_len,
-                uint8_t *reasons, size_t reasons_len, uint8_t *report, size_t report_len);
+                uint8_t *reasons, size_t reasons_len, uint8_t *report, size_t report_len, uint8_t *origins, size_t origins_len);
 
 /* By which number a run of these would be refused with buffers of these lengths, or 0. Nothing is run. */
 uint32_t ks_judge(const uint8_t *table, size_t table_len, const uint8_t *schedule, size_t schedule_len, size_t answers_len,
-                  size_t reasons_len, size_t report_len);
+                  size_t reasons_len, size_t report_len, size_t origins_len);
 
 /* A call of the backup record. state is KS_STATE numbers: how many words are saved, count, place, four registers, then 64 pairs of slot and
  * word. call is KS_CALL numbers, its own and its arguments:
@@ -200,7 +213,7 @@ uint32_t ks_label_table(uint32_t first, uint8_t table[KS_LABEL_TABLE]);
 /* The run of a schedule on that table: what ks_run would return, or KS_FIRST_SERIAL. The outlet gets each carton's code and then its serial:
  * the words of the answers KS_ON_THE_BUS on KS_OUTLET. */
 uint64_t ks_label_run(uint32_t first, const uint8_t *schedule, size_t schedule_len, uint8_t *answers, size_t answers_len, uint8_t *reasons,
-                      size_t reasons_len, uint8_t *report, size_t report_len);
+                      size_t reasons_len, uint8_t *report, size_t report_len, uint8_t *origins, size_t origins_len);
 
 /* ---- helpers */
 
@@ -220,6 +233,10 @@ static inline uint32_t ks_answer_word(const uint8_t *answers, size_t i) { return
 
 /* Why record i, from 0, has its answer. */
 static inline enum ks_cause ks_cause(const uint8_t *reasons, size_t i) { return (enum ks_cause)reasons[KS_REASON * i]; }
+
+/* From where the word came that record i, from 0, put on the bus: its answer is KS_ON_THE_BUS. */
+static inline uint8_t ks_sender(const uint8_t *origins, size_t i) { return origins[KS_ORIGIN * i]; }
+static inline uint8_t ks_sent_at(const uint8_t *origins, size_t i) { return origins[KS_ORIGIN * i + 1]; }
 
 /* What the report says of process p. */
 static inline uint8_t ks_board(const uint8_t *report, size_t p) { return report[KS_REPORT * p]; }

@@ -1,8 +1,8 @@
 //! The proved calls from Rust, as board programmers, the driver bench, the service desk, the label line and the planner's office use them.
 //! examples/example.c is the same in C; both print examples/example.out.
 use kunzeastylus::{
-    judge, label_run, label_table, labels, run, Backup, BackupRefusal, Cause, Code, Lists, Record, Refusal, Snapshot, Synced,
-    SCANNER,
+    check_abi, judge, label_run, label_table, labels, run, Backup, BackupRefusal, Buffers, End, Lengths, Lists, Record, Refusal,
+    Snapshot, Synced, SCANNER,
 };
 
 /// Document 01's sample table.
@@ -66,19 +66,21 @@ fn driver_bench() {
     let schedule = Record::schedule(&records());
     let mut other = TABLE;
     other[2] = 9;
+    let mut buffers = Buffers::for_run(&TABLE, &schedule);
+    let lengths = buffers.lengths();
     let judged = [
-        judge(&TABLE, &schedule, 120, 20, 20),
-        judge(&other, &schedule, 120, 20, 20),
-        judge(&TABLE, &schedule, 119, 20, 20),
-        judge(&TABLE, &schedule, 120, 19, 20),
-        judge(&TABLE, &schedule, 120, 20, 19),
+        judge(&TABLE, &schedule, lengths),
+        judge(&other, &schedule, lengths),
+        judge(&TABLE, &schedule, Lengths { answers: 119, ..lengths }),
+        judge(&TABLE, &schedule, Lengths { reasons: 19, ..lengths }),
+        judge(&TABLE, &schedule, Lengths { report: 19, ..lengths }),
+        judge(&TABLE, &schedule, Lengths { origins: 39, ..lengths }),
     ];
     print!("driver bench\njudged");
     judged.iter().for_each(|judged| print!(" {}", judged.map_or_else(Refusal::number, |()| 0)));
     println!();
-    let (mut answers, mut reasons, mut report) = ([0; 120], [0; 20], [0; 20]);
-    println!("refused {}", run(&other, &schedule, &mut answers, &mut reasons, &mut report).unwrap_err().number());
-    let run = run(&TABLE, &schedule, &mut answers, &mut reasons, &mut report).unwrap();
+    println!("refused {}", run(&other, &schedule, &mut buffers).unwrap_err().number());
+    let run = run(&TABLE, &schedule, &mut buffers).unwrap();
     println!("records {}", run.records());
     for (i, answer) in run.answers().enumerate() {
         println!("{} {} {} {}", i + 1, answer.code.number(), answer.a, answer.word);
@@ -90,15 +92,19 @@ fn driver_bench() {
     println!("quiet {}", run.quiet as u8);
 }
 
-/// A board is pulled: what is on the bus until then, fed or carried, why each answer is what it is, and with how much unread and held back the
-/// stand-by begins.
+/// A board is pulled: what is on the bus until then, each word fed or with its sender and the place of its SEND, why each answer is what it is,
+/// and with how much unread and held back the stand-by begins.
 fn service_desk() {
     let schedule = Record::schedule(&records()[..11]);
-    let (mut answers, mut reasons, mut report) = ([0; 120], [0; 20], [0; 20]);
-    let run = run(&TABLE, &schedule, &mut answers, &mut reasons, &mut report).unwrap();
+    let mut buffers = Buffers::for_run(&TABLE, &schedule);
+    let run = run(&TABLE, &schedule, &mut buffers).unwrap();
     print!("service desk\non the bus");
-    for answer in run.answers().filter(|answer| answer.code == Code::OnTheBus) {
-        print!(" {}:{}{}", answer.a, answer.word, if answer.cause == Cause::Fed { " (fed)" } else { "" });
+    for on_the_bus in run.bus() {
+        print!(" {}:{}", on_the_bus.channel, on_the_bus.word);
+        match on_the_bus.sender {
+            End::Outside => print!(" (fed)"),
+            End::Process(p) => print!(" (process {p}, place {})", on_the_bus.place),
+        }
     }
     print!("\nreasons");
     run.answers().for_each(|answer| print!(" {}", answer.cause.number()));
@@ -124,11 +130,11 @@ fn label_line() {
     let schedule = Record::schedule(&records);
     let number = |refused: Option<Refusal>| refused.map_or(0, Refusal::number);
     println!("label line\ntables {} {}", number(label_table(4_294_957_295).err()), number(label_table(4_294_957_296).err()));
-    let (mut answers, mut reasons, mut report) = ([0; 96], [0; 16], [0; 40]);
-    let run = label_run(1000, &schedule, &mut answers, &mut reasons, &mut report).unwrap();
+    let mut buffers = Buffers::for_label_run(&schedule);
+    let run = label_run(1000, &schedule, &mut buffers).unwrap();
     print!("outlet");
     labels(run.answers()).iter().for_each(|label| print!(" {} {}", label.code, label.serial.unwrap()));
-    println!("\nrefused {}", number(label_run(u32::MAX, &schedule, &mut answers, &mut reasons, &mut report).err()));
+    println!("\nrefused {}", number(label_run(u32::MAX, &schedule, &mut buffers).err()));
 }
 
 /// The sample table from lists of numbers, in version 2 with a limit of 2, and taken apart again. Refused are a limit of 17, a limit in version
@@ -150,6 +156,10 @@ fn planners_office() {
 }
 
 fn main() {
+    if let Err(other) = check_abi() {
+        eprintln!("example: {other}");
+        std::process::exit(1);
+    }
     board_programmer();
     driver_bench();
     service_desk();

@@ -1,5 +1,7 @@
-//! The answer to a record: document 01, "What each move replies"; and why it is that one: document 02, W-206.
+//! The answer to a record: document 01, "What each move replies"; why it is that one: document 02, W-206; and from where the word came that it
+//! put on the bus: W-212.
 use crate::numbers::{numbers, worded};
+use crate::table::End;
 
 numbers! {
     /// An answer's code: what was done (0 to 6), or why the record was refused (32 to 44, 48 to 50).
@@ -104,21 +106,35 @@ impl Cause {
     }
 }
 
-/// "One six-byte answer a record: code, a, word", and its cause from the list of reasons.
+/// A word on the bus: two runs are equal where these agree, one by one.
+#[derive(Clone, Copy, Debug, PartialEq, Eq, Hash)]
+pub struct BusWord {
+    pub channel: u8,
+    pub word: u32,
+    /// The process whose SEND it was, or the outside where it was fed.
+    pub sender: End,
+    /// The place of that SEND in the sender's program; 0 where it was fed.
+    pub place: u8,
+}
+
+/// "One six-byte answer a record: code, a, word", its cause from the list of reasons, and the word that the record put on the bus, if it did.
 #[derive(Clone, Copy, Debug, PartialEq, Eq, Hash)]
 pub struct Answer {
     pub code: Code,
     pub a: u8,
     pub word: u32,
     pub cause: Cause,
+    pub bus: Option<BusWord>,
 }
 
 impl Answer {
-    /// The answer that six bytes stand for, and one byte of reasons.
-    pub(crate) fn of(bytes: &[u8], reason: u8) -> Answer {
+    /// The answer that six bytes stand for, one byte of reasons and two of origins.
+    pub(crate) fn of(bytes: &[u8], reason: u8, origin: &[u8]) -> Answer {
         let code = Code::of(bytes[0]).expect("a run writes document 01's codes alone");
         let cause = Cause::of(reason).expect("a run writes document 02's reasons alone");
-        Answer { code, a: bytes[1], word: word(&bytes[2..6]), cause }
+        let (a, word) = (bytes[1], word(&bytes[2..6]));
+        let on_the_bus = || BusWord { channel: a, word, sender: End::of(origin[0].into()), place: origin[1] };
+        Answer { code, a, word, cause, bus: (code == Code::OnTheBus).then(on_the_bus) }
     }
 }
 

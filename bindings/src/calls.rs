@@ -1,4 +1,7 @@
-//! The exported calls of the proved library, and nothing else; the only unsafe code of the crate.
+//! The exported calls of the proved library, and nothing else; the only unsafe code of the crate. Each but `ks_abi` first sees that the library
+//! is the one declared here.
+use crate::abi::check_abi;
+use crate::buffers::{Buffers, Lengths};
 use crate::label::LABEL_TABLE;
 use crate::table::Lists;
 
@@ -8,6 +11,8 @@ mod raw {
     // Each slice is a pointer and a length.
     #[link(name = "kunzeastylus", kind = "static")]
     extern "C" {
+        pub fn ks_abi() -> u32;
+
         pub fn ks_run(
             table: *const u8,
             table_len: usize,
@@ -19,6 +24,8 @@ mod raw {
             reasons_len: usize,
             report: *mut u8,
             report_len: usize,
+            origins: *mut u8,
+            origins_len: usize,
         ) -> u64;
 
         pub fn ks_judge(
@@ -26,9 +33,10 @@ mod raw {
             table_len: usize,
             schedule: *const u8,
             schedule_len: usize,
-            answers: usize,
-            reasons: usize,
-            report: usize,
+            answers_len: usize,
+            reasons_len: usize,
+            report_len: usize,
+            origins_len: usize,
         ) -> u32;
 
         pub fn ks_backup_call(
@@ -53,6 +61,8 @@ mod raw {
             reasons_len: usize,
             report: *mut u8,
             report_len: usize,
+            origins: *mut u8,
+            origins_len: usize,
         ) -> u64;
 
         pub fn ks_table_write(
@@ -87,9 +97,22 @@ mod raw {
     }
 }
 
+/// The number of the calls that the library has.
+pub fn ks_abi() -> u32 {
+    // SAFETY: the call asks nothing, and has been the same in every library that has it.
+    unsafe { raw::ks_abi() }
+}
+
+/// Another library would be lent what it doesn't expect.
+fn same_library() {
+    check_abi().unwrap_or_else(|other| panic!("{other}"));
+}
+
 /// The number by which a run is refused or 0, plus 256 times quiet, plus 2^32 times the records.
-pub fn ks_run(table: &[u8], schedule: &[u8], answers: &mut [u8], reasons: &mut [u8], report: &mut [u8]) -> u64 {
-    // SAFETY: five slices that don't overlap, each with its own length; the first two are only read. The call asks nothing else.
+pub fn ks_run(table: &[u8], schedule: &[u8], lent: &mut Buffers<&mut [u8]>) -> u64 {
+    same_library();
+    let Buffers { answers, reasons, report, origins } = lent;
+    // SAFETY: six slices that don't overlap, each with its own length; the first two are only read. The call asks nothing else.
     unsafe {
         raw::ks_run(
             table.as_ptr(),
@@ -102,31 +125,39 @@ pub fn ks_run(table: &[u8], schedule: &[u8], answers: &mut [u8], reasons: &mut [
             reasons.len(),
             report.as_mut_ptr(),
             report.len(),
+            origins.as_mut_ptr(),
+            origins.len(),
         )
     }
 }
 
 /// The number by which a run is refused, or 0.
-pub fn ks_judge(table: &[u8], schedule: &[u8], answers: usize, reasons: usize, report: usize) -> u32 {
+pub fn ks_judge(table: &[u8], schedule: &[u8], lengths: Lengths) -> u32 {
+    same_library();
+    let Buffers { answers, reasons, report, origins } = lengths;
     // SAFETY: two slices, each with its own length; the call only reads them and asks nothing else.
-    unsafe { raw::ks_judge(table.as_ptr(), table.len(), schedule.as_ptr(), schedule.len(), answers, reasons, report) }
+    unsafe { raw::ks_judge(table.as_ptr(), table.len(), schedule.as_ptr(), schedule.len(), answers, reasons, report, origins) }
 }
 
 /// The backup record's number, or 0.
 pub fn ks_backup_call(state: &mut [u32], call: &[u32], reply: &mut [u32]) -> u32 {
+    same_library();
     // SAFETY: three slices that don't overlap, each with its own length; the second is only read. The call asks nothing else.
     unsafe { raw::ks_backup_call(state.as_mut_ptr(), state.len(), call.as_ptr(), call.len(), reply.as_mut_ptr(), reply.len()) }
 }
 
 /// 46, or 0 and the table of a first serial.
 pub fn ks_label_table(first: u32, table: &mut [u8; LABEL_TABLE]) -> u32 {
+    same_library();
     // SAFETY: an array of the length that the call wants. It asks nothing else.
     unsafe { raw::ks_label_table(first, table) }
 }
 
 /// As `ks_run` of the table of a first serial, or 46.
-pub fn ks_label_run(first: u32, schedule: &[u8], answers: &mut [u8], reasons: &mut [u8], report: &mut [u8]) -> u64 {
-    // SAFETY: four slices that don't overlap, each with its own length; the first is only read. The call asks nothing else.
+pub fn ks_label_run(first: u32, schedule: &[u8], lent: &mut Buffers<&mut [u8]>) -> u64 {
+    same_library();
+    let Buffers { answers, reasons, report, origins } = lent;
+    // SAFETY: five slices that don't overlap, each with its own length; the first is only read. The call asks nothing else.
     unsafe {
         raw::ks_label_run(
             first,
@@ -138,12 +169,15 @@ pub fn ks_label_run(first: u32, schedule: &[u8], answers: &mut [u8], reasons: &m
             reasons.len(),
             report.as_mut_ptr(),
             report.len(),
+            origins.as_mut_ptr(),
+            origins.len(),
         )
     }
 }
 
 /// The number by which lists or a buffer are refused or 0, plus 2^32 times the table's length.
 pub fn ks_table_write(lists: &Lists, out: &mut [u8]) -> u64 {
+    same_library();
     let Lists { version, counts, ends, placements, limits, instructions } = lists;
     // SAFETY: five slices that don't overlap, each with its own length; the first four are only read. The call asks nothing else.
     unsafe {
@@ -175,6 +209,7 @@ pub fn ks_table_apart(
     limits: &mut [u32],
     instructions: &mut [u32],
 ) -> u64 {
+    same_library();
     // SAFETY: five slices that don't overlap, each with its own length; the first is only read. The call asks nothing else.
     unsafe {
         raw::ks_table_apart(

@@ -1,5 +1,6 @@
 //! The label line: one scanner, one numbering program and one printer program on two boards.
 use crate::answer::{Answer, Code};
+use crate::buffers::Buffers;
 use crate::calls;
 use crate::run::{refusal, Refusal, Run};
 
@@ -25,16 +26,11 @@ pub fn label_table(first: u32) -> Result<[u8; LABEL_TABLE], Refusal> {
     refusal(calls::ks_label_table(first, &mut table)).map_or(Ok(table), Err)
 }
 
-/// Runs a schedule on the table of a first serial, as `run` does on any.
-pub fn label_run<'b>(
-    first: u32,
-    schedule: &[u8],
-    answers: &'b mut [u8],
-    reasons: &'b mut [u8],
-    report: &'b mut [u8],
-) -> Result<Run<'b>, Refusal> {
-    let result = calls::ks_label_run(first, schedule, answers, reasons, report);
-    Run::of(result, || 2, answers, reasons, report)
+/// Runs a schedule on the table of a first serial, as [`run`](crate::run) does on any; [`Buffers::for_label_run`] makes what it is lent.
+pub fn label_run<'b, B: AsMut<[u8]>>(first: u32, schedule: &[u8], buffers: &'b mut Buffers<B>) -> Result<Run<'b>, Refusal> {
+    let mut lent = buffers.lend();
+    let result = calls::ks_label_run(first, schedule, &mut lent);
+    Run::of(result, || 2, lent)
 }
 
 /// The labels at the outlet, in order.

@@ -1,11 +1,14 @@
 //! The proved calls for programs in Rust: the run of a schedule ([`run`]), the judging of its input ([`judge`]), the writer of tables ([`Table`],
-//! [`Lists`]), the backup record ([`Backup`]) and the label line ([`label_run`]). They borrow slices, keep nothing between calls and ask nothing of
-//! their caller; the calls themselves allocate nothing. All numbers are
-//! document 01's.
+//! [`Lists`]), the backup record ([`Backup`]) and the label line ([`label_run`]). They borrow what they read and write ([`Buffers`]), keep nothing
+//! between calls and ask nothing of their caller; the calls themselves allocate nothing. All numbers are document 01's.
+//!
+//! Each call first compares the library that is linked with what is declared here ([`check_abi`]), and panics where they differ.
 #![deny(unsafe_code)]
 
+mod abi;
 mod answer;
 mod backup;
+mod buffers;
 #[allow(unsafe_code)]
 mod calls;
 mod label;
@@ -14,8 +17,10 @@ mod record;
 mod run;
 mod table;
 
-pub use answer::{Answer, Cause, Code};
+pub use abi::{check_abi, OtherLibrary, ABI};
+pub use answer::{Answer, BusWord, Cause, Code};
 pub use backup::{Backup, BackupRefusal, Snapshot, Synced, STATE};
+pub use buffers::{Buffers, Lengths};
 pub use label::{label_run, label_table, labels, Label, LABEL_TABLE, OUTLET, SCANNER};
 pub use record::{Instruction, Move, Record, OUTSIDE};
 pub use run::{judge, run, ProcessEnd, Refusal, Run};

@@ -1,10 +1,11 @@
 //! The run of a schedule on a table, and the judging of its input.
-use crate::answer::{word, Answer};
+use crate::answer::{word, Answer, BusWord};
+use crate::buffers::{Buffers, Lengths};
 use crate::calls;
 use crate::numbers::worded;
 
 worded! {
-    /// Why a run is refused, the lowest number first; 47 comes between 8 and 9.
+    /// Why a run is refused, the lowest number first; 47 comes between 8 and 9, and 51 last.
     Refusal {
         TableLength = 1 => "the table has under 6 bytes, or its length field is over 6,276 or not the true length",
         TableVersion = 2 => "the table's version (byte 2) is neither 1 nor 2",
@@ -20,6 +21,7 @@ worded! {
         ReportShort = 12 => "the report buffer has under 20 bytes a process",
         FirstSerial = 46 => "of the label line alone: a first serial above 4,294,957,295; then no table is made",
         Limit = 47 => "a table of version 2: a process's limit is outside 1 to 16",
+        OriginsShort = 51 => "the buffer of origins has under two bytes a record",
     }
 }
 
@@ -28,9 +30,7 @@ worded! {
 pub struct Run<'b> {
     /// Whether it ended quiet.
     pub quiet: bool,
-    answers: &'b [u8],
-    reasons: &'b [u8],
-    report: &'b [u8],
+    written: Buffers<&'b [u8]>,
 }
 
 /// What the report says of a process.
@@ -45,37 +45,39 @@ pub struct ProcessEnd {
 
 impl<'b> Run<'b> {
     /// What a call returned, number + 256 quiet + 2^32 records, and wrote, for a table of so many processes.
-    pub(crate) fn of(
-        result: u64,
-        processes: impl Fn() -> u8,
-        answers: &'b [u8],
-        reasons: &'b [u8],
-        report: &'b [u8],
-    ) -> Result<Run<'b>, Refusal> {
+    pub(crate) fn of(result: u64, processes: impl Fn() -> u8, lent: Buffers<&'b mut [u8]>) -> Result<Run<'b>, Refusal> {
         if let Some(refusal) = refusal(result as u32 & 255) {
             return Err(refusal);
         }
-        let records = (result >> 32) as usize;
-        Ok(Run {
-            quiet: result >> 8 & 1 == 1,
-            answers: &answers[..6 * records],
-            reasons: &reasons[..records],
-            report: &report[..20 * processes() as usize],
-        })
+        let lengths = Lengths::needed((result >> 32) as usize, processes().into());
+        let written = Buffers {
+            answers: &lent.answers[..lengths.answers],
+            reasons: &lent.reasons[..lengths.reasons],
+            report: &lent.report[..lengths.report],
+            origins: &lent.origins[..lengths.origins],
+        };
+        Ok(Run { quiet: result >> 8 & 1 == 1, written })
     }
 
     pub fn records(&self) -> usize {
-        self.answers.len() / 6
+        self.written.reasons.len()
     }
 
     /// An answer for each record, in order.
     pub fn answers(&self) -> impl ExactSizeIterator<Item = Answer> + 'b {
-        self.answers.chunks_exact(6).zip(self.reasons).map(|(bytes, &reason)| Answer::of(bytes, reason))
+        let Buffers { answers, reasons, origins, .. } = self.written;
+        let told = reasons.iter().zip(origins.chunks_exact(2));
+        answers.chunks_exact(6).zip(told).map(|(bytes, (&reason, origin))| Answer::of(bytes, reason, origin))
+    }
+
+    /// The bus order: each word that was on the bus, with its channel, its sender and the place of its SEND.
+    pub fn bus(&self) -> impl Iterator<Item = BusWord> + 'b {
+        self.answers().filter_map(|answer| answer.bus)
     }
 
     /// What became of each process, in order.
     pub fn processes(&self) -> impl ExactSizeIterator<Item = ProcessEnd> + 'b {
-        self.report.chunks_exact(20).map(|bytes| ProcessEnd {
+        self.written.report.chunks_exact(20).map(|bytes| ProcessEnd {
             board: bytes[0],
             place: bytes[1],
             unread: bytes[2],
@@ -90,20 +92,15 @@ pub(crate) fn refusal(number: u32) -> Option<Refusal> {
     (number != 0).then(|| u8::try_from(number).ok().and_then(Refusal::of).expect("a call returns 0 or one of these"))
 }
 
-/// Runs a schedule on a table. `answers` needs six bytes a record, `reasons` one byte a record and `report` 20 bytes a process; bytes beyond
-/// those are untouched, and a refused run touches none.
-pub fn run<'b>(
-    table: &[u8],
-    schedule: &[u8],
-    answers: &'b mut [u8],
-    reasons: &'b mut [u8],
-    report: &'b mut [u8],
-) -> Result<Run<'b>, Refusal> {
-    let result = calls::ks_run(table, schedule, answers, reasons, report);
-    Run::of(result, || table[4], answers, reasons, report)
+/// Runs a schedule on a table, in lent buffers ([`Buffers::for_run`] makes them): bytes beyond what the run writes are untouched, and a refused
+/// run touches none.
+pub fn run<'b, B: AsMut<[u8]>>(table: &[u8], schedule: &[u8], buffers: &'b mut Buffers<B>) -> Result<Run<'b>, Refusal> {
+    let mut lent = buffers.lend();
+    let result = calls::ks_run(table, schedule, &mut lent);
+    Run::of(result, || table[4], lent)
 }
 
 /// Whether a run of these with buffers of these lengths would be accepted. Nothing is run.
-pub fn judge(table: &[u8], schedule: &[u8], answers: usize, reasons: usize, report: usize) -> Result<(), Refusal> {
-    refusal(calls::ks_judge(table, schedule, answers, reasons, report)).map_or(Ok(()), Err)
+pub fn judge(table: &[u8], schedule: &[u8], lengths: Lengths) -> Result<(), Refusal> {
+    refusal(calls::ks_judge(table, schedule, lengths)).map_or(Ok(()), Err)
 }

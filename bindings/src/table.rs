@@ -131,7 +131,7 @@ impl End {
         }
     }
 
-    fn of(number: u32) -> End {
+    pub(crate) fn of(number: u32) -> End {
         match number {
             n if n == u32::from(OUTSIDE) => End::Outside,
             n => End::Process(n),

@@ -1,8 +1,8 @@
 //! The enums have document 01's numbers, all of them and no others, here and in include/kunzeastylus.h; docs/NUMBERS.md explains each; and
 //! the calls hand them on.
 use kunzeastylus::{
-    judge, run, take_apart, write_table, Backup, BackupRefusal, Cause, Code, End, Instruction, Move, Operation, Record, Refusal,
-    Snapshot, Synced, Table, TableRefusal, STATE,
+    check_abi, judge, take_apart, write_table, Backup, BackupRefusal, Cause, Code, End, Instruction, Lengths, Move, Operation,
+    Record, Refusal, Snapshot, Synced, Table, TableRefusal, ABI, STATE,
 };
 
 const HEADER: &str = include_str!("../../include/kunzeastylus.h");
@@ -44,7 +44,7 @@ macro_rules! numbered {
 
 #[test]
 fn numbers() {
-    numbered!(Refusal, "ks_refusal", (1..=12).chain([46, 47]));
+    numbered!(Refusal, "ks_refusal", (1..=12).chain([46, 47, 51]));
     numbered!(Code, "ks_answer", (0..=6).chain(32..=44).chain(48..=50));
     numbered!(Cause, "ks_cause", REASONS.into_iter());
     numbered!(BackupRefusal, "ks_backup_reply", 20..=26);
@@ -101,28 +101,15 @@ fn records_as_bytes() {
     // However many there are, too many are too many.
     for records in [10_001, 10_922, 10_923, 20_000] {
         let schedule = Record::schedule(&vec![Record::step(0); records]);
-        assert_eq!(judge(&TABLE, &schedule, usize::MAX, usize::MAX, usize::MAX), Err(Refusal::ScheduleLength));
+        assert_eq!(judge(&TABLE, &schedule, Lengths::ENOUGH), Err(Refusal::ScheduleLength));
     }
 }
 
+/// The library, the header and the bindings are of one number.
 #[test]
-fn a_refused_run_writes_nothing() {
-    let schedule = Record::schedule(&[Record::feed(0, 9), Record::step(0)]);
-    let (mut answers, mut reasons, mut report) = ([0xEE; 14], [0xEE; 3], [0xEE; 22]);
-    assert_eq!(run(&TABLE, &[], &mut answers, &mut reasons, &mut report), Err(Refusal::ScheduleLength));
-    assert_eq!(run(&[], &schedule, &mut [], &mut [], &mut []), Err(Refusal::TableLength));
-    assert_eq!(run(&TABLE, &schedule, &mut answers[..11], &mut reasons, &mut report), Err(Refusal::AnswersShort));
-    assert_eq!(run(&TABLE, &schedule, &mut answers, &mut reasons[..1], &mut report), Err(Refusal::AnswersShort));
-    assert_eq!(run(&TABLE, &schedule, &mut answers, &mut reasons, &mut report[..19]), Err(Refusal::ReportShort));
-    assert!(answers.iter().chain(&reasons).chain(&report).all(|&byte| byte == 0xEE));
-    let accepted = run(&TABLE, &schedule, &mut answers, &mut reasons, &mut report).unwrap();
-    assert_eq!(
-        accepted.answers().map(|answer| (answer.code, answer.cause, answer.a, answer.word)).collect::<Vec<_>>(),
-        [(Code::OnTheBus, Cause::Fed, 0, 9), (Code::Halted, Cause::Halted, 0, 0)]
-    );
-    assert_eq!(accepted.processes().map(|end| (end.board, end.unread, end.registers)).collect::<Vec<_>>(), [(0, 1, [0; 4])]);
-    assert!(accepted.quiet && accepted.records() == 2);
-    assert!(answers[12..].iter().chain(&reasons[2..]).chain(&report[20..]).all(|&byte| byte == 0xEE));
+fn one_abi() {
+    let said = HEADER.lines().find_map(|line| line.strip_prefix("#define KS_ABI ")).expect("KS_ABI in the header");
+    assert_eq!((said.parse(), check_abi()), (Ok(ABI), Ok(())));
 }
 
 #[test]
@@ -163,7 +150,7 @@ fn tables() {
     table.process(0, 1, &program);
     let bytes = table.bytes().expect("a table");
     assert_eq!((bytes.len(), Table::of(&bytes).as_ref()), (31, Ok(&table)));
-    assert_eq!(judge(&bytes, &[0, 1, 1], 0, 0, 20), Ok(()));
+    assert_eq!(judge(&bytes, &[0, 1, 1], Lengths::needed(0, 1)), Ok(()));
     let lists = table.lists();
     let mut short = [0xEE; 30];
     assert_eq!(write_table(&lists, &mut short), Err(TableRefusal::NoRoom));

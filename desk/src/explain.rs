@@ -1,6 +1,6 @@
 //! A run in words: a line for each record, then each process, and whether the cabinet ended quiet.
 use crate::follow::{Followed, Standing};
-use kunzeastylus::{Answer, Cause, Code, Move, Operation, ProcessEnd, Refusal, Run, Table};
+use kunzeastylus::{Answer, Buffers, BusWord, Cause, Code, End, Lengths, Move, Operation, ProcessEnd, Refusal, Run, Table};
 use std::fmt::Write;
 
 /// A table and a schedule, as `./run` takes them one behind the other.
@@ -42,7 +42,7 @@ impl Input {
 
     /// How many records an accepted schedule has, or why the run is refused.
     pub fn records(&self) -> Result<usize, Refusal> {
-        kunzeastylus::judge(&self.table, &self.schedule, usize::MAX, usize::MAX, usize::MAX).map(|()| self.schedule.len() / 6)
+        kunzeastylus::judge(&self.table, &self.schedule, Lengths::ENOUGH).map(|()| self.schedule.len() / 6)
     }
 
     /// Puts a crash into an accepted schedule.
@@ -60,8 +60,7 @@ impl Input {
             schedule.truncate(3 + 6 * records);
             schedule.splice(..2, schedule_length(schedule.len()));
         }
-        let (mut answers, mut reasons, mut report) = (vec![0; 6 * records], vec![0; records], [0; 20 * 16]);
-        kunzeastylus::run(&self.table, &schedule, &mut answers, &mut reasons, &mut report).map(use_of)
+        kunzeastylus::run(&self.table, &schedule, &mut Buffers::for_run(&self.table, &schedule)).map(use_of)
     }
 }
 
@@ -158,18 +157,29 @@ fn instruction(operation: Operation) -> String {
     }
 }
 
-/// An answer in words: those of its cause, and what it names.
+/// An answer in words: those of its cause, and what it names; of a word on the bus also from where it came.
 fn answer(answer: Answer) -> String {
-    let Answer { code, a, word, cause } = answer;
+    let Answer { code, a, word, cause, bus } = answer;
     let words = cause.words();
     match code {
         _ if code.refused() => format!("refused {}, {words}", code.number()),
-        Code::Took | Code::Queued | Code::HeldBack | Code::OnTheBus => format!("{words} (channel {a}, word {word})"),
+        Code::Took | Code::Queued | Code::HeldBack | Code::OnTheBus => {
+            let from = bus.map(|on_the_bus| format!(", {}", origin(on_the_bus))).unwrap_or_default();
+            format!("{words} (channel {a}, word {word}{from})")
+        }
         Code::SyncCarried if cause == Cause::SyncCarried => {
             format!("{words} (process {a}, {} dropped)", many(word as usize, "word", "words"))
         }
         Code::SyncCarried | Code::SyncUnbacked => format!("{words} (process {a})"),
         _ => words.to_string(),
+    }
+}
+
+/// From where a word on the bus came: the process whose SEND it was, and at which place.
+fn origin(on_the_bus: BusWord) -> String {
+    match on_the_bus.sender {
+        End::Outside => "from outside".to_string(),
+        End::Process(p) => format!("from process {p}, place {}", on_the_bus.place),
     }
 }
 

@@ -3,7 +3,7 @@
 use desk::explain::{explain, Asked, Input, Pull};
 use desk::follow::{Followed, Standing};
 use desk::hex;
-use kunzeastylus::{run, Move, Table};
+use kunzeastylus::{run, Buffers, BusWord, End, Move, Operation, Table};
 use outside::random::Random;
 use outside::rules::generate::{encode_schedule, encode_table, schedule, table};
 use outside::rules::lent::Lent;
@@ -98,12 +98,15 @@ fn pulled() {
     let first = pull("0@1", &["--to", "3"]);
     assert_eq!(
         first[1..3],
-        ["pull crash board 0 done: board crashed", "1 feed channel 0, word 5 on the bus: fed (channel 0, word 5)"]
+        ["pull crash board 0 done: board crashed", "1 feed channel 0, word 5 on the bus: fed (channel 0, word 5, from outside)"]
     );
     let between = pull("1@6", &["--from", "6", "--to", "6"]);
     assert_eq!(
         between[1..3],
-        ["pull crash board 1 done: board crashed", "6 carry board 0 on the bus: carried (channel 1, word 5)"]
+        [
+            "pull crash board 1 done: board crashed",
+            "6 carry board 0 on the bus: carried (channel 1, word 5, from process 0, place 2)"
+        ]
     );
     assert_eq!(between[0], "21 records on 2 boards with 1 process and 2 channels");
     let last = pull("1@21", &["--from", "20"]);
@@ -152,6 +155,19 @@ fn complaints() {
     assert!(help.status.code() == Some(0) && help.stdout.starts_with(b"usage: ./explain") && help.stderr.is_empty());
 }
 
+/// The two bytes that a word on the bus stands for, or that there was none. Where it was sent, a SEND to its channel stands at its place.
+fn origin(table: &Table, bus: Option<BusWord>) -> [u8; 2] {
+    match bus {
+        Some(BusWord { channel, sender: End::Process(p), place, .. }) => {
+            let stands = table.processes[p as usize].program[usize::from(place)];
+            assert!(matches!(stands, Operation::Send { channel: to, .. } if to == channel.into()), "{stands:?} at {place}");
+            [p as u8, place]
+        }
+        Some(on_the_bus) => [255, on_the_bus.place],
+        None => [255, 255],
+    }
+}
+
 /// A schedule and its records one by one: what is followed is what the report of the run up to there says.
 fn follows(table: &[u8], schedule: &[u8]) {
     let decoded = Table::of(table).expect("a sound table");
@@ -159,15 +175,16 @@ fn follows(table: &[u8], schedule: &[u8]) {
     let report = |records: usize| -> Vec<Standing> {
         let mut beginning = schedule[..3 + 6 * records].to_vec();
         beginning.splice(..2, ((1 + 6 * records) as u16).to_be_bytes());
-        let (mut answers, mut reasons, mut report) = (vec![0; 6 * records], vec![0; records], [0; 320]);
-        let run = run(table, &beginning, &mut answers, &mut reasons, &mut report).expect("a sound run");
+        let mut buffers = Buffers::for_run(table, &beginning);
+        let run = run(table, &beginning, &mut buffers).expect("a sound run");
         run.processes().map(Standing::from).collect()
     };
     let records = schedule.len() / 6;
-    let (mut answers, mut reasons, mut ends) = (vec![0; 6 * records], vec![0; records], [0; 320]);
-    let whole = run(table, schedule, &mut answers, &mut reasons, &mut ends).expect("a sound run");
-    let simulated = outside::rules::run::run(table, schedule, Lent::needed(records, 16)).lent.reasons;
-    assert_eq!(whole.answers().map(|answer| answer.cause.number()).collect::<Vec<_>>(), simulated);
+    let mut buffers = Buffers::for_run(table, schedule);
+    let whole = run(table, schedule, &mut buffers).expect("a sound run");
+    let simulated = outside::rules::run::run(table, schedule, Lent::needed(records, 16)).lent;
+    assert_eq!(whole.answers().map(|answer| answer.cause.number()).collect::<Vec<_>>(), simulated.reasons);
+    assert_eq!(whole.answers().flat_map(|answer| origin(&decoded, answer.bus)).collect::<Vec<_>>(), simulated.origins);
     for (i, (record, answer)) in schedule[3..].chunks_exact(6).zip(whole.answers()).enumerate() {
         followed.record(Move::of(record[0]), record[1], answer, || report(i + 1));
         assert_eq!(followed.standing(), report(i + 1), "after record {}: {table:02X?} {schedule:02X?}", i + 1);

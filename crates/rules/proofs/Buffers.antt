@@ -30,7 +30,7 @@ use Rattle.rules.proofs.AcceptedRun.{answers-fit, reasons-fit, report-f
 -- ---- written bytes
 
 -- bytes for every element, k for each
-length-bytes : {A : Type 0} (bytes : A → List ℕ) (k : ℕ) (l : List A) → ((x : A) → length (bytes x) ≡ k) → length (allBytes bytes l) ≡ k * length l
+pub length-bytes : {A : Type 0} (bytes : A → List ℕ) (k : ℕ) (l : List A) → ((x : A) → length (bytes x) ≡ k) → length (allBytes bytes l) ≡ k * length l
 length-bytes bytes k [] h = sym (mul-zero k)
 length-bytes bytes k (x ∷ l) h =
     rw (length-append (bytes x) (allBytes bytes l), h x, length-bytes bytes k l h) (let e = mul-suc k (length l) in omega arith)

@@ -1,15 +1,15 @@
 -- W-212: what tells the origin of an answer, of every command in every cabinet: its move, its code and, of a carry, the oldest entry before
 -- it. This is what code that writes the origins rests on.
-use mathlib.Core.Path.{_≡_, refl, sym}
+use mathlib.Core.Path.{_≡_, refl}
 use mathlib.Core.Bool.{Bool, true, false, cond}
-use mathlib.Core.List.{List, [], _∷_}
+use mathlib.Core.List.{[]}
 use Prim.Native.Nat.{ℕ}
-use borrow.Author.Tests.{eqb-true}
+use borrow.Author.Tests.{eq-eqb}
+use Rattle.facts.specs.Tests.{no-way}
 use Rattle.rules.specs.Table.{Table}
-use Rattle.rules.specs.Cabinet.{Item, Cabinet, processAt, outboxAt, protected}
+use Rattle.rules.specs.Cabinet.{Cabinet, processAt, outboxAt, protected}
 use Rattle.rules.specs.Moves.{Command, Move, stepMove, issueMove, transmitMove, injectMove, crashMove, rejoinMove, rebackupMove, unknown}
-use Rattle.rules.specs.Moves.{moveOf, Refusal, strayWord, noOrigin, Answer, syncKept, syncLost, droppedFrom, refused, numbers, originOf, turn}
-use Rattle.rules.specs.Undo.{Session, isUndo, isBare, undone, undo, stride}
+use Rattle.rules.specs.Moves.{moveOf, Refusal, Answer, syncKept, syncLost, droppedFrom, refused, numbers, originOf, turn}
 use Rattle.rules.specs.Origins.{toldBy}
 use Rattle.rules.proofs.Decoded.{refusalNumber-not-4}
 use Rattle.rules.proofs.Guards.{Done, yields-turn}
@@ -54,22 +54,30 @@ module _ (t : Table) (c : Cabinet) (r : Command) where
   pub origin-told : originOf (turn t c r .answer) ≡ toldBy t (outboxAt c (r .a)) (numbers (turn t c r .answer) .code) (moveOf (r .move))
   origin-told = yields-turn t c r Told each-told refused-told
 
--- of every record of a session: a move 8 puts no word on the bus
-undo-told : (s : Session) (r : Command) (bare : Bool) (kept : List Cabinet)
-    → originOf (cond bare (undone s r kept) (record { session = s; answer = refused strayWord (r .a) }) .answer) ≡ noOrigin
-unfolding originOf undone
-undo-told s r true [] = refl
-undo-told s r true (c ∷ older) = refl
-undo-told s r false kept = refl
+  -- ---- a word that is carried was waiting
 
-eight-told : (t : Table) (q : List Item) (code n : ℕ) → n ≡ 8 → toldBy t q code (moveOf n) ≡ noOrigin
-eight-told t q code n e = rw e
+  abbrev Waited : Move → Cabinet → Answer → Type 0
+  Waited m d a = m ≡ transmitMove → numbers a .code ≡ 4 → outboxAt c (r .a) ≡ [] → ⊥
 
-pub stride-told : (t : Table) (s : Session) (r : Command)
-    → originOf (stride t s r .answer) ≡ toldBy t (outboxAt (s .cabinet) (r .a)) (numbers (stride t s r .answer) .code) (moveOf (r .move))
-unfolding stride undo
-stride-told t s r = go (isUndo r) refl
-  where
-    go : (b : Bool) → isUndo r ≡ b → originOf (stride t s r .answer) ≡ toldBy t (outboxAt (s .cabinet) (r .a)) (numbers (stride t s r .answer) .code) (moveOf (r .move))
-    go true e = rw (e, undo-told s r (isBare r) (s .kept)) (sym (eight-told t (outboxAt (s .cabinet) (r .a)) _ (r .move) (eqb-true (r .move) 8 e)))
-    go false e = rw e (origin-told t (s .cabinet) r)
+  each-waited : Done t c r Waited
+  each-waited = record {
+    computes = λ _ _ _ _ m _ _. no-way (cc);
+    takes = λ _ _ _ _ _ m _ _. no-way (cc);
+    suppresses = λ _ _ _ _ _ _ m _ _. no-way (cc);
+    sends = λ _ _ _ _ _ _ _ _ m _ _. no-way (cc);
+    issues = λ _ _ _ _ m _ _. no-way (cc);
+    transmits = λ _ _ mail pc rest e _ _ none. no-way (cc);
+    syncs = λ _ _ p k rest e _ _ none. no-way (cc);
+    completes = λ _ _ p rest e _ _ none. no-way (cc);
+    injects = λ _ _ _ m _ _. no-way (cc);
+    crashes = λ _ _ _ m _ _. no-way (cc);
+    rejoins = λ _ _ m _ _. no-way (cc);
+    rebacks = λ _ _ _ _ _ _ _ m _ _. no-way (cc);
+  }
+
+  refused-waited : (m : Move) (why : Refusal) → Waited m c (refused why (r .a))
+  unfolding numbers
+  refused-waited m why _ e _ = no-way (let a = eq-eqb _ _ e in let b = refusalNumber-not-4 why in cc)
+
+  pub carried-waited : moveOf (r .move) ≡ transmitMove → numbers (turn t c r .answer) .code ≡ 4 → outboxAt c (r .a) ≡ [] → ⊥
+  carried-waited = yields-turn t c r Waited each-waited refused-waited

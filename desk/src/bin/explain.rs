@@ -8,8 +8,8 @@ use std::process::ExitCode;
 const USAGE: &str = "./explain [--from N] [--to N] [--pull BOARD@N] [--hex | --bytes] FILE, where FILE - is standard input
 
 Prints the run of a table and a schedule, as ./run takes them, in words: a line for each record with its number, what it is, its answer and why
-(docs/NUMBERS.md has every answer and what to do about it); then where each process runs, its next instruction, what is unread and what it still
-holds back; and whether the cabinet ended quiet.
+(docs/NUMBERS.md has every answer and what to do about it), and for a word on the bus the process and the place of its SEND; then where each
+process runs, its next instruction, what is unread and what it still holds back; and whether the cabinet ended quiet.
   --from N, --to N  only the lines of records N to N; all of them are run
   --pull BOARD@N    pulls a board: puts its crash before record N of the schedule, from 1; one past the last puts it at the end. Its line
                     is numbered 'pull', and the records keep their numbers

@@ -1,7 +1,7 @@
 //! `./label`: the label line. Prints the labels that come out of a schedule, and how many cartons are still without theirs.
 use desk::front::{self, Failure};
 use desk::{hex, input};
-use kunzeastylus::{label_run, labels, Code, Label, SCANNER};
+use kunzeastylus::{label_run, labels, Buffers, End, Label};
 use std::process::ExitCode;
 
 const USAGE: &str = "./label FIRST [SCHEDULE]
@@ -31,10 +31,9 @@ fn line(label: &Label) -> String {
 
 /// The labels that come out of a schedule, one a line, and how many are still to come.
 fn printed(first: u32, schedule: &[u8]) -> Result<String, Failure> {
-    let (mut answers, mut reasons, mut report) = (vec![0; schedule.len()], vec![0; schedule.len()], [0; 40]);
-    let run = label_run(first, schedule, &mut answers, &mut reasons, &mut report);
-    let run = run.map_err(|refusal| Failure::Refused(refusal.number()))?;
-    let fed = run.answers().filter(|answer| (answer.code, answer.a) == (Code::OnTheBus, SCANNER)).count();
+    let mut buffers = Buffers::for_label_run(schedule);
+    let run = label_run(first, schedule, &mut buffers).map_err(|refusal| Failure::Refused(refusal.number()))?;
+    let fed = run.bus().filter(|on_the_bus| on_the_bus.sender == End::Outside).count();
     let labels = labels(run.answers());
     let complete = labels.iter().filter(|label| label.serial.is_some()).count();
     Ok(labels.iter().map(line).chain([format!("to come {}\n", fed - complete)]).collect())

@@ -16,14 +16,16 @@ mod raw {
             reasons_len: usize,
             report: *mut u8,
             report_len: usize,
+            origins: *mut u8,
+            origins_len: usize,
         ) -> u64;
     }
 }
 
 /// The run of any schedule on any table with any lent buffers: it asks nothing of its caller.
 pub fn ks_run(table: &[u8], schedule: &[u8], lent: Lent<&mut [u8]>) -> u64 {
-    let Lent { answers, reasons, report } = lent;
-    // SAFETY: five slices that don't overlap, each with its own length; the first two are only read.
+    let Lent { answers, reasons, report, origins } = lent;
+    // SAFETY: six slices that don't overlap, each with its own length; the first two are only read.
     unsafe {
         raw::ks_run(
             table.as_ptr(),
@@ -36,6 +38,8 @@ pub fn ks_run(table: &[u8], schedule: &[u8], lent: Lent<&mut [u8]>) -> u64 {
             reasons.len(),
             report.as_mut_ptr(),
             report.len(),
+            origins.as_mut_ptr(),
+            origins.len(),
         )
     }
 }

@@ -52,7 +52,7 @@ impl Comparison {
         let [given_table, given_schedule] = &mut given;
         let number = ks_run(lent(given_table), lent(given_schedule), after.each_mut().map(|bytes| lent(bytes)));
 
-        // What a refused run may write is nothing, and an accepted one writes its answers, its reasons and its report.
+        // What a refused run may write is nothing, and an accepted one writes its answers, its reasons, its report and its origins.
         let written = wanted.outcome.written(table.get(4).map_or(0, |&processes| processes as usize));
         let expected = before.with(wanted.lent.each().with(written)).map(|(mut bytes, (wanted, n))| {
             lent(&mut bytes)[..n].copy_from_slice(&wanted[..n]);

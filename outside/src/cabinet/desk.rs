@@ -1,6 +1,5 @@
 //! The service desk's cases of a pulled board: the last lines of each page, written by hand from document 01, beside those that the
-//! proved call's bytes give; and its reasons, every one of them, beside those that are written by hand from document 02. The simulator has
-//! no part in this.
+//! proved call's bytes give. The simulator has no part in this.
 use crate::call::ks_run;
 use crate::returned;
 use outside::rules::generate::{encode_schedule, encode_table};
@@ -9,7 +8,6 @@ use outside::rules::limits;
 use outside::rules::page::lines;
 use outside::rules::reader::Instruction::{Add, First, Jump, Send, Set, Take};
 use outside::rules::reader::{judge_table, Channel, Instruction, Process, Record, Table, OUTSIDE};
-use outside::rules::reasons::by_hand;
 use outside::rules::run::{Outcome, Run};
 use outside::rules::sample::{carry, crash, feed, sample_schedule, step, sync, SAMPLE};
 
@@ -358,25 +356,9 @@ fn page(case: &Case) -> String {
     lines(&Run { outcome, lent }, processes)
 }
 
-/// The reasons that the proved call writes, where they are written by hand; false if one differs.
-fn reasons() -> bool {
-    let mut all = true;
-    for case in by_hand() {
-        let mut lent = Lent::needed(case.records.len(), case.table.processes.len()).filled(0xEE);
-        let number = ks_run(&encode_table(&case.table), &encode_schedule(&case.records), lent.lend());
-        let given = &lent.reasons[case.records.len() - case.last.len()..];
-        let wanted: Vec<u8> = case.last.iter().map(|(code, cause)| 4 * code + cause).collect();
-        let equal = number as u8 == 0 && given == wanted;
-        let differs = if equal { String::new() } else { format!(", DIFFERENT, by hand {wanted:?}") };
-        println!("service desk: reasons: {}: {given:?}{differs}", case.name);
-        all &= equal;
-    }
-    all
-}
-
 /// Runs every case and shows the lines compared; false if one differs.
 pub fn check() -> bool {
-    let mut all = reasons();
+    let mut all = true;
     for case in cases() {
         let page = page(&case);
         let page: Vec<&str> = page.lines().collect();

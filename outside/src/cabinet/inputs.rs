@@ -147,4 +147,9 @@ pub fn buffers(comparison: &mut Comparison, random: &mut Random) {
     run(Lent { answers: others.answers, ..needed });
     run(Lent { reasons: others.reasons, ..needed });
     run(Lent { report: others.report, ..needed });
+    run(Lent { origins: others.origins, ..needed });
+    // Each set of them one byte under what is needed.
+    for short in needed.shortened() {
+        run(short);
+    }
 }

@@ -1,8 +1,9 @@
 //! The proved run of a schedule against the simulator, on generated tables and schedules: `cabinet [--runs N] [--seed N]`.
 //!
-//! First the service desk's cases, with lines and reasons written by hand; then these and document 01's sample, cut after each record and
-//! with each board pulled at each place; then saved lists as long as each limit lets them get; then random runs of every kind of input, until
+//! First the service desk's cases, with lines written by hand, and cases with reasons and origins written by hand; then these and document
+//! 01's sample, the desk's cut after each record and with each board pulled at each place; then saved lists as long as each limit lets them get; then random runs of every kind of input, until
 //! there are N runs, N with a return or a resync that was done, and a sixth of N with three crashes or more.
+mod by_hand;
 mod call;
 mod compare;
 mod desk;
@@ -17,7 +18,6 @@ use outside::rules::generate::{encode_schedule, encode_table};
 use outside::rules::lent::Lent;
 use outside::rules::limits;
 use outside::rules::reader::Record;
-use outside::rules::reasons::by_hand;
 use outside::rules::sample::{crash, sample_schedule, SAMPLE};
 
 const SEED: u64 = 0xA076_1D64_78BD_642F;
@@ -80,24 +80,21 @@ fn main() {
     let runs = option("--runs").unwrap_or(RUNS);
     let seed = option("--seed").unwrap_or(SEED);
     let mut comparison = Comparison::new(seed);
-    let desk = desk::check();
+    let desk = by_hand::check() & desk::check();
     println!("cabinet: {runs} runs or more, seed {seed}");
     let mut random = Random::new(seed);
     pulled(&mut comparison, "sample", &SAMPLE, &sample_schedule());
     for case in desk::cases() {
         pulled(&mut comparison, "service desk", &case.table, &case.records);
     }
-    for case in by_hand() {
-        let buffers = Lent::needed(case.records.len(), case.table.processes.len());
-        comparison.run("reasons by hand", &encode_table(&case.table), &encode_schedule(&case.records), buffers);
-    }
+    by_hand::compare(&mut comparison);
     (1..=16).for_each(|limit| fullest(&mut comparison, limit));
     while comparison.seen.runs < runs || comparison.seen.returned < runs || comparison.seen.thrice < runs / 6 {
         round(&mut comparison, &mut random);
     }
     let met = comparison.seen.report();
     if !desk || !met {
-        println!("cabinet: FAILED, {}", if desk { "not everything was met" } else { "another line at the service desk" });
+        println!("cabinet: FAILED, {}", if desk { "not everything was met" } else { "something is another than by hand" });
         std::process::exit(1);
     }
     println!("cabinet: ok, {} runs, every number and every byte as by the simulator", comparison.seen.runs);

@@ -1,11 +1,12 @@
-//! What the runs met: answers with their causes, refusals, kinds of input, and traits of the tables. Everything listed must have been met.
-use outside::rules::reader::{judge_table, Instruction, Table, OUTSIDE};
+//! What the runs met: answers with their causes, origins, refusals, kinds of input, and traits of the tables. Everything listed must have been
+//! met.
+use outside::rules::reader::{judge_table, Instruction, Process, Table, OUTSIDE};
 use outside::rules::reasons::{reasons, CAUSES};
 use outside::rules::run::Run;
 use std::collections::BTreeMap;
 
 /// The numbers by which a run is refused, in their order, and 0.
-const NUMBERS: [u8; 14] = [0, 1, 2, 3, 4, 5, 6, 7, 8, 47, 9, 10, 11, 12];
+const NUMBERS: [u8; 15] = [0, 1, 2, 3, 4, 5, 6, 7, 8, 47, 9, 10, 11, 12, 51];
 
 /// The kinds whose schedules are written so that most records are accepted.
 pub const SOUND: [&str; 3] = ["sound", "crash at every place", "10,000 records"];
@@ -73,6 +74,8 @@ pub struct Seen {
     reasons: BTreeMap<u8, u64>,
     /// Runs refused with 11 for the list of reasons alone.
     reasons_short: u64,
+    /// By the bytes of the list of origins: each sender with each place, of words on the bus.
+    origins: BTreeMap<(u8, u8), u64>,
     numbers: BTreeMap<u8, u64>,
     kinds: Vec<Kind>,
     traits: [u64; TRAITS.len()],
@@ -81,6 +84,8 @@ pub struct Seen {
     /// The processes of that table that neither read nor send, and how often one of such was refused with 37.
     silent: Vec<bool>,
     ran_long: u64,
+    /// Of each process of that table the channels of its SENDs, by their places.
+    sends: Vec<BTreeMap<u8, u8>>,
     most_records: usize,
     most_unread: u8,
     most_hold_back: u8,
@@ -108,6 +113,7 @@ impl Seen {
             let table = judge_table(table).expect("the table of an accepted run");
             TRAITS.iter().zip(&mut self.traits).for_each(|((_, test), n)| *n += test(&table) as u64);
             self.silent = table.processes.iter().map(|process| process.program.iter().all(calculates)).collect();
+            self.sends = table.processes.iter().map(sends).collect();
         }
         let (mut crashes, mut returns) = (0, 0);
         run.lent.reasons.iter().take(run.outcome.records).for_each(|&reason| *self.reasons.entry(reason).or_default() += 1);
@@ -128,6 +134,21 @@ impl Seen {
         self.most_records = self.most_records.max(run.outcome.records);
         self.most_unread = self.most_unread.max(lines.clone().map(|line| line[2]).max().unwrap_or(0));
         self.most_hold_back = self.most_hold_back.max(lines.map(|line| line[3]).max().unwrap_or(0));
+        self.count_origins(run);
+    }
+
+    /// Counts from where the words on the bus of an accepted run came: each was fed, or a SEND to its channel stands there.
+    fn count_origins(&mut self, run: &Run) {
+        let shown = run.lent.answers.chunks_exact(6).zip(run.lent.origins.chunks_exact(2)).take(run.outcome.records);
+        for (answer, origin) in shown.filter(|(answer, _)| answer[0] == 4) {
+            let (channel, sender, place) = (answer[1], origin[0], origin[1]);
+            let genuine = match self.sends.get(sender as usize) {
+                Some(sends) => sends.get(&place) == Some(&channel),
+                None => (sender, place) == (OUTSIDE, 0),
+            };
+            assert!(genuine, "no SEND to channel {channel} stands at place {place} of process {sender}");
+            *self.origins.entry((sender, place)).or_default() += 1;
+        }
     }
 
     /// Prints all counts; false if something was never met.
@@ -184,9 +205,38 @@ impl Seen {
         if self.reasons_short == 0 {
             missing.push("11 for the list of reasons alone".to_string());
         }
+        missing.extend(self.report_origins());
         missing.iter().for_each(|what| println!("never met: {what}"));
         missing.is_empty()
     }
+}
+
+impl Seen {
+    /// Prints from where words on the bus came; what of it was never met.
+    fn report_origins(&self) -> Vec<String> {
+        let times = |test: &dyn Fn(u8, u8) -> bool| -> u64 {
+            self.origins.iter().filter(|(&(sender, place), _)| test(sender, place)).map(|(_, n)| n).sum()
+        };
+        let places = (0..64).filter(|&at| times(&|sender, place| sender != OUTSIDE && place == at) > 0).count();
+        let fed = times(&|sender, _| sender == OUTSIDE);
+        println!("words on the bus: fed {fed}, sent {}, from {places} places", times(&|sender, _| sender != OUTSIDE));
+        let mut missing = Vec::new();
+        let mut wanted = |what: String, n: u64| missing.extend((n == 0).then_some(what));
+        wanted("a word that was fed".to_string(), fed);
+        (0..16).for_each(|p| wanted(format!("a word from process {p}"), times(&|sender, _| sender == p)));
+        for at in [0, 63] {
+            wanted(format!("a word from place {at}"), times(&|sender, place| sender != OUTSIDE && place == at));
+        }
+        missing
+    }
+}
+
+fn sends(process: &Process) -> BTreeMap<u8, u8> {
+    let send = |(at, instruction): (usize, &Instruction)| match *instruction {
+        Instruction::Send { channel, .. } => Some((at as u8, channel)),
+        _ => None,
+    };
+    process.program.iter().enumerate().filter_map(send).collect()
 }
 
 fn percent(part: u64, all: u64) -> f64 {

@@ -17,6 +17,8 @@ mod raw {
             reasons_len: usize,
             report: *mut u8,
             report_len: usize,
+            origins: *mut u8,
+            origins_len: usize,
         ) -> u64;
     }
 }
@@ -29,8 +31,8 @@ pub fn ks_label_table(first: u32, table: &mut [u8; 84]) -> u32 {
 
 /// The run of any first serial and any schedule with any lent buffers: it asks nothing of its caller.
 pub fn ks_label_run(first: u32, schedule: &[u8], lent: Lent<&mut [u8]>) -> u64 {
-    let Lent { answers, reasons, report } = lent;
-    // SAFETY: four slices that don't overlap, each with its own length; the first is only read.
+    let Lent { answers, reasons, report, origins } = lent;
+    // SAFETY: five slices that don't overlap, each with its own length; the first is only read.
     unsafe {
         raw::ks_label_run(
             first,
@@ -42,6 +44,8 @@ pub fn ks_label_run(first: u32, schedule: &[u8], lent: Lent<&mut [u8]>) -> u64 {
             reasons.len(),
             report.as_mut_ptr(),
             report.len(),
+            origins.as_mut_ptr(),
+            origins.len(),
         )
     }
 }

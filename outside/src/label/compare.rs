@@ -1,11 +1,11 @@
 //! One run of the label line by the proved call and by the simulator, compared byte by byte; and its labels, held against the sequence.
 use crate::call::ks_label_run;
+use outside::rules::answer::Answer;
 use outside::rules::generate::{encode_schedule, encode_table};
 use outside::rules::lent::Lent;
 use outside::rules::line::{fault, seen, table, SERIAL_MOST};
 use outside::rules::reader::{record, Record};
 use outside::rules::run::{run, Outcome};
-use outside::rules::simulator::Answer;
 
 /// What lies in buffers before a run.
 const FILLER: u8 = 0xEE;
@@ -47,7 +47,7 @@ fn wrong(counts: &mut Counts, first: u32, records: &[Record], buffers: Lent<usiz
     let written = wanted.outcome.written(2);
     for ((bytes, wanted), n) in lent.each().with(wanted.lent.each()).with(written).list() {
         if bytes[..n] != wanted[..n] {
-            return Some("other answers or reasons, or another report");
+            return Some("other answers, reasons or origins, or another report");
         }
         if bytes[n..].iter().any(|&byte| byte != FILLER) {
             return Some("a byte beyond them is touched");

@@ -157,11 +157,8 @@ fn main() {
         for records in schedules(&mut random, &table) {
             pulled(&mut counts, first, &table, &records);
         }
-        // Too short by one byte, and 10,000 feeds, of which eight are accepted; then as many as there is time for.
-        let needed = Lent::needed(1, 2);
-        compare(&mut counts, first, &[step(0)], Lent { answers: 5, ..needed });
-        compare(&mut counts, first, &[step(0)], Lent { reasons: 0, ..needed });
-        compare(&mut counts, first, &[step(0)], Lent { report: 39, ..needed });
+        // Each set of buffers too short by one byte, and 10,000 feeds, of which eight are accepted; then as many as there is time for.
+        Lent::needed(1, 2).shortened().for_each(|short| compare(&mut counts, first, &[step(0)], short));
         compare(&mut counts, first, &vec![feed(SCANNER, 7); 10_000], enough());
         compare(&mut counts, first, &vec![feed(SCANNER, 7); 10_001], Lent::needed(11_000, 2));
         for place in [0, 1, 4999, 5000, 5001, 9999, 10_000] {

@@ -7,17 +7,23 @@ pub struct Lent<T> {
     pub answers: T,
     pub reasons: T,
     pub report: T,
+    pub origins: T,
 }
 
-pub const BUFFERS: usize = 3;
+pub const BUFFERS: usize = 4;
 
 /// What each is called, and how many bytes of it belong together: of a record, and for the report of a process.
-pub const NAMES: Lent<&str> = Lent { answers: "answers", reasons: "reasons", report: "report" };
-pub const PIECES: Lent<usize> = Lent { answers: 6, reasons: 1, report: 20 };
+pub const NAMES: Lent<&str> = Lent { answers: "answers", reasons: "reasons", report: "report", origins: "origins" };
+pub const PIECES: Lent<usize> = Lent { answers: 6, reasons: 1, report: 20, origins: 2 };
 
 impl<T> Lent<T> {
     pub fn map<U>(self, mut change: impl FnMut(T) -> U) -> Lent<U> {
-        Lent { answers: change(self.answers), reasons: change(self.reasons), report: change(self.report) }
+        Lent {
+            answers: change(self.answers),
+            reasons: change(self.reasons),
+            report: change(self.report),
+            origins: change(self.origins),
+        }
     }
 
     pub fn with<U>(self, other: Lent<U>) -> Lent<(T, U)> {
@@ -25,26 +31,27 @@ impl<T> Lent<T> {
             answers: (self.answers, other.answers),
             reasons: (self.reasons, other.reasons),
             report: (self.report, other.report),
+            origins: (self.origins, other.origins),
         }
     }
 
     pub fn list(self) -> [T; BUFFERS] {
-        [self.answers, self.reasons, self.report]
+        [self.answers, self.reasons, self.report, self.origins]
     }
 
     pub fn all(value: T) -> Lent<T>
     where
         T: Clone,
     {
-        Lent { answers: value.clone(), reasons: value.clone(), report: value }
+        Lent { answers: value.clone(), reasons: value.clone(), report: value.clone(), origins: value }
     }
 
     pub fn each(&self) -> Lent<&T> {
-        Lent { answers: &self.answers, reasons: &self.reasons, report: &self.report }
+        Lent { answers: &self.answers, reasons: &self.reasons, report: &self.report, origins: &self.origins }
     }
 
     pub fn each_mut(&mut self) -> Lent<&mut T> {
-        Lent { answers: &mut self.answers, reasons: &mut self.reasons, report: &mut self.report }
+        Lent { answers: &mut self.answers, reasons: &mut self.reasons, report: &mut self.report, origins: &mut self.origins }
     }
 }
 
@@ -60,14 +67,23 @@ impl Lent<usize> {
         self.map(|length| length + more)
     }
 
+    /// Some of them one byte shorter, if they have any: each set of some, and none at first.
+    pub fn shortened(self) -> impl Iterator<Item = Lent<usize>> {
+        let bits = Lent { answers: 0, reasons: 1, report: 2, origins: 3 };
+        (0..1 << BUFFERS).map(move |set| self.with(bits).map(|(length, bit)| length.saturating_sub(set >> bit & 1)))
+    }
+
     /// "11 answer buffer under six bytes a record; 12 report buffer under 20 bytes a process"; W-206: "A buffer for this list under one
-    /// byte a record makes the run answer 11."
+    /// byte a record makes the run answer 11."; W-212: "51, that buffer is under two bytes a record, after 12".
     pub fn judge(self, needed: Lent<usize>) -> Result<(), u8> {
         if self.answers < needed.answers || self.reasons < needed.reasons {
             return Err(11);
         }
         if self.report < needed.report {
             return Err(12);
+        }
+        if self.origins < needed.origins {
+            return Err(51);
         }
         Ok(())
     }

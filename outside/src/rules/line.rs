@@ -1,7 +1,7 @@
 //! The label line: document 02, W-203, written from its text.
+use super::answer::Answer;
 use super::reader::Instruction::{Add, Jump, Send, Set, Take};
 use super::reader::{Channel, Process, Record, Table, OUTSIDE};
-use super::simulator::Answer;
 
 /// "The channels are 0 from the scanner, 1 to the printer program and 2, the outlet."
 pub const SCANNER: u8 = 0;

@@ -1,4 +1,5 @@
 //! The marked cases M1 to M13 of document 01, the ninth take, the 65th instruction, buffers, schedules and refused pages.
+use super::answer::Answer;
 use super::backup::{Backup, Message, Snapshot};
 use super::generate::{encode_schedule, encode_table, with_length};
 use super::lent::Lent;
@@ -7,7 +8,7 @@ use super::page::page;
 use super::reader::{judge_run, judge_schedule, judge_table, Channel, Instruction, Process, Record, Table, OUTSIDE};
 use super::run::{run, Outcome};
 use super::sample::{carry, crash, feed, sample_schedule, step, sync, SAMPLE};
-use super::simulator::{Answer, Cabinet};
+use super::simulator::Cabinet;
 
 /// M13.
 const PAGE: &str = "records 20
@@ -66,7 +67,7 @@ fn m7() {
     table[13..31].copy_from_slice(&[1, 0, 255, 255, 255, 255, 1, 1, 0, 0, 0, 1, 2, 0, 0, 0, 0, 1]);
     let table = judge_table(&table).unwrap();
     let mut cabinet = Cabinet::new(&table);
-    (0..3).for_each(|_| assert_eq!(cabinet.answer(step(0)), Answer { code: 0, a: 0, word: 0, cause: 0 }));
+    (0..3).for_each(|_| assert_eq!(cabinet.answer(step(0)), Answer::new(0, 0, 0)));
     assert_eq!(cabinet.processes[0].registers, [0, 1, 0, 0]);
 }
 
@@ -224,19 +225,24 @@ fn saved_lists_get_full() {
 #[test]
 fn buffers() {
     let schedule = encode_schedule(&sample_schedule());
-    let lengths = |answers, reasons, report| Lent { answers, reasons, report };
-    let number = |lengths| judge_run(&SAMPLE, &schedule, lengths).err().unwrap_or(0);
-    assert_eq!(Lent::needed(20, 1), lengths(120, 20, 20));
-    assert_eq!([lengths(120, 20, 20), lengths(119, 20, 20), lengths(120, 19, 20)].map(number), [0, 11, 11]);
-    assert_eq!([lengths(120, 20, 19), lengths(119, 20, 19), lengths(120, 19, 19)].map(number), [12, 11, 11]);
+    let needed = Lent { answers: 120, reasons: 20, report: 20, origins: 40 };
+    assert_eq!(Lent::needed(20, 1), needed);
+    // Each set of buffers one byte under, as a number whose lowest bit stands for the answers: 11 for two of them, then 12, then 51.
+    let numbers: Vec<u8> = needed.shortened().map(|lengths| judge_run(&SAMPLE, &schedule, lengths).err().unwrap_or(0)).collect();
+    assert_eq!(numbers, [0, 11, 11, 11, 12, 11, 11, 11, 51, 11, 11, 11, 12, 11, 11, 11]);
     // Bytes beyond are untouched, and a refused run writes nothing.
-    let accepted = run(&SAMPLE, &schedule, lengths(126, 22, 23));
+    let accepted = run(&SAMPLE, &schedule, Lent { answers: 126, reasons: 22, report: 23, origins: 43 });
     assert_eq!(accepted.outcome, Outcome { number: 0, records: 20, quiet: true });
     assert_eq!((&accepted.lent.answers[114..], &accepted.lent.report[18..]), (&[0; 12][..], &[0; 5][..]));
-    assert_eq!(accepted.lent.reasons[18..], [16, 0, 0, 0]);
-    let refused = run(&SAMPLE, &schedule, lengths(120, 20, 19));
-    assert_eq!(refused.outcome, Outcome { number: 12, records: 0, quiet: false });
-    assert!(refused.lent.list().concat().iter().all(|&byte| byte == 0));
+    assert_eq!(
+        (&accepted.lent.reasons[18..], &accepted.lent.origins[36..]),
+        (&[16, 0, 0, 0][..], &[0, 2, 255, 255, 0, 0, 0][..])
+    );
+    for (lengths, number) in needed.shortened().zip(numbers).skip(1) {
+        let refused = run(&SAMPLE, &schedule, lengths);
+        assert_eq!(refused.outcome, Outcome { number, records: 0, quiet: false });
+        assert!(refused.lent.list().concat().iter().all(|&byte| byte == 0));
+    }
 }
 
 #[test]

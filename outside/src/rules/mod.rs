@@ -1,6 +1,7 @@
 //! Documents 01 and 02 in Rust, written from their text and from nothing else: no line here was taken from the proved code or its
 //! definitions. Names are the documents' own, so that each line can be held against its sentence.
 
+pub mod answer;
 pub mod backup;
 pub mod busy;
 pub mod damage;
@@ -9,6 +10,7 @@ pub mod lent;
 pub mod limits;
 pub mod line;
 pub mod loops;
+pub mod origins;
 pub mod page;
 pub mod plain;
 pub mod reader;

@@ -1,9 +1,11 @@
-//! The plain cabinet, and demand 3 as a test of one run: the run's bus order is that of a plain run, and a quiet end is its end.
+//! The plain cabinet, and demand 3 as a test of one run: the run's bus order is that of a plain run, and a quiet end is its end. Equal means that
+//! channel, word, sender and place agree (W-212).
 //!
 //! What a step of the plain cabinet does depends on the order of words in the process's inbox and never on when it is made. So if any
 //! plain run has a given bus order, then this one has: feeds as they come, each process stepped only when a word of it is due.
+use super::answer::{Answer, Origin};
 use super::reader::{Instruction, Record, Table, OUTSIDE};
-use super::simulator::{Answer, Cabinet};
+use super::simulator::Cabinet;
 use std::collections::VecDeque;
 
 /// More steps than a process can make in a schedule.
@@ -17,10 +19,27 @@ struct Process {
     inbox: VecDeque<(u8, u32)>,
 }
 
+/// A word on the bus: "channel and word", and W-212, "the place of its SEND and the sender".
+#[derive(Clone, Copy, Debug, PartialEq, Eq)]
+struct BusWord {
+    channel: u8,
+    word: u32,
+    sender: u8,
+    place: u8,
+}
+
+impl BusWord {
+    /// The word that a record with this answer put on the bus.
+    fn shown(answer: &Answer) -> BusWord {
+        let Origin { sender, place } = answer.origin;
+        BusWord { channel: answer.a, word: answer.word, sender, place }
+    }
+}
+
 pub struct Plain<'t> {
     table: &'t Table,
     processes: Vec<Process>,
-    bus: Vec<(u8, u32)>,
+    bus: Vec<BusWord>,
 }
 
 impl<'t> Plain<'t> {
@@ -32,17 +51,17 @@ impl<'t> Plain<'t> {
     pub fn feed(&mut self, channel: u8, word: u32) -> bool {
         match self.table.channels.get(channel as usize) {
             Some(ends) if ends.sender == OUTSIDE => {
-                self.send(channel, word);
+                self.send(BusWord { channel, word, sender: OUTSIDE, place: 0 });
                 true
             }
             _ => false,
         }
     }
 
-    fn send(&mut self, channel: u8, word: u32) {
-        self.bus.push((channel, word));
-        if let Some(reader) = self.processes.get_mut(self.table.channels[channel as usize].reader as usize) {
-            reader.inbox.push_back((channel, word));
+    fn send(&mut self, sent: BusWord) {
+        self.bus.push(sent);
+        if let Some(reader) = self.processes.get_mut(self.table.channels[sent.channel as usize].reader as usize) {
+            reader.inbox.push_back((sent.channel, sent.word));
         }
     }
 
@@ -66,8 +85,9 @@ impl<'t> Plain<'t> {
                 registers[a as usize + 1] = channel as u32;
             }
             Instruction::Send { a, channel } => {
-                let word = registers[a as usize];
-                self.send(channel, word);
+                // W-212: "the plain cabinet lists them": the process that steps, and where its SEND stands.
+                let (word, place) = (registers[a as usize], process.place as u8);
+                self.send(BusWord { channel, word, sender: p as u8, place });
             }
             Instruction::Jump { a, place } => {
                 if registers[a as usize] != 0 {
@@ -107,8 +127,8 @@ pub fn transparent(table: &Table, run: &[(Record, Answer)], end: &Cabinet) -> Re
                 return fault("the plain cabinet sends no word");
             }
         }
-        if plain.bus.last() != Some(&(answer.a, answer.word)) {
-            return fault("another word is on the plain cabinet's bus");
+        if plain.bus.last() != Some(&BusWord::shown(answer)) {
+            return fault("another word, or one from elsewhere, is on the plain cabinet's bus");
         }
     }
     if !end.quiet() {

@@ -226,7 +226,7 @@ pub fn judge_schedule(bytes: &[u8]) -> Result<Vec<Record>, u8> {
     Ok(judge_records(bytes)?.chunks_exact(6).map(record).collect())
 }
 
-/// What a run is made of, the records still as bytes, or the number, 1 to 12 or 47, by which it is refused with buffers of these
+/// What a run is made of, the records still as bytes, or the number, 1 to 12, 47 or 51, by which it is refused with buffers of these
 /// lengths.
 pub fn judge_run<'s>(table: &[u8], schedule: &'s [u8], buffers: Lent<usize>) -> Result<(Table, &'s [u8]), u8> {
     let table = judge_table(table)?;

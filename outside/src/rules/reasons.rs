@@ -44,7 +44,7 @@ pub struct ByHand {
 }
 
 /// A table of two boards, whose one process reads channels 0, from the outside, and 1, from itself, and sends on 2 to the outside.
-fn one(program: &[Instruction]) -> Table {
+pub(super) fn one(program: &[Instruction]) -> Table {
     let ends = [(OUTSIDE, 0), (0, 0), (0, OUTSIDE)];
     let mut table = Table::new(2, ends.map(|(sender, reader)| Channel { sender, reader }).to_vec());
     table.processes.push(Process::new(0, 1, program.to_vec()));

@@ -79,7 +79,8 @@ impl Writing<'_, '_> {
             }
             // Hold-back, or a crowded channel: it has to go on, and so have those to which it sends.
             49 => {
-                if self.tries(step(p)) >= 32 {
+                let stuck = self.tries(step(p)) >= 32;
+                if stuck {
                     self.round(false);
                 }
             }

@@ -12,18 +12,21 @@ pub struct Outcome {
     pub quiet: bool,
 }
 
-/// A run on lent buffers: a refused one "writes to no lent buffer", and an accepted one to no byte beyond its answers, its reasons and its
-/// report.
+/// A run on lent buffers: a refused one "writes to no lent buffer", and an accepted one to no byte beyond its answers, its reasons, its report
+/// and its origins.
 pub fn run_into(table: &[u8], schedule: &[u8], lent: Lent<&mut [u8]>) -> Outcome {
     let (table, records) = match judge_run(table, schedule, lent.each().map(|buffer| buffer.len())) {
         Ok(judged) => judged,
         Err(number) => return Outcome { number, records: 0, quiet: false },
     };
     let mut cabinet = Cabinet::new(&table);
-    for ((bytes, answer), reason) in records.chunks_exact(6).zip(lent.answers.chunks_exact_mut(6)).zip(lent.reasons) {
+    let told = lent.reasons.iter_mut().zip(lent.origins.chunks_exact_mut(2));
+    for ((bytes, answer), (reason, origin)) in records.chunks_exact(6).zip(lent.answers.chunks_exact_mut(6)).zip(told) {
         let given = cabinet.answer(record(bytes));
         answer.copy_from_slice(&given.bytes());
         *reason = given.reason();
+        // W-212: "two bytes a record: sender and place"
+        origin.copy_from_slice(&[given.origin.sender, given.origin.place]);
     }
     cabinet.report(lent.report);
     Outcome { number: 0, records: records.len() / 6, quiet: cabinet.quiet() }

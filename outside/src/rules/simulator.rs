@@ -1,53 +1,16 @@
 //! The cabinet: document 01, "The cabinet's moves" and "What each move replies", with W-210's two moves, on growing lists.
 //!
 //! For each channel the total of its unread and queued words is kept, so that no move counts them.
+use super::answer::{Answer, Origin, DONE, FED};
 use super::backup::{Backup, Message, Snapshot};
 use super::reader::{self, Instruction, Record, Table, OUTSIDE};
 use std::collections::VecDeque;
-
-/// "One six-byte answer a record: code, a, word", and W-206's cause.
-#[derive(Clone, Copy, Debug, PartialEq, Eq)]
-pub struct Answer {
-    pub code: u8,
-    pub a: u8,
-    pub word: u32,
-    pub cause: u8,
-}
-
-/// "0 done (0, 0)"
-const DONE: Answer = Answer::new(0, 0, 0);
-
-impl Answer {
-    /// W-206: "The cause is 0 except here." Where it isn't, `because` says so.
-    pub const fn new(code: u8, a: u8, word: u32) -> Answer {
-        Answer { code, a, word, cause: 0 }
-    }
-
-    /// "Refusals repeat a with word 0"
-    fn refused(code: u8, a: usize) -> Answer {
-        Answer::new(code, a as u8, 0)
-    }
-
-    fn because(self, cause: u8) -> Answer {
-        Answer { cause, ..self }
-    }
-
-    /// W-206: "one byte a record: the answer's code times 4, plus a cause"
-    pub fn reason(self) -> u8 {
-        4 * self.code + self.cause
-    }
-
-    pub fn bytes(self) -> [u8; 6] {
-        let w = self.word.to_be_bytes();
-        [self.code, self.a, w[0], w[1], w[2], w[3]]
-    }
-}
 
 /// "An entry of an outgoing queue is a word or a sync"; W-210: "its snapshot and copies of all its unread words join the queue as one
 /// entry".
 #[derive(Clone, Debug, PartialEq, Eq)]
 enum Entry {
-    Word { channel: u8, word: u32 },
+    Word { channel: u8, word: u32, origin: Origin },
     Sync { process: u8, snapshot: Snapshot },
     Resync { process: u8, snapshot: Snapshot, copies: Vec<Message> },
 }
@@ -300,6 +263,8 @@ impl<'t> Cabinet<'t> {
                     Answer::new(3, channel, word)
                 } else {
                     let board = process.board as usize;
+                    // W-212: "the place of its SEND and the sender", whatever becomes of the process until the word is carried.
+                    let origin = Origin { sender: p as u8, place: process.place };
                     if let Some(cause) = process.must_sync() {
                         return refused(37).because(cause);
                     }
@@ -309,7 +274,7 @@ impl<'t> Cabinet<'t> {
                     if self.held(channel as usize) {
                         return refused(39);
                     }
-                    self.queues[board].push_back(Entry::Word { channel, word });
+                    self.queues[board].push_back(Entry::Word { channel, word, origin });
                     self.totals[channel as usize] += 1;
                     self.processes[p].acts += 1;
                     Answer::new(2, channel, word)
@@ -355,7 +320,7 @@ impl<'t> Cabinet<'t> {
         }
         match self.queues[board].pop_front() {
             None => Answer::refused(42, board),
-            Some(Entry::Word { channel, word }) => {
+            Some(Entry::Word { channel, word, origin }) => {
                 let wire = self.wires[channel as usize];
                 match self.processes.get_mut(wire.reader as usize) {
                     Some(reader) => reader.arrive(Message { channel, slot: wire.slot, word }),
@@ -367,7 +332,7 @@ impl<'t> Cabinet<'t> {
                     // W-207: "a count of at most twice the limit"; it never passes the limit itself.
                     debug_assert!(backup.count <= sender.limit, "a count over the limit");
                 }
-                Answer::new(4, channel, word)
+                Answer::new(4, channel, word).sent(origin)
             }
             Some(Entry::Sync { process, snapshot }) => {
                 let of = &mut self.processes[process as usize];
@@ -414,7 +379,7 @@ impl<'t> Cabinet<'t> {
         self.processes[wire.reader as usize].arrive(Message { channel: channel as u8, slot: wire.slot, word });
         self.totals[channel] += 1;
         // W-206: "Code 4: 1 for a feed."
-        Answer::new(4, channel as u8, word).because(1)
+        Answer::new(4, channel as u8, word).because(1).sent(FED)
     }
 
     fn crash(&mut self, board: usize) -> Answer {

@@ -1,5 +1,6 @@
 //! The bench once more in Rust, with growing lists and nothing proved, written to be quick: what the proved run's time is held against.
-//! It reads the same bytes and writes the same answers, reasons and report into lent buffers; a channel's total of unread and queued words is kept.
+//! It reads the same bytes and writes the same answers, reasons, report and origins into lent buffers; a channel's total of unread and queued
+//! words is kept.
 use outside::rules::lent::Lent;
 use outside::rules::reader::{judge_run, Instruction, Table, OUTSIDE};
 use std::collections::VecDeque;
@@ -29,7 +30,7 @@ struct Snapshot {
 }
 
 enum Entry {
-    Word { channel: u8, word: u32 },
+    Word { channel: u8, place: u8, word: u32 },
     Sync { process: u8, snapshot: Snapshot },
     Resync { process: u8 },
 }
@@ -171,6 +172,10 @@ impl Channel {
 /// An answer's reason, which has its code, a and word, or a refusal's reason.
 type Answer = Result<(u8, u8, u32), u8>;
 
+/// The sender and the place of a record's word. Most records have none, so that all are filled at once, and a word on the bus writes its own.
+type Origin = [u8; 2];
+const NOWHERE: u8 = 255;
+
 fn done(cause: u8) -> Answer {
     Ok((cause, 0, 0))
 }
@@ -221,7 +226,7 @@ impl<'t> Cabinet<'t> {
         }
     }
 
-    fn answer(&mut self, kind: u8, a: usize, word: u32) -> Answer {
+    fn answer(&mut self, kind: u8, a: usize, word: u32, origin: &mut Origin) -> Answer {
         if !(1..=7).contains(&kind) {
             return Err(code(32));
         }
@@ -231,8 +236,8 @@ impl<'t> Cabinet<'t> {
         match kind {
             1 if a < self.processes.len() => self.step(a),
             2 if a < self.processes.len() => self.sync(a),
-            3 if a < self.queues.len() => self.carry(a),
-            4 if a < self.channels.len() => self.feed(a, word),
+            3 if a < self.queues.len() => self.carry(a, origin),
+            4 if a < self.channels.len() => self.feed(a, word, origin),
             5 if a < self.queues.len() => self.crash(a),
             6 if a < self.queues.len() => self.give_back(a),
             7 if a < self.processes.len() => self.resync(a),
@@ -284,7 +289,7 @@ impl<'t> Cabinet<'t> {
                     if to.held() {
                         return Err(code(39));
                     }
-                    queue.push_back(Entry::Word { channel, word });
+                    queue.push_back(Entry::Word { channel, place: process.place, word });
                     to.total += 1;
                     process.act();
                     (code(2), channel, word)
@@ -323,13 +328,13 @@ impl<'t> Cabinet<'t> {
         done(1)
     }
 
-    fn carry(&mut self, board: usize) -> Answer {
+    fn carry(&mut self, board: usize, origin: &mut Origin) -> Answer {
         if self.dead[board] {
             return Err(code(34));
         }
         match self.queues[board].pop_front() {
             None => Err(code(42)),
-            Some(Entry::Word { channel: k, word }) => {
+            Some(Entry::Word { channel: k, place, word }) => {
                 let channel = &mut self.channels[k as usize];
                 match self.processes.get_mut(channel.reader as usize) {
                     Some(reader) => reader.arrive(Message { word, channel: k, slot: channel.slot }),
@@ -338,6 +343,7 @@ impl<'t> Cabinet<'t> {
                 if let Some(backup) = self.processes[channel.sender as usize].backed() {
                     backup.count += 1;
                 }
+                *origin = [channel.sender, place];
                 Ok((code(4), k, word))
             }
             Some(Entry::Sync { process: p, snapshot }) => {
@@ -355,7 +361,7 @@ impl<'t> Cabinet<'t> {
         }
     }
 
-    fn feed(&mut self, k: usize, word: u32) -> Answer {
+    fn feed(&mut self, k: usize, word: u32, origin: &mut Origin) -> Answer {
         let channel = &mut self.channels[k];
         if channel.sender != OUTSIDE {
             return Err(code(43));
@@ -365,6 +371,7 @@ impl<'t> Cabinet<'t> {
         }
         channel.total += 1;
         self.processes[channel.reader as usize].arrive(Message { word, channel: k as u8, slot: channel.slot });
+        *origin = [OUTSIDE, 0];
         Ok((code(4) + 1, k as u8, word))
     }
 
@@ -454,9 +461,12 @@ pub fn run(table: &[u8], schedule: &[u8], lent: Lent<&mut [u8]>) -> u64 {
         Err(number) => return number as u64,
     };
     let mut cabinet = Cabinet::new(&table);
-    for ((record, bytes), reason) in records.chunks_exact(6).zip(lent.answers.chunks_exact_mut(6)).zip(lent.reasons) {
+    let origins = &mut lent.origins.as_chunks_mut().0[..records.len() / 6];
+    origins.fill([NOWHERE; 2]);
+    let told = lent.reasons.iter_mut().zip(origins);
+    for ((record, bytes), (reason, origin)) in records.chunks_exact(6).zip(lent.answers.chunks_exact_mut(6)).zip(told) {
         let &[kind, a, w0, w1, w2, w3] = record else { unreachable!("six bytes") };
-        let answer = cabinet.answer(kind, a as usize, u32::from_be_bytes([w0, w1, w2, w3]));
+        let answer = cabinet.answer(kind, a as usize, u32::from_be_bytes([w0, w1, w2, w3]), origin);
         let (given, a, word) = answer.unwrap_or_else(|refused| (refused, a, 0));
         let [w0, w1, w2, w3] = word.to_be_bytes();
         bytes.copy_from_slice(&[given / 4, a, w0, w1, w2, w3]);

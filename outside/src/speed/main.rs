@@ -18,7 +18,11 @@ use timing::time;
 
 // All code behind it stands 16 bytes further for each: where code stands changes how quick it is, ours and the plain run's, so `tools/speed`
 // builds one program for each of four places and compares them.
-std::arch::global_asm!(concat!(".pushsection .text.unlikely.place,\"axR\",@progbits\n.zero 16 * ", env!("PLACE"), "\n.popsection"));
+std::arch::global_asm!(concat!(
+    ".pushsection .text.unlikely.place,\"axR\",@progbits\n.zero 16 * ",
+    env!("PLACE"),
+    "\n.popsection"
+));
 
 const SEED: u64 = 0xE703_7ED1_A0B4_28DB;
 const REPETITIONS: u64 = 400;
@@ -116,13 +120,13 @@ fn main() {
         "{RECORDS} records, {} repetitions, seed {}. Buffers are filled before each run, outside the time.",
         asked.repetitions, asked.seed
     );
-    println!("Whole calls: table and schedule judged, answers, reasons and report written.");
+    println!("Whole calls: table and schedule judged, answers, reasons, report and origins written.");
     println!("\n16 processes, nanoseconds a record, the quickest run and the median:\n");
     let (worst, least) = asked.print_mixes(claimed());
     println!("\nThe label line, of 2 processes, and records that are refused mostly:\n");
     asked.print_mixes(others());
     println!("\nWhole calls, the quickest, in microseconds, and nanoseconds a record above a call with none:\n");
     asked.print_growth(claimed());
-    println!("\nEvery run's number, answers, reasons and report were those of the plain run. On 16 processes, with {least:.1}% or more of the records");
-    println!("not refused, the largest ratio is {:.2}, of medians {:.2}.", worst[0], worst[1]);
+    println!("\nEvery run's number, answers, reasons, report and origins were those of the plain run. On 16 processes, with {least:.1}% or more of");
+    println!("the records not refused, the largest ratio is {:.2}, of medians {:.2}.", worst[0], worst[1]);
 }

@@ -1,6 +1,6 @@
 //! Times of the proved run, the plain one and the floor on one input, turn by turn in one process; who is first changes. Before each run,
-//! outside the time taken, the lent buffers are filled with other bytes; after each, number, answers, reasons and report of the proved and
-//! the plain run are compared.
+//! outside the time taken, the lent buffers are filled with other bytes; after each, number, answers, reasons, report and origins of the proved
+//! and the plain run are compared.
 use crate::mixes::Input;
 use crate::{baseline, call, floor};
 use outside::rules::lent::Lent;

@@ -10,16 +10,17 @@ mod raw {
             table_len: usize,
             schedule: *const u8,
             schedule_len: usize,
-            answers: usize,
-            reasons: usize,
-            report: usize,
+            answers_len: usize,
+            reasons_len: usize,
+            report_len: usize,
+            origins_len: usize,
         ) -> u32;
     }
 }
 
 /// The call on any bytes and on buffers of any lengths: it asks nothing of its caller.
 pub fn ks_judge(table: &[u8], schedule: &[u8], buffers: Lent<usize>) -> u32 {
-    let Lent { answers, reasons, report } = buffers;
+    let Lent { answers, reasons, report, origins } = buffers;
     // SAFETY: two slices, each with its own length; the call only reads them.
-    unsafe { raw::ks_judge(table.as_ptr(), table.len(), schedule.as_ptr(), schedule.len(), answers, reasons, report) }
+    unsafe { raw::ks_judge(table.as_ptr(), table.len(), schedule.as_ptr(), schedule.len(), answers, reasons, report, origins) }
 }

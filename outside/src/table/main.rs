@@ -1,22 +1,22 @@
 //! The proved judging of tables, schedules and buffers against the reader: `table [--runs N] [--seed N]`.
 //!
 //! Document 01's sample, in either version, with every length field, every change of one byte and every shorter length; then random tables and schedules,
-//! sound and damaged, with buffers of lengths around what is enough.
+//! sound and damaged, with buffers of lengths around what is enough, and with each set of them one byte under it.
 mod call;
 
 use call::ks_judge;
 use outside::random::Random;
 use outside::rules::damage::{damage_schedule, damage_table, Damage, DAMAGES};
 use outside::rules::generate::{encode_schedule, encode_table, largest, schedule, table};
-use outside::rules::lent::Lent;
+use outside::rules::lent::{Lent, BUFFERS};
 use outside::rules::reader::{judge_run, judge_table};
 use outside::rules::sample::{sample_schedule, SAMPLE};
 
 const SEED: u64 = 0xD1B5_4A32_D192_ED03;
-const RUNS: u32 = 200_000;
+const RUNS: u32 = 300_000;
 
 /// The numbers of a run: 0, and the refusals.
-const NUMBERS: [u8; 14] = [0, 1, 2, 3, 4, 5, 6, 7, 8, 47, 9, 10, 11, 12];
+const NUMBERS: [u8; 15] = [0, 1, 2, 3, 4, 5, 6, 7, 8, 47, 9, 10, 11, 12, 51];
 
 /// How often each kind of input was given each number, in the order of `NUMBERS`.
 struct Seen(Vec<(String, [u32; NUMBERS.len()])>);
@@ -125,6 +125,8 @@ fn round(random: &mut Random, seen: &mut Seen) {
             seen.compare("answers' buffer", &sound, &records, Lent { answers: others.answers, ..needed });
             seen.compare("reasons' buffer", &sound, &records, Lent { reasons: others.reasons, ..needed });
             seen.compare("report's buffer", &sound, &records, Lent { report: others.report, ..needed });
+            seen.compare("origins' buffer", &sound, &records, Lent { origins: others.origins, ..needed });
+            needed.shortened().for_each(|short| seen.compare("a byte under", &sound, &records, short));
         } else {
             seen.compare(&format!("table {how:?}"), &table, &records, enough);
             seen.compare(&format!("schedule {how:?}"), &sound, &schedule, enough);
@@ -146,7 +148,7 @@ fn main() {
     let mut random = Random::new(seed);
     let mut seen = Seen(Vec::new());
     sample(&mut seen);
-    let each = 5 + 3 * (DAMAGES.len() as u32 - 1);
+    let each = 6 + (1 << BUFFERS) + 3 * (DAMAGES.len() as u32 - 1);
     (0..runs.div_ceil(each)).for_each(|_| round(&mut random, &mut seen));
     if !seen.report() {
         println!("table: FAILED, not everything was seen");
