@@ -48,6 +48,9 @@ use words::index16;
 use words::least;
 use words::low_byte;
 
+// W-214's move 8, which takes a record back: no move of a cabinet.
+pub const UNDO: u8 = 8;
+
 // Records of a schedule that are to be played: those from number `from` on, before number `to` and before the schedule's end. `entries` are those
 // of all queues, as they are before the first of them.
 pub struct Stretch {
@@ -75,7 +78,7 @@ fn write_from(
 }
 
 // The i-th answer, of a record that puts no word on the bus.
-fn write(answers: &mut [u8], reasons: &mut [u8], origins: &mut [u8], i: usize, r: Answer)
+pub fn write(answers: &mut [u8], reasons: &mut [u8], origins: &mut [u8], i: usize, r: Answer)
     requires { ⌜ RoomAt i (sheetsOf (now answers) (now reasons) (now origins)) ⌝ }
     ensures { λ _. ⌜ Writes (sheetsOf (now (answers .entry)) (now (reasons .entry)) (now (origins .entry))) i r noOrigin
         (sheetsOf (now (answers .exit)) (now (reasons .exit)) (now (origins .exit))) ⌝ }
@@ -94,8 +97,8 @@ pub fn count(schedule: &[u8]) -> usize
     (len - FIRST_COMMAND) / 6
 }
 
-// A stretch of a schedule's records, on lists that hold any cabinet that commands reach. What is returned is what is left of the stretch: the next
-// record's number, and the entries then. The buffers have room for all records before `to`. The schedule's records are counted here, so that the compiler
+// A stretch of a schedule's records, on lists that hold any cabinet that commands reach. It ends before a move 8, too. What is returned is what is
+// left of the stretch: the next record's number, and the entries then. The buffers have room for all records before `to`. The schedule's records are counted here, so that the compiler
 // knows that each of them is there.
 pub fn play(
     table: &[u8],
@@ -134,6 +137,13 @@ pub fn play(
         let a = byte_word(c.a);
         let number = judge(counts, c);
         if number != 0 {
+            if mv == UNDO {
+                return Stretch {
+                    from: k,
+                    to: to,
+                    entries: entries,
+                };
+            }
             write(
                 answers,
                 reasons,
