@@ -23,7 +23,7 @@ run-requires : tie.Need-run-requires
 run-requires c κs = search needs
 
 returns : tie.Need-returns
-returns c = 
+returns c =
     let s = c .before .before .before .before .before .before .before .before .before .before .before .before .args in
     let v = c .before .before .before .before .before .run in
     quiet-ends (s .table .now) (s .schedule .now) (s .processes) (v .result) _ (v .ensures) (c .if1 .taken)
@@ -32,13 +32,13 @@ some-held-requires : tie.Need-some-held-requires
 some-held-requires c κs = search needs
 
 returns-2 : tie.Need-returns-2
-returns-2 c = 
+returns-2 c =
     let s = c .before .before .before .before .before .before .before .before .before .before .before .before .before .before .before .args in
     let v = c .before .before .before .before .before .before .before .before .run in
     held-ends (s .table .now) (s .schedule .now) (s .processes) (v .result) _ (v .ensures) (c .before .before .before .if1 .left) (c .before .some-held .result) (c .before .some-held .ensures) (c .if2 .taken)
 
 returns-3 : tie.Need-returns-3
-returns-3 c = 
+returns-3 c =
     let s = c .before .before .before .before .before .before .before .before .before .before .before .before .before .before .before .args in
     let v = c .before .before .before .before .before .before .before .before .run in
     free-ends (s .table .now) (s .schedule .now) (s .processes) (v .result) _ (v .ensures) (c .before .before .before .if1 .left) (c .before .some-held .result) (c .before .some-held .ensures) (c .if2 .left)
