@@ -85,13 +85,34 @@ room g = has-room (first g .pre) (head g .loop .inv .long) (let a = g .before .b
 less : (g : Here) → g .before .before .before .before .before .before .least .result - (head g .loop .i + 1) < g .before .before .before .before .before .before .least .result - head g .loop .i
 less g = let a = g .before .before .before .loop-test .taken in omega arith
 
--- ---- the needs; calls that ask for nothing are answered below, where all are put together
+-- ---- the needs
+
+count-requires : tie.Need-count-requires Inv-loop μ-loop
+count-requires c κs = search needs
+
+least-requires : tie.Need-least-requires Inv-loop μ-loop
+least-requires c κs = search needs
 
 loop-holds : tie.Need-loop-holds Inv-loop μ-loop
 loop-holds c = at-first _ _ _ _ _ _ _
 
 add-i : tie.Need-add-i Inv-loop μ-loop
 add-i c = search needs
+
+command-at-requires : tie.Need-command-at-requires Inv-loop μ-loop
+command-at-requires c κs = search needs
+
+byte-word-requires : tie.Need-byte-word-requires Inv-loop μ-loop
+byte-word-requires c κs = search needs
+
+judge-requires : tie.Need-judge-requires Inv-loop μ-loop
+judge-requires c κs = search needs
+
+cause-requires : tie.Need-cause-requires Inv-loop μ-loop
+cause-requires c κs = search needs
+
+refusal-requires : tie.Need-refusal-requires Inv-loop μ-loop
+refusal-requires c κs = search needs
 
 write-requires : tie.Need-write-requires Inv-loop μ-loop
 write-requires c κs = room (c .before .before .before .before .before .before)
@@ -103,6 +124,9 @@ loop-again : tie.Need-loop-again Inv-loop μ-loop
 loop-again c =
     on-refused (round (c .before .before .before .before .before .before .before .before .before .before .before .before .before)) (c .before .before .before .before .before .before .before .before .before .before .before .before .if1 .taken) (c .before .before .before .before .before .before .before .before .cause .ensures) (c .before .before .before .before .before .before .before .refusal .ensures) (c .before .before .before .before .before .before .write .ensures)
 
+index16-requires : tie.Need-index16-requires Inv-loop μ-loop
+index16-requires c κs = search needs
+
 mul-low-byte : tie.Need-mul-low-byte Inv-loop μ-loop
 mul-low-byte c = search needs
 
@@ -111,6 +135,12 @@ index-1-low-byte c = search needs
 
 index-2-low-byte : tie.Need-index-2-low-byte Inv-loop μ-loop
 index-2-low-byte c = search needs
+
+low-byte-requires : tie.Need-low-byte-requires Inv-loop μ-loop
+low-byte-requires c κs = search needs
+
+step-requires : tie.Need-step-requires Inv-loop μ-loop
+step-requires c κs = search needs
 
 write-requires-2 : tie.Need-write-requires-2 Inv-loop μ-loop
 write-requires-2 c κs = room (c .before .before .before .before .before .before .before .before .before .before .before .before .before .before)
@@ -148,11 +178,20 @@ loop-again-3 c =
     (λ t now ok holds b. (b, none-joined (q .entries) (c .before .before .before .before .before .before .before .before .before .before .before .before .step .result .at) _ (c .if2 .left)))
     (λ t now u b asked w. refl)
 
+index16-requires-2 : tie.Need-index16-requires-2 Inv-loop μ-loop
+index16-requires-2 c κs = search needs
+
 mul-snapshot : tie.Need-mul-snapshot Inv-loop μ-loop
 mul-snapshot c = search needs
 
 index-1-snapshot : tie.Need-index-1-snapshot Inv-loop μ-loop
 index-1-snapshot c = search needs
+
+snapshot-requires : tie.Need-snapshot-requires Inv-loop μ-loop
+snapshot-requires c κs = search needs
+
+issue-requires : tie.Need-issue-requires Inv-loop μ-loop
+issue-requires c κs = search needs
 
 write-requires-3 : tie.Need-write-requires-3 Inv-loop μ-loop
 write-requires-3 c κs = room (c .before .before .before .before .before .before .before .before .before .before .before .before)
@@ -190,17 +229,29 @@ loop-again-5 c =
     (λ t now ok holds b. (b, none-joined (q .entries) (c .before .before .before .before .before .before .before .before .before .before .before .before .issue .result .at) _ (c .if3 .left)))
     (λ t now u b asked w. refl)
 
+index16-requires-3 : tie.Need-index16-requires-3 Inv-loop μ-loop
+index16-requires-3 c κs = search needs
+
 mul-oldest : tie.Need-mul-oldest Inv-loop μ-loop
 mul-oldest c = search needs
 
 index-1-oldest : tie.Need-index-1-oldest Inv-loop μ-loop
 index-1-oldest c = search needs
 
+oldest-requires : tie.Need-oldest-requires Inv-loop μ-loop
+oldest-requires c κs = search needs
+
 mul-e : tie.Need-mul-e Inv-loop μ-loop
 mul-e c = search needs
 
 array-copy-out-e : tie.Need-array-copy-out-e Inv-loop μ-loop
 array-copy-out-e c = search needs
+
+transmit-requires : tie.Need-transmit-requires Inv-loop μ-loop
+transmit-requires c κs = search needs
+
+carried-requires : tie.Need-carried-requires Inv-loop μ-loop
+carried-requires c κs = search needs
 
 write-from-requires : tie.Need-write-from-requires Inv-loop μ-loop
 write-from-requires c κs = room (c .before .before .before .before .before .before .before .before .before .before .before .before .before .before .before .before .before)
@@ -225,6 +276,12 @@ loop-again-6 c =
     ))
     (λ t now u b asked w. carried-told (u .reached) (u .planned) (u .holds) _ b _ (asked .oldest-is) _ _ (c .before .before .before .before .before .before .before .before .before .before .carried .ensures) (λ e. w refl e))
 
+inject-requires : tie.Need-inject-requires Inv-loop μ-loop
+inject-requires c κs = search needs
+
+fed-requires : tie.Need-fed-requires Inv-loop μ-loop
+fed-requires c κs = search needs
+
 write-from-requires-2 : tie.Need-write-from-requires-2 Inv-loop μ-loop
 write-from-requires-2 c κs = room (c .before .before .before .before .before .before .before .before .before .before .before .before)
 
@@ -238,6 +295,9 @@ loop-again-7 c =
     on-made (round g) (c .before .before .before .before .before .before .before .before .before .before .before .before .before .before .before .before .before .before .if1 .left) 4 (c .before .before .before .before .before .before .before .before .before .before .before .before .before .before .before .before .before .match .keys4) (c .before .before .before .before .before .before .write-from2 .ensures) (c .before .before .before .before .before .before .before .before .before .before .before .inject .ensures (first g .args .table .now) (first g .args .counts) (first g .args .programs .now) (q .queues))
     (λ t now ok holds b. (b, refl))
     (λ t now u b asked w. sym (c .before .before .before .before .before .before .before .fed .ensures))
+
+crash-requires : tie.Need-crash-requires Inv-loop μ-loop
+crash-requires c κs = search needs
 
 write-requires-4 : tie.Need-write-requires-4 Inv-loop μ-loop
 write-requires-4 c κs = room (c .before .before .before .before .before .before .before .before .before .before .before .before)
@@ -253,6 +313,9 @@ loop-again-8 c =
     (λ t now ok holds b. (b, refl))
     (λ t now u b asked w. refl)
 
+rejoin-requires : tie.Need-rejoin-requires Inv-loop μ-loop
+rejoin-requires c κs = search needs
+
 write-requires-5 : tie.Need-write-requires-5 Inv-loop μ-loop
 write-requires-5 c κs = room (c .before .before .before .before .before .before .before)
 
@@ -266,6 +329,9 @@ loop-again-9 c =
     on-made (round g) (c .before .before .before .before .before .before .before .before .before .before .before .before .before .if1 .left) 6 (c .before .before .before .before .before .before .before .before .before .before .before .before .match .keys6) (c .before .before .before .before .before .before .write5 .ensures) (c .before .before .before .before .before .before .before .before .before .before .rejoin .ensures _ (q .rows) (q .mails) (q .logs) (q .heads) (q .totals))
     (λ t now ok holds b. (b, refl))
     (λ t now u b asked w. refl)
+
+rebackup-requires : tie.Need-rebackup-requires Inv-loop μ-loop
+rebackup-requires c κs = search needs
 
 write-requires-6 : tie.Need-write-requires-6 Inv-loop μ-loop
 write-requires-6 c κs = room (c .before .before .before .before .before .before .before .before .before .before .before .before .before)
@@ -297,6 +363,9 @@ loop-again-11 c =
     on-made (round g) (c .before .before .before .before .before .before .before .before .before .before .before .before .before .before .before .before .before .before .before .before .if1 .left) 7 (c .before .before .before .before .before .before .before .before .before .before .before .before .before .before .before .before .before .before .before .match .keys7) (c .before .before .before .before .before .before .before .write6 .ensures) (c .before .before .before .before .before .before .before .before .before .before .before .before .rebackup .ensures (first g .args .table .now) (first g .args .counts))
     (λ t now ok holds b. (b, none-joined (q .entries) (c .before .before .before .before .before .before .before .before .before .before .before .before .rebackup .result .at) _ (c .if4 .left)))
     (λ t now u b asked w. refl)
+
+refusal-requires-2 : tie.Need-refusal-requires-2 Inv-loop μ-loop
+refusal-requires-2 c κs = search needs
 
 write-requires-7 : tie.Need-write-requires-7 Inv-loop μ-loop
 write-requires-7 c κs = room (c .before .before .before .before .before .before)
@@ -330,24 +399,24 @@ play-spec =
     (tie.spec
     Inv-loop
     μ-loop
-    (λ c κs. search needs)
-    (λ c κs. search needs)
+    count-requires
+    least-requires
     loop-holds
     add-i
-    (λ c κs. search needs)
-    (λ c κs. search needs)
-    (λ c κs. search needs)
-    (λ c κs. search needs)
-    (λ c κs. search needs)
+    command-at-requires
+    byte-word-requires
+    judge-requires
+    cause-requires
+    refusal-requires
     write-requires
     loop-less
     loop-again
-    (λ c κs. search needs)
+    index16-requires
     mul-low-byte
     index-1-low-byte
     index-2-low-byte
-    (λ c κs. search needs)
-    (λ c κs. search needs)
+    low-byte-requires
+    step-requires
     write-requires-2
     mul-entries
     array-set-from-entries
@@ -355,11 +424,11 @@ play-spec =
     loop-again-2
     loop-less-3
     loop-again-3
-    (λ c κs. search needs)
+    index16-requires-2
     mul-snapshot
     index-1-snapshot
-    (λ c κs. search needs)
-    (λ c κs. search needs)
+    snapshot-requires
+    issue-requires
     write-requires-3
     mul-entries-2
     array-set-from-entries-2
@@ -367,31 +436,31 @@ play-spec =
     loop-again-4
     loop-less-5
     loop-again-5
-    (λ c κs. search needs)
+    index16-requires-3
     mul-oldest
     index-1-oldest
-    (λ c κs. search needs)
+    oldest-requires
     mul-e
     array-copy-out-e
-    (λ c κs. search needs)
-    (λ c κs. search needs)
+    transmit-requires
+    carried-requires
     write-from-requires
     loop-less-6
     loop-again-6
-    (λ c κs. search needs)
-    (λ c κs. search needs)
+    inject-requires
+    fed-requires
     write-from-requires-2
     loop-less-7
     loop-again-7
-    (λ c κs. search needs)
+    crash-requires
     write-requires-4
     loop-less-8
     loop-again-8
-    (λ c κs. search needs)
+    rejoin-requires
     write-requires-5
     loop-less-9
     loop-again-9
-    (λ c κs. search needs)
+    rebackup-requires
     write-requires-6
     mul-entries-3
     array-set-from-entries-3
@@ -399,7 +468,7 @@ play-spec =
     loop-again-10
     loop-less-11
     loop-again-11
-    (λ c κs. search needs)
+    refusal-requires-2
     write-requires-7
     loop-less-12
     loop-again-12
