@@ -1,5 +1,7 @@
 //! A run in words: a line for each record, then each process, and whether the cabinet ended quiet.
 use crate::follow::{Followed, Standing};
+use crate::front::Failure;
+use crate::input;
 use kunzeastylus::{Answer, Buffers, BusWord, Cause, Code, End, Lengths, Move, Operation, ProcessEnd, Refusal, Run, Table};
 use std::fmt::Write;
 
@@ -54,7 +56,7 @@ impl Input {
     }
 
     /// The run of the first records of an accepted schedule, handed over; the buffers are as long as needed.
-    fn run<T>(&self, records: usize, use_of: impl FnOnce(Run) -> T) -> Result<T, Refusal> {
+    pub fn run<T>(&self, records: usize, use_of: impl FnOnce(Run) -> T) -> Result<T, Refusal> {
         let mut schedule = self.schedule.clone();
         if records < schedule.len() / 6 {
             schedule.truncate(3 + 6 * records);
@@ -62,6 +64,16 @@ impl Input {
         }
         kunzeastylus::run(&self.table, &schedule, &mut Buffers::for_run(&self.table, &schedule)).map(use_of)
     }
+}
+
+/// What a refusal means, and of which bytes of a file; `with` says what was done to its schedule.
+pub fn refused(input: &Input, file: &str, refusal: Refusal, with: &str) -> Failure {
+    let (table, schedule) = (input.table.len(), input.schedule.len());
+    let bytes = match refusal.number() {
+        1..=8 | 47 => format!("the table, its first {table} bytes"),
+        _ => format!("the schedule, {schedule} bytes behind the table's {table}{with}"),
+    };
+    Failure::Explained(refusal.number(), format!("{}: {bytes}: {}", input::name(file), refusal.words()))
 }
 
 /// The two length bytes of a schedule of so many bytes. A length that fits no field is of a schedule that is refused.
@@ -91,7 +103,7 @@ pub fn explain(input: &Input, asked: Asked) -> Result<String, Refusal> {
     })
 }
 
-fn heading(records: usize, table: &Table) -> String {
+pub(crate) fn heading(records: usize, table: &Table) -> String {
     let processes = many(table.processes.len(), "process", "processes");
     let channels = many(table.channels.len(), "channel", "channels");
     format!("{} on {} boards with {processes} and {channels}", many(records, "record", "records"), table.boards)
@@ -184,7 +196,7 @@ fn origin(on_the_bus: BusWord) -> String {
 }
 
 /// How many of something.
-fn many(count: usize, one: &str, several: &str) -> String {
+pub(crate) fn many(count: usize, one: &str, several: &str) -> String {
     match count {
         0 => format!("no {several}"),
         1 => format!("1 {one}"),

@@ -1,13 +1,12 @@
 -- A whole run: the plan suits the table, the records are played, and what comes of it is the rules' run.
 use mathlib.Core.Path.{_≡_, refl, ap, sym, _∙_, subst}
-use mathlib.Core.Bool.{Bool, true, false, cond, _&&_}
+use mathlib.Core.Bool.{Bool, true, false, cond}
 use mathlib.Core.List.{List}
 use Prim.Native.Nat.{ℕ, _+_, _*_, _≤_, _<_}
 use native.Mathlib.Omega.{arith}
-use lib.Dec.{eqb, leb}
-use lib.ListN.{length, getD}
-use borrow.Author.Tests.{eqb-true, eq-eqb, ne-eqb, leb-true}
-use Rattle.facts.specs.Tests.{and-right}
+use lib.Dec.{eqb}
+use lib.ListN.{length}
+use borrow.Author.Tests.{eqb-true, ne-eqb}
 use Rattle.records.specs.Commands.{ScheduleJudged}
 use Rattle.rules.specs.Transparency.{FailureTransparency}
 use Rattle.records.specs.declared.schedule.Judged.{Judged}
@@ -16,13 +15,13 @@ use Rattle.table.specs.declared.Decoded.{Decoded}
 use Rattle.table.specs.declared.Plan.{Plan}
 use Rattle.rules.specs.Table.{Table}
 use Rattle.rules.specs.Judge.{Accepted}
-use Rattle.rules.specs.Format.{lengthField, processesIn, decodeTable, validateTable}
-use Rattle.rules.specs.Schedule.{commandsMost, commandsIn, command, decodeSchedule, scheduleOk, validateSchedule}
+use Rattle.rules.specs.Format.{decodeTable}
+use Rattle.rules.specs.Schedule.{commandsMost, commandsIn, decodeSchedule}
 use Rattle.rules.specs.Moves.{Command}
 use Rattle.rules.specs.Undo.{opened, playFrom}
 use Rattle.rules.specs.Transparent.{ended}
-use Rattle.rules.specs.Run.{Buffers, buffersOf, lengthsOf, ranOf, answerBytes, reportBytes, validateRun, ranFrom, refusedWith, run, accepted}
-use Rattle.rules.proofs.Valid.{valid, test-passed, processes-counted, decoded-accepted}
+use Rattle.rules.specs.Run.{Buffers, buffersOf, lengthsOf, ranOf, validateRun, ranFrom, refusedWith, run, accepted}
+use Rattle.rules.proofs.Valid.{processes-counted, decoded-accepted}
 use Rattle.rules.proofs.AcceptedRun.{one-shown-each, table-valid, schedule-valid, answers-fit, reasons-fit, report-fits, origins-fit}
 use Rattle.rules.proofs.Standing.{standingIn, ended-is}
 use Rattle.rules.proofs.Theorem.{failure-transparency}
@@ -32,7 +31,7 @@ use Rattle.state.specs.Moved.{Reachable}
 use Rattle.plan.specs.Plan.{planOf}
 use Rattle.play.specs.Plays.{sheetsOf, Roomy}
 use Rattle.play.proofs.Sheets.{answers-front, reasons-front, origins-front}
-use Rattle.play.proofs.Playing.{commands-many}
+use Rattle.rules.proofs.Scheduled.{commands-counted, scheduled}
 use Rattle.undo.specs.Sessions.{PlaysAll}
 use Rattle.outcome.specs.Starts.{Placed}
 use Rattle.outcome.specs.Reports.{Reports}
@@ -44,15 +43,6 @@ use Rattle.cabinet.specs.Runs.{ranBy, Runs}
 use Rattle.cabinet.specs.declared.run.Verdict.{Verdict}
 
 -- ---- an accepted run
-
-commands-few : (schedule : List ℕ) → validateSchedule schedule ≡ 0 → commandsIn schedule ≤ commandsMost
-unfolding validateSchedule scheduleOk
-commands-few schedule h =
-    let a = test-passed (scheduleOk schedule) 8 _ h in
-    let few = leb (commandsIn schedule) commandsMost in
-    let whole = eqb (3 + 6 * commandsIn schedule) (length schedule) in
-    let field = eqb (2 + lengthField schedule) (length schedule) in
-    leb-true (commandsIn schedule) commandsMost (and-right whole few (and-right field (whole && few) (and-right (leb 3 (length schedule)) (field && (whole && few)) a)))
 
 passed : (table schedule : List ℕ) (buffers : Buffers) → validateRun table schedule (lengthsOf buffers) ≡ 0 → accepted table schedule buffers ≡ true
 unfolding accepted ranFrom
@@ -94,9 +84,9 @@ module _ (table schedule : List ℕ) (plan : Plan) (answers reasons report origi
         let placed : Placed t (plan .primary) (plan .standby) (plan .counts .processes) =
         record { processes-is = planned .processes-is; primary-at = plans .primary-at; standby-at = plans .standby-at } in
         let shown = plays .shown t at planned placed in
-        let many : commandsIn schedule ≡ length commands = sym (commands-many schedule) in
+        let many : commandsIn schedule ≡ length commands = sym (commands-counted schedule) in
         let roomy : Roomy (length (playFrom t (opened t) commands .answers)) (sheetsOf answers reasons origins) =
-        rw (one-shown-each t (opened t) commands, commands-many schedule) (has-room table schedule before acc) in
+        rw (one-shown-each t (opened t) commands, commands-counted schedule) (has-room table schedule before acc) in
         let room : 20 * plan .counts .processes ≤ length report = rw (planned .processes-is, processes-counted table) (report-fits table schedule before acc) in
         let end = ended t commands in
         let w = reports .reported t (s .mails) (s .logs) (s .heads) (s .queues) (s .totals) entries end (reach at) (shown .holds) (planned .processes-is) room in
@@ -155,11 +145,11 @@ module _ (table schedule : List ℕ) (before : Buffers) (d : Decoded) (j : Judge
 few-of : (b : Bool) (n : ℕ) (t : Table) (schedule : List ℕ) (buffers : Buffers) → (b ≡ true → commandsIn schedule ≤ commandsMost)
     → cond b (ranFrom t (decodeSchedule schedule) buffers) (refusedWith n buffers) .records ≤ commandsMost
 unfolding ranFrom refusedWith
-few-of true n t schedule buffers h = rw (commands-many schedule) (h refl)
+few-of true n t schedule buffers h = rw (commands-counted schedule) (h refl)
 few-of false n t schedule buffers h = omega arith
 
 pub run-few : (table schedule : List ℕ) (buffers : Buffers) → run table schedule buffers .records ≤ commandsMost
 unfolding run
 run-few table schedule buffers =
     few-of (eqb (validateRun table schedule (lengthsOf buffers)) 0) _ (decodeTable table) schedule buffers
-    (λ e. commands-few schedule (schedule-valid table schedule buffers (passed table schedule buffers (eqb-true _ 0 e))))
+    (λ e. scheduled schedule (schedule-valid table schedule buffers (passed table schedule buffers (eqb-true _ 0 e))) .few)

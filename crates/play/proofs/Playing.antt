@@ -22,7 +22,7 @@ use Rattle.rules.specs.Schedule.{command, commandsIn, decodeSchedule}
 use Rattle.rules.proofs.AcceptedRun.{one-answer-each}
 use Rattle.rules.proofs.Recovery.{run-parts}
 use Rattle.rules.proofs.Origins.{origin-told, carried-waited}
-use Rattle.rules.proofs.Valid.{length-sixes}
+use Rattle.rules.proofs.Scheduled.{commands-counted}
 use Rattle.state.specs.declared.entry.Entry.{Entry}
 use Rattle.state.specs.declared.moved.Answer.{Answer}
 use Rattle.state.specs.declared.moved.Moved.{Moved}
@@ -76,14 +76,10 @@ module _ {t : Table} {c : Cabinet} where
 
 -- ---- the records of a schedule
 
-pub commands-many : (schedule : List ℕ) → length (decodeSchedule schedule) ≡ commandsIn schedule
-unfolding decodeSchedule
-commands-many schedule = length-sixes command (commandsIn schedule) _
-
 module _ (schedule : List ℕ) (i : ℕ) where
   pub between-length : (j : ℕ) → j ≤ commandsIn schedule → length (between schedule i j) ≡ j - i
   between-length j h =
-      let a = commands-many schedule in
+      let a = commands-counted schedule in
       let b = length-drop i (decodeSchedule schedule) in
       length-take-le (j - i) (drop i (decodeSchedule schedule)) (omega arith)
 
@@ -96,13 +92,13 @@ module _ (schedule : List ℕ) (i : ℕ) where
 
 -- all of them
 pub between-all : (schedule : List ℕ) → between schedule 0 (commandsIn schedule) ≡ decodeSchedule schedule
-between-all schedule = let a = commands-many schedule in take-all (commandsIn schedule - 0) (decodeSchedule schedule) (omega arith)
+between-all schedule = let a = commands-counted schedule in take-all (commandsIn schedule - 0) (decodeSchedule schedule) (omega arith)
 
 -- a single one
 pub between-one : (schedule : List ℕ) (i : ℕ) → i < commandsIn schedule → between schedule i (i + 1) ≡ getD (decodeSchedule schedule) i (command 0 0 0) ∷ []
 between-one schedule i h =
     let a : (i + 1) - i ≡ 1 = omega arith in
-    let m = commands-many schedule in
+    let m = commands-counted schedule in
     let b = length-drop i (decodeSchedule schedule) in
     let z : i + 0 ≡ i = omega arith in
     ap (λ (n : ℕ). take n (drop i (decodeSchedule schedule))) a

@@ -31,6 +31,7 @@ use process::checkpoint::snapshot;
 use process::row::PC;
 use process::row::ROW;
 use records::schedule::FIRST_COMMAND;
+use records::schedule::UNDO;
 use records::schedule::command_at;
 use rejoin::rebackup::rebackup;
 use rejoin::rejoin::rejoin;
@@ -47,9 +48,6 @@ use words::byte_word;
 use words::index16;
 use words::least;
 use words::low_byte;
-
-// W-214's move 8, which takes a record back: no move of a cabinet.
-pub const UNDO: u8 = 8;
 
 // Records of a schedule that are to be played: those from number `from` on, before number `to` and before the schedule's end. `entries` are those
 // of all queues, as they are before the first of them.

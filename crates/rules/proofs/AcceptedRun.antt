@@ -35,7 +35,7 @@ number-zero number t commands buffers h = go (eqb number 0) refl h
     go false e k = eqb-true number 0 k
 
 -- a number that is handed on unless it is 0
-number-passed : (n further : ℕ) → orNumber (eqb n 0) n further ≡ 0 → (n ≡ 0) × (further ≡ 0)
+pub number-passed : (n further : ℕ) → orNumber (eqb n 0) n further ≡ 0 → (n ≡ 0) × (further ≡ 0)
 number-passed n further h = go (eqb n 0) refl h
   where
     go : (b : Bool) → eqb n 0 ≡ b → orNumber b n further ≡ 0 → (n ≡ 0) × (further ≡ 0)

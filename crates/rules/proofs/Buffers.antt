@@ -17,12 +17,13 @@ use Rattle.rules.specs.Reasons.{reasonOf}
 use Rattle.rules.specs.Transparent.{finished, shown, shownFrom, ended}
 use Rattle.rules.specs.Bytes.{allBytes, written}
 use Rattle.rules.specs.Format.{processesIn, decodeTable}
-use Rattle.rules.specs.Schedule.{commandsIn, decodeSchedule, command}
+use Rattle.rules.specs.Schedule.{commandsIn, decodeSchedule}
 use Rattle.rules.specs.Run.{Buffers, lengthsOf, answerBytes, originBytes, reportBytes, validateRun, ranFrom, refusedWith, run}
 use Rattle.rules.specs.Run.{accepted}
 use Rattle.rules.proofs.Guards.{Leaves, after-run}
 use Rattle.rules.proofs.Crashed.{crash-length}
-use Rattle.rules.proofs.Valid.{length-sixes, processes-counted}
+use Rattle.rules.proofs.Valid.{processes-counted}
+use Rattle.rules.proofs.Scheduled.{commands-counted}
 use Rattle.rules.proofs.Standing.{standingIn, ended-is}
 use Rattle.rules.proofs.AcceptedRun.{one-shown-each, shown-length, shownFrom-length, run-is}
 use Rattle.rules.proofs.AcceptedRun.{answers-fit, reasons-fit, report-fits, origins-fit}
@@ -73,26 +74,22 @@ unfolding started
 processes-stay t commands =
     after-run t (λ c r h. keep-many t (length (t .processes)) c h r) (started t) commands (length-map (t .processes) placed)
 
-processes-end : (t : Table) (commands : List Command) → length (ended t commands .processes) ≡ length (t .processes)
+pub processes-end : (t : Table) (commands : List Command) → length (ended t commands .processes) ≡ length (t .processes)
 processes-end t commands = rw (ended-is t commands) (processes-stay t (standingIn t commands))
 
 -- ---- the buffers of a run
 
 module _ (table schedule : List ℕ) where
-  commands-counted : length (decodeSchedule schedule) ≡ commandsIn schedule
-  unfolding decodeSchedule
-  commands-counted = length-sixes command (commandsIn schedule) (drop 3 schedule)
-
   answer-bytes : length (allBytes answerBytes (shown (decodeTable table) (decodeSchedule schedule))) ≡ 6 * commandsIn schedule
   answer-bytes =
       length-bytes answerBytes 6 (shown (decodeTable table) (decodeSchedule schedule)) (λ x. refl)
-      ∙ ap (λ (n : ℕ). 6 * n) (shown-length (decodeTable table) (decodeSchedule schedule) ∙ commands-counted)
+      ∙ ap (λ (n : ℕ). 6 * n) (shown-length (decodeTable table) (decodeSchedule schedule) ∙ commands-counted schedule)
 
   reason-bytes : length (map reasonOf (playFrom (decodeTable table) (opened (decodeTable table)) (decodeSchedule schedule) .answers)) ≡ commandsIn schedule
   reason-bytes =
       let t = decodeTable table in
       let l = playFrom t (opened t) (decodeSchedule schedule) .answers in
-      length-map l reasonOf ∙ one-shown-each t (opened t) (decodeSchedule schedule) ∙ commands-counted
+      length-map l reasonOf ∙ one-shown-each t (opened t) (decodeSchedule schedule) ∙ commands-counted schedule
 
   report-bytes : length (allBytes reportBytes (ended (decodeTable table) (decodeSchedule schedule) .processes)) ≡ 20 * processesIn table
   report-bytes =
@@ -102,7 +99,7 @@ module _ (table schedule : List ℕ) where
   origin-bytes : length (allBytes originBytes (shownFrom (decodeTable table) (decodeSchedule schedule))) ≡ 2 * commandsIn schedule
   origin-bytes =
       length-bytes originBytes 2 (shownFrom (decodeTable table) (decodeSchedule schedule)) (λ x. refl)
-      ∙ ap (λ (n : ℕ). 2 * n) (shownFrom-length (decodeTable table) (decodeSchedule schedule) ∙ commands-counted)
+      ∙ ap (λ (n : ℕ). 2 * n) (shownFrom-length (decodeTable table) (decodeSchedule schedule) ∙ commands-counted schedule)
 
 -- What a run leaves of a lent buffer: its length, and the bytes behind the first n.
 pub record Lent (n : ℕ) (before after : List ℕ) : Type 0 where

@@ -13,11 +13,11 @@ use Rattle.facts.specs.Indexing.{getD-map, getD-replicate-any}
 use Rattle.rules.specs.Table.{Table, placementAt}
 use Rattle.rules.specs.Cabinet.{Cabinet, placed, started, nobody, processAt, deadAt, protected}
 use Rattle.rules.specs.Moves.{Command, Move, stepMove, issueMove, transmitMove, injectMove, crashMove, rejoinMove, rebackupMove, unknown, moveOf, Answer, crashDone, syncKept, syncLost, guard, withProcess, withOutbox, keeps, deliver, perform, turn, runFrom}
+use Rattle.rules.specs.Undo.{isUndo}
 use Rattle.rules.specs.Judge.{Accepted}
 use Rattle.rules.specs.Transparent.{finished}
 use Rattle.rules.specs.Recovery.{isCrash, anyCrash}
 use Rattle.rules.specs.Sweep.{crashOf, isBarred, anyBarred}
-use Rattle.rules.specs.Undo.{isUndo}
 use Rattle.rules.proofs.Guards.{Done, yields-turn}
 use Rattle.rules.proofs.Recovery.{backed-again, next-crash}
 

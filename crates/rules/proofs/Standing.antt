@@ -11,11 +11,11 @@ use Rattle.rules.specs.Table.{Table}
 use Rattle.rules.specs.Machine.{Origin}
 use Rattle.rules.specs.Cabinet.{Cabinet, started}
 use Rattle.rules.specs.Moves.{Command, Answer, Numbers, numbers, originOf, turn, runFrom}
-use Rattle.rules.specs.Undo.{Session, opened, isUndo, isBare, stride, playFrom, Noted, noted, noteOf, behindFirst, standsAfter}
+use Rattle.rules.specs.Undo.{Session, opened, isUndo, anyUndo, isBare, stride, playFrom, Noted, noted, noteOf, behindFirst, standsAfter}
 use Rattle.rules.specs.Undo.{standsWith, standing, commandsOf, answersOf, originsOf, Keeps, oneKept}
 use Rattle.rules.specs.Transparent.{answered, originated, finished, shown, shownFrom, standingAfter, ended}
 use Rattle.rules.proofs.Undo.{one-answer-more, keeps-none, keeps-forward, forward-answers, undo-refuses, undo-answers, keeps-undo}
-use Rattle.rules.proofs.Undo.{undo-strays}
+use Rattle.rules.proofs.Undo.{undo-strays, forward-many}
 
 -- ---- a session and the records that stand in it
 
@@ -105,6 +105,11 @@ module _ (t : Table) where
   pub ended-is : (commands : List Command) → ended t commands ≡ finished t (standingIn commands)
   unfolding standing
   ended-is commands = stands commands .keeps .cabinet-is
+
+  -- those of a list with no move 8 are all of it
+  pub ended-forward : (commands : List Command) → anyUndo commands ≡ false → ended t commands ≡ finished t commands
+  unfolding opened
+  ended-forward commands h = forward-many t (started t) 0 (opened t) [] (keeps-none t (started t)) commands h .1 .cabinet-is
 
   -- so that what holds of every cabinet that commands reach holds of every session's
   pub in-session : (P : Cabinet → Type 0) → ((commands : List Command) → P (finished t commands)) → (commands : List Command) → P (ended t commands)

@@ -16,13 +16,14 @@ use Rattle.facts.specs.Sums.{sumBelow}
 use Rattle.rules.specs.Table.{Table}
 use Rattle.rules.specs.Cabinet.{started}
 use Rattle.rules.specs.Moves.{Command, turn, Outcomes, runFrom}
-use Rattle.rules.specs.Undo.{opened, isUndo, anyUndo}
-use Rattle.rules.specs.Transparent.{finished, ended}
-use Rattle.rules.specs.Sweep.{crashOf, pulledAt, Ending, quietEnd, heldEnd, freeEnd, endingOf, endingAt, isQuiet, isHeld, isFree, countOf, isBarred, anyBarred, Swept, sweptOf, validateSweep, sweep}
+use Rattle.rules.specs.Undo.{isUndo, anyUndo}
+use Rattle.rules.specs.Transparent.{finished}
+use Rattle.rules.specs.Sweep.{crashOf, pulledAt, Ending, quietEnd, heldEnd, freeEnd, endingOf, endingAt, isQuiet, isHeld, isFree}
+use Rattle.rules.specs.Sweep.{countOf, Swept, sweptOf, isBarred, anyBarred, validateSweep, sweep}
 use Rattle.rules.specs.Format.{decodeTable}
 use Rattle.rules.specs.Schedule.{decodeSchedule}
-use Rattle.rules.proofs.Recovery.{run-parts}
-use Rattle.rules.proofs.Undo.{one-more, keeps-none, forward-many}
+use Rattle.rules.proofs.Recovery.{run-parts, one-more}
+use Rattle.rules.proofs.Standing.{ended-forward}
 
 -- ---- "the three together make (n + 1) × B"
 
@@ -72,19 +73,14 @@ pulled-forward [] (suc place) b h = refl
 pulled-forward (r ∷ rs) (suc place) b h =
     rw (or-left (isUndo r) (anyUndo rs) h) (pulled-forward rs place b (or-right (isUndo r) (anyUndo rs) h))
 
--- with no move 8 a run is the cabinet's own
-pub ended-forward : (t : Table) (commands : List Command) → anyUndo commands ≡ false → ended t commands ≡ finished t commands
-unfolding opened
-ended-forward t commands h = forward-many t (started t) 0 (opened t) [] (keeps-none t (started t)) commands h .1 .cabinet-is
-
 -- the run with the crash at one place goes on from the cabinet that the records before it leave, which is the same for all boards
 pub pulled-ends : (t : Table) (commands : List Command) (place b : ℕ) → anyBarred commands ≡ false
     → endingAt t commands place b ≡ endingOf t (runFrom t (turn t (finished t (take place commands)) (crashOf b) .cabinet) (drop place commands) .cabinet)
 unfolding endingAt runFrom
 pulled-ends t commands place b h =
-    let parts = run-parts t (started t) (take place commands) (crashOf b ∷ drop place commands) in
     ap (endingOf t)
-    (ended-forward t (pulledAt commands place b) (pulled-forward commands place b (no-undo commands h)) ∙ ap (λ (x : Outcomes). x .cabinet) parts)
+    (ended-forward t (pulledAt commands place b) (pulled-forward commands place b (no-undo commands h))
+    ∙ ap (λ (x : Outcomes). x .cabinet) (run-parts t (started t) (take place commands) (crashOf b ∷ drop place commands)))
 
 -- and those records are one more at each place
 pub next-place : (t : Table) (commands : List Command) (place : ℕ) (d : Command) → place < length commands

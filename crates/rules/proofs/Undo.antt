@@ -14,17 +14,12 @@ use Rattle.rules.specs.Table.{Table}
 use Rattle.rules.specs.Cabinet.{Cabinet}
 use Rattle.rules.specs.Moves.{Command, strayWord, noneKept, Answer, undoDone, refused, turn, runFrom}
 use Rattle.rules.specs.Undo.{Session, isUndo, anyUndo, isBare, undoKey, stride, playFrom, cabinetsBefore, Keeps, oneKept}
-use Rattle.rules.proofs.Recovery.{run-parts}
+use Rattle.rules.proofs.Recovery.{run-parts, one-more}
 
 -- ---- the cabinets before a list's records
 
 module _ (t : Table) where
-  -- the cabinet after one record more, and its answer
-  pub one-more : (c : Cabinet) (rs : List Command) (r : Command)
-      → runFrom t c (rs ++ (r ∷ [])) .cabinet ≡ turn t (runFrom t c rs .cabinet) r .cabinet
-  unfolding runFrom
-  one-more c rs r = rw (run-parts t c rs (r ∷ []))
-
+  -- the answer of one record more
   pub one-answer-more : (c : Cabinet) (rs : List Command) (r : Command)
       → runFrom t c (rs ++ (r ∷ [])) .answers ≡ runFrom t c rs .answers ++ (turn t (runFrom t c rs .cabinet) r .answer ∷ [])
   unfolding runFrom

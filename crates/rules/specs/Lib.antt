@@ -1,5 +1,5 @@
 -- Documents 01 and 02 as definitions: read Sizes, Table, Machine, Reference, Cabinet, Answers, Moves and Reasons in this order, then
--- Transparent; for the bytes Bytes, Format, Schedule, Run and Transparency, and Page.
+-- Transparent; for the bytes Bytes, Format, Schedule, Run and Transparency, and Page; for every place to pull a board Sweep.
 pub mod Sizes
 pub mod Table
 pub mod Machine

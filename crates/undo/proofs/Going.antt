@@ -24,7 +24,8 @@ use Rattle.state.specs.Store.{Store}
 use Rattle.play.specs.declared.play.Stretch.{Stretch}
 use Rattle.play.specs.Plays.{Sheets, AsLong, Writes, between, Suited, Plays}
 use Rattle.play.proofs.Sheets.{as-long, still-long}
-use Rattle.play.proofs.Playing.{commands-many, between-length, between-parts, between-all, between-one, anyUndo-parts}
+use Rattle.rules.proofs.Scheduled.{commands-counted}
+use Rattle.play.proofs.Playing.{between-length, between-parts, between-all, between-one, anyUndo-parts}
 use Rattle.undo.specs.History.{heldMost, historyLength, heldIn, Fitting, Remembers}
 use Rattle.undo.specs.Replays.{Replays, Follows}
 use Rattle.undo.specs.Sessions.{undoAnswerOf, Sessions}
@@ -79,14 +80,14 @@ manyKept-is k (suc n) h =
 held-less : (history : List ℕ) (n : ℕ) → length history ≡ historyLength → n ≤ heldMost → 0 < n
     → heldIn history n ≡ heldIn history (n - 1) ++ (getD (decodeSchedule history) (n - 1) (command 0 0 0) ∷ [])
 held-less history n whole few some =
-    let a = commands-many history in
+    let a = commands-counted history in
     let b = whole-history history whole in
     let one-less : n ≡ suc (n - 1) = omega arith in
     ap (λ (m : ℕ). take m (decodeSchedule history)) one-less ∙ take-suc (decodeSchedule history) (n - 1) (command 0 0 0) (omega arith)
 
 held-long : (history : List ℕ) (n : ℕ) → length history ≡ historyLength → n ≤ heldMost → length (heldIn history n) ≡ n
 held-long history n whole few =
-    let a = commands-many history in
+    let a = commands-counted history in
     let b = whole-history history whole in
     length-take-le n (decodeSchedule history) (omega arith)
 

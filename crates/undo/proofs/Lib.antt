@@ -6,3 +6,5 @@ pub mod Replaying
 pub mod Hand
 -- and what holds between two of its rounds.
 pub mod Going
+-- All records, as one stretch or as a session.
+pub mod All

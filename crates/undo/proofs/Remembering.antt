@@ -11,7 +11,8 @@ use Rattle.rules.specs.Moves.{Command}
 use Rattle.rules.specs.Schedule.{command, commandsIn, decodeSchedule}
 use Rattle.records.proofs.Sixes.{madeAt, six-from}
 use Rattle.play.specs.Plays.{between}
-use Rattle.play.proofs.Playing.{commands-many, between-length}
+use Rattle.rules.proofs.Scheduled.{commands-counted}
+use Rattle.play.proofs.Playing.{between-length}
 use Rattle.undo.specs.History.{heldMost, historyLength, heldIn, Fitting, Remembers}
 
 -- ---- byte by byte
@@ -66,7 +67,7 @@ module _ {schedule : List ℕ} {from to n i : ℕ} {before after : List ℕ} (fi
     many-after = whole-history after (c .long ∙ long)
 
     held-long : length (heldIn before n) ≡ n
-    held-long = let a = commands-many before in let b = many-before in let f = fit .fits in length-take-le n (decodeSchedule before) (omega arith)
+    held-long = let a = commands-counted before in let b = many-before in let f = fit .fits in length-take-le n (decodeSchedule before) (omega arith)
 
     -- one that was held
     old-is : (k : ℕ) → k < n → getD (decodeSchedule after) k (command 0 0 0) ≡ getD (decodeSchedule before) k (command 0 0 0)
@@ -95,7 +96,7 @@ module _ {schedule : List ℕ} {from to n i : ℕ} {before after : List ℕ} (fi
     held-now : heldIn after (n + (to - from)) ≡ heldIn before n ++ between schedule from to
     held-now =
         let f = fit .fits in
-        let a = commands-many after in
+        let a = commands-counted after in
         let b = many-after in
         let d : Command = command 0 0 0 in
         let old-long = held-long in

@@ -17,7 +17,8 @@ use Rattle.state.specs.declared.entry.Entry.{Entry}
 use Rattle.state.specs.Store.{Store, Holds}
 use Rattle.play.specs.declared.play.Stretch.{Stretch}
 use Rattle.play.specs.Plays.{Sheets, between, Suited, Plays}
-use Rattle.play.proofs.Playing.{commands-many, between-parts}
+use Rattle.rules.proofs.Scheduled.{commands-counted}
+use Rattle.play.proofs.Playing.{between-parts}
 use Rattle.undo.specs.History.{heldMost, historyLength, heldIn, Remembers}
 use Rattle.undo.specs.Replays.{Replays, Follows}
 use Rattle.undo.proofs.Remembering.{whole-history}
@@ -37,7 +38,7 @@ module _ {l : Plan} {history : List ℕ} {n : ℕ} {entries : List Entry} {s s�
       by-lt (r .from) n
       (λ low.
       let a = p .ended low (omega arith) in
-      let b = none-at (decodeSchedule history) n (r .from) (command 0 0 0) none low (let e = commands-many history in omega arith) in
+      let b = none-at (decodeSchedule history) n (r .from) (command 0 0 0) none low (let e = commands-counted history in omega arith) in
       absurd (no-way (cc)))
       (λ high. let a = p .inside (omega arith) in omega arith)
 

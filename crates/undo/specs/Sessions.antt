@@ -5,11 +5,13 @@ use Prim.Native.Nat.{ℕ}
 use lib.Dec.{eqb}
 use Rattle.records.specs.declared.schedule.Command as code
 use Rattle.rules.specs.Table.{Table}
+use Rattle.rules.specs.Judge.{Accepted}
 use Rattle.rules.specs.Cabinet.{started}
 use Rattle.rules.specs.Moves.{Command}
 use Rattle.rules.specs.Undo.{opened, playFrom}
 use Rattle.rules.specs.Schedule.{decodeSchedule}
-use Rattle.plan.specs.Plan.{Plan}
+use Rattle.plan.specs.Plan.{Plan, Planned}
+use Rattle.outcome.specs.Starts.{Placed}
 use Rattle.state.specs.declared.entry.Entry.{Entry}
 use Rattle.state.specs.declared.moved.Answer.{Answer}
 use Rattle.state.specs.Store.{Store, Holds}
@@ -30,3 +32,8 @@ pub record Shown (t : Table) (commands : List Command) (s : Store) (entries : Li
 pub record Sessions (l : Plan) (schedule : List ℕ) (s : Store) (entries : List Entry) (before : Sheets) (s′ : Store) (entries′ : List Entry)
     (after : Sheets) : Type 0 where
   pub shown : (t : Table) → Suited t l (started t) s entries → Shown t (decodeSchedule schedule) s′ entries′ before after
+
+-- The records of a schedule from the start on, whatever the lists held: of a table that is accepted, whose the plan and the boards are.
+pub record PlaysAll (l : Plan) (schedule primary standby : List ℕ) (before : Sheets) (s : Store) (entries : List Entry) (after : Sheets) : Type 0 where
+  pub shown : (t : Table) → Accepted t → Planned t l → Placed t primary standby (l .counts .processes)
+      → Shown t (decodeSchedule schedule) s entries before after

@@ -1,8 +1,7 @@
 //! `./explain`: a run in words, for the service desk.
-use desk::explain::{explain, Asked, Input, Pull};
+use desk::explain::{explain, refused, Asked, Input, Pull};
 use desk::front::{self, Failure};
 use desk::input::{self, Kind};
-use kunzeastylus::Refusal;
 use std::process::ExitCode;
 
 const USAGE: &str = "./explain [--from N] [--to N] [--pull BOARD@N] [--hex | --bytes] FILE, where FILE - is standard input
@@ -38,16 +37,6 @@ fn main() -> ExitCode {
         let with = if asked.pull.is_some() { ", with the crash that --pull puts in" } else { "" };
         explain(&input, asked).map(String::into_bytes).map_err(|refusal| refused(&input, &file, refusal, with))
     })
-}
-
-/// What a refusal means, and of which bytes.
-fn refused(input: &Input, file: &str, refusal: Refusal, with: &str) -> Failure {
-    let (table, schedule) = (input.table.len(), input.schedule.len());
-    let bytes = match refusal.number() {
-        1..=8 | 47 => format!("the table, its first {table} bytes"),
-        _ => format!("the schedule, {schedule} bytes behind the table's {table}{with}"),
-    };
-    Failure::Explained(refusal.number(), format!("{}: {bytes}: {}", input::name(file), refusal.words()))
 }
 
 /// Reads the arguments: options in any order, each once, and one file.

@@ -19,6 +19,7 @@ pub mod repairs;
 pub mod run;
 pub mod sample;
 pub mod simulator;
+pub mod sweep;
 
 #[cfg(test)]
 mod marked;
