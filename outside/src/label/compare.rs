@@ -3,7 +3,7 @@ use crate::call::ks_label_run;
 use outside::rules::answer::Answer;
 use outside::rules::generate::{encode_schedule, encode_table};
 use outside::rules::lent::Lent;
-use outside::rules::line::{fault, seen, table, SERIAL_MOST};
+use outside::rules::line::{fault, seen, table, OUTLET, SCANNER, SERIAL_MOST};
 use outside::rules::reader::{record, Record};
 use outside::rules::run::{run, Outcome};
 
@@ -21,6 +21,10 @@ pub struct Counts {
     /// The most cartons and labels of one run.
     pub cartons: usize,
     pub labels: usize,
+    /// Runs with records taken back; cartons fed and words at the outlet that were.
+    pub back: u64,
+    pub unfed: usize,
+    pub unprinted: usize,
 }
 
 fn answer(bytes: &[u8]) -> Answer {
@@ -62,6 +66,10 @@ fn wrong(counts: &mut Counts, first: u32, records: &[Record], buffers: Lent<usiz
     counts.crashes = counts.crashes.max(crashes);
     counts.cartons = counts.cartons.max(cartons.len());
     counts.labels = counts.labels.max(outlet.len() / 2);
+    counts.back += answers.iter().any(|answer| answer.code == 7) as u64;
+    let on_the_bus = |channel| answers.iter().filter(|answer| (answer.code, answer.a) == (4, channel)).count();
+    counts.unfed += on_the_bus(SCANNER) - cartons.len();
+    counts.unprinted += on_the_bus(OUTLET) - outlet.len();
     fault(first, &cartons, &outlet, wanted.outcome.quiet)
 }
 
