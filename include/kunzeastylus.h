@@ -125,7 +125,7 @@ enum ks_cause {
     KS_CAUSE_SYNC_UNBACKED = 24,        /* sync carried, no backup left */
     KS_CAUSE_TAKEN_BACK = 28,           /* took back a record */
     KS_CAUSE_NO_SUCH_MOVE = 128,        /* bad record: no such move */
-    KS_CAUSE_WORD_NOT_ZERO = 129,       /* bad record: its word should be 0, and of a back its a */
+    KS_CAUSE_WORD_NOT_ZERO = 129,       /* bad record: its word should be 0 (of a back, also its a) */
     KS_CAUSE_NO_SUCH_PROCESS = 132,     /* not in this table: the process */
     KS_CAUSE_NO_SUCH_BOARD = 133,       /* not in this table: the board */
     KS_CAUSE_NO_SUCH_CHANNEL = 134,     /* not in this table: the channel */

@@ -76,7 +76,7 @@ worded! {
         SyncUnbacked = 24 => "sync carried, no backup left",
         TakenBack = 28 => "took back a record",
         NoSuchMove = 128 => "bad record: no such move",
-        WordNotZero = 129 => "bad record: its word should be 0, and of a back its a",
+        WordNotZero = 129 => "bad record: its word should be 0 (of a back, also its a)",
         NoSuchProcess = 132 => "not in this table: the process",
         NoSuchBoard = 133 => "not in this table: the board",
         NoSuchChannel = 134 => "not in this table: the channel",

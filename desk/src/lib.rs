@@ -1,4 +1,4 @@
-//! What the fronts share: how they end and what they say, how they read what they are given, and a run in words.
+//! What the fronts share: how they end and what they say, how they read what they are given, a run in words, and a run record by record.
 #![forbid(unsafe_code)]
 
 pub mod explain;
@@ -7,3 +7,5 @@ pub mod front;
 pub mod hex;
 pub mod input;
 pub mod lists;
+pub mod step;
+pub mod words;

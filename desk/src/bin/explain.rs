@@ -1,18 +1,19 @@
 //! `./explain`: a run in words, for the service desk.
-use desk::explain::{explain, Asked, Input, Pull};
+use desk::explain::{explain, refused, Asked, Input, Pull};
 use desk::front::{self, Failure};
 use desk::input::{self, Kind};
-use kunzeastylus::Refusal;
 use std::process::ExitCode;
 
 const USAGE: &str = "./explain [--from N] [--to N] [--pull BOARD@N] [--hex | --bytes] FILE, where FILE - is standard input
 
 Prints the run of a table and a schedule, as ./run takes them, in words: a line for each record with its number, what it is, its answer and why
 (docs/NUMBERS.md has every answer and what to do about it), and for a word on the bus the process and the place of its SEND; then where each
-process runs, its next instruction, what is unread and what it still holds back; and whether the cabinet ended quiet.
+process runs, its next instruction, what is unread and what it still holds back; and whether the cabinet ended quiet. A back says which record it
+takes back, and that record's number has a ~ behind it.
   --from N, --to N  only the lines of records N to N; all of them are run
   --pull BOARD@N    pulls a board: puts its crash before record N of the schedule, from 1; one past the last puts it at the end. Its line
-                    is numbered 'pull', and the records keep their numbers
+                    is numbered 'pull', and the records keep their numbers. It is a record as any other: a back behind it may take it back,
+                    and then takes back another record than it does without it
   --hex, --bytes    FILE is hex text, or bytes, whatever it looks like
 What is refused prints `refused` and the number (docs/NUMBERS.md), says why on standard error, and ends with 3.";
 
@@ -38,16 +39,6 @@ fn main() -> ExitCode {
         let with = if asked.pull.is_some() { ", with the crash that --pull puts in" } else { "" };
         explain(&input, asked).map(String::into_bytes).map_err(|refusal| refused(&input, &file, refusal, with))
     })
-}
-
-/// What a refusal means, and of which bytes.
-fn refused(input: &Input, file: &str, refusal: Refusal, with: &str) -> Failure {
-    let (table, schedule) = (input.table.len(), input.schedule.len());
-    let bytes = match refusal.number() {
-        1..=8 | 47 => format!("the table, its first {table} bytes"),
-        _ => format!("the schedule, {schedule} bytes behind the table's {table}{with}"),
-    };
-    Failure::Explained(refusal.number(), format!("{}: {bytes}: {}", input::name(file), refusal.words()))
 }
 
 /// Reads the arguments: options in any order, each once, and one file.

@@ -13,9 +13,16 @@ struct Habits {
     rows: &'static [usize],
 }
 
+/// Long rows are seldom: there must be something to go back to.
 fn habits(random: &mut Random) -> Habits {
-    let rows: [&[usize]; 5] = [&[1], &[1, 1, 2, 3], &[1, 5, 20], &[60, 63, 64, 65, 66], &[1, 2, 64, 70]];
-    Habits { once_in: random.pick(&[1, 2, 5, 20, 80]), rows: random.pick(&rows) }
+    let (often, rows): (&[u32], &[usize]) = random.pick(&[
+        (&[1, 2, 5, 20][..], &[1][..]),
+        (&[2, 5, 20], &[1, 1, 2, 3]),
+        (&[15, 40], &[1, 5, 20]),
+        (&[70, 90], &[60, 63, 64, 65, 66]),
+        (&[50, 80], &[1, 2, 64, 70]),
+    ]);
+    Habits { once_in: random.pick(often), rows }
 }
 
 /// A move 8 with `a` or a word: it is refused.
