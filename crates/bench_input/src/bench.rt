@@ -14,10 +14,12 @@ use table::format::PROCESSES;
 use words::byte_wide;
 use words::least;
 
-// Buffers for the longest schedule and the most processes: six bytes and one for each record, twenty for each process.
+// Buffers for the longest schedule and the most processes: six bytes, one and two for each record, twenty for each process.
 const ANSWERS: usize = 6 * COMMANDS_MOST;
 
 const REPORT: usize = 20 * PROCESSES_MOST;
+
+const ORIGINS: usize = 2 * COMMANDS_MOST;
 
 // No page is longer (`pageRoom`): its first line, one for each record, one for each process, and its last.
 pub const PAGE_ROOM: usize = 14 + 25 * COMMANDS_MOST + 71 * PROCESSES_MOST + 8;
@@ -45,7 +47,15 @@ fn run_page(table: &[u8], schedule: &[u8], out: &mut [u8]) -> usize
     let mut answers = [0u8; ANSWERS];
     let mut reasons = [0u8; COMMANDS_MOST];
     let mut report = [0u8; REPORT];
-    let v = run(table, schedule, &mut answers, &mut reasons, &mut report);
+    let mut origins = [0u8; ORIGINS];
+    let v = run(
+        table,
+        schedule,
+        &mut answers,
+        &mut reasons,
+        &mut report,
+        &mut origins,
+    );
     let number = v.number;
     let records = v.records;
     let quiet = v.quiet;

@@ -11,14 +11,15 @@ use Rattle.plan.specs.Plan.{Plan, senderIn, readerIn, Planned}
 use Rattle.rules.specs.Table.{Table, environment, channelAt}
 use Rattle.rules.specs.Judge.{Accepted}
 use Rattle.rules.specs.Cabinet.{Cabinet, full}
-use Rattle.rules.specs.Moves.{Result, refuse, accept, guard, notOutside, injectHeld, refusalNumber, inject, deliver, injected, numbers}
+use Rattle.rules.specs.Moves.{refuse, accept, guard, notOutside, injectHeld, refusalNumber, inject, deliver, injected, numbers}
 use Rattle.state.specs.declared.entry.Entry.{Entry}
 use Rattle.state.specs.declared.moved.Answer.{Answer}
-use Rattle.state.specs.Store.{Store, storeOf, Totalled, Holds}
+use Rattle.state.specs.Store.{Store, Totalled, Holds}
 use Rattle.rules.specs.Reasons.{refusalCause, causeOf}
 use Rattle.state.specs.Channel.{fullIn}
-use Rattle.state.specs.Moved.{Answered, refusalOf, aloneOf}
+use Rattle.state.specs.Moved.{refusalOf, aloneOf}
 use Rattle.state.proofs.Refusing.{turned-away, makes-refused}
+use Rattle.state.proofs.Making.{answered, makes-alone}
 use Rattle.state.proofs.Reading.{how-many}
 use Rattle.state.proofs.Totals.{totalled-more}
 use Rattle.state.proofs.Ends.{fed-inside}
@@ -85,35 +86,30 @@ module _ (wires : List ℕ) (rows mails logs heads : List (List ℕ)) (totals : 
         → more ≡ (getD totals k 0 + 1) % 2 ^ 32 → r ≡ injectedOf a word → Delivers wires rows mails logs heads a word rows′ mails′ logs′ heads′
         → Injects wires rows mails logs heads totals a word rows′ mails′ logs′ heads′ (set totals k more) r
     unfolding numbers causeOf
-    injects-done rows′ mails′ logs′ heads′ more b is-more e d table counts programs queues = record {
-      made = λ t entries c command reach planned h f l.
-          let same-k : k ≡ a = its-channel (reach .accepted) l in
-          let free = its-test false b same-k in
-          let so = accepted-so planned h a word l (its-sender same-k) free in
-          let to : channelAt t a .reader < length (t .processes) =
-          fed-inside (reach .accepted) a l (sym (planned .sender-at a l) ∙ its-sender same-k) in
-          let true-again : Totalled t (set totals a more) (deliver t (mailOf a word) c) =
-          totalled-more totals (reach .accepted .channels-high) a l (h .totalled .totals-length) more
-          (λ i li. let x = h .totalled .total-is i li in let y = deliver-more t c a word (rw (how-many h) to) i in omega arith)
-          (is-more ∙ ap (λ (i : ℕ). (getD totals i 0 + 1) % 2 ^ 32) same-k)
-          (let x = h .totalled .total-is a l in let y = occupancy-small reach a in omega arith) in
-          let after : Store = storeOf rows′ mails′ logs′ heads′ queues (set totals k more) in
-          let done = d .holds t table counts programs queues totals (set totals k more) entries c (reach .accepted) planned h to
-          (room-for-feed reach a (its-full planned h a word l ∙ free))
-          (subst (λ (i : ℕ). Totalled t (set totals i more) (deliver t (mailOf a word) c)) (sym same-k) true-again) in
-          subst (λ (z : Answer). Answered t after entries c command (inject t c (mailOf a word)) z) (sym e)
-          (subst (λ (z : Result). Answered t after entries c command z (injectedOf a word)) (sym so)
-          (record { answer-is = refl; cause-is = refl; holds = done }));
-      untouched = λ l. absurd (let z = ap (λ (x : Answer). x .code) e in omega arith);
-      none-joins = λ _. omega arith;
-      same-lengths =
-          let long = d .same-lengths queues totals in
-          record {
-            rows-same = long .rows-same;
-            mails-same = long .mails-same;
-            logs-same = long .logs-same;
-            heads-same = long .heads-same;
-            queues-same = refl;
-            totals-same = length-set totals k more;
-          };
-    }
+    injects-done rows′ mails′ logs′ heads′ more b is-more e d table counts programs queues =
+        let long = d .same-lengths queues totals in
+        makes-alone (injectedOf a word) (omega arith)
+        (record {
+          rows-same = long .rows-same;
+          mails-same = long .mails-same;
+          logs-same = long .logs-same;
+          heads-same = long .heads-same;
+          queues-same = refl;
+          totals-same = length-set totals k more;
+        })
+        (ap aloneOf e)
+        (λ t entries c command reach planned h f l.
+        let same-k : k ≡ a = its-channel (reach .accepted) l in
+        let free = its-test false b same-k in
+        let so = accepted-so planned h a word l (its-sender same-k) free in
+        let to : channelAt t a .reader < length (t .processes) =
+        fed-inside (reach .accepted) a l (sym (planned .sender-at a l) ∙ its-sender same-k) in
+        let true-again : Totalled t (set totals a more) (deliver t (mailOf a word) c) =
+        totalled-more totals (reach .accepted .channels-high) a l (h .totalled .totals-length) more
+        (λ i li. let x = h .totalled .total-is i li in let y = deliver-more t c a word (rw (how-many h) to) i in omega arith)
+        (is-more ∙ ap (λ (i : ℕ). (getD totals i 0 + 1) % 2 ^ 32) same-k)
+        (let x = h .totalled .total-is a l in let y = occupancy-small reach a in omega arith) in
+        let done = d .holds t table counts programs queues totals (set totals k more) entries c (reach .accepted) planned h to
+        (room-for-feed reach a (its-full planned h a word l ∙ free))
+        (subst (λ (i : ℕ). Totalled t (set totals i more) (deliver t (mailOf a word) c)) (sym same-k) true-again) in
+        answered _ (injected (mailOf a word)) so refl refl done)

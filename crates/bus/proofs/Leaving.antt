@@ -16,7 +16,7 @@ use Rattle.rules.specs.Cabinet.{Cabinet, Process, nobody, processAt, outboxAt, 
 use Rattle.rules.specs.Moves.{withProcess, withOutbox}
 use Rattle.rules.proofs.Counting.{flight-leave}
 use Rattle.state.specs.declared.entry.Entry.{Entry}
-use Rattle.state.specs.Queue.{firstIn, countIn, queueCount}
+use Rattle.state.specs.Queue.{firstIn, countIn, queueCount, Popped}
 use Rattle.state.specs.Store.{Store, storeOf, Holds, itemOf, blankEntry, outboxIn, flag}
 use Rattle.state.specs.Moved.{Reachable}
 use Rattle.state.proofs.Reading.{at-outbox, how-many, how-many-boards}
@@ -25,7 +25,6 @@ use Rattle.state.proofs.Queueing.{QueueThen, entry-leaves}
 use Rattle.state.proofs.Totals.{occupancy-outbox, totalled-same}
 use Rattle.state.proofs.Joining.{Waiter}
 use Rattle.state.proofs.Waits.{one-waits}
-use Rattle.bus.specs.Syncs.{Popped}
 
 -- the oldest entry, if the rules' queue has one, is the one at the ring's first place
 oldest-is : {t : Table} {s : Store} {entries : List Entry} {c : Cabinet} (h : Holds t s entries c) (b : ℕ) → b < t .boards

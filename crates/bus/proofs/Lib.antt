@@ -5,5 +5,5 @@ pub mod Syncing
 pub mod Transferring
 pub mod Injecting
 pub mod Carrying
-pub mod Popping
 pub mod Transmitting
+pub mod Originating

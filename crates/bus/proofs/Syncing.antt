@@ -29,7 +29,8 @@ use Rattle.state.proofs.Flagging.{withFlag}
 use Rattle.state.proofs.Owners.{checkpoint-owner}
 use Rattle.state.proofs.Joining.{Waiter}
 use Rattle.bus.proofs.Leaving.{waiter-leaves}
-use Rattle.bus.specs.Syncs.{Popped, Syncs}
+use Rattle.state.specs.Queue.{Popped}
+use Rattle.bus.specs.Syncs.{Syncs}
 
 sync-waits : (p : ℕ) (k : Checkpoint) → Waiter p (rules.checkpoint p k)
 sync-waits p k = record { its = λ q. refl; no-word = λ i. refl }

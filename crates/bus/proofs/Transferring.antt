@@ -17,7 +17,7 @@ use Rattle.state.proofs.Changing.{row-changed}
 use Rattle.state.proofs.Flagging.{withFlag}
 use Rattle.state.proofs.Joining.{Waiter}
 use Rattle.state.proofs.Owners.{transfer-owner}
-use Rattle.bus.specs.Syncs.{Popped}
+use Rattle.state.specs.Queue.{Popped}
 use Rattle.bus.specs.Transfers.{Transfers}
 use Rattle.bus.proofs.Leaving.{waiter-leaves}
 

@@ -3,12 +3,11 @@
 -- word".
 use mathlib.Core.Path.{_≡_}
 use mathlib.Core.List.{List, [], _∷_}
-use Prim.Native.Nat.{ℕ, suc, _+_, _%_, _<_}
-use lib.ListN.{length, getD, set}
+use Prim.Native.Nat.{ℕ, _<_}
+use lib.ListN.{getD, set}
 use Rattle.backup.specs.declared.place.Checkpoint as code
 use Rattle.backup.specs.Place.{checkpointOf}
 use Rattle.rules.specs.Table.{Table}
-use Rattle.rules.specs.Sizes.{outboxMost}
 use Rattle.rules.specs.Cabinet as rules
 use Rattle.rules.specs.Cabinet.{Cabinet, outboxAt}
 use Rattle.rules.specs.Moves.{Command, withOutbox, transmitItem}
@@ -16,14 +15,7 @@ use Rattle.state.specs.declared.entry.Entry.{Entry}
 use Rattle.state.specs.declared.moved.Answer.{Answer}
 use Rattle.state.specs.Store.{storeOf, Holds}
 use Rattle.state.specs.Moved.{Reachable, Answered, SameLengths}
-use Rattle.state.specs.Queue.{queueCount, queueDead, queueFirst, queueLength}
-
--- a board's row before and after its oldest entry left
-pub record Popped (queue queue′ : List ℕ) : Type 0 where
-  pub first-is : queueFirst queue′ ≡ (queueFirst queue + 1) % outboxMost
-  pub count-is : suc (queueCount queue′) ≡ queueCount queue
-  pub dead-is : queueDead queue′ ≡ queueDead queue
-  pub three : length queue′ ≡ queueLength
+use Rattle.state.specs.Queue.{Popped}
 
 -- Of the cabinet that the lists held before the checkpoint, board b's oldest entry, left that board's row: afterwards, with the row as the
 -- leaving made it, they hold the cabinet that the rules give. Whatever the lists are that it isn't lent.

@@ -12,7 +12,7 @@ use Rattle.state.specs.declared.entry.Entry.{Entry}
 use Rattle.state.specs.declared.moved.Answer.{Answer}
 use Rattle.state.specs.Store.{storeOf, Holds}
 use Rattle.state.specs.Moved.{Reachable, Answered}
-use Rattle.bus.specs.Syncs.{Popped}
+use Rattle.state.specs.Queue.{Popped}
 
 -- As for a checkpoint (Syncs): of the cabinet before the transfer, board b's oldest entry, left that board's row.
 pub record Transfers (rows : List (List ℕ)) (process : ℕ) (rows′ : List (List ℕ)) (r : Answer) : Type 0 where

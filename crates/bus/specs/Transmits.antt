@@ -1,7 +1,7 @@
 -- Move 3 (document 01: "carry board a: the oldest entry leaves").
 use mathlib.Core.Path.{_≡_}
-use mathlib.Core.List.{List}
-use Prim.Native.Nat.{ℕ, _+_, _*_, _%_, _<_}
+use mathlib.Core.List.{List, []}
+use Prim.Native.Nat.{ℕ, _<_}
 use lib.ListN.{getD}
 use Rattle.plan.specs.declared.Counts.{Counts}
 use Rattle.plan.specs.Plan.{planOf}
@@ -9,19 +9,14 @@ use Rattle.rules.specs.Table.{Table}
 use Rattle.rules.specs.Moves.{transmit}
 use Rattle.state.specs.declared.entry.Entry.{Entry}
 use Rattle.state.specs.declared.moved.Answer.{Answer}
-use Rattle.state.specs.Queue.{firstIn}
+use Rattle.state.specs.Queue.{oldestOf}
 use Rattle.state.specs.Store.{storeOf, blankEntry}
 use Rattle.state.specs.Moved.{MakesAlone}
-use Rattle.rules.specs.Sizes.{outboxMost}
-
--- where board b's oldest entry stands, if it has one
-abbrev pub oldestPlace : List (List ℕ) → ℕ → ℕ
-oldestPlace queues b = outboxMost * b + firstIn queues b % outboxMost
 
 -- a is a board, and this is what stands where its oldest entry does
 pub record Oldest (queues : List (List ℕ)) (a : ℕ) (oldest : Entry) (t : Table) (entries : List Entry) : Type 0 where
   pub board-there : a < t .boards
-  pub oldest-is : oldest ≡ getD entries (oldestPlace queues a) blankEntry
+  pub oldest-is : oldest ≡ getD entries (oldestOf (getD queues a []) a) blankEntry
 
 -- whatever the plan is that it isn't lent, and the entries of which it is handed the oldest
 abbrev pub Transmits : List ℕ → List (List ℕ) → List (List ℕ) → List (List ℕ) → List (List ℕ) → List (List ℕ) → List ℕ → ℕ → Entry

@@ -1,13 +1,5 @@
 // Move 3: the oldest entry of a board's queue is carried. "Carry: 34 board dead, 42 queue empty."
-ghost use mathlib.Core.Path.{_≡_};
-ghost use Prim.Native.Nat.{_+_, _*_, _%_, _<_};
-ghost use lib.ListN.{getD};
-ghost use Rattle.rules.specs.Sizes.{boardsMost, outboxMost, entriesMost};
-ghost use Rattle.state.specs.Queue.{queueFirst};
 ghost use Rattle.bus.specs.Transmits.{Transmits};
-use crate::queue::Front;
-use crate::queue::peek;
-use crate::queue::pop;
 use crate::sync::transmit_sync;
 use crate::transfer::transmit_transfer;
 use crate::word::transmit_word;
@@ -23,18 +15,11 @@ use state::entry::Item;
 use state::moved::Answer;
 use state::moved::refusal;
 use state::queue::DEAD;
-use state::queue::FIRST;
+use state::queue::Front;
 use state::queue::QUEUE_ROW;
-use state::queue::RING;
+use state::queue::peek;
+use state::queue::pop;
 use words::index16;
-use words::wide;
-
-// Where board b's oldest entry stands, if it has one.
-pub fn oldest(queue: &[u32; QUEUE_ROW], b: usize) -> usize
-    ensures { λ r. ⌜ (r < entriesMost) × (b < boardsMost → r ≡ outboxMost * b + queueFirst (now (queue .entry)) % outboxMost) ⌝ }
-{
-    RING * (b % BOARDS) + wide(queue[FIRST]) % RING
-}
 
 // `oldest` is what stands where the board's oldest entry does, if it has one.
 pub fn transmit(
@@ -60,21 +45,22 @@ pub fn transmit(
         return refusal(42, 0, a);
     };
     pop(&mut queues[b]);
-    match item {
-        Item::Word { channel, word } => transmit_word(
-            wires,
-            rows,
-            mails,
-            logs,
-            heads,
-            totals,
-            channel,
-            word,
-        ),
-        Item::Sync {
-            process,
-            checkpoint,
-        } => transmit_sync(rows, logs, heads, process, checkpoint),
-        Item::Transfer { process } => transmit_transfer(rows, process),
+    if let Item::Word {
+        channel,
+        word,
+        place: _,
+    } = item {
+        return transmit_word(wires, rows, mails, logs, heads, totals, channel, word);
     }
+    if let Item::Sync {
+        process,
+        checkpoint,
+    } = item {
+        return transmit_sync(rows, logs, heads, process, checkpoint);
+    }
+    // What is neither is a transfer: this else is never taken.
+    let Item::Transfer { process } = item else {
+        return refusal(42, 0, a);
+    };
+    transmit_transfer(rows, process)
 }

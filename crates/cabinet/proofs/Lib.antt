@@ -1,2 +1,3 @@
 -- Why the run is the rules'.
+pub mod Judging
 pub mod Running

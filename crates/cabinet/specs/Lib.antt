@@ -1,3 +1,4 @@
 -- What the run promises.
+pub mod Judged
 pub mod Conducts
 pub mod Runs

@@ -1,22 +1,24 @@
-// The public call: a table and a schedule in, answers, reasons and a report into lent buffers, and a number, how many records were run, and
-// whether the cabinet ended quiet. Document 01, "What each move replies". All state is this call's own; nothing is kept between calls.
+// The public call: a table and a schedule in, answers, reasons, a report and origins into lent buffers, and a number, how many records were run,
+// and whether the cabinet ended quiet. Document 01, "What each move replies". All state is this call's own; nothing is kept between calls.
 ghost use Rattle.rules.specs.Schedule.{commandsIn};
 ghost use Rattle.rules.specs.Run.{buffersOf};
 ghost use Rattle.cabinet.specs.Conducts.{Conducts};
 ghost use Rattle.play.specs.Plays.{Roomy, sheetsOf};
 ghost use Rattle.cabinet.specs.Runs.{Runs};
+use crate::judge::Lengths;
+use crate::judge::judge_run;
 use backup::limits::LOG;
 use backup::place::HEAD;
 use outcome::quiet::quiescent;
 use outcome::report::write_report;
-use outcome::start::seat;
+use outcome::start::start;
 use plan::BOARDS;
 use plan::CHANNELS;
 use plan::PROCESSES;
+use play::play::Stretch;
+use play::play::count;
 use play::play::play;
 use process::row::ROW;
-use records::schedule::Lengths;
-use records::schedule::judge_run;
 use records::schedule::judge_schedule;
 use state::queue::QUEUE_ROW;
 use table::Plan;
@@ -37,11 +39,12 @@ fn conduct(
     answers: &mut [u8],
     reasons: &mut [u8],
     report: &mut [u8],
+    origins: &mut [u8],
 ) -> bool
-    requires { ⌜ Roomy (commandsIn (now schedule)) (sheetsOf (now answers) (now reasons)) ⌝ }
+    requires { ⌜ Roomy (commandsIn (now schedule)) (sheetsOf (now answers) (now reasons) (now origins)) ⌝ }
     ensures { λ r. ⌜ Conducts (now (table .entry)) (now (schedule .entry)) plan
-        (buffersOf (now (answers .entry)) (now (reasons .entry)) (now (report .entry))) r
-        (buffersOf (now (answers .exit)) (now (reasons .exit)) (now (report .exit))) ⌝ }
+        (buffersOf (now (answers .entry)) (now (reasons .entry)) (now (report .entry)) (now (origins .entry))) r
+        (buffersOf (now (answers .exit)) (now (reasons .exit)) (now (report .exit)) (now (origins .exit))) ⌝ }
 {
     let counts = plan.counts;
     let programs = plan.programs;
@@ -54,7 +57,22 @@ fn conduct(
     let mut heads = [[0u32; HEAD]; PROCESSES];
     let mut queues = [[0u32; QUEUE_ROW]; BOARDS];
     let mut totals = [0u32; CHANNELS];
-    seat(&mut rows, &primary, &standby, counts.processes);
+    let entries = start(
+        &mut rows,
+        &mut mails,
+        &mut logs,
+        &mut heads,
+        &mut queues,
+        &mut totals,
+        &primary,
+        &standby,
+        counts.processes,
+    );
+    let all = Stretch {
+        from: 0,
+        to: count(schedule),
+        entries: entries,
+    };
     play(
         table,
         schedule,
@@ -69,6 +87,8 @@ fn conduct(
         &mut totals,
         answers,
         reasons,
+        origins,
+        all,
     );
     write_report(&rows, counts.processes, report);
     quiescent(table, counts, &programs, &rows, &mails, &queues)
@@ -81,10 +101,11 @@ pub fn run(
     answers: &mut [u8],
     reasons: &mut [u8],
     report: &mut [u8],
+    origins: &mut [u8],
 ) -> Verdict
     ensures { λ r. ⌜ Runs (now (table .entry)) (now (schedule .entry))
-        (buffersOf (now (answers .entry)) (now (reasons .entry)) (now (report .entry))) r
-        (buffersOf (now (answers .exit)) (now (reasons .exit)) (now (report .exit))) ⌝ }
+        (buffersOf (now (answers .entry)) (now (reasons .entry)) (now (report .entry)) (now (origins .entry))) r
+        (buffersOf (now (answers .exit)) (now (reasons .exit)) (now (report .exit)) (now (origins .exit))) ⌝ }
 {
     let d = decode(table);
     let s = judge_schedule(schedule);
@@ -96,6 +117,7 @@ pub fn run(
         answers: answers.len(),
         reasons: reasons.len(),
         report: report.len(),
+        origins: origins.len(),
     };
     let number = judge_run(table_number, counts.processes, s, lengths);
     if number != 0 {
@@ -105,7 +127,7 @@ pub fn run(
             quiet: false,
         };
     }
-    let quiet = conduct(table, schedule, plan, answers, reasons, report);
+    let quiet = conduct(table, schedule, plan, answers, reasons, report, origins);
     Verdict {
         number: 0,
         records: records,

@@ -13,7 +13,9 @@ use Rattle.records.specs.declared.schedule.Command as code
 use Rattle.records.specs.Commands.{commandOf}
 use Rattle.rules.specs.Table.{Table}
 use Rattle.rules.specs.Cabinet.{Cabinet}
-use Rattle.rules.specs.Moves.{Command, Refusal, unknownMove, strayWord, noProcess, noBoard, noChannel, refusalNumber, Result, refuse, guard, step, issue, transmit, inject, crash, rejoin, rebackup, Move, stepMove, issueMove, transmitMove, injectMove, crashMove, rejoinMove, rebackupMove, unknown, moveOf, perform, judged}
+use Rattle.rules.specs.Moves.{Command, Refusal, unknownMove, strayWord, noProcess, noBoard, noChannel, refusalNumber, Result, refuse, settle, guard}
+use Rattle.rules.specs.Moves.{step, issue, transmit, inject, crash, rejoin, rebackup, Move, stepMove, issueMove, transmitMove, injectMove, crashMove}
+use Rattle.rules.specs.Moves.{rejoinMove, rebackupMove, unknown, moveOf, perform, judged, turn, originOf, noOrigin}
 use Rattle.rules.specs.Reasons.{refusalCause}
 use Rattle.rules.proofs.Decoded.{isFeed, moveOf-feed, moveOf-unknown}
 use Rattle.state.specs.declared.entry.Entry.{Entry}
@@ -156,12 +158,17 @@ module _ {t : Table} {l : Plan} (u : Planned t l) (x : code.Command) (n : ℕ) (
       (subst (λ (b : Bool). of (cond (not b && not (eqb (x .word) 0)) 32 (numberOf (l .counts) (x .a) m))) (moveOf-feed (x .mv))
       (performed t (l .counts) (u .boards-is) (u .processes-is) (u .channels-is) c (commandOf x) m))
 
-  -- A number other than 0 is the rules' refusal, with its cause.
+  -- A number other than 0 is the rules' refusal, with its cause,
   pub refused : {s : Store} {entries : List Entry} {r : Answer} (cause : ℕ) → Holds t s entries c → (n ≡ 0 → ⊥) → cause ≡ causeBy n (moveOf (x .mv))
       → r ≡ refusalOf n cause a → Answered t s entries c (commandOf x) (judged t c (commandOf x)) r
   refused cause h z e f =
       let y = must-stop tested z in
       turned-away (commandOf x) a (y .why) h (y .result-is) (sym is-a) (f ∙ (λ i. refusalOf (y .number-is i) ((e ∙ y .cause-is) i) a))
+
+  -- and no word is on the bus.
+  pub refused-origin : (n ≡ 0 → ⊥) → originOf (turn t c (commandOf x) .answer) ≡ noOrigin
+  unfolding turn originOf
+  refused-origin z = ap (λ (y : Result). originOf (settle c (commandOf x) y .answer)) (must-stop tested z .result-is)
 
   -- Where it is 0 the move is made, of a process, board or channel of the table.
   pub passes : (k : ℕ) → x .mv ≡ k → n ≡ 0

@@ -1,5 +1,6 @@
 // 32 and 33, which any record may be answered before its move is made, and their causes.
 ghost use mathlib.Core.Path.{_≡_};
+ghost use Prim.Native.Nat.{_<_};
 ghost use Rattle.rules.specs.Moves.{moveOf};
 ghost use Rattle.command.specs.Judges.{beyondOf, numberOf, judgeOf, faultOf, causeBy};
 use plan::Counts;
@@ -15,18 +16,32 @@ fn beyond(a: u8, most: usize) -> u32
     if byte_wide(a) >= most { 33 } else { 0 }
 }
 
-// "33 if a is no process, board or channel of this table", by the move; 32 for an unknown one, and 0 for neither.
-fn number(counts: Counts, mv: u8, a: u8) -> u32
+// "33 if a is no process, board or channel of this table", of moves from 4 on; 32 for an unknown one, and 0 for neither.
+fn number_above_3(counts: Counts, mv: u8, a: u8) -> u32
+    requires { ⌜ 3 < mv ⌝ }
     ensures { λ r. ⌜ r ≡ numberOf counts a (moveOf mv) ⌝ }
 {
     match mv {
-        1 => beyond(a, counts.processes),
-        2 => beyond(a, counts.processes),
-        3 => beyond(a, counts.boards),
         4 => beyond(a, counts.channels),
         5 => beyond(a, counts.boards),
         6 => beyond(a, counts.boards),
         7 => beyond(a, counts.processes),
+        _ => 32,
+    }
+}
+
+// The same of any move. Steps, syncs and carries are most of a schedule's records: told by themselves they need no jump by a table, which
+// nobody can foretell.
+fn number(counts: Counts, mv: u8, a: u8) -> u32
+    ensures { λ r. ⌜ r ≡ numberOf counts a (moveOf mv) ⌝ }
+{
+    if mv > 3 {
+        return number_above_3(counts, mv, a);
+    }
+    match mv {
+        1 => beyond(a, counts.processes),
+        2 => beyond(a, counts.processes),
+        3 => beyond(a, counts.boards),
         _ => 32,
     }
 }

@@ -17,12 +17,14 @@ use Rattle.rules.specs.Moves.{refuse, accept, guard, crashDead, notBacked, refu
 use Rattle.rules.specs.Reasons.{refusalCause, causeOf}
 use Rattle.state.specs.declared.entry.Entry.{Entry}
 use Rattle.state.specs.declared.moved.Answer.{Answer}
+use Rattle.state.specs.Queue.{resetIn}
 use Rattle.state.specs.Store.{Store, Holds}
 use Rattle.state.specs.Moved.{Reachable, aloneOf, refusalOf, answerOf}
 use Rattle.state.proofs.Reading.{at-process, at-dead, how-many}
+use Rattle.state.proofs.Making.{its-board, answered, lengths, makes-alone}
 use Rattle.state.proofs.Refusing.{turned-away, makes-refused}
 use Rattle.crash.specs.Crashes.{Crashes}
-use Rattle.crash.specs.Losses.{lostWords, unbackedIn, Zeroed, deadRow}
+use Rattle.crash.specs.Losses.{lostWords, unbackedIn, Zeroed}
 use Rattle.crash.specs.Processes.{AllCrashed}
 use Rattle.crash.specs.Recount.{Dropped, Added}
 use Rattle.crash.proofs.Holding.{crashedCabinet, crash-holds}
@@ -58,9 +60,6 @@ module _ {t : Table} {s : Store} {entries : List Entry} {c : Cabinet} (h : Holds
 -- ---- what the move promises
 
 module _ (counts : Counts) (programs wires : List ℕ) (rows mails logs heads queues : List (List ℕ)) (totals : List ℕ) (a b : ℕ) (is-b : a < 16 → b ≡ a) where
-  its-board : {t : Table} {c : Cabinet} → Reachable t c → a < t .boards → b ≡ a
-  its-board reach ha = is-b (let z = reach .accepted .boards-high in omega arith)
-
   module _ (r : Answer) where
     abbrev Same : Type 0
     Same = Crashes counts programs wires rows mails logs heads queues totals a rows mails queues totals r
@@ -68,7 +67,7 @@ module _ (counts : Counts) (programs wires : List ℕ) (rows mails logs heads qu
     pub crashes-34 : getD (getD queues b []) 2 0 ≢ 0 → r ≡ refusalOf 34 1 a → Same
     unfolding refusalNumber refusalCause
     crashes-34 n e table = makes-refused 34 1 (ap aloneOf e) (λ t entries c command reach plan h f ha.
-        turned-away command a crashDead h (refused-34 h a ha (subst (λ (i : ℕ). getD (getD queues i []) 2 0 ≢ 0) (its-board reach ha) n)) f refl)
+        turned-away command a crashDead h (refused-34 h a ha (subst (λ (i : ℕ). getD (getD queues i []) 2 0 ≢ 0) (its-board reach ha is-b) n)) f refl)
 
   module _ (p : ℕ) (is-p : counts .processes ≤ 16 → p ≡ counts .processes) (live : getD (getD queues b []) 2 0 ≡ 0)
       (found : Bool) (is-found : found ≡ anyBelow (unbackedIn rows) p) where
@@ -81,7 +80,7 @@ module _ (counts : Counts) (programs wires : List ℕ) (rows mails logs heads qu
     the-test reach plan = ap (anyBelow (unbackedIn rows)) (sym (its-processes reach plan)) ∙ sym is-found
 
     alive : {t : Table} {c : Cabinet} → Reachable t c → a < t .boards → getD (getD queues a []) 2 0 ≡ 0
-    alive reach ha = subst (λ (i : ℕ). getD (getD queues i []) 2 0 ≡ 0) (its-board reach ha) live
+    alive reach ha = subst (λ (i : ℕ). getD (getD queues i []) 2 0 ≡ 0) (its-board reach ha is-b) live
 
     pub crashes-44 : found ≡ true → (r : Answer) → r ≡ refusalOf 44 0 a → Same r
     unfolding refusalNumber refusalCause
@@ -91,31 +90,22 @@ module _ (counts : Counts) (programs wires : List ℕ) (rows mails logs heads qu
     pub crashes-done : found ≡ false → (k : ℕ) → (counts .channels ≤ 32 → k ≡ counts .channels)
         → (rows′ mails′ : List (List ℕ)) (queued queued′ totals′ queue : List ℕ)
         → Dropped k wires rows mails totals queued → Zeroed (lostWords wires rows a) k queued queued′ → AllCrashed p programs rows mails logs heads a rows′ mails′
-        → Added k wires rows′ mails′ queued′ totals′ → queue ≡ deadRow (getD queues b [])
+        → Added k wires rows′ mails′ queued′ totals′ → queue ≡ resetIn (getD queues b []) 1
         → Crashes counts programs wires rows mails logs heads queues totals a rows′ mails′ (set queues b queue) totals′ (answerOf 0 2 0 0)
     unfolding numbers causeOf
-    crashes-done n k is-k rows′ mails′ queued queued′ totals′ queue dropped words all added is-queue table = record {
-      made = λ t entries c command reach plan h f ha.
-          let its = its-board reach ha in
-          let ps = its-processes reach plan in
-          let ks : k ≡ length (t .channels) = is-k (let z = reach .accepted .channels-high in let y = plan .channels-is in omega arith) ∙ plan .channels-is in
-          let none : anyBelow (unbackedIn rows) (length (t .processes)) ≡ false = the-test reach plan ∙ n in
-          let there = crash-holds reach h plan ha none
-          (subst (λ (i : ℕ). Dropped i wires rows mails totals queued) ks dropped)
-          (subst (λ (i : ℕ). Zeroed (lostWords wires rows a) i queued queued′) ks words)
-          (subst (λ (i : ℕ). AllCrashed i programs rows mails logs heads a rows′ mails′) ps all)
-          (subst (λ (i : ℕ). Added i wires rows′ mails′ queued′ totals′) ks added) in
-          let queues-are : set queues b queue ≡ set queues a (deadRow (getD queues a [])) =
-          ap (set queues b) is-queue ∙ ap (λ (i : ℕ). set queues i (deadRow (getD queues i []))) its in
-          rw (accepted-so h a ha (alive reach ha) none) (record { answer-is = refl; cause-is = refl; holds = rw queues-are there });
-      untouched = λ many. absurd (omega arith);
-      none-joins = λ _. omega arith;
-      same-lengths = record {
-        rows-same = all .rows-length;
-        mails-same = all .mails-length;
-        logs-same = refl;
-        heads-same = refl;
-        queues-same = length-set queues b queue;
-        totals-same = added .same-length ∙ words .same-length ∙ dropped .same-length;
-      };
-    }
+    crashes-done n k is-k rows′ mails′ queued queued′ totals′ queue dropped words all added is-queue table =
+        makes-alone (answerOf 0 2 0 0) (omega arith)
+        (lengths (all .rows-length) (all .mails-length) (length-set queues b queue) (added .same-length ∙ words .same-length ∙ dropped .same-length)) refl
+        (λ t entries c command reach plan h f ha.
+        let its = its-board reach ha is-b in
+        let ps = its-processes reach plan in
+        let ks : k ≡ length (t .channels) = is-k (let z = reach .accepted .channels-high in let y = plan .channels-is in omega arith) ∙ plan .channels-is in
+        let none : anyBelow (unbackedIn rows) (length (t .processes)) ≡ false = the-test reach plan ∙ n in
+        let there = crash-holds reach h plan ha none
+        (subst (λ (i : ℕ). Dropped i wires rows mails totals queued) ks dropped)
+        (subst (λ (i : ℕ). Zeroed (lostWords wires rows a) i queued queued′) ks words)
+        (subst (λ (i : ℕ). AllCrashed i programs rows mails logs heads a rows′ mails′) ps all)
+        (subst (λ (i : ℕ). Added i wires rows′ mails′ queued′ totals′) ks added) in
+        let queues-are : set queues b queue ≡ set queues a (resetIn (getD queues a []) 1) =
+        ap (set queues b) is-queue ∙ ap (λ (i : ℕ). set queues i (resetIn (getD queues i []) 1)) its in
+        answered _ crashDone (accepted-so h a ha (alive reach ha) none) refl refl (rw queues-are there))

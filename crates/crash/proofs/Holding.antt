@@ -25,6 +25,7 @@ use Rattle.rules.specs.Cabinet.{Cabinet, Process, Standby, nobody, processAt, o
 use Rattle.rules.specs.Moves.{unprotected, afterCrash, allAfterCrash}
 use Rattle.rules.proofs.Counting.{flight-total, flight-lost}
 use Rattle.state.specs.declared.entry.Entry.{Entry}
+use Rattle.state.specs.Queue.{resetIn}
 use Rattle.state.specs.Store.{Store, storeOf, Totalled, Holds, processIn, flag}
 use Rattle.state.specs.Moved.{Reachable}
 use Rattle.state.proofs.Reading.{at-process, how-many, how-many-boards}
@@ -33,7 +34,7 @@ use Rattle.state.proofs.Totals.{unread-few}
 use Rattle.state.proofs.Reaching.{channel-bounds}
 use Rattle.state.proofs.Ends.{sender-inside, reader-inside}
 use Rattle.state.proofs.Owners.{waiting-elsewhere, queued-elsewhere, fed-not-queued}
-use Rattle.crash.specs.Losses.{runsOn, lostWords, unbackedIn, Zeroed, deadRow}
+use Rattle.crash.specs.Losses.{runsOn, lostWords, unbackedIn, Zeroed}
 use Rattle.crash.specs.Processes.{portChannel, portChannels, AllCrashed}
 use Rattle.crash.specs.Recount.{unreadHere, unreadAt, Dropped, Added}
 
@@ -133,7 +134,7 @@ module _ {t : Table} {l : Plan} {s : Store} {entries : List Entry} {c : Cabinet}
     (all : AllCrashed (length (t .processes)) (l .programs) (s .rows) (s .mails) (s .logs) (s .heads) b rows′ mails′)
     (added : Added (length (t .channels)) (l .wires) rows′ mails′ queued′ totals′) where
   abbrev queues′ : List (List ℕ)
-  queues′ = set (s .queues) b (deadRow (getD (s .queues) b []))
+  queues′ = set (s .queues) b (resetIn (getD (s .queues) b []) 1)
 
   abbrev after : Store
   after = storeOf rows′ mails′ (s .logs) (s .heads) queues′ totals′

@@ -3,7 +3,7 @@ use mathlib.Core.Bool.{Bool, not, cond, _&&_}
 use mathlib.Core.List.{List, []}
 use Prim.Native.Nat.{ℕ}
 use lib.Dec.{eqb, ltb}
-use lib.ListN.{getD, set}
+use lib.ListN.{getD}
 use Rattle.plan.specs.Plan.{senderIn}
 use Rattle.process.specs.Row.{boardIn, flagIn}
 use Rattle.rules.specs.Sizes.{processesMost}
@@ -24,7 +24,3 @@ lostWords wires rows a k = runsOn rows a (senderIn wires k)
 -- of the first n numbers those that the test names are 0, and the others as they were
 abbrev pub Zeroed : (ℕ → Bool) → ℕ → List ℕ → List ℕ → Type 0
 Zeroed named n l l′ = Each (λ i x. cond (named i) 0 x) n l l′
-
--- a board's row once it is dead
-abbrev pub deadRow : List ℕ → List ℕ
-deadRow queue = set (set queue 1 0) 2 1

@@ -1,7 +1,6 @@
 // Move 5: "crash board a: its queue is lost." "Crash: 34 already dead"; W-210: "Crash refuses with 44 now exactly while some process has no
 // backup." The totals: a dead queue's words go, and the inbox of a process that went on takes the place of the one that it had.
 ghost use Rattle.crash.specs.Crashes.{Crashes};
-use crate::losses::die;
 use crate::losses::lose_words;
 use crate::losses::some_unbacked;
 use crate::processes::crash_all;
@@ -20,6 +19,7 @@ use state::moved::Answer;
 use state::moved::refusal;
 use state::queue::DEAD;
 use state::queue::QUEUE_ROW;
+use state::queue::die;
 use words::index16;
 use words::most16;
 use words::most32;

@@ -3,7 +3,7 @@ ghost use mathlib.Core.Path.{_≡_};
 ghost use Prim.Native.Nat.{_≤_, _<_};
 ghost use Rattle.facts.specs.Tests.{anyBelow};
 ghost use Rattle.rules.specs.Sizes.{processesMost, channelsMost};
-ghost use Rattle.crash.specs.Losses.{runsOn, unbackedIn, Zeroed, lostWords, deadRow};
+ghost use Rattle.crash.specs.Losses.{runsOn, unbackedIn, Zeroed, lostWords};
 use plan::CHANNELS;
 use plan::PROCESSES;
 use plan::WIRES;
@@ -12,9 +12,6 @@ use process::row::BOARD;
 use process::row::COMPLETE;
 use process::row::PROTECTED;
 use process::row::ROW;
-use state::queue::COUNT;
-use state::queue::DEAD;
-use state::queue::QUEUE_ROW;
 use words::wide;
 
 // Whether p is a process that runs on board a.
@@ -70,12 +67,4 @@ pub fn lose_words(
         }
         k += 1;
     }
-}
-
-// A board's row once it is dead: no entry is left.
-pub fn die(queue: &mut [u32; QUEUE_ROW])
-    ensures { λ _. ⌜ now (queue .exit) ≡ deadRow (now (queue .entry)) ⌝ }
-{
-    queue[COUNT] = 0;
-    queue[DEAD] = 1;
 }

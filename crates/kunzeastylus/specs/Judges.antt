@@ -5,5 +5,5 @@ use Prim.Native.Nat.{ℕ}
 use Rattle.rules.specs.Run.{validateRun}
 
 -- of any bytes of a table and a schedule, and any lengths
-pub record Judges (table schedule : List ℕ) (answers reasons report number : ℕ) : Type 0 where
-  pub number-is : number ≡ validateRun table schedule (record { answers = answers; reasons = reasons; report = report })
+pub record Judges (table schedule : List ℕ) (answers reasons report origins number : ℕ) : Type 0 where
+  pub number-is : number ≡ validateRun table schedule (record { answers = answers; reasons = reasons; report = report; origins = origins })

@@ -1,11 +1,11 @@
 // The judging of a run, exported: by which number it would be refused.
 ghost use Rattle.kunzeastylus.specs.Judges.{Judges};
-use records::schedule::Lengths;
-use records::schedule::judge_run;
+use cabinet::judge::Lengths;
+use cabinet::judge::judge_run;
 use records::schedule::judge_schedule;
 use table::decode;
 
-// 0, or the number from 1 to 12 by which document 01 refuses the run of a table and a schedule with buffers of these lengths.
+// 0, or the number, 1 to 12, 47 or 51, that refuses the run of a table and a schedule with buffers of these lengths.
 #[no_mangle]
 pub extern "C" fn ks_judge(
     table: &[u8],
@@ -13,8 +13,9 @@ pub extern "C" fn ks_judge(
     answers: usize,
     reasons: usize,
     report: usize,
+    origins: usize,
 ) -> u32
-    ensures { λ n. ⌜ Judges (now (table .entry)) (now (schedule .entry)) answers reasons report n ⌝ }
+    ensures { λ n. ⌜ Judges (now (table .entry)) (now (schedule .entry)) answers reasons report origins n ⌝ }
 {
     let d = decode(table);
     let number = d.number;
@@ -25,6 +26,7 @@ pub extern "C" fn ks_judge(
         answers: answers,
         reasons: reasons,
         report: report,
+        origins: origins,
     };
     judge_run(number, counts.processes, s, lengths) as u32
 }

@@ -21,7 +21,7 @@ pub extern "C" fn ks_label_table(first: u32, table: &mut [u8; TABLE]) -> u32
     0
 }
 
-// A schedule on the table of a first serial, with three lent buffers: as `ks_run` of that table, or 46.
+// A schedule on the table of a first serial, with four lent buffers: as `ks_run` of that table, or 46.
 #[no_mangle]
 pub extern "C" fn ks_label_run(
     first: u32,
@@ -29,10 +29,11 @@ pub extern "C" fn ks_label_run(
     answers: &mut [u8],
     reasons: &mut [u8],
     report: &mut [u8],
+    origins: &mut [u8],
 ) -> u64
     ensures { λ n. ⌜ RunsLinePacked first (now (schedule .entry))
-        (buffersOf (now (answers .entry)) (now (reasons .entry)) (now (report .entry))) n
-        (buffersOf (now (answers .exit)) (now (reasons .exit)) (now (report .exit))) ⌝ }
+        (buffersOf (now (answers .entry)) (now (reasons .entry)) (now (report .entry)) (now (origins .entry))) n
+        (buffersOf (now (answers .exit)) (now (reasons .exit)) (now (report .exit)) (now (origins .exit))) ⌝ }
 {
-    packed(run_line(first, schedule, answers, reasons, report))
+    packed(run_line(first, schedule, answers, reasons, report, origins))
 }

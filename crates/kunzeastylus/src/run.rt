@@ -17,7 +17,7 @@ pub fn packed(r: Verdict) -> u64
     (r.number as u64) + 256 * flag(r.quiet) + 4294967296 * records
 }
 
-// The run of a table and a schedule, whatever bytes they are, with three lent buffers.
+// The run of a table and a schedule, whatever bytes they are, with four lent buffers.
 #[no_mangle]
 pub extern "C" fn ks_run(
     table: &[u8],
@@ -25,10 +25,11 @@ pub extern "C" fn ks_run(
     answers: &mut [u8],
     reasons: &mut [u8],
     report: &mut [u8],
+    origins: &mut [u8],
 ) -> u64
     ensures { λ n. ⌜ RunsPacked (now (table .entry)) (now (schedule .entry))
-        (buffersOf (now (answers .entry)) (now (reasons .entry)) (now (report .entry))) n
-        (buffersOf (now (answers .exit)) (now (reasons .exit)) (now (report .exit))) ⌝ }
+        (buffersOf (now (answers .entry)) (now (reasons .entry)) (now (report .entry)) (now (origins .entry))) n
+        (buffersOf (now (answers .exit)) (now (reasons .exit)) (now (report .exit)) (now (origins .exit))) ⌝ }
 {
-    packed(run(table, schedule, answers, reasons, report))
+    packed(run(table, schedule, answers, reasons, report, origins))
 }

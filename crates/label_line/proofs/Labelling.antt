@@ -6,10 +6,10 @@ use Prim.Native.Nat.{ℕ, suc, _+_, _^_, _≤_, _<_}
 use native.Mathlib.Omega.{arith}
 use lib.Dec.{eqb}
 use lib.ListN.{length}
-use Rattle.rules.specs.Machine.{Mail, Machine}
+use Rattle.rules.specs.Machine.{Mail, Origin, BusWord, Machine}
 use Rattle.rules.specs.Moves.{Command, Numbers}
 use Rattle.rules.specs.Schedule.{commandsMost}
-use Rattle.rules.specs.Transparent.{Transparent, traceOf, fedOf}
+use Rattle.rules.specs.Transparent.{Transparent, traceOf, busOf, withoutOrigins, fedOf}
 use Rattle.label_line.specs.Line.{serialMost, scanner, outlet, lineTable}
 use Rattle.label_line.specs.Outlet.{labels, wordsOn, cartons, atOutlet, serials, inARow}
 use Rattle.label_line.specs.Labels.{Labelled}
@@ -29,8 +29,9 @@ length-fedOf (r ∷ rs) (n ∷ l) = go (eqb (r .move) 4 && eqb (n .code) 4) (len
     go true h = omega arith
     go false h = omega arith
 
-module _ (first : ℕ) (small : first ≤ serialMost) (commands : List Command) (answers : List Numbers) (quiet : Bool) (few : length answers ≤ commandsMost)
-    (machines : List Machine) (x : Transparent (lineTable first) (fedOf commands answers) (traceOf answers) quiet machines) where
+module _ (first : ℕ) (small : first ≤ serialMost) (commands : List Command) (answers : List Numbers) (origins : List Origin)
+    (words : withoutOrigins (busOf answers origins) ≡ traceOf answers) (quiet : Bool) (few : length answers ≤ commandsMost)
+    (machines : List Machine) (x : Transparent (lineTable first) (fedOf commands answers) (busOf answers origins) quiet machines) where
   fits : first + length (cartons commands answers) < 2 ^ 32
   fits = omega (arith, length-wordsOn scanner (fedOf commands answers), length-fedOf commands answers)
 
@@ -39,8 +40,9 @@ module _ (first : ℕ) (small : first ≤ serialMost) (commands : List Command) 
       subst (λ (l : List Mail). PlainLine first (wordsOn scanner l) (x .end)) (x .injected)
       (plain-line first (omega arith) (x .actions) (x .end) (x .ran))
 
-  printed-is : wordsOn outlet (x .end .trace) ≡ atOutlet answers
-  printed-is = ap (wordsOn outlet) (x .same-trace)
+  -- the labels are channel and word alone
+  printed-is : wordsOn outlet (withoutOrigins (x .end .trace)) ≡ atOutlet answers
+  printed-is = ap (λ (l : List BusWord). wordsOn outlet (withoutOrigins l)) (x .same-trace) ∙ ap (wordsOn outlet) words
 
   labels-are : wordLabels first (cartons commands answers) ≡ labels first (cartons commands answers)
   labels-are = wordLabels-labels first (cartons commands answers) (omega (arith, fits))

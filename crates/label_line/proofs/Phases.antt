@@ -4,8 +4,9 @@ use mathlib.Core.Path.{_≡_}
 use mathlib.Core.List.{List, [], _∷_, _++_}
 use Prim.Native.Nat.{ℕ, _+_}
 use lib.ListN.{length}
-use Rattle.rules.specs.Machine.{Mail, Machine}
+use Rattle.rules.specs.Machine.{BusWord, Machine}
 use Rattle.rules.specs.Reference.{Reference}
+use Rattle.rules.specs.Transparent.{withoutOrigins}
 use Rattle.label_line.specs.Line.{scanner, printer, outlet}
 use Rattle.label_line.specs.Outlet.{wordsOn}
 use Rattle.label_line.proofs.Sequences.{onChannel, word, wordLabels}
@@ -114,7 +115,7 @@ pub record Line : Type 0 where
   pub printing : Printing
   -- words to the printer program not yet taken
   pub pending : List ℕ
-  pub bus : List Mail
+  pub bus : List BusWord
 
 abbrev pub stateOf : ℕ → Line → Reference
 stateOf first l = record {
@@ -129,4 +130,4 @@ stateOf first l = record {
 pub record Lines (first : ℕ) (fed : List ℕ) (l : Line) : Type 0 where
   pub fed-are : fed ≡ cartonsTaken (l .numbering) ++ l .unread
   pub sent-are : wordsNumbered first (l .numbering) ≡ wordsTaken (l .printing) ++ l .pending
-  pub printed-are : wordsOn outlet (l .bus) ≡ wordsHanded (l .printing)
+  pub printed-are : wordsOn outlet (withoutOrigins (l .bus)) ≡ wordsHanded (l .printing)

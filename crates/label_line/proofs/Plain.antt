@@ -5,8 +5,9 @@ use mathlib.Core.Option.{Option, none, some}
 use mathlib.Core.List.{List, [], _∷_, _++_, append-assoc, append-nil, IsPrefix}
 use Prim.Native.Nat.{ℕ, _^_, _<_}
 use Rattle.facts.specs.Tests.{no-way}
-use Rattle.rules.specs.Machine.{Mail}
+use Rattle.rules.specs.Machine.{BusWord}
 use Rattle.rules.specs.Reference.{Reference, Action, inject, step, act, andThen, referenceStart, referenceRun, injections}
+use Rattle.rules.specs.Transparent.{withoutOrigins}
 use Rattle.label_line.specs.Line.{scanner, outlet, lineTable}
 use Rattle.label_line.specs.Outlet.{wordsOn}
 use Rattle.label_line.proofs.Sequences.{wordsOn-append, wordLabels, wordLabels-snoc, wordLabels-prefix, prefix-trans}
@@ -86,12 +87,13 @@ handedOn-prefix (listening done w) = ([], append-nil done)
 handedOn-prefix (holding done w) = (w ∷ [], refl)
 handedOn-prefix (handed done w) = ([], append-nil _)
 
-pub plain-begins : (first : ℕ) (fed : List ℕ) (s : Reference) → PlainLine first fed s → IsPrefix (wordsOn outlet (s .trace)) (wordLabels first fed)
+pub plain-begins : (first : ℕ) (fed : List ℕ) (s : Reference) → PlainLine first fed s → IsPrefix (wordsOn outlet (withoutOrigins (s .trace))) (wordLabels first fed)
 plain-begins first fed s h =
     let n = h .line .numbering in
     let p = h .line .printing in
     let l = h .lines in
-    let outlet-is : wordsOn outlet (s .trace) ≡ wordsHanded p = ap (λ (z : Reference). wordsOn outlet (z .trace)) (h .is) ∙ l .printed-are in
+    let outlet-is : wordsOn outlet (withoutOrigins (s .trace)) ≡ wordsHanded p =
+    ap (λ (z : Reference). wordsOn outlet (withoutOrigins (z .trace))) (h .is) ∙ l .printed-are in
     rw (outlet-is, l .fed-are)
     (prefix-trans (wordsHanded p) (wordsTaken p) (wordLabels first (cartonsTaken n ++ h .line .unread)) (handedOn-prefix p)
     (prefix-trans (wordsTaken p) (wordsNumbered first n) (wordLabels first (cartonsTaken n ++ h .line .unread)) (h .line .pending, sym (l .sent-are))
@@ -101,7 +103,7 @@ plain-begins first fed s h =
 -- ---- the end
 
 -- where neither program could step, each waits for a word and has none
-numbering-ends : (first : ℕ) (fed : List ℕ) (n : Numbering) (unread : List ℕ) (p : Printing) (pending : List ℕ) (bus : List Mail)
+numbering-ends : (first : ℕ) (fed : List ℕ) (n : Numbering) (unread : List ℕ) (p : Printing) (pending : List ℕ) (bus : List BusWord)
     → fed ≡ cartonsTaken n ++ unread
     → act (lineTable first) (stateOf first (record { numbering = n; unread = unread; printing = p; pending = pending; bus = bus })) (step 0) ≡ none
     → wordsNumbered first n ≡ wordLabels first fed
@@ -115,7 +117,7 @@ numbering-ends first fed (code-sent done c) unread p pending bus e h = absurd (n
 numbering-ends first fed (serial-sent done c) unread p pending bus e h = absurd (no-way (cc))
 numbering-ends first fed (raised done c) unread p pending bus e h = absurd (no-way (cc))
 
-printing-ends : (first : ℕ) (words : List ℕ) (n : Numbering) (unread : List ℕ) (p : Printing) (pending : List ℕ) (bus : List Mail)
+printing-ends : (first : ℕ) (words : List ℕ) (n : Numbering) (unread : List ℕ) (p : Printing) (pending : List ℕ) (bus : List BusWord)
     → words ≡ wordsTaken p ++ pending
     → act (lineTable first) (stateOf first (record { numbering = n; unread = unread; printing = p; pending = pending; bus = bus })) (step 1) ≡ none
     → wordsHanded p ≡ words
@@ -127,10 +129,10 @@ printing-ends first words n unread (holding done w) pending bus e h = absurd (no
 printing-ends first words n unread (handed done w) pending bus e h = absurd (no-way (cc))
 
 pub plain-ends : (first : ℕ) (fed : List ℕ) (s : Reference) → PlainLine first fed s → ((p : ℕ) → act (lineTable first) s (step p) ≡ none)
-    → wordsOn outlet (s .trace) ≡ wordLabels first fed
+    → wordsOn outlet (withoutOrigins (s .trace)) ≡ wordLabels first fed
 plain-ends first fed s h none-steps =
     let a = h .line in
     let l = h .lines in
-    ap (λ (z : Reference). wordsOn outlet (z .trace)) (h .is) ∙ l .printed-are
+    ap (λ (z : Reference). wordsOn outlet (withoutOrigins (z .trace))) (h .is) ∙ l .printed-are
     ∙ printing-ends first (wordsNumbered first (a .numbering)) (a .numbering) (a .unread) (a .printing) (a .pending) (a .bus) (l .sent-are) (rw (h .is) at (none-steps 1))
     ∙ numbering-ends first fed (a .numbering) (a .unread) (a .printing) (a .pending) (a .bus) (l .fed-are) (rw (h .is) at (none-steps 0))

@@ -11,8 +11,9 @@ use Rattle.rules.specs.Moves.{numbered}
 use Rattle.rules.specs.Format.{decodeTable}
 use Rattle.rules.specs.Schedule.{commandsMost, decodeSchedule}
 use Rattle.rules.specs.Run.{Buffers, Ran, run, refusedWith}
-use Rattle.rules.specs.Transparency.{answersIn}
+use Rattle.rules.specs.Transparency.{answersIn, originsIn}
 use Rattle.rules.proofs.Valid.{length-sixes}
+use Rattle.rules.proofs.BusWords.{words-read}
 use Rattle.cabinet.specs.Runs.{ranBy, Runs}
 use Rattle.cabinet.specs.declared.run.Verdict.{Verdict}
 use Rattle.cabinet.proofs.Running.{run-few}
@@ -43,7 +44,7 @@ module _ (first : ℕ) (schedule : List ℕ) (before : Buffers) (m : MadeTable) 
   refused z =
       let beyond : leb first serialMost ≡ false = high first m made z in
       let number : m .number ≡ 46 = rw beyond at (made .number-is) in
-      record { ran = rw (beyond, number); labelled = λ e. absurd (z e) }
+      record { ran = rw (beyond, number); failure-transparent = λ e. absurd (z e); labelled = λ e. absurd (z e) }
 
   pub ran-line : (r : Verdict) (after : Buffers) → m .number ≡ 0 → Runs (m .bytes) schedule before r after → RunsLine first schedule before r after
   unfolding lineRun
@@ -54,8 +55,10 @@ module _ (first : ℕ) (schedule : List ℕ) (before : Buffers) (m : MadeTable) 
       let many : length (answersIn (ranBy r after)) ≡ r .records = length-sixes numbered (r .records) (after .answers) in
       record {
         ran = rw within (rw (← bytes) (runs .ran));
+        failure-transparent = λ e. rw (← bytes) (runs .failure-transparent e);
         labelled = λ e.
-            labelled first (leb-true first serialMost within) (decodeSchedule schedule) (answersIn (ranBy r after)) (r .quiet) (rw many few) _
+            labelled first (leb-true first serialMost within) (decodeSchedule schedule) (answersIn (ranBy r after)) (originsIn (ranBy r after))
+            (words-read (r .records) (after .answers) (after .origins)) (r .quiet) (rw many few) _
             (rw (made .says z) at (runs .failure-transparent e));
       }
 

@@ -1,27 +1,19 @@
 -- The table of any first serial: its bytes as the code makes them, what they say, and that the reader accepts them.
-use mathlib.Core.Path.{_≡_, refl, ap, sym, _∙_}
-use mathlib.Core.List.{List, [], _∷_, _++_}
+use mathlib.Core.Path.{_≡_, refl, ap, _∙_}
+use mathlib.Core.List.{List}
 use mathlib.Core.Bool.{true, false}
-use Prim.Native.Nat.{ℕ, _+_, _/_, _%_, _^_, _≤_, _<_}
+use Prim.Native.Nat.{ℕ, _^_, _≤_, _<_}
 use native.Mathlib.Omega.{arith}
 use lib.Dec.{leb}
-use lib.ListN.{set, replicate}
+use lib.ListN.{replicate}
 use borrow.Author.Tests.{le-leb, lt-leb}
 use Rattle.rules.specs.Format.{decodeTable, validateTable}
 use Rattle.rules.specs.Encode.{encode, validateLists}
 use Rattle.rules.proofs.ReadBack.{word-back}
-use Rattle.label_line.specs.Line.{serialMost, lineNumber, lineTable, lineLength, lineLists, lineBytes}
+use Rattle.label_line.specs.Line.{serialMost, lineTable, lineLength, lineLists, lineBytes}
 use Rattle.label_line.specs.Puts.{frameBytes, instructionIn}
 use Rattle.label_line.specs.Labels.{Makes}
 use Rattle.label_line.proofs.Spacing.{takes-often}
-
--- six bytes, the last four each cut out of the operand
-pub instruction-set : (l : List ℕ) (at code a operand : ℕ) → operand < 2 ^ 32 → (b3 b2 b1 b0 : ℕ) → b3 ≡ operand / 16777216 % 256
-    → b2 ≡ operand / 65536 % 256 → b1 ≡ operand / 256 % 256 → b0 ≡ operand % 256
-    → set (set (set (set (set (set l at code) (at + 1) a) (at + 2) b3) (at + 3) b2) (at + 4) b1) (at + 5) b0 ≡ instructionIn l at code a operand
-unfolding instructionIn
-instruction-set l at code a operand h b3 b2 b1 b0 e3 e2 e1 e0 =
-    let top : b3 ≡ operand / 2 ^ 24 = omega arith in rw (top, e2, e1, e0)
 
 -- the two programs, instruction by instruction
 abbrev pub numberingIn : ℕ → List ℕ → List ℕ

@@ -1,13 +1,14 @@
 -- One action of the plain cabinet of the label line: it is refused, or it leads to a line whose words again fit together.
 use mathlib.Core.Path.{_≡_, refl, ap, sym, _∙_}
 use mathlib.Core.Option.{Option, none, some}
-use mathlib.Core.List.{List, [], _∷_, _++_, append-assoc, append-nil}
+use mathlib.Core.List.{List, [], _∷_, _++_, map-append, append-assoc, append-nil}
 use Prim.Native.Nat.{ℕ, zero, suc, _+_, _%_, _^_, _≤_, _<_}
 use native.Mathlib.Omega.{arith}
 use lib.ListN.{length, length-append}
 use borrow.Author.Tests.{le-ltb}
-use Rattle.rules.specs.Machine.{Mail, Act, internal, took, sent}
+use Rattle.rules.specs.Machine.{Mail, BusWord, sentFrom, fromOutside, Act, internal, took, sent}
 use Rattle.rules.specs.Reference.{Reference, Action, inject, step, act}
+use Rattle.rules.specs.Transparent.{withoutOrigins}
 use Rattle.label_line.specs.Line.{scanner, printer, outlet, lineTable}
 use Rattle.label_line.specs.Outlet.{wordsOn}
 use Rattle.label_line.specs.Spaced.{doneBy}
@@ -50,9 +51,17 @@ one-more : (first : ℕ) (done : List ℕ) (c : ℕ) → word (word (first + len
 one-more first done c =
     raised-word (first + length done) ∙ ap word (let e = length-append done (c ∷ []) in let g : first + length done + 1 ≡ first + length (done ++ (c ∷ [])) = omega arith in g)
 
--- a word that isn't on the outlet's channel
-not-printed : (bus : List Mail) (k w : ℕ) → wordsOn outlet (mail k w ∷ []) ≡ [] → (l : List ℕ) → wordsOn outlet bus ≡ l → wordsOn outlet (bus ++ (mail k w ∷ [])) ≡ l
-not-printed bus k w h l e = wordsOn-append outlet bus (mail k w ∷ []) ∙ ap (λ (z : List ℕ). wordsOn outlet bus ++ z) h ∙ append-nil (wordsOn outlet bus) ∙ e
+-- the words at the outlet, with one more on the bus
+abbrev printed : List BusWord → List ℕ
+printed bus = wordsOn outlet (withoutOrigins bus)
+
+printed-more : (bus : List BusWord) (x : BusWord) → printed (bus ++ (x ∷ [])) ≡ printed bus ++ wordsOn outlet (x .mail ∷ [])
+printed-more bus x =
+    ap (wordsOn outlet) (map-append (λ (y : BusWord). y .mail) bus (x ∷ [])) ∙ wordsOn-append outlet (withoutOrigins bus) (x .mail ∷ [])
+
+-- which isn't on the outlet's channel
+not-printed : (bus : List BusWord) (x : BusWord) → wordsOn outlet (x .mail ∷ []) ≡ [] → (l : List ℕ) → printed bus ≡ l → printed (bus ++ (x ∷ [])) ≡ l
+not-printed bus x h l e = printed-more bus x ∙ ap (λ (z : List ℕ). printed bus ++ z) h ∙ append-nil (printed bus) ∙ e
 
 -- one word more has gone to the printer program
 sent-on : (l r pending : List ℕ) (w : ℕ) → l ≡ r ++ pending → l ++ (w ∷ []) ≡ r ++ (pending ++ (w ∷ []))
@@ -62,11 +71,11 @@ sent-on l r pending w e = ap (λ (z : List ℕ). z ++ (w ∷ [])) e ∙ append-a
 taken-on : (l done rest : List ℕ) (w : ℕ) → l ≡ done ++ (w ∷ rest) → l ≡ (done ++ (w ∷ [])) ++ rest
 taken-on l done rest w e = e ∙ sym (append-assoc done (w ∷ []) rest)
 
-abbrev line : Numbering → List ℕ → Printing → List ℕ → List Mail → Line
+abbrev line : Numbering → List ℕ → Printing → List ℕ → List BusWord → Line
 line n unread p pending bus = record { numbering = n; unread = unread; printing = p; pending = pending; bus = bus }
 
 module _ (first : ℕ) (small : first < 2 ^ 32) (fed : List ℕ) where
-  numbering-turn : (n : Numbering) (unread : List ℕ) (p : Printing) (pending : List ℕ) (bus : List Mail) → Lines first fed (line n unread p pending bus)
+  numbering-turn : (n : Numbering) (unread : List ℕ) (p : Printing) (pending : List ℕ) (bus : List BusWord) → Lines first fed (line n unread p pending bus)
       → Turn first fed (line n unread p pending bus) (step 0)
   unfolding act doneBy wordLabels wordsOn
   numbering-turn starting unread p pending bus h =
@@ -81,22 +90,22 @@ module _ (first : ℕ) (small : first < 2 ^ 32) (fed : List ℕ) where
       turned (line (coded done w) unread p pending bus) refl
       (record { fed-are = taken-on fed done unread w (h .fed-are); sent-are = h .sent-are; printed-are = h .printed-are }) (record { numbering = (omega arith, refl); printing = refl })
   numbering-turn (coded done c) unread p pending bus h =
-      turned (line (code-sent done c) unread p (pending ++ (c ∷ [])) (bus ++ (mail printer c ∷ []))) (rw (onChannel-snoc printer pending c))
+      turned (line (code-sent done c) unread p (pending ++ (c ∷ [])) (bus ++ (sentFrom 0 3 (mail printer c) ∷ []))) (rw (onChannel-snoc printer pending c))
       (record {
         fed-are = h .fed-are;
         sent-are = sent-on (wordLabels first done) (wordsTaken p) pending c (h .sent-are);
-        printed-are = not-printed bus printer c refl (wordsHanded p) (h .printed-are);
+        printed-are = not-printed bus (sentFrom 0 3 (mail printer c)) refl (wordsHanded p) (h .printed-are);
       })
       (record { numbering = (refl, refl); printing = refl })
   numbering-turn (code-sent done c) unread p pending bus h =
       let s : ℕ = word (first + length done) in
-      turned (line (serial-sent done c) unread p (pending ++ (s ∷ [])) (bus ++ (mail printer s ∷ []))) (rw (onChannel-snoc printer pending s))
+      turned (line (serial-sent done c) unread p (pending ++ (s ∷ [])) (bus ++ (sentFrom 0 4 (mail printer s) ∷ []))) (rw (onChannel-snoc printer pending s))
       (record {
         fed-are = h .fed-are;
         sent-are =
             wordLabels-snoc first done c ∙ sym (append-assoc (wordLabels first done) (c ∷ []) (s ∷ []))
             ∙ sent-on (wordLabels first done ++ (c ∷ [])) (wordsTaken p) pending s (h .sent-are);
-        printed-are = not-printed bus printer s refl (wordsHanded p) (h .printed-are);
+        printed-are = not-printed bus (sentFrom 0 4 (mail printer s)) refl (wordsHanded p) (h .printed-are);
       })
       (record { numbering = (refl, refl); printing = refl })
   numbering-turn (serial-sent done c) unread p pending bus h =
@@ -106,7 +115,7 @@ module _ (first : ℕ) (small : first < 2 ^ 32) (fed : List ℕ) where
       turned (line (waiting (done ++ (c ∷ [])) c) unread p pending bus) refl
       (record { fed-are = h .fed-are; sent-are = h .sent-are; printed-are = h .printed-are }) (record { numbering = (refl, refl); printing = refl })
 
-  printing-turn : (n : Numbering) (unread : List ℕ) (p : Printing) (pending : List ℕ) (bus : List Mail) → Lines first fed (line n unread p pending bus)
+  printing-turn : (n : Numbering) (unread : List ℕ) (p : Printing) (pending : List ℕ) (bus : List BusWord) → Lines first fed (line n unread p pending bus)
       → Turn first fed (line n unread p pending bus) (step 1)
   unfolding act doneBy wordsOn
   printing-turn n unread resting pending bus h =
@@ -117,11 +126,11 @@ module _ (first : ℕ) (small : first < 2 ^ 32) (fed : List ℕ) where
       turned (line n unread (holding done x) pending bus) refl
       (record { fed-are = h .fed-are; sent-are = taken-on (wordsNumbered first n) done pending x (h .sent-are); printed-are = h .printed-are }) (record { numbering = refl; printing = (omega arith, refl) })
   printing-turn n unread (holding done w) pending bus h =
-      turned (line n unread (handed done w) pending (bus ++ (mail outlet w ∷ []))) refl
+      turned (line n unread (handed done w) pending (bus ++ (sentFrom 1 2 (mail outlet w) ∷ []))) refl
       (record {
         fed-are = h .fed-are;
         sent-are = h .sent-are;
-        printed-are = wordsOn-append outlet bus (mail outlet w ∷ []) ∙ ap (λ (z : List ℕ). z ++ (w ∷ [])) (h .printed-are);
+        printed-are = printed-more bus (sentFrom 1 2 (mail outlet w)) ∙ ap (λ (z : List ℕ). z ++ (w ∷ [])) (h .printed-are);
       })
       (record { numbering = refl; printing = (refl, refl) })
   printing-turn n unread (handed done w) pending bus h =
@@ -132,11 +141,11 @@ module _ (first : ℕ) (small : first < 2 ^ 32) (fed : List ℕ) where
   feed-turn : (k w : ℕ) (a : Line) → Lines first fed a → Turn first fed a (inject (mail k w))
   unfolding act doneBy wordsOn
   feed-turn zero w a h =
-      turned (line (a .numbering) (a .unread ++ (w ∷ [])) (a .printing) (a .pending) (a .bus ++ (mail scanner w ∷ []))) (rw (onChannel-snoc scanner (a .unread) w))
+      turned (line (a .numbering) (a .unread ++ (w ∷ [])) (a .printing) (a .pending) (a .bus ++ (fromOutside (mail scanner w) ∷ []))) (rw (onChannel-snoc scanner (a .unread) w))
       (record {
         fed-are = sent-on fed (cartonsTaken (a .numbering)) (a .unread) w (h .fed-are);
         sent-are = h .sent-are;
-        printed-are = not-printed (a .bus) scanner w refl (wordsHanded (a .printing)) (h .printed-are);
+        printed-are = not-printed (a .bus) (fromOutside (mail scanner w)) refl (wordsHanded (a .printing)) (h .printed-are);
       })
       (record { numbering = refl; printing = refl })
   feed-turn (suc zero) w a h = no-turn refl

@@ -10,7 +10,7 @@ use Rattle.rules.specs.Format.{decodeTable, validateTable}
 use Rattle.rules.specs.Encode.{encode, validateLists}
 use Rattle.rules.specs.Schedule.{decodeSchedule}
 use Rattle.rules.specs.Run.{Buffers, Ran, run, refusedWith}
-use Rattle.rules.specs.Transparency.{answersIn}
+use Rattle.rules.specs.Transparency.{answersIn, FailureTransparency}
 use Rattle.cabinet.specs.Runs.{ranBy}
 use Rattle.cabinet.specs.declared.run.Verdict.{Verdict}
 use Rattle.label_line.specs.Line.{serialMost, lineNumber, lineTable, lineLength, lineLists, lineBytes}
@@ -58,5 +58,7 @@ lineRun first schedule before = cond (leb first serialMost) (run (lineBytes firs
 pub record RunsLine (first : ℕ) (schedule : List ℕ) (before : Buffers) (r : Verdict) (after : Buffers) : Type 0 where
   -- number, records, quiet and buffers: refused, nothing is written
   pub ran : ranBy r after ≡ lineRun first schedule before
+  -- demand 3 of an accepted run, as of every table: its bus order with senders and places (W-212) is that of a plain run
+  pub failure-transparent : r .number ≡ 0 → FailureTransparency (lineBytes first) schedule (ranBy r after)
   -- the labels of an accepted run, about the answers in the buffer as the call left it and the `quiet` that it returned
   pub labelled : r .number ≡ 0 → Labelled first (decodeSchedule schedule) (answersIn (ranBy r after)) (r .quiet)

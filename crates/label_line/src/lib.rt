@@ -9,7 +9,7 @@ ghost use Rattle.label_line.specs.Labels.{Makes, RunsLine};
 use cabinet::run::Verdict;
 use cabinet::run::run;
 use plan::ENVIRONMENT;
-use words::low_byte;
+use records::store::put_six;
 
 // Bytes of a label line's table.
 pub const TABLE: usize = 84;
@@ -63,12 +63,7 @@ fn set_instruction(table: &mut [u8; TABLE], at: usize, code: u8, a: u8, operand:
     requires { ⌜ at ≤ 78 ⌝ }
     ensures { λ _. ⌜ now (table .exit) ≡ instructionIn (now (table .entry)) at code a operand ⌝ }
 {
-    table[at] = code;
-    table[at + 1] = a;
-    table[at + 2] = low_byte(operand / 16777216);
-    table[at + 3] = low_byte(operand / 65536);
-    table[at + 4] = low_byte(operand / 256);
-    table[at + 5] = low_byte(operand);
+    put_six(table, at, code, a, operand);
 }
 
 fn line_bytes(first: u32) -> [u8; TABLE]
@@ -113,9 +108,11 @@ pub fn run_line(
     answers: &mut [u8],
     reasons: &mut [u8],
     report: &mut [u8],
+    origins: &mut [u8],
 ) -> Verdict
-    ensures { λ r. ⌜ RunsLine first (now (schedule .entry)) (buffersOf (now (answers .entry)) (now (reasons .entry)) (now (report .entry))) r
-        (buffersOf (now (answers .exit)) (now (reasons .exit)) (now (report .exit))) ⌝ }
+    ensures { λ r. ⌜ RunsLine first (now (schedule .entry))
+        (buffersOf (now (answers .entry)) (now (reasons .entry)) (now (report .entry)) (now (origins .entry))) r
+        (buffersOf (now (answers .exit)) (now (reasons .exit)) (now (report .exit)) (now (origins .exit))) ⌝ }
 {
     let made = make_table(first);
     let number = made.number;
@@ -127,5 +124,5 @@ pub fn run_line(
             quiet: false,
         };
     }
-    run(&table, schedule, answers, reasons, report)
+    run(&table, schedule, answers, reasons, report, origins)
 }

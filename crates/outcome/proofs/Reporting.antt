@@ -20,30 +20,14 @@ use Rattle.state.specs.Moved.{Reachable}
 use Rattle.state.proofs.Reading.{at-process}
 use Rattle.state.proofs.Reaching.{bounds}
 use Rattle.outcome.specs.Reports.{headBytes, twentyBytes, LinePut, Reports}
-use Rattle.outcome.proofs.Writing.{written-more}
+use Rattle.records.proofs.Writing.{four-put, written-more}
 
 -- ---- one line
-
--- four bytes in a row
-four-put : (buffer : List ℕ) (n x0 x1 x2 x3 : ℕ) → set (set (set (set buffer n x0) (n + 1) x1) (n + 2) x2) (n + 3) x3 ≡ sets buffer n (x0 ∷ x1 ∷ x2 ∷ x3 ∷ [])
-four-put buffer n x0 x1 x2 x3 =
-    let i1 : n + 1 ≡ suc n = omega arith in
-    let i2 : n + 2 ≡ suc (suc n) = omega arith in
-    let i3 : n + 3 ≡ suc (suc (suc n)) = omega arith in
-    λ j. set (set (set (set buffer n x0) (i1 j) x1) (i2 j) x2) (i3 j) x3
-
-pub word-put : (buffer : List ℕ) (n word x0 x1 x2 x3 : ℕ) → word < 2 ^ 32
-    → x0 ≡ word / 16777216 % 256 → x1 ≡ word / 65536 % 256 → x2 ≡ word / 256 % 256 → x3 ≡ word % 256
-    → set (set (set (set buffer n x0) (n + 1) x1) (n + 2) x2) (n + 3) x3 ≡ sets buffer n (wordBytes word)
-word-put buffer n word x0 x1 x2 x3 w e0 e1 e2 e3 =
-    let y0 : x0 ≡ word / 2 ^ 24 = omega arith in
-    four-put buffer n x0 x1 x2 x3 ∙ (λ j. sets buffer n (y0 j ∷ e1 j ∷ e2 j ∷ e3 j ∷ []))
 
 pub head-put : (row buffer : List ℕ) (n x0 x1 x2 x3 : ℕ)
     → x0 ≡ boardIn row % 256 → x1 ≡ pcIn row % 256 → x2 ≡ unreadIn row % 256 → x3 ≡ suppressIn row % 256
     → set (set (set (set buffer n x0) (n + 1) x1) (n + 2) x2) (n + 3) x3 ≡ sets buffer n (headBytes row)
-head-put row buffer n x0 x1 x2 x3 e0 e1 e2 e3 =
-    four-put buffer n x0 x1 x2 x3 ∙ (λ j. sets buffer n (e0 j ∷ e1 j ∷ e2 j ∷ e3 j ∷ []))
+head-put row buffer n x0 x1 x2 x3 e0 e1 e2 e3 = four-put buffer n _ _ _ _ x0 x1 x2 x3 e0 e1 e2 e3
 
 -- four and sixteen more
 twenty-put : (row buffer b0 b1 b2 b3 b4 : List ℕ) (n : ℕ) → b0 ≡ sets buffer n (headBytes row) → b1 ≡ sets b0 (n + 4) (wordBytes (registerIn row 0))

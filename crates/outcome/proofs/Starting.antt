@@ -1,4 +1,4 @@
--- The start in the lists: what is true between two rounds of seating, and that fresh lists with their rows seated hold the table's start.
+-- The start in the lists: what is true between two rounds of seating, and that lists of zeros with their rows seated hold the table's start.
 use mathlib.Core.Path.{_≡_, refl, ap, sym, _∙_, subst}
 use mathlib.Core.Logic.{_≢_}
 use mathlib.Core.Bool.{true, false}
@@ -30,8 +30,8 @@ use Rattle.rules.proofs.Tables.{primary-ok, standby-ok, apart-ok}
 use Rattle.rules.proofs.Counting.{flight-none}
 use Rattle.state.specs.declared.entry.Entry.{Entry}
 use Rattle.state.specs.Queue.{deadIn}
-use Rattle.state.specs.Store.{Store, storeOf, Totalled, Holds, blankEntry, processIn, outboxIn, flag}
-use Rattle.outcome.specs.Starts.{seatedIn, Fresh, Seats}
+use Rattle.state.specs.Store.{Store, storeOf, Totalled, Holds, processIn, outboxIn, flag}
+use Rattle.outcome.specs.Starts.{seatedIn, Seats, Starts}
 
 -- ---- a list of one value
 
@@ -74,35 +74,37 @@ seated-is x = ap (λ (r : Replica). withStandby (some (record { board = x .stand
 seated-there : (primary standby : ℕ) → standby ≢ primary → Seated primary standby (seatedRow primary standby)
 seated-there primary standby n = record { runs-on = rw (ne-eqb standby primary n); other-is = rw (eq-eqb primary primary refl) }
 
--- ---- fresh lists with their rows seated
+-- ---- lists of zeros with their rows seated
 
-module _ (t : Table) (ok : Accepted t) (rows rows′ mails logs heads queues : List (List ℕ)) (totals : List ℕ) (entries : List Entry)
-    (new : Fresh (storeOf rows mails logs heads queues totals) entries) (rows-length : length rows′ ≡ 16)
-    (row-at : (p : ℕ) → p < length (t .processes) → getD rows′ p [] ≡ seatedRow (placementAt t p .primary) (placementAt t p .standby)) where
+module _ (t : Table) (ok : Accepted t) (rows : List (List ℕ)) (rows-length : length rows ≡ 16)
+    (row-at : (p : ℕ) → p < length (t .processes) → getD rows p [] ≡ seatedRow (placementAt t p .primary) (placementAt t p .standby))
+    (entries : List Entry) (entries-length : length entries ≡ 512) where
+  abbrev mails : List (List ℕ)
+  mails = replicate 16 (zeros logMost)
+
+  abbrev heads : List (List ℕ)
+  heads = replicate 16 (zeros 11)
+
+  abbrev queues : List (List ℕ)
+  queues = replicate 16 (zeros 3)
+
   abbrev s : Store
-  s = storeOf rows′ mails logs heads queues totals
-
-  -- one of 16
-  one-of : (l : List (List ℕ)) (x : List ℕ) → l ≡ replicate 16 x → (p : ℕ) → p < 16 → getD l p [] ≡ x
-  one-of l x e p h = ap (λ (k : List (List ℕ)). getD k p []) e ∙ getD-replicate 16 p x [] h
+  s = storeOf rows mails mails heads queues (zeros 32)
 
   below : (p : ℕ) → p < length (t .processes) → p < 16
   below p h = let a = ok .processes-high in omega arith
 
   mail-at : (p : ℕ) → p < length (t .processes) → getD mails p [] ≡ zeros logMost
-  mail-at p h = one-of mails (zeros logMost) (new .mails-is) p (below p h)
-
-  log-at : (p : ℕ) → p < length (t .processes) → getD logs p [] ≡ zeros logMost
-  log-at p h = one-of logs (zeros logMost) (new .logs-is) p (below p h)
+  mail-at p h = getD-replicate 16 p (zeros logMost) [] (below p h)
 
   head-at : (p : ℕ) → p < length (t .processes) → getD heads p [] ≡ zeros 11
-  head-at p h = one-of heads (zeros 11) (new .heads-is) p (below p h)
+  head-at p h = getD-replicate 16 p (zeros 11) [] (below p h)
 
   queue-at : (b : ℕ) → b < t .boards → getD queues b [] ≡ zeros 3
-  queue-at b h = one-of queues (zeros 3) (new .queues-is) b (let a = ok .boards-high in omega arith)
+  queue-at b h = getD-replicate 16 b (zeros 3) [] (let a = ok .boards-high in omega arith)
 
   process-at : (p : ℕ) → p < length (t .processes) → processIn s p ≡ placed (placementAt t p)
-  process-at p h = (λ i. processOf (row-at p h i) (mail-at p h i) (log-at p h i) (head-at p h i)) ∙ seated-is (placementAt t p)
+  process-at p h = (λ i. processOf (row-at p h i) (mail-at p h i) (mail-at p h i) (head-at p h i)) ∙ seated-is (placementAt t p)
 
   all-processes : started t .processes ≡ listed (processIn s) (length (t .processes))
   unfolding started
@@ -139,24 +141,24 @@ module _ (t : Table) (ok : Accepted t) (rows rows′ mails logs heads queues : L
   a-word : (b : ℕ) → b < t .boards → b < 2 ^ 32
   a-word b h = let a = ok .boards-high in omega arith
 
-  kept-at : (p : ℕ) → p < length (t .processes) → Kept (getD rows′ p []) (getD mails p []) (getD logs p []) (getD heads p [])
+  kept-at : (p : ℕ) → p < length (t .processes) → Kept (getD rows p []) (getD mails p []) (getD mails p []) (getD heads p [])
   kept-at p h =
-      rw (row-at p h, mail-at p h, log-at p h, head-at p h)
+      rw (row-at p h, mail-at p h, head-at p h)
       (seated-kept (placementAt t p .primary) (placementAt t p .standby) (a-word _ (primary-ok t ok p h)) (a-word _ (standby-ok t ok p h)))
 
   -- nothing of any process waits
-  waits-at : (p : ℕ) → p < length (t .processes) → waitsIn (getD rows′ p []) ≡ flag (waiting p (outboxAt (started t) (processAt (started t) p .board)))
+  waits-at : (p : ℕ) → p < length (t .processes) → waitsIn (getD rows p []) ≡ flag (waiting p (outboxAt (started t) (processAt (started t) p .board)))
   waits-at p h = ap (λ (row : List ℕ). waitsIn row) (row-at p h) ∙ ap (λ (q : List rules.Item). flag (waiting p q)) (sym (outbox-is (processAt (started t) p .board)))
 
   -- no word is unread or in a queue
-  start-totalled : Totalled t totals (started t)
+  start-totalled : Totalled t (zeros 32) (started t)
   unfolding occupancy
   start-totalled = record {
     total-is = λ k h.
         let a = ap (λ (l : List Mail). unreadOn k l) (mailbox-is (channelAt t k .reader)) in
         let b = in-flight k in
-        ap (λ (l : List ℕ). getD l k 0) (new .totals-is) ∙ getD-replicate-any {A = ℕ} 32 k 0 ∙ omega arith;
-    totals-length = ap length (new .totals-is);
+        getD-replicate-any {A = ℕ} 32 k 0 ∙ omega arith;
+    totals-length = refl;
   }
 
   pub start-held : Holds t s entries (started t)
@@ -174,11 +176,11 @@ module _ (t : Table) (ok : Accepted t) (rows rows′ mails logs heads queues : L
     totalled = start-totalled;
     shape = record {
       rows-length = rows-length;
-      mails-length = ap length (new .mails-is);
-      logs-length = ap length (new .logs-is);
-      heads-length = ap length (new .heads-is);
-      queues-length = ap length (new .queues-is);
-      entries-length = ap length (new .entries-is) ∙ length-replicate 512 blankEntry;
+      mails-length = refl;
+      logs-length = refl;
+      heads-length = refl;
+      queues-length = refl;
+      entries-length = entries-length;
     };
   }
 
@@ -209,35 +211,24 @@ module _ (rows : List (List ℕ)) (primary standby : List ℕ) (most : ℕ) (row
   }
 
   pub seating-end : (processes : ℕ) → most ≡ min processes 16 → most ≤ i → Seats rows primary standby processes rows′
-  seating-end processes m l =
-      let at : length rows ≡ 16 → (p : ℕ) → p < 16 → p < processes → getD rows′ p [] ≡ seatedIn (getD rows p []) (getD primary p 0) (getD standby p 0) =
-      λ z p u v. h .seated-at z p u (omega arith) in
-      record {
-        same-length = h .same-length;
-        seated-at = at;
-        others = λ p u. h .others p (let w = h .so-far in omega arith);
-        holds = λ t mails logs heads queues totals entries ok places new.
-            let z : length rows ≡ 16 = ap length (new .rows-is) in
-            start-held t ok rows rows′ mails logs heads queues totals entries new (h .same-length ∙ z)
-            (λ p u.
-            let v : p < 16 = (let a = ok .processes-high in omega arith) in
-            at z p v (rw (places .processes-is) u)
-            ∙ (λ j. seatedIn (getD (new .rows-is j) p []) (places .primary-at p u j) (places .standby-at p u j))
-            ∙ ap (λ (r : List ℕ). seatedIn r (placementAt t p .primary) (placementAt t p .standby)) (getD-replicate 16 p (zeros rowLength) [] v));
-      }
+  seating-end processes m l = record {
+    same-length = h .same-length;
+    seated-at = λ z p u v. h .seated-at z p u (omega arith);
+    others = λ p u. h .others p (let w = h .so-far in omega arith);
+  }
 
--- ---- lists as an array of zeros and an array of blank entries come out
+-- ---- all of the start
 
-pub fresh-made : (entries : List Entry) → entries ≡ replicate 512 blankEntry
-    → Fresh
-    (storeOf (replicate 16 (zeros rowLength)) (replicate 16 (zeros logMost)) (replicate 16 (zeros logMost)) (replicate 16 (zeros 11)) (replicate 16 (zeros 3)) (zeros 32))
-    entries
-fresh-made entries e = record {
-  rows-is = refl;
-  mails-is = refl;
-  logs-is = refl;
-  heads-is = refl;
-  queues-is = refl;
-  totals-is = refl;
-  entries-is = e;
+pub starts : {rows : List (List ℕ)} {primary standby : List ℕ} {processes : ℕ} (none : Entry)
+    → Seats (replicate 16 (zeros rowLength)) primary standby processes rows
+    → Starts primary standby processes
+    (storeOf rows (replicate 16 (zeros logMost)) (replicate 16 (zeros logMost)) (replicate 16 (zeros 11)) (replicate 16 (zeros 3)) (zeros 32)) (replicate 512 none)
+starts {rows} none h = record {
+  holds = λ t ok places.
+      start-held t ok rows (h .same-length)
+      (λ p u.
+      let v : p < 16 = (let a = ok .processes-high in omega arith) in
+      h .seated-at refl p v (rw (places .processes-is) u)
+      ∙ (λ j. seatedIn (getD-replicate 16 p (zeros rowLength) [] v j) (places .primary-at p u j) (places .standby-at p u j)))
+      (replicate 512 none) (length-replicate 512 none);
 }

@@ -3,7 +3,6 @@ ghost use mathlib.Core.Path.{_≡_};
 ghost use Prim.Native.Nat.{_+_, _≤_};
 ghost use lib.ListN.{length};
 ghost use lib.Seq.{sets};
-ghost use Rattle.rules.specs.Bytes.{wordBytes};
 ghost use Rattle.outcome.specs.Reports.{headBytes, LinePut, Reports};
 use plan::PROCESSES;
 use process::row::BOARD;
@@ -15,19 +14,9 @@ use process::row::R3;
 use process::row::ROW;
 use process::row::SUPPRESS;
 use process::row::UNREAD;
+use records::store::put_word;
 use words::low_byte;
 use words::most16;
-
-// A word in four bytes.
-fn put_word(report: &mut [u8], at: usize, word: u32)
-    requires { ⌜ at + 4 ≤ length (now report) ⌝ }
-    ensures { λ _. ⌜ now (report .exit) ≡ sets (now (report .entry)) at (wordBytes word) ⌝ }
-{
-    report[at] = low_byte(word / 16777216);
-    report[at + 1] = low_byte(word / 65536);
-    report[at + 2] = low_byte(word / 256);
-    report[at + 3] = low_byte(word);
-}
 
 // A line's first four bytes.
 fn put_head(row: &[u32; ROW], report: &mut [u8], at: usize)

@@ -6,9 +6,9 @@ use lib.ListN.{length}
 use Rattle.rules.specs.Bytes.{written}
 use Rattle.rules.specs.Run.{Buffers, buffersOf}
 
--- what a page shows of a run's buffers: nothing of the reasons
+-- what a page shows of a run's buffers: nothing of the reasons and the origins
 abbrev pub shownOf : List ℕ → List ℕ → Buffers
-shownOf answers report = buffersOf answers [] report
+shownOf answers report = buffersOf answers [] report []
 
 -- The page, the buffer before, what was returned, the buffer after.
 pub record Written (page out : List ℕ) (r : ℕ) (out′ : List ℕ) : Type 0 where

@@ -8,7 +8,7 @@ use lib.ListN.{length}
 use Rattle.facts.specs.Tests.{by-eq}
 use Rattle.facts.specs.Counts.{same-yes}
 use Rattle.rules.specs.Table.{Table, codeOf, channelAt}
-use Rattle.rules.specs.Machine.{Mail, Machine, took, sent}
+use Rattle.rules.specs.Machine.{Mail, BusWord, sentFrom, Machine, took, sent}
 use Rattle.rules.specs.Cabinet.{Cabinet, processAt, protected}
 use Rattle.rules.specs.Moves.{Command, Move, Refusal, Answer, stepDone, issueDone, crashDone, rejoinDone, rebackupDone, transferKept, received, queued, suppressed, transmitted, injected, syncKept, syncLost, droppedFrom, refused, numbers, turn}
 use Rattle.rules.proofs.Decoded.{refusalNumber-listed}
@@ -66,7 +66,7 @@ fits-suppressed : (x : Mail) → x .channel < 256 → Fits (suppressed x)
 unfolding numbers
 fits-suppressed x h = record { code-small = omega arith; a-small = h }
 
-fits-transmitted : (x : Mail) → x .channel < 256 → Fits (transmitted x)
+fits-transmitted : (x : BusWord) → x .mail .channel < 256 → Fits (transmitted x)
 unfolding numbers
 fits-transmitted x h = record { code-small = omega arith; a-small = h }
 
@@ -116,7 +116,9 @@ module _ {t : Table} {c : Cabinet} (reach : Reachable t c) where
     suppresses = λ hp m x e _ _. fits-suppressed x (sent-small (r .a) hp m x (record { is = e }));
     sends = λ hp m x e _ _ _ _. fits-queued x (sent-small (r .a) hp m x (record { is = e }));
     issues = λ _ _ _ _. fits-issued;
-    transmits = λ _ _ x rest e. fits-transmitted x (channel-small (x .channel) (sent-inside (reach .accepted) (x .channel) (word-owner reach (r .a) x rest e .0)));
+    transmits = λ _ _ x pc rest e.
+        fits-transmitted (sentFrom _ pc x)
+        (channel-small (x .channel) (sent-inside (reach .accepted) (x .channel) (word-owner reach (r .a) x pc rest e .0)));
     syncs = λ _ _ p s rest e. fits-sync p (droppedFrom s (processAt c p .standby)) (protected (processAt c p)) (process-small p (checkpoint-owner reach (r .a) p s rest e .0));
     completes = λ _ _ p rest e. fits-transfer p (process-small p (transfer-owner reach (r .a) p rest e .0));
     injects = λ h _ _. fits-injected (fedMail r) (channel-small (r .a) h);

@@ -1,5 +1,6 @@
 -- An answer's bytes:
-pub mod Putting
 pub mod Answers
--- and why what the records leave is what the rules leave:
+-- what records leave in the buffers,
+pub mod Sheets
+-- and why what they leave of the cabinet is what the rules leave:
 pub mod Playing

@@ -1,134 +1,109 @@
--- The records of a schedule, one after the other: what each round of the loop adds, and what all of them come to.
+-- The records of a stretch, one after the other: what each round of the loop adds, and what all of them come to.
 use mathlib.Core.Path.{_≡_, refl, ap, sym, _∙_, subst}
-use mathlib.Core.Logic.{_≢_}
-use mathlib.Core.Bool.{cond}
-use mathlib.Core.List.{List, [], _∷_, _++_, map, map-append, append-nil}
-use Prim.Native.Nat.{ℕ, zero, suc, _+_, _*_, _%_, _≤_, _<_}
+use mathlib.Core.List.{List, [], _∷_, _++_}
+use Prim.Native.Nat.{ℕ, zero, suc, _+_, _-_, _≤_, _<_, min}
 use native.Mathlib.Omega.{arith}
-use lib.Dec.{ltb}
-use lib.ListN.{length, getD, set, take, length-append, length-map, length-set, replicate}
-use lib.Seq.{take-suc, take-all, length-take-le, sets, length-sets}
+use lib.ListN.{length, getD, set, take, drop, length-drop}
+use lib.Seq.{take-suc, take-all, take-add, getD-drop, drop-drop, length-take-le}
 use borrow.Author.Tests.{lt-ltb, le-ltb}
 use Rattle.records.specs.Commands.{commandOf}
 use Rattle.records.specs.declared.schedule.Command as code
 use Rattle.rules.specs.Table.{Table}
 use Rattle.rules.specs.Judge.{Accepted}
-use Rattle.rules.specs.Bytes.{wordBytes, allBytes, written}
-use Rattle.rules.specs.Cabinet.{Cabinet, started}
+use Rattle.rules.specs.Machine.{Origin}
+use Rattle.rules.specs.Cabinet.{Cabinet, started, outboxAt}
 use Rattle.rules.specs.Moves as rules
-use Rattle.rules.specs.Moves.{Command, Numbers, Result, numbered, numbers, settle, judged, turn, runFrom, moveOf}
-use Rattle.rules.specs.Reasons.{causeOf, reasonOf}
-use Rattle.rules.specs.Schedule.{command, decodeSchedule}
-use Rattle.rules.specs.Run.{answerBytes}
+use Rattle.rules.specs.Moves.{Command, Numbers, transmitMove, moveOf, judged, numbers, originOf, noOrigin, turn, runFrom}
+use Rattle.rules.specs.Origins.{toldBy}
+use Rattle.rules.specs.Schedule.{command, commandsIn, decodeSchedule}
 use Rattle.rules.proofs.AcceptedRun.{one-answer-each}
-use Rattle.rules.proofs.OneCause.{answer-small}
+use Rattle.rules.proofs.Recovery.{run-parts}
+use Rattle.rules.proofs.Origins.{origin-told, carried-waited}
+use Rattle.rules.proofs.Valid.{length-sixes}
 use Rattle.state.specs.declared.entry.Entry.{Entry}
 use Rattle.state.specs.declared.moved.Answer.{Answer}
 use Rattle.state.specs.declared.moved.Moved.{Moved}
-use Rattle.state.specs.Store.{Store, Holds, blankEntry}
+use Rattle.state.specs.Store.{Store, Holds}
 use Rattle.state.specs.Moved.{Reachable, Answered, Makes, joined, refusalOf}
 use Rattle.command.specs.Judges.{judgeOf, causeBy}
-use Rattle.command.proofs.Judging.{ruleOf, mostOf, Passes, passes, made, refused, known}
+use Rattle.command.proofs.Judging.{ruleOf, mostOf, passes, made, refused, refused-origin, known}
 use Rattle.plan.specs.Plan.{Plan, Planned}
-use Rattle.play.specs.Written.{sixBytes, reasonByte}
-use Rattle.play.specs.Plays.{Sheets, Roomy, Writes, Played, Suited, Playing, Plays}
-use Rattle.outcome.proofs.Writing.{written-more}
+use Rattle.play.specs.declared.play.Stretch.{Stretch}
+use Rattle.play.specs.Plays.{Sheets, AsLong, Writes, between, Suited, Played, Plays}
 use Rattle.play.proofs.Answers.{answer-fits}
+use Rattle.play.proofs.Sheets.{wrote-none, wrote-one, wrote-more, as-long, still-long}
 
--- ---- one command more
+-- ---- commands after others
 
-module _ (t : Table) where
-  cabinet-more : (c : Cabinet) (l : List Command) (x : Command) → runFrom t c (l ++ (x ∷ [])) .cabinet ≡ turn t (runFrom t c l .cabinet) x .cabinet
+-- what commands reach from a cabinet that others reach is reached
+pub reached-on : {t : Table} {c : Cabinet} → Reachable t c → (commands : List Command) → Reachable t (runFrom t c commands .cabinet)
+reached-on {t} h commands = record {
+  accepted = h .accepted;
+  commands = h .commands ++ commands;
+  is-reached = ap (λ (d : Cabinet). runFrom t d commands .cabinet) (h .is-reached) ∙ rw (run-parts t (started t) (h .commands) commands);
+}
+
+module _ {t : Table} {c : Cabinet} where
+  pub played-none : {s : Store} {entries : List Entry} (sheets : Sheets) (i : ℕ) → Holds t s entries c → Played t c [] s entries sheets i sheets
   unfolding runFrom
-  cabinet-more c [] x = refl
-  cabinet-more c (y ∷ l) x = cabinet-more (turn t c y .cabinet) l x
+  played-none sheets i h = record { holds = h; wrote = wrote-none sheets i }
 
-  answers-more : (c : Cabinet) (l : List Command) (x : Command) → runFrom t c (l ++ (x ∷ [])) .answers ≡ runFrom t c l .answers ++ (turn t (runFrom t c l .cabinet) x .answer ∷ [])
-  unfolding runFrom
-  answers-more c [] x = refl
-  answers-more c (y ∷ l) x = ap (λ (r : List rules.Answer). turn t c y .answer ∷ r) (answers-more (turn t c y .cabinet) l x)
+  -- some, and then others, are all of them: the same cabinet, and the same buffers
+  pub played-parts : {xs ys : List Command} {s s′ : Store} {entries entries′ : List Entry} {before middle after : Sheets} {i j : ℕ}
+      → Played t c xs s entries before i middle → Played t (runFrom t c xs .cabinet) ys s′ entries′ middle j after → j ≡ i + length xs
+      → Played t c (xs ++ ys) s′ entries′ before i after
+  played-parts {xs} {ys} h k e =
+      let n = one-answer-each t c xs in
+      let w = wrote-more (h .wrote) (k .wrote) (omega arith) in
+      record { holds = rw (run-parts t c xs ys) (k .holds); wrote = rw (run-parts t c xs ys) w }
 
-bytes-more : (l : List Numbers) (x : Numbers) → allBytes answerBytes (l ++ (x ∷ [])) ≡ allBytes answerBytes l ++ answerBytes x
-bytes-more [] x = append-nil (answerBytes x)
-bytes-more (y ∷ l) x = ap (λ (r : List ℕ). y .code ∷ y .a ∷ (wordBytes (y .word) ++ r)) (bytes-more l x)
+  -- the lists that they leave are fit for more
+  pub suited-on : {l : Plan} {xs : List Command} {s s′ : Store} {entries entries′ : List Entry} {before after : Sheets} {i : ℕ}
+      → Suited t l c s entries → Played t c xs s′ entries′ before i after → Suited t l (runFrom t c xs .cabinet) s′ entries′
+  suited-on {xs = xs} h k = record { reached = reached-on (h .reached) xs; planned = h .planned; holds = k .holds }
 
-bytes-length : (l : List Numbers) → length (allBytes answerBytes l) ≡ 6 * length l
-bytes-length [] = refl
-bytes-length (y ∷ l) = let a = bytes-length l in omega arith
+  -- one command
+  pub played-one : {s : Store} {entries : List Entry} {before after : Sheets} {i : ℕ} {r : Answer} {o : Origin} → Reachable t c → (x : Command)
+      → x .a < 256 → Answered t s entries c x (judged t c x) r → originOf (turn t c x .answer) ≡ o → Writes before i r o after
+      → Played t c (x ∷ []) s entries before i after
+  unfolding runFrom turn
+  played-one reach x small h g w =
+      record { holds = h .holds; wrote = wrote-one w (turn t c x .answer) (h .answer-is) (h .cause-is) g (answer-fits reach x small) }
 
--- the bytes that the code writes are the answer's
-same-bytes : (x : Answer) (n : Numbers) → n ≡ numbered (x .code) (x .a) (x .word) → n .code < 256 → n .a < 256 → sixBytes x ≡ answerBytes n
-same-bytes x n e hc ha =
-    let c : n .code ≡ x .code = ap (λ (m : Numbers). m .code) e in
-    let a : n .a ≡ x .a = ap (λ (m : Numbers). m .a) e in
-    let w : n .word ≡ x .word = ap (λ (m : Numbers). m .word) e in
-    let c′ : x .code % 256 ≡ n .code = omega arith in
-    let a′ : x .a % 256 ≡ n .a = omega arith in
-    λ i. c′ i ∷ a′ i ∷ wordBytes (sym w i)
+-- ---- the records of a schedule
 
--- and so is the byte of its code and its cause
-same-reason : (x : rules.Answer) (code cause : ℕ) → numbers x .code ≡ code → causeOf x ≡ cause → reasonByte code cause ≡ reasonOf x
-unfolding reasonOf
-same-reason x code cause e f =
-    let a = answer-small x .code-small in
-    let b = answer-small x .cause-small in
-    omega arith
+pub commands-many : (schedule : List ℕ) → length (decodeSchedule schedule) ≡ commandsIn schedule
+unfolding decodeSchedule
+commands-many schedule = length-sixes command (commandsIn schedule) _
 
-module _ (t : Table) (ok : Accepted t) (done : List Command) (x : Command) (small : x .a < 256)
-    (s : Store) (entries : List Entry) (before sheets : Sheets) (room : 6 * length done + 6 ≤ length (before .answers))
-    (reasons-room : length done < length (before .reasons)) where
-  abbrev now : Cabinet
-  now = runFrom t (started t) done .cabinet
+module _ (schedule : List ℕ) (i : ℕ) where
+  pub between-length : (j : ℕ) → j ≤ commandsIn schedule → length (between schedule i j) ≡ j - i
+  between-length j h =
+      let a = commands-many schedule in
+      let b = length-drop i (decodeSchedule schedule) in
+      length-take-le (j - i) (drop i (decodeSchedule schedule)) (omega arith)
 
-  pub reach : Reachable t now
-  reach = record { accepted = ok; commands = done; is-reached = refl }
+  -- those up to one, and then those from it on
+  pub between-parts : (j k : ℕ) → i ≤ j → j ≤ k → between schedule i k ≡ between schedule i j ++ between schedule j k
+  between-parts j k h m =
+      let a : k - i ≡ (j - i) + (k - j) = omega arith in
+      let b : i + (j - i) ≡ j = omega arith in
+      rw (a, take-add (j - i) (k - j) (drop i (decodeSchedule schedule)), drop-drop (j - i) i (decodeSchedule schedule), b)
 
-  abbrev bytes : List ℕ
-  bytes = allBytes answerBytes (map numbers (runFrom t (started t) done .answers))
+-- all of them
+pub between-all : (schedule : List ℕ) → between schedule 0 (commandsIn schedule) ≡ decodeSchedule schedule
+between-all schedule = let a = commands-many schedule in take-all (commandsIn schedule - 0) (decodeSchedule schedule) (omega arith)
 
-  so-long : length bytes ≡ 6 * length done
-  so-long = bytes-length (map numbers (runFrom t (started t) done .answers)) ∙ ap (λ (n : ℕ). 6 * n) (length-map (runFrom t (started t) done .answers) numbers ∙ one-answer-each t (started t) done)
-
-  then-bytes : allBytes answerBytes (map numbers (runFrom t (started t) (done ++ (x ∷ [])) .answers)) ≡ bytes ++ answerBytes (numbers (turn t now x .answer))
-  then-bytes =
-      ap (λ (l : List rules.Answer). allBytes answerBytes (map numbers l)) (answers-more t (started t) done x)
-      ∙ ap (allBytes answerBytes) (map-append numbers (runFrom t (started t) done .answers) (turn t now x .answer ∷ []))
-      ∙ bytes-more (map numbers (runFrom t (started t) done .answers)) (numbers (turn t now x .answer))
-
-  abbrev reasons : List ℕ
-  reasons = map reasonOf (runFrom t (started t) done .answers)
-
-  so-many : length reasons ≡ length done
-  so-many = length-map (runFrom t (started t) done .answers) reasonOf ∙ one-answer-each t (started t) done
-
-  then-reasons : map reasonOf (runFrom t (started t) (done ++ (x ∷ [])) .answers) ≡ reasons ++ (reasonOf (turn t now x .answer) ∷ [])
-  then-reasons =
-      ap (map reasonOf) (answers-more t (started t) done x)
-      ∙ map-append reasonOf (runFrom t (started t) done .answers) (turn t now x .answer ∷ [])
-
-  -- the cabinet, the answer and the reason of one command more
-  pub one-more : (entries′ : List Entry) (s′ : Store) (sheets′ : Sheets) (r : Answer) → Played t done s entries before sheets
-      → Answered t s′ entries′ now x (judged t now x) r → Writes sheets (length done) r sheets′ → Played t (done ++ (x ∷ [])) s′ entries′ before sheets′
-  unfolding turn
-  one-more entries′ s′ sheets′ r p h w =
-      let size = answer-fits reach x small in
-      record {
-        holds = subst (Holds t s′ entries′) (sym (cabinet-more t (started t) done x)) (h .holds);
-        answers-are =
-            w .answers-are
-            ∙ ap (λ (l : List ℕ). sets l (6 * length done) (sixBytes r)) (p .answers-are)
-            ∙ ap (sets (written bytes (before .answers)) (6 * length done))
-            (same-bytes r (numbers (turn t now x .answer)) (h .answer-is) (size .code-small) (size .a-small))
-            ∙ written-more bytes (answerBytes (numbers (turn t now x .answer))) (before .answers) (6 * length done) (sym so-long) room
-            ∙ ap (λ (l : List ℕ). written l (before .answers)) (sym then-bytes);
-        reasons-are =
-            w .reasons-are
-            ∙ ap (λ (l : List ℕ). set l (length done) (reasonByte (r .code) (r .cause))) (p .reasons-are)
-            ∙ ap (set (written reasons (before .reasons)) (length done))
-            (same-reason (turn t now x .answer) (r .code) (r .cause) (ap (λ (m : Numbers). m .code) (h .answer-is)) (h .cause-is))
-            ∙ written-more reasons (reasonOf (turn t now x .answer) ∷ []) (before .reasons) (length done) (sym so-many) (omega arith)
-            ∙ ap (λ (l : List ℕ). written l (before .reasons)) (sym then-reasons);
-      }
+-- a single one
+between-one : (schedule : List ℕ) (i : ℕ) → i < commandsIn schedule → between schedule i (i + 1) ≡ getD (decodeSchedule schedule) i (command 0 0 0) ∷ []
+between-one schedule i h =
+    let a : (i + 1) - i ≡ 1 = omega arith in
+    let m = commands-many schedule in
+    let b = length-drop i (decodeSchedule schedule) in
+    let z : i + 0 ≡ i = omega arith in
+    ap (λ (n : ℕ). take n (drop i (decodeSchedule schedule))) a
+    ∙ take-suc (drop i (decodeSchedule schedule)) 0 (command 0 0 0) (omega arith)
+    ∙ ap (λ (x : Command). x ∷ []) (getD-drop i (decodeSchedule schedule) 0 (command 0 0 0) ∙ ap (λ (n : ℕ). getD (decodeSchedule schedule) n (command 0 0 0)) z)
 
 -- ---- the rounds
 
@@ -145,83 +120,126 @@ none-joined entries at x h = rw (le-ltb at 512 h)
 pub one-joined : (entries : List Entry) (at : ℕ) (x : Entry) → at < 512 → set entries at x ≡ joined entries at x
 one-joined entries at x h = rw (lt-ltb at 512 h)
 
-module _ (l : Plan) (schedule : List ℕ) (records : ℕ) (s₀ : Store) (entries₀ : List Entry) (sheets₀ : Sheets) where
-  abbrev At : ℕ → Store → List Entry → Sheets → Type 0
-  At i s entries sheets = Playing l schedule records s₀ entries₀ sheets₀ i s entries sheets
+-- Between two rounds the records from number `from` on, before number i, were played; the last round is that of the record before number `end`.
+pub record Playing (l : Plan) (schedule : List ℕ) (from end : ℕ) (s₀ : Store) (entries₀ : List Entry) (sheets₀ : Sheets)
+    (i : ℕ) (s : Store) (entries : List Entry) (sheets : Sheets) : Type 0 where
+  pub forward : from ≤ i
+  pub inside : (n : ℕ) → from ≤ n → end ≤ n → i ≤ n
+  pub long : AsLong sheets₀ sheets
+  pub played : (t : Table) (c : Cabinet) → Suited t l c s₀ entries₀ → Played t c (between schedule from i) s entries sheets₀ from sheets
 
-  -- nothing is done at first
-  pub at-first : At 0 s₀ entries₀ sheets₀
-  unfolding runFrom
-  at-first = record {
-    no-more = omega arith;
-    answers-long = refl;
-    reasons-long = refl;
-    played = λ t u. record { holds = u .starts; answers-are = refl; reasons-are = refl };
-  }
+pub at-first : (l : Plan) (schedule : List ℕ) (from end : ℕ) (s : Store) (entries : List Entry) (sheets : Sheets)
+    → Playing l schedule from end s entries sheets from s entries sheets
+at-first l schedule from end s entries sheets =
+    let none : from - from ≡ 0 = omega arith in
+    record { forward = omega arith; inside = λ n h k. h; long = as-long sheets; played = λ t c u. rw none (played-none sheets from (u .holds)) }
 
-  module _ (roomy : Roomy records sheets₀) (i : ℕ) (s : Store) (entries : List Entry) (sheets : Sheets) (p : At i s entries sheets) (below : i < records)
-      (c : code.Command) (is-c : commandOf c ≡ getD (decodeSchedule schedule) i (command 0 0 0)) (a : ℕ) (is-a : a ≡ c .a) (small : a < 256)
-      (n : ℕ) (is-n : n ≡ judgeOf (l .counts) c) where
-    -- the cabinet before the record
-    abbrev before : Table → Cabinet
-    before t = runFrom t (started t) (take i (decodeSchedule schedule)) .cabinet
+-- In a round record i is judged: c is the code's command of it, a its a as a word, n the judging's number.
+pub record Round (l : Plan) (schedule : List ℕ) (from end : ℕ) (s₀ : Store) (entries₀ : List Entry) (sheets₀ : Sheets)
+    (i : ℕ) (s : Store) (entries : List Entry) (sheets : Sheets) (c : code.Command) (a n : ℕ) : Type 0 where
+  pub so-far : Playing l schedule from end s₀ entries₀ sheets₀ i s entries sheets
+  pub few : end ≤ commandsIn schedule
+  pub below : i < end
+  pub is-c : commandOf c ≡ getD (decodeSchedule schedule) i (command 0 0 0)
+  pub is-a : a ≡ c .a
+  pub small : a < 256
+  pub is-n : n ≡ judgeOf (l .counts) c
 
-    -- what the rules make of the record, with that of the i before it
-    on : (s′ : Store) (entries′ : List Entry) (sheets′ : Sheets) (r : Answer) → Writes sheets i r sheets′
-        → ((t : Table) → Suited t l schedule records s₀ entries₀ → Reachable t (before t) → Holds t s entries (before t)
-        → Answered t s′ entries′ (before t) (commandOf c) (judged t (before t) (commandOf c)) r)
-        → At (i + 1) s′ entries′ sheets′
-    on s′ entries′ sheets′ r w made = record {
-      no-more = omega arith;
-      answers-long = ap length (w .answers-are) ∙ length-sets (sheets .answers) (6 * i) (sixBytes r) ∙ p .answers-long;
-      reasons-long = ap length (w .reasons-are) ∙ length-set (sheets .reasons) i _ ∙ p .reasons-long;
-      played = λ t u.
-          let all : List Command = decodeSchedule schedule in
-          let x : Command = commandOf c in
-          let low : x .a < 256 = omega arith in
-          let many : i < length all = rw (← u .records-is) below in
-          let so-many : length (take i all) ≡ i = length-take-le i all (omega arith) in
-          let room : 6 * length (take i all) + 6 ≤ length (sheets₀ .answers) = (let z = roomy .answers-room in omega arith) in
-          let reasons-room : length (take i all) < length (sheets₀ .reasons) = (let z = roomy .reasons-room in omega arith) in
-          let sucs : i + 1 ≡ suc i = omega arith in
-          let more : take (i + 1) all ≡ take i all ++ (x ∷ []) =
-          ap (λ (k : ℕ). take k all) sucs ∙ take-suc all i (command 0 0 0) many ∙ ap (λ (y : Command). take i all ++ (y ∷ [])) (sym is-c) in
-          let done = p .played t u in
-          subst (λ (l : List Command). Played t l s′ entries′ sheets₀ sheets′) (sym more)
-          (one-more t (u .accepted) (take i all) x low s entries sheets₀ sheets room reasons-room entries′ s′ sheets′ r done
-          (made t u (reach t (u .accepted) (take i all) x low s entries sheets₀ sheets room reasons-room) (done .holds))
-          (subst (λ (k : ℕ). Writes sheets k r sheets′) (sym so-many) w));
-    }
+module _ {l : Plan} {schedule : List ℕ} {from end : ℕ} {s₀ : Store} {entries₀ : List Entry} {sheets₀ : Sheets}
+    {i : ℕ} {s : Store} {entries : List Entry} {sheets : Sheets} {c : code.Command} {a n : ℕ}
+    (p : Round l schedule from end s₀ entries₀ sheets₀ i s entries sheets c a n) where
+  abbrev Next : Store → List Entry → Sheets → Type 0
+  Next s′ entries′ sheets′ = Playing l schedule from end s₀ entries₀ sheets₀ (i + 1) s′ entries′ sheets′
 
-    -- a record that is refused before its move is looked at
-    pub on-refused : (n ≡ 0 → ⊥) → (cause : ℕ) → cause ≡ causeBy n (moveOf (c .mv)) → (r : Answer) → r ≡ refusalOf n cause a → (sheets′ : Sheets)
-        → Writes sheets i r sheets′ → At (i + 1) s entries sheets′
-    on-refused z cause e r f sheets′ w = on s entries sheets′ r w (λ t u reach holds. refused (u .planned) c n is-n (before t) a is-a cause holds z e f)
+  -- what the rules make of the record is played with those before it
+  on : (s′ : Store) (entries′ : List Entry) (sheets′ : Sheets) (r : Answer) (o : Origin) → Writes sheets i r o sheets′
+      → ((t : Table) (now : Cabinet) → Suited t l now s entries → Answered t s′ entries′ now (commandOf c) (judged t now (commandOf c)) r)
+      → ((t : Table) (now : Cabinet) → Suited t l now s entries → originOf (turn t now (commandOf c) .answer) ≡ o)
+      → Next s′ entries′ sheets′
+  on s′ entries′ sheets′ r o w answers comes =
+      let before = p .so-far in
+      let below = p .below in
+      let few = p .few in
+      let forward = before .forward in
+      record {
+        forward = omega arith;
+        inside = λ n h k. omega arith;
+        long = still-long (before .long) w;
+        played = λ t start u.
+            let done = before .played t start u in
+            let fit = suited-on u done in
+            let x : Command = commandOf c in
+            let low : x .a < 256 = (let e = p .is-a in let f = p .small in omega arith) in
+            let one = played-one (fit .reached) x low (answers t _ fit) (comes t _ fit) w in
+            let so-many = between-length schedule from i (omega arith) in
+            let all : between schedule from (i + 1) ≡ between schedule from i ++ (x ∷ []) =
+            between-parts schedule from i (i + 1) forward (omega arith)
+            ∙ ap (λ (r : List Command). between schedule from i ++ r) (between-one schedule i (omega arith) ∙ ap (λ (y : Command). y ∷ []) (sym (p .is-c))) in
+            subst (λ (l : List Command). Played t start l s′ entries′ sheets₀ from sheets′) (sym all) (played-parts done one (omega arith));
+      }
 
-    -- one that is its move: what the rules call the move of number k
-    pub on-made : n ≡ 0 → (k : ℕ) → c .mv ≡ k → (asks : Table → List Entry → Type 0) (joins : ℕ) (entry : Entry) (s′ : Store) (entries′ : List Entry)
-        (sheets′ : Sheets) (m : Moved) → Writes sheets i (m .answer) sheets′ → Makes (ruleOf (moveOf k) (c .word)) asks joins l s a entry s′ m
-        → ((t : Table) → Accepted t → Holds t s entries (before t) → a < mostOf (moveOf k) t → asks t entries × (entries′ ≡ joined entries (m .at) entry))
-        → At (i + 1) s′ entries′ sheets′
-    on-made z k is-k asks joins entry s′ entries′ sheets′ m w h given =
-        on s′ entries′ sheets′ (m .answer) w (λ t u reach holds.
-        let there = given t (u .accepted) holds (passes (u .planned) c n is-n (before t) a is-a k is-k z .a-inside) in
-        subst (λ (l : List Entry). Answered t s′ l (before t) (commandOf c) (judged t (before t) (commandOf c)) (m .answer)) (sym (there .1))
-        (made (u .planned) c n is-n (before t) a is-a k is-k z
-        (h .made t entries (before t) (commandOf c) reach (u .planned) holds (sym is-a) (there .0))))
+  -- a record that is refused before its move is looked at
+  pub on-refused : (n ≡ 0 → ⊥) → {cause : ℕ} → cause ≡ causeBy n (moveOf (c .mv)) → {r : Answer} → r ≡ refusalOf n cause a → {sheets′ : Sheets}
+      → Writes sheets i r noOrigin sheets′ → Next s entries sheets′
+  on-refused z {cause} e {r} f {sheets′} w =
+      on s entries sheets′ r noOrigin w (λ t now u. refused (u .planned) c n (p .is-n) now a (p .is-a) cause (u .holds) z e f)
+      (λ t now u. refused-origin (u .planned) c n (p .is-n) now a (p .is-a) z)
 
-    -- and no other passes
-    pub on-unknown : n ≡ 0 → (c .mv ≡ 1 → ⊥) → (c .mv ≡ 2 → ⊥) → (c .mv ≡ 3 → ⊥) → (c .mv ≡ 4 → ⊥) → (c .mv ≡ 5 → ⊥) → (c .mv ≡ 6 → ⊥) → (c .mv ≡ 7 → ⊥)
-        → (r : Answer) (sheets′ : Sheets) → Writes sheets i r sheets′ → At (i + 1) s entries sheets′
-    on-unknown z h1 h2 h3 h4 h5 h6 h7 r sheets′ w =
-        on s entries sheets′ r w (λ t u reach holds. absurd (known (u .planned) c n is-n (before t) a is-a z h1 h2 h3 h4 h5 h6 h7))
+  -- What tells the origin of the word that move k puts on the bus is o, where the move has what it asks. A word that is carried was waiting.
+  abbrev Told : (Table → List Entry → Type 0) → ℕ → Moved → Origin → Type 0
+  Told asks k m o =
+      (t : Table) (now : Cabinet) → Suited t l now s entries → a < mostOf (moveOf k) t → asks t entries
+      → (moveOf k ≡ transmitMove → m .answer .code ≡ 4 → outboxAt now a ≡ [] → ⊥) → toldBy t (outboxAt now a) (m .answer .code) (moveOf k) ≡ o
 
-  -- all are done
-  pub at-last : (i : ℕ) (s : Store) (entries : List Entry) (sheets : Sheets) → entries₀ ≡ replicate 512 blankEntry → At i s entries sheets → records ≤ i
-      → Plays l schedule records s₀ sheets₀ s sheets
-  at-last i s entries sheets e p h = record {
-    entries = entries;
-    played = λ t u.
-        subst (λ (done : List Command). Played t done s entries sheets₀ sheets) (take-all i (decodeSchedule schedule) (let z = u .records-is in omega arith))
-        (p .played t (subst (λ (k : List Entry). Suited t l schedule records s₀ k) (sym e) u));
-  }
+  told-by : (asks : Table → List Entry → Type 0) (k : ℕ) → c .mv ≡ k → (m : Moved) (o : Origin) → Told asks k m o
+      → (t : Table) (now : Cabinet) → Suited t l now s entries → a < mostOf (moveOf k) t → asks t entries
+      → numbers (turn t now (commandOf c) .answer) .code ≡ m .answer .code → originOf (turn t now (commandOf c) .answer) ≡ o
+  told-by asks k is-k m o tells t now u inside asked code-is =
+      let x : Command = commandOf c in
+      origin-told t now x
+      ∙ ap (λ (j : ℕ). toldBy t (outboxAt now (c .a)) j (moveOf (c .mv))) code-is
+      ∙ ap (λ (b : ℕ). toldBy t (outboxAt now b) (m .answer .code) (moveOf (c .mv))) (sym (p .is-a))
+      ∙ ap (λ (j : ℕ). toldBy t (outboxAt now a) (m .answer .code) (moveOf j)) is-k
+      ∙ tells t now u inside asked (λ e f g. carried-waited t now x (ap moveOf is-k ∙ e) (code-is ∙ f) (ap (outboxAt now) (sym (p .is-a)) ∙ g))
+
+  -- one that is its move: what the rules call the move of number k
+  pub on-made : n ≡ 0 → (k : ℕ) → c .mv ≡ k → {asks : Table → List Entry → Type 0} {joins : ℕ} {entry : Entry} {s′ : Store} {entries′ : List Entry}
+      {sheets′ : Sheets} {m : Moved} {o : Origin} → Writes sheets i (m .answer) o sheets′
+      → Makes (ruleOf (moveOf k) (c .word)) asks joins l s a entry s′ m
+      → ((t : Table) (now : Cabinet) → Accepted t → Holds t s entries now → a < mostOf (moveOf k) t → asks t entries × (entries′ ≡ joined entries (m .at) entry))
+      → Told asks k m o → Next s′ entries′ sheets′
+  unfolding turn
+  on-made z k is-k {asks = asks} {entry = entry} {s′ = s′} {entries′ = entries′} {sheets′ = sheets′} {m = m} {o = o} w h given tells =
+      let inside : (t : Table) (now : Cabinet) → Suited t l now s entries → a < mostOf (moveOf k) t =
+      λ t now u. passes (u .planned) c n (p .is-n) now a (p .is-a) k is-k z .a-inside in
+      let there : (t : Table) (now : Cabinet) → Suited t l now s entries → asks t entries × (entries′ ≡ joined entries (m .at) entry) =
+      λ t now u. given t now (u .reached .accepted) (u .holds) (inside t now u) in
+      let answers : (t : Table) (now : Cabinet) → Suited t l now s entries
+      → Answered t s′ entries′ now (commandOf c) (judged t now (commandOf c)) (m .answer) =
+      λ t now u.
+      subst (λ (l : List Entry). Answered t s′ l now (commandOf c) (judged t now (commandOf c)) (m .answer)) (sym (there t now u .1))
+      (made (u .planned) c n (p .is-n) now a (p .is-a) k is-k z
+      (h .made t entries now (commandOf c) (u .reached) (u .planned) (u .holds) (sym (p .is-a)) (there t now u .0))) in
+      on s′ entries′ sheets′ (m .answer) o w answers (λ t now u.
+      told-by asks k is-k m o tells t now u (inside t now u) (there t now u .0) (ap (λ (y : Numbers). y .code) (answers t now u .answer-is)))
+
+  -- and no other passes
+  pub on-unknown : n ≡ 0 → (c .mv ≡ 1 → ⊥) → (c .mv ≡ 2 → ⊥) → (c .mv ≡ 3 → ⊥) → (c .mv ≡ 4 → ⊥) → (c .mv ≡ 5 → ⊥) → (c .mv ≡ 6 → ⊥) → (c .mv ≡ 7 → ⊥)
+      → {r : Answer} {sheets′ : Sheets} → Writes sheets i r noOrigin sheets′ → Next s entries sheets′
+  on-unknown z h1 h2 h3 h4 h5 h6 h7 {r} {sheets′} w =
+      on s entries sheets′ r noOrigin w (λ t now u. absurd (known (u .planned) c n (p .is-n) now a (p .is-a) z h1 h2 h3 h4 h5 h6 h7))
+      (λ t now u. absurd (known (u .planned) c n (p .is-n) now a (p .is-a) z h1 h2 h3 h4 h5 h6 h7))
+
+-- all of the stretch is done
+pub at-last : {l : Plan} {schedule : List ℕ} {stretch : Stretch} {end : ℕ} {s₀ s : Store} {sheets₀ sheets : Sheets} {i : ℕ} {entries : List Entry}
+    → end ≡ min (stretch .to) (commandsIn schedule)
+    → Playing l schedule (stretch .from) end s₀ (stretch .entries) sheets₀ i s entries sheets → (i < end → ⊥)
+    → Plays l schedule stretch s₀ sheets₀ (record { from = i; to = stretch .to; entries = entries }) s sheets
+at-last e p z = record {
+  forward = p .forward;
+  inside = λ h. p .inside _ h (omega arith);
+  there = λ h. p .inside _ h (omega arith);
+  ended = λ h k. z (omega arith);
+  same-to = refl;
+  played = p .played;
+}

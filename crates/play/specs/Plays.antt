@@ -1,22 +1,24 @@
--- A list of records, one after the other. "Each schedule record, refused or not, gets the cabinet that the last one left".
+-- A stretch of a schedule's records, one after the other. "Each schedule record, refused or not, gets the cabinet that the last one left".
 use mathlib.Core.Path.{_≡_}
 use mathlib.Core.List.{List, map}
-use Prim.Native.Nat.{ℕ, _*_, _≤_}
-use lib.ListN.{length, set, take, replicate}
+use Prim.Native.Nat.{ℕ, _+_, _-_, _*_, _≤_, _<_}
+use lib.ListN.{length, set, take, drop}
 use lib.Seq.{sets}
 use Rattle.rules.specs.Table.{Table}
-use Rattle.rules.specs.Judge.{Accepted}
-use Rattle.rules.specs.Bytes.{allBytes, written}
-use Rattle.rules.specs.Cabinet.{started}
-use Rattle.rules.specs.Moves.{Command, numbers, runFrom}
+use Rattle.rules.specs.Bytes.{allBytes}
+use Rattle.rules.specs.Machine.{Origin}
+use Rattle.rules.specs.Cabinet.{Cabinet}
+use Rattle.rules.specs.Moves as rules
+use Rattle.rules.specs.Moves.{Command, numbers, originOf, runFrom}
 use Rattle.rules.specs.Reasons.{reasonOf}
-use Rattle.rules.specs.Schedule.{decodeSchedule}
-use Rattle.rules.specs.Run.{answerBytes}
+use Rattle.rules.specs.Schedule.{commandsIn, decodeSchedule}
+use Rattle.rules.specs.Run.{answerBytes, originBytes}
 use Rattle.plan.specs.Plan.{Plan, Planned}
 use Rattle.state.specs.declared.entry.Entry.{Entry}
 use Rattle.state.specs.declared.moved.Answer.{Answer}
-use Rattle.state.specs.Store.{Store, Holds, blankEntry}
-use Rattle.rules.specs.Sizes.{entriesMost}
+use Rattle.state.specs.Store.{Store, Holds}
+use Rattle.state.specs.Moved.{Reachable}
+use Rattle.play.specs.declared.play.Stretch.{Stretch}
 use Rattle.play.specs.Written.{sixBytes, reasonByte}
 
 -- ---- the buffers
@@ -25,45 +27,70 @@ use Rattle.play.specs.Written.{sixBytes, reasonByte}
 pub record Sheets : Type 0 where
   pub answers : List ℕ
   pub reasons : List ℕ
+  pub origins : List ℕ
 
-abbrev pub sheetsOf : List ℕ → List ℕ → Sheets
-sheetsOf answers reasons = record { answers = answers; reasons = reasons }
+abbrev pub sheetsOf : List ℕ → List ℕ → List ℕ → Sheets
+sheetsOf answers reasons origins = record { answers = answers; reasons = reasons; origins = origins }
 
 -- they have room for so many records
 pub record Roomy (records : ℕ) (sheets : Sheets) : Type 0 where
   pub answers-room : 6 * records ≤ length (sheets .answers)
   pub reasons-room : records ≤ length (sheets .reasons)
+  pub origins-room : 2 * records ≤ length (sheets .origins)
 
--- the i-th answer and its reason were written
-pub record Writes (before : Sheets) (i : ℕ) (r : Answer) (after : Sheets) : Type 0 where
+-- and for record i
+pub record RoomAt (i : ℕ) (sheets : Sheets) : Type 0 where
+  pub answers-there : 6 * i + 6 ≤ length (sheets .answers)
+  pub reasons-there : i < length (sheets .reasons)
+  pub origins-there : 2 * i + 2 ≤ length (sheets .origins)
+
+-- they are as long as these
+pub record AsLong (before after : Sheets) : Type 0 where
+  pub answers-long : length (after .answers) ≡ length (before .answers)
+  pub reasons-long : length (after .reasons) ≡ length (before .reasons)
+  pub origins-long : length (after .origins) ≡ length (before .origins)
+
+-- the i-th answer, its reason and where its word comes from were written
+pub record Writes (before : Sheets) (i : ℕ) (r : Answer) (o : Origin) (after : Sheets) : Type 0 where
   pub answers-are : after .answers ≡ sets (before .answers) (6 * i) (sixBytes r)
   pub reasons-are : after .reasons ≡ set (before .reasons) i (reasonByte (r .code) (r .cause))
+  pub origins-are : after .origins ≡ sets (before .origins) (2 * i) (originBytes o)
+
+-- the rules' answers to the records from number i on, with their reasons and origins, were written at those records' places
+pub record Wrote (before : Sheets) (i : ℕ) (answers : List rules.Answer) (after : Sheets) : Type 0 where
+  pub answers-are : after .answers ≡ sets (before .answers) (6 * i) (allBytes answerBytes (map numbers answers))
+  pub reasons-are : after .reasons ≡ sets (before .reasons) i (map reasonOf answers)
+  pub origins-are : after .origins ≡ sets (before .origins) (2 * i) (allBytes originBytes (map originOf answers))
 
 -- ---- the records
 
--- these commands were done: the lists hold the cabinet that they leave, and their answers and reasons are written to the buffers' front
-pub record Played (t : Table) (commands : List Command) (s : Store) (entries : List Entry) (before after : Sheets) : Type 0 where
-  pub holds : Holds t s entries (runFrom t (started t) commands .cabinet)
-  pub answers-are : after .answers ≡ written (allBytes answerBytes (map numbers (runFrom t (started t) commands .answers))) (before .answers)
-  pub reasons-are : after .reasons ≡ written (map reasonOf (runFrom t (started t) commands .answers)) (before .reasons)
+-- those of a schedule from number i on, before number j
+abbrev pub between : List ℕ → ℕ → ℕ → List Command
+between schedule i j = take (j - i) (drop i (decodeSchedule schedule))
 
--- a schedule's commands are done on lists that hold the cabinet that a table gives, and the plan is the table's
-pub record Suited (t : Table) (l : Plan) (schedule : List ℕ) (records : ℕ) (s : Store) (entries : List Entry) : Type 0 where
-  pub accepted : Accepted t
+-- lists that hold a cabinet that commands reach on a table, whose the plan is
+pub record Suited (t : Table) (l : Plan) (c : Cabinet) (s : Store) (entries : List Entry) : Type 0 where
+  pub reached : Reachable t c
   pub planned : Planned t l
-  pub records-is : records ≡ length (decodeSchedule schedule)
-  pub starts : Holds t s entries (started t)
+  pub holds : Holds t s entries c
 
--- the first i of them
-pub record Playing (l : Plan) (schedule : List ℕ) (records : ℕ) (s₀ : Store) (entries₀ : List Entry) (sheets₀ : Sheets)
-    (i : ℕ) (s : Store) (entries : List Entry) (sheets : Sheets) : Type 0 where
-  pub no-more : i ≤ records
-  pub answers-long : length (sheets .answers) ≡ length (sheets₀ .answers)
-  pub reasons-long : length (sheets .reasons) ≡ length (sheets₀ .reasons)
-  pub played : (t : Table) → Suited t l schedule records s₀ entries₀ → Played t (take i (decodeSchedule schedule)) s entries sheets₀ sheets
+-- These commands were done from cabinet c on: the lists hold the cabinet that they leave, and what they answer is written at the places of the
+-- records from number i on.
+pub record Played (t : Table) (c : Cabinet) (commands : List Command) (s : Store) (entries : List Entry) (before : Sheets) (i : ℕ)
+    (after : Sheets) : Type 0 where
+  pub holds : Holds t s entries (runFrom t c commands .cabinet)
+  pub wrote : Wrote before i (runFrom t c commands .answers) after
 
--- all of them, whatever entries are left
-pub record Plays (l : Plan) (schedule : List ℕ) (records : ℕ) (s : Store) (sheets : Sheets) (s′ : Store) (sheets′ : Sheets) : Type 0 where
-  pub entries : List Entry
-  pub played : (t : Table) → Suited t l schedule records s (replicate entriesMost blankEntry)
-      → Played t (decodeSchedule schedule) s′ entries sheets sheets′
+-- The records of a stretch, on lists s that are then s′. r is what is left of it: its `from` is the first record that was not played.
+pub record Plays (l : Plan) (schedule : List ℕ) (stretch : Stretch) (s : Store) (before : Sheets) (r : Stretch) (s′ : Store) (after : Sheets)
+    : Type 0 where
+  -- it goes forward, no further than it was asked to and than the schedule does,
+  pub forward : stretch .from ≤ r .from
+  pub inside : stretch .from ≤ stretch .to → r .from ≤ stretch .to
+  pub there : stretch .from ≤ commandsIn schedule → r .from ≤ commandsIn schedule
+  -- and ends at one of the two
+  pub ended : r .from < stretch .to → r .from < commandsIn schedule → ⊥
+  pub same-to : r .to ≡ stretch .to
+  -- what was played, from any cabinet that commands reach
+  pub played : (t : Table) (c : Cabinet) → Suited t l c s (stretch .entries)
+      → Played t c (between schedule (stretch .from) (r .from)) s′ (r .entries) before (stretch .from) after

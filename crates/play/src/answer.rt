@@ -1,10 +1,15 @@
-// Answers in bytes: "One six-byte answer a record: code, a, word.", and why (W-206): "one byte a record: the answer's code times 4, plus a
-// cause". That the buffers have room for all records is asked once, before the first.
+// Answers in bytes: "One six-byte answer a record: code, a, word."; why (W-206): "one byte a record: the answer's code times 4, plus a
+// cause"; and where its word comes from (W-212): "two bytes a record: sender and place". That the buffers have room for all records is asked
+// once, before the first.
 ghost use mathlib.Core.Path.{_≡_};
 ghost use Prim.Native.Nat.{_+_, _*_, _≤_, _<_};
 ghost use lib.ListN.{length, set};
 ghost use lib.Seq.{sets};
+ghost use Rattle.rules.specs.Run.{originBytes};
+ghost use Rattle.bus.specs.Origins.{originIn};
 ghost use Rattle.play.specs.Written.{sixBytes, reasonByte};
+use bus::origin::Origin;
+use records::store::put_six;
 use state::moved::Answer;
 use words::low_byte;
 
@@ -13,13 +18,7 @@ pub fn put(answers: &mut [u8], i: usize, r: Answer)
     requires { ⌜ 6 * i + 6 ≤ length (now answers) ⌝ }
     ensures { λ _. ⌜ now (answers .exit) ≡ sets (now (answers .entry)) (6 * i) (sixBytes r) ⌝ }
 {
-    let at = 6 * i;
-    answers[at] = low_byte(r.code);
-    answers[at + 1] = low_byte(r.a);
-    answers[at + 2] = low_byte(r.word / 16777216);
-    answers[at + 3] = low_byte(r.word / 65536);
-    answers[at + 4] = low_byte(r.word / 256);
-    answers[at + 5] = low_byte(r.word);
+    put_six(answers, 6 * i, low_byte(r.code), low_byte(r.a), r.word);
 }
 
 // A code is below 64, and a cause below 4.
@@ -35,4 +34,14 @@ pub fn put_reason(reasons: &mut [u8], i: usize, code: u32, cause: u32)
     ensures { λ _. ⌜ now (reasons .exit) ≡ set (now (reasons .entry)) i (reasonByte code cause) ⌝ }
 {
     reasons[i] = reason(code, cause);
+}
+
+// The i-th origin of a buffer.
+pub fn put_origin(origins: &mut [u8], i: usize, o: Origin)
+    requires { ⌜ 2 * i + 2 ≤ length (now origins) ⌝ }
+    ensures { λ _. ⌜ now (origins .exit) ≡ sets (now (origins .entry)) (2 * i) (originBytes (originIn o)) ⌝ }
+{
+    let at = 2 * i;
+    origins[at] = o.sender;
+    origins[at + 1] = o.place;
 }

@@ -1,23 +1,18 @@
--- A schedule judged test by test, and a run judged number by number.
-use mathlib.Core.Path.{_≡_, refl, ap, ap₂, sym, _∙_}
-use mathlib.Core.Bool.{Bool, true, false, cond, _&&_}
+-- A schedule judged test by test.
+use mathlib.Core.Path.{_≡_, ap, sym, _∙_}
+use mathlib.Core.Bool.{Bool, true, false, cond}
 use mathlib.Core.List.{List}
-use Prim.Native.Nat.{ℕ, _+_, _*_, _/_, _≤_, _<_}
+use Prim.Native.Nat.{ℕ, _+_, _*_, _≤_, _<_}
 use native.Mathlib.Omega.{arith}
 use lib.Dec.{eqb, leb}
 use lib.ListN.{length}
 use borrow.Author.Tests.{le-leb, lt-leb, eq-eqb, ne-eqb}
-use Rattle.facts.specs.Tests.{and-both, by-eq}
+use Rattle.facts.specs.Tests.{and-both}
 use Rattle.facts.specs.Ranges.{and-fails}
-use Rattle.rules.specs.Format.{lengthField, versionIn, orNumber, processesIn, validateTable}
+use Rattle.rules.specs.Format.{lengthField, versionIn, orNumber}
 use Rattle.rules.specs.Schedule.{commandsMost, commandsIn, scheduleOk, validateSchedule}
-use Rattle.rules.specs.Run.{validateRun}
-use Rattle.rules.specs.Run as run
-use Rattle.records.specs.Commands.{ScheduleJudged, lengthsIn, judgedRun}
+use Rattle.records.specs.Commands.{ScheduleJudged}
 use Rattle.records.specs.declared.schedule.Judged.{Judged}
-use Rattle.records.specs.declared.schedule.Lengths.{Lengths}
-
--- ---- a schedule
 
 module _ (bytes : List ℕ) where
   -- what all four tests ask
@@ -77,83 +72,3 @@ module _ (bytes : List ℕ) (r : Judged) where
 
   pub accepted-0 : Whole bytes → versionIn bytes ≡ 1 → r .number ≡ 0 → r .records ≡ commandsIn bytes → ScheduleJudged bytes r
   accepted-0 w h e f = judged-as 0 (passes bytes w ∙ ap (λ (test : Bool). orNumber test 10 0) (eq-eqb (versionIn bytes) 1 h)) e f
-
--- ---- a run
-
--- the numbers in order, from those of the table and of the schedule and the tests of the buffers for the records and of the report's
-abbrev inOrder : ℕ → ℕ → Bool → Bool → ℕ
-inOrder table schedule answers report =
-    orNumber (eqb table 0) table (orNumber (eqb schedule 0) schedule (orNumber answers 11 (orNumber report 12 0)))
-
--- the buffers have room for so many records
-abbrev room : ℕ → run.Lengths → Bool
-room records lengths = leb (6 * records) (lengths .answers) && leb records (lengths .reasons)
-
-table-first : (table schedule : ℕ) (answers report : Bool) → (table ≡ 0 → ⊥) → table ≡ inOrder table schedule answers report
-table-first table schedule answers report h = rw (ne-eqb table 0 h)
-
-schedule-next : (table schedule : ℕ) (answers report : Bool) → table ≡ 0 → (schedule ≡ 0 → ⊥) → schedule ≡ inOrder table schedule answers report
-schedule-next table schedule answers report e h = rw (eq-eqb table 0 e, ne-eqb schedule 0 h)
-
-module _ (number processes : ℕ) (judged : Judged) (lengths : Lengths) where
-  pub run-table : (number ≡ 0 → ⊥) → number ≡ judgedRun number processes judged lengths
-  unfolding judgedRun
-  run-table h = table-first number (judged .number) (room (judged .records) (lengthsIn lengths)) (leb (20 * processes) (lengths .report)) h
-
-  pub run-schedule : number ≡ 0 → (judged .number ≡ 0 → ⊥) → judged .number ≡ judgedRun number processes judged lengths
-  unfolding judgedRun
-  run-schedule e h = schedule-next number (judged .number) (room (judged .records) (lengthsIn lengths)) (leb (20 * processes) (lengths .report)) e h
-
-  module _ (e : number ≡ 0) (f : judged .number ≡ 0) where
-    pub run-answers : lengths .answers / 6 < judged .records → 11 ≡ judgedRun number processes judged lengths
-    unfolding judgedRun
-    run-answers h = rw (eq-eqb number 0 e, eq-eqb (judged .number) 0 f, lt-leb (6 * judged .records) (lengths .answers) (omega arith))
-
-    pub run-reasons : judged .records ≤ lengths .answers / 6 → lengths .reasons < judged .records → 11 ≡ judgedRun number processes judged lengths
-    unfolding judgedRun
-    run-reasons g h =
-        rw (eq-eqb number 0 e, eq-eqb (judged .number) 0 f, le-leb (6 * judged .records) (lengths .answers) (omega arith), lt-leb (judged .records) (lengths .reasons) h)
-
-    module _ (g : judged .records ≤ lengths .answers / 6) (g′ : judged .records ≤ lengths .reasons) where
-      enough : room (judged .records) (lengthsIn lengths) ≡ true
-      enough =
-          and-both (leb (6 * judged .records) (lengths .answers)) _ (le-leb (6 * judged .records) (lengths .answers) (omega arith))
-          (le-leb (judged .records) (lengths .reasons) g′)
-
-      pub run-report : lengths .report / 20 < processes → 12 ≡ judgedRun number processes judged lengths
-      unfolding judgedRun
-      run-report h = rw (eq-eqb number 0 e, eq-eqb (judged .number) 0 f, enough, lt-leb (20 * processes) (lengths .report) (omega arith))
-
-      pub run-accepted : processes ≤ lengths .report / 20 → 0 ≡ judgedRun number processes judged lengths
-      unfolding judgedRun
-      run-accepted h = rw (eq-eqb number 0 e, eq-eqb (judged .number) 0 f, enough, le-leb (20 * processes) (lengths .report) (omega arith))
-
--- ---- of a table and a schedule that were judged it is the rules' number
-
-in-order : (table schedule : List ℕ) (lengths : run.Lengths)
-    → inOrder (validateTable table) (validateSchedule schedule) (room (commandsIn schedule) lengths) (leb (20 * processesIn table) (lengths .report))
-    ≡ validateRun table schedule lengths
-unfolding validateRun
-in-order table schedule lengths = refl
-
--- where both numbers are 0 the two tests agree; where one isn't they don't matter
-same-order : (table schedule : ℕ) (a b c d : Bool) → (table ≡ 0 → schedule ≡ 0 → (a ≡ c) × (b ≡ d)) → inOrder table schedule a b ≡ inOrder table schedule c d
-same-order table schedule a b c d h =
-    by-eq table 0
-    (λ e. by-eq schedule 0
-    (λ f. let g = h e f in ap₂ (inOrder table schedule) (g .0) (g .1))
-    (λ n. sym (schedule-next table schedule a b e n) ∙ schedule-next table schedule c d e n))
-    (λ n. sym (table-first table schedule a b n) ∙ table-first table schedule c d n)
-
-pub run-is : (table schedule : List ℕ) (lengths : Lengths) (number processes : ℕ) (judged : Judged)
-    → number ≡ validateTable table → (number ≡ 0 → processes ≡ processesIn table) → ScheduleJudged schedule judged
-    → judgedRun number processes judged lengths ≡ validateRun table schedule (lengthsIn lengths)
-unfolding judgedRun
-run-is table schedule lengths number processes judged e f j =
-    same-order number (judged .number) _ _ (room (commandsIn schedule) (lengthsIn lengths)) (leb (20 * processesIn table) (lengths .report))
-    (λ z y. (
-      ap (λ (n : ℕ). room n (lengthsIn lengths)) (j .records-is ∙ ap (λ (x : ℕ). cond (eqb x 0) (commandsIn schedule) 0) (sym (j .number-is) ∙ y)),
-      ap (λ (p : ℕ). leb (20 * p) (lengths .report)) (f z),
-    ))
-    ∙ ap₂ (λ (x y : ℕ). inOrder x y (room (commandsIn schedule) (lengthsIn lengths)) (leb (20 * processesIn table) (lengths .report))) e (j .number-is)
-    ∙ in-order table schedule (lengthsIn lengths)

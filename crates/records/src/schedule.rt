@@ -1,7 +1,7 @@
-// A schedule's bytes: numbers 9 and 10, and its commands; then the numbers of a whole run.
+// A schedule's bytes: numbers 9 and 10, and its commands.
 ghost use mathlib.Core.Path.{_≡_};
 ghost use Rattle.rules.specs.Schedule.{decodeSchedule, command};
-ghost use Rattle.records.specs.Commands.{commandOf, ScheduleJudged, judgedRun};
+ghost use Rattle.records.specs.Commands.{commandOf, ScheduleJudged};
 ghost use lib.ListN.{getD};
 use crate::head::VERSION;
 use crate::six::six_of;
@@ -25,13 +25,6 @@ pub struct Command {
     pub mv: u8,
     pub a: u8,
     pub word: u32,
-}
-
-// How long the lent buffers are.
-pub struct Lengths {
-    pub answers: usize,
-    pub reasons: usize,
-    pub report: usize,
 }
 
 fn refused(number: u8) -> Judged
@@ -83,33 +76,4 @@ pub fn command_at(schedule: &[u8], i: usize) -> Command
         a: s.second,
         word: s.word,
     }
-}
-
-// 0, or the number that refuses a run, lowest first: those of the table, those of the schedule, then
-// "11 answer buffer under six bytes a record; 12 report buffer under 20 bytes a process"; W-206: 11 also for a buffer of reasons under one
-// byte a record.
-pub fn judge_run(table_number: u8, processes: usize, schedule: Judged, lengths: Lengths) -> u8
-    ensures { λ r. ⌜ r ≡ judgedRun «table_number» processes schedule lengths ⌝ }
-{
-    let schedule_number = schedule.number;
-    let records = schedule.records;
-    let answers = lengths.answers;
-    let reasons = lengths.reasons;
-    let report = lengths.report;
-    if table_number != 0 {
-        return table_number;
-    }
-    if schedule_number != 0 {
-        return schedule_number;
-    }
-    if answers / 6 < records {
-        return 11;
-    }
-    if reasons < records {
-        return 11;
-    }
-    if report / 20 < processes {
-        return 12;
-    }
-    0
 }

@@ -8,7 +8,7 @@ use native.Mathlib.Omega.{arith}
 use lib.Dec.{eqb, ltb}
 use lib.ListN.{length, getD, set, length-set}
 use lib.Seq.{set-getD}
-use borrow.Author.Tests.{lt-ltb, eq-eqb, ne-eqb, le-leb, lt-leb}
+use borrow.Author.Tests.{eq-eqb, ne-eqb, le-leb, lt-leb}
 use Rattle.facts.specs.Tests.{by-eq, anyBelow, any-same}
 use Rattle.facts.specs.Counts.{cond-more}
 use Rattle.facts.specs.Lists.{listed}
@@ -29,7 +29,7 @@ use Rattle.state.specs.declared.entry.Entry.{Entry}
 use Rattle.state.specs.declared.moved.Moved.{Moved}
 use Rattle.state.specs.Queue.{countIn, placeOf, pushedIn}
 use Rattle.state.specs.Store.{Store, storeOf, Totalled, Holds, processIn}
-use Rattle.state.specs.Moved.{Reachable, Answered, joined, refusedWith, answerOf, movedOf}
+use Rattle.state.specs.Moved.{Reachable, Answered, refusedWith, answerOf, movedOf}
 use Rattle.state.proofs.Reading.{at-process, at-dead, how-many}
 use Rattle.state.proofs.Reaching.{bounds}
 use Rattle.state.proofs.Ends.{read-inside}
@@ -39,6 +39,7 @@ use Rattle.state.proofs.Changing.{changed}
 use Rattle.state.proofs.Flagging.{withFlag}
 use Rattle.state.proofs.Joining.{is-protected, board-is, board-there, queue-has, waits-on, waits-off, Waiter, waiter-joins}
 use Rattle.state.proofs.Refusing.{turned-away, makes-refused}
+use Rattle.state.proofs.Making.{its-index, its-board, answered, makes-joined}
 use Rattle.rejoin.specs.Rebackups.{channelIn, crowdedOn, transferEntry, Rebackups}
 
 -- ---- what the lists of a process say
@@ -233,7 +234,7 @@ module _ (programs wires : List ℕ) (rows mails logs heads queues : List (List 
   -- of a process of the table the clamped number is the number
   at-index : {t : Table} {c : Cabinet} → Reachable t c → a < length (t .processes) → (P : ℕ → Type 0) → (p < length (t .processes) → P p) → P a
   at-index reach ha P given =
-      let e : p ≡ a = is-p (let z = reach .accepted .processes-high in omega arith) in
+      let e = its-index reach ha is-p in
       subst P e (given (rw e ha))
 
   -- where the rules refuse every cabinet that the lists hold
@@ -254,7 +255,7 @@ module _ (programs wires : List ℕ) (rows mails logs heads queues : List (List 
     -- of lists that hold a cabinet the clamped board is the other board
     the-other : {t : Table} {l : Plan} {entries : List Entry} {c : Cabinet} → Reachable t c → Planned t l → Holds t before entries c → p < length (t .processes)
         → o ≡ standbyBoardIn (getD rows p [])
-    the-other reach plan h hp = is-o (let z = other-there reach plan h p hp in let y = reach .accepted .boards-high in omega arith)
+    the-other reach plan h hp = its-board reach (other-there reach plan h p hp) is-o
 
     pub rebackups-50-dead : getD (getD queues o []) 2 0 ≢ 0 → r ≡ refusedWith 50 0 a → Same
     unfolding refusalNumber refusalCause
@@ -286,7 +287,7 @@ module _ (programs wires : List ℕ) (rows mails logs heads queues : List (List 
           module _ (none : waitsIn (getD rows p []) ≡ 0) (b : ℕ) (is-b : boardIn (getD rows p []) < 16 → b ≡ boardIn (getD rows p [])) where
             the-board : {t : Table} {entries : List Entry} {c : Cabinet} → Reachable t c → Holds t before entries c → p < length (t .processes)
                 → b ≡ boardIn (getD rows p [])
-            the-board reach h hp = is-b (let z = board-there reach h p hp in let y = reach .accepted .boards-high in omega arith)
+            the-board reach h hp = its-board reach (board-there reach h p hp) is-b
 
             pub rebackups-38 : outboxMost ≤ countIn queues b → r ≡ refusedWith 38 3 a → Same
             unfolding refusalNumber refusalCause
@@ -299,25 +300,21 @@ module _ (programs wires : List ℕ) (rows mails logs heads queues : List (List 
                 → Rebackups programs wires rows mails logs heads queues totals a
                 (set (withFlag rows p 1) p row′) (set logs p log′) (set heads p head′) (set queues b queue) r
             unfolding numbers causeOf
-            rebackups-done row′ log′ head′ queue at room rebacks is-queue below is-at e table counts = rw e (record {
-              made = λ t entries c command reach plan h f ha.
-                  let after : Store = storeOf (set (withFlag rows p 1) p row′) mails (set logs p log′) (set heads p head′) (set queues b queue) totals in
-                  at-index reach ha (λ i. Answered t after (joined entries at (transferEntry i)) c command (rebackup t c i) (answerOf 0 3 0 0)) (λ hp.
-                  let its = the-board reach h hp in
-                  let room′ : countIn queues (boardIn (getD rows p [])) < outboxMost = rw (← its) room in
-                  rw (accepted-so reach plan h p hp bare (alive-there reach plan h hp) free (sym is-found ∙ few) none room′) (record {
-                    answer-is = refl;
-                    cause-is = refl;
-                    holds = rw (lt-ltb at 512 below, is-queue, is-at, its, board-is reach h p hp) (rebackup-holds reach plan h p hp room′ row′ log′ head′ rebacks);
-                  }));
-              untouched = λ many. absurd (omega arith);
-              none-joins = λ n. absurd (n refl);
-              same-lengths = record {
-                rows-same = simp length-set;
-                mails-same = refl;
-                logs-same = length-set logs p log′;
-                heads-same = length-set heads p head′;
-                queues-same = length-set queues b queue;
-                totals-same = refl;
-              };
-            })
+            rebackups-done row′ log′ head′ queue at room rebacks is-queue below is-at e table counts =
+                makes-joined (answerOf 0 3 0 0) (omega arith)
+                (record {
+                  rows-same = simp length-set;
+                  mails-same = refl;
+                  logs-same = length-set logs p log′;
+                  heads-same = length-set heads p head′;
+                  queues-same = length-set queues b queue;
+                  totals-same = refl;
+                })
+                at below refl e
+                (λ t entries c command reach plan h f ha.
+                let after : Store = storeOf (set (withFlag rows p 1) p row′) mails (set logs p log′) (set heads p head′) (set queues b queue) totals in
+                at-index reach ha (λ i. Answered t after (set entries at (transferEntry i)) c command (rebackup t c i) (answerOf 0 3 0 0)) (λ hp.
+                let its = the-board reach h hp in
+                let room′ : countIn queues (boardIn (getD rows p [])) < outboxMost = rw (← its) room in
+                answered _ rebackupDone (accepted-so reach plan h p hp bare (alive-there reach plan h hp) free (sym is-found ∙ few) none room′) refl refl
+                (rw (is-queue, is-at, its, board-is reach h p hp) (rebackup-holds reach plan h p hp room′ row′ log′ head′ rebacks))))

@@ -16,13 +16,15 @@ use Rattle.rules.specs.Reasons.{refusalCause, causeOf}
 use Rattle.rules.proofs.Guards.{rejoinedBy}
 use Rattle.state.specs.declared.entry.Entry.{Entry}
 use Rattle.state.specs.declared.moved.Answer.{Answer}
+use Rattle.state.specs.Queue.{resetIn}
 use Rattle.state.specs.Store.{Store, storeOf, Totalled, Holds, flag}
 use Rattle.state.specs.Moved.{Reachable, aloneOf, refusalOf, answerOf}
 use Rattle.state.proofs.Reading.{at-dead}
 use Rattle.state.proofs.Refusing.{turned-away, makes-refused}
+use Rattle.state.proofs.Making.{its-board, answered, lengths, makes-alone}
 use Rattle.state.proofs.Boards.{Boarded, boards-emptied}
 use Rattle.state.proofs.Owners.{dead-empty}
-use Rattle.rejoin.specs.Rejoins.{liveRow, Rejoins}
+use Rattle.rejoin.specs.Rejoins.{Rejoins}
 
 module _ {t : Table} {s : Store} {entries : List Entry} {c : Cabinet} (reach : Reachable t c) (h : Holds t s entries c) (b : ℕ) (hb : b < t .boards) where
   abbrev dead : ℕ
@@ -52,7 +54,7 @@ module _ {t : Table} {s : Store} {entries : List Entry} {c : Cabinet} (reach : R
     }
 
     abbrev queues′ : List (List ℕ)
-    queues′ = set (s .queues) b (liveRow (getD (s .queues) b []))
+    queues′ = set (s .queues) b (resetIn (getD (s .queues) b []) 0)
 
     boards : Boarded t queues′ entries (set (c .outboxes) b []) (set (c .dead) b false)
     boards = boards-emptied h (reach .accepted .boards-high) b hb 0
@@ -82,32 +84,19 @@ module _ {t : Table} {s : Store} {entries : List Entry} {c : Cabinet} (reach : R
 -- ---- what the move promises
 
 module _ (queues : List (List ℕ)) (a b : ℕ) (is-b : a < 16 → b ≡ a) where
-  its-board : {t : Table} {c : Cabinet} → Reachable t c → a < t .boards → b ≡ a
-  its-board reach ha = is-b (let z = reach .accepted .boards-high in omega arith)
-
   pub rejoins-48 : (r : Answer) → getD (getD queues b []) 2 0 ≡ 0 → r ≡ refusalOf 48 0 a → Rejoins queues a queues r
   unfolding refusalNumber refusalCause
   rejoins-48 r z e l rows mails logs heads totals = makes-refused 48 0 (ap aloneOf e) (λ t entries c command reach plan h f ha.
-      turned-away command a boardLive h (refused-48 reach h a ha (subst (λ (i : ℕ). getD (getD queues i []) 2 0 ≡ 0) (its-board reach ha) z)) f refl)
+      turned-away command a boardLive h (refused-48 reach h a ha (subst (λ (i : ℕ). getD (getD queues i []) 2 0 ≡ 0) (its-board reach ha is-b) z)) f refl)
 
-  pub rejoins-done : (queue : List ℕ) → getD (getD queues b []) 2 0 ≢ 0 → queue ≡ liveRow (getD queues b [])
+  pub rejoins-done : (queue : List ℕ) → getD (getD queues b []) 2 0 ≢ 0 → queue ≡ resetIn (getD queues b []) 0
       → Rejoins queues a (set queues b queue) (answerOf 0 3 0 0)
   unfolding numbers causeOf
-  rejoins-done queue n is-queue l rows mails logs heads totals = record {
-    made = λ t entries c command reach plan h f ha.
-        let its = its-board reach ha in
-        let dead : getD (getD queues a []) 2 0 ≢ 0 = subst (λ (i : ℕ). getD (getD queues i []) 2 0 ≢ 0) its n in
-        let queues-are : set queues b queue ≡ set queues a (liveRow (getD queues a [])) =
-        ap (set queues b) is-queue ∙ ap (λ (i : ℕ). set queues i (liveRow (getD queues i []))) its in
-        rw (accepted-so reach h a ha dead) (record { answer-is = refl; cause-is = refl; holds = rw queues-are (rejoin-holds reach h a ha dead) });
-    untouched = λ many. absurd (omega arith);
-    none-joins = λ _. omega arith;
-    same-lengths = record {
-      rows-same = refl;
-      mails-same = refl;
-      logs-same = refl;
-      heads-same = refl;
-      queues-same = length-set queues b queue;
-      totals-same = refl;
-    };
-  }
+  rejoins-done queue n is-queue l rows mails logs heads totals =
+      makes-alone (answerOf 0 3 0 0) (omega arith) (lengths refl refl (length-set queues b queue) refl) refl
+      (λ t entries c command reach plan h f ha.
+      let its = its-board reach ha is-b in
+      let dead : getD (getD queues a []) 2 0 ≢ 0 = subst (λ (i : ℕ). getD (getD queues i []) 2 0 ≢ 0) its n in
+      let queues-are : set queues b queue ≡ set queues a (resetIn (getD queues a []) 0) =
+      ap (set queues b) is-queue ∙ ap (λ (i : ℕ). set queues i (resetIn (getD queues i []) 0)) its in
+      answered _ rejoinDone (accepted-so reach h a ha dead) refl refl (rw queues-are (rejoin-holds reach h a ha dead)))

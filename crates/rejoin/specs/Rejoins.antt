@@ -1,16 +1,11 @@
 -- Move 6 (document 02, W-210: "Move 6 returns board a with an empty queue; nothing runs there yet").
 use mathlib.Core.List.{List}
 use Prim.Native.Nat.{ℕ}
-use lib.ListN.{set}
 use Rattle.plan.specs.Plan.{Plan}
 use Rattle.rules.specs.Moves.{rejoin}
 use Rattle.state.specs.declared.moved.Answer.{Answer}
 use Rattle.state.specs.Store.{storeOf}
 use Rattle.state.specs.Moved.{MakesAlone, aBoard}
-
--- a board's row once it is back
-abbrev pub liveRow : List ℕ → List ℕ
-liveRow queue = set (set queue 1 0) 2 0
 
 -- whatever the plan and the lists are that it isn't lent
 abbrev pub Rejoins : List (List ℕ) → ℕ → List (List ℕ) → Answer → Type 0

@@ -1,21 +1,12 @@
 // Move 6: "Move 6 returns board a with an empty queue; nothing runs there yet." "48, a return of a live board, after 33".
-ghost use mathlib.Core.Path.{_≡_};
-ghost use Rattle.rejoin.specs.Rejoins.{liveRow, Rejoins};
+ghost use Rattle.rejoin.specs.Rejoins.{Rejoins};
 use plan::BOARDS;
 use state::moved::Answer;
 use state::moved::refusal;
-use state::queue::COUNT;
 use state::queue::DEAD;
 use state::queue::QUEUE_ROW;
+use state::queue::revive;
 use words::index16;
-
-// A board's row once it is back: no entry waits.
-fn revive(queue: &mut [u32; QUEUE_ROW])
-    ensures { λ _. ⌜ now (queue .exit) ≡ liveRow (now (queue .entry)) ⌝ }
-{
-    queue[COUNT] = 0;
-    queue[DEAD] = 0;
-}
 
 pub fn rejoin(queues: &mut [[u32; QUEUE_ROW]; BOARDS], a: u32) -> Answer
     ensures { λ r. ⌜ Rejoins (now (queues .entry)) a (now (queues .exit)) r ⌝ }

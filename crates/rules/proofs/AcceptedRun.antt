@@ -10,18 +10,18 @@ use borrow.Author.Tests.{eqb-true, eqb-false, leb-true}
 use Rattle.facts.specs.Tests.{and-left, and-right}
 use Rattle.rules.specs.Table.{Table}
 use Rattle.rules.specs.Cabinet.{Cabinet, started, quiescent}
-use Rattle.rules.specs.Moves.{Command, numbers, turn, runFrom}
+use Rattle.rules.specs.Moves.{Command, numbers, originOf, turn, runFrom}
 use Rattle.rules.specs.Reasons.{reasonOf}
 use Rattle.rules.specs.Judge.{Accepted}
-use Rattle.rules.specs.Transparent.{answered, finished, ListTransparent}
+use Rattle.rules.specs.Transparent.{answered, originated, finished, ListTransparent}
 use Rattle.rules.specs.Format.{orNumber, processesIn, decodeTable, validateTable}
 use Rattle.rules.specs.Schedule.{commandsIn, decodeSchedule, validateSchedule}
 use Rattle.rules.specs.Run.{Buffers, lengthsOf, validateRun, ranFrom, refusedWith, run, accepted}
-use Rattle.rules.specs.Transparency.{answersIn, reasonsIn, FailureTransparency}
+use Rattle.rules.specs.Transparency.{answersIn, reasonsIn, originsIn, FailureTransparency}
 use Rattle.rules.proofs.Valid.{test-passed, further-passed, decoded-accepted}
-use Rattle.rules.proofs.ReadBack.{answers-back}
+use Rattle.rules.proofs.ReadBack.{answers-back, origins-back}
 
--- ---- accepted is the number 0, of all twelve
+-- ---- accepted is the number 0, of all of them
 
 number-zero : (number : ℕ) (t : Table) (commands : List Command) (buffers : Buffers)
     → eqb (cond (eqb number 0) (ranFrom t commands buffers) (refusedWith number buffers) .number) 0 ≡ true
@@ -50,6 +50,9 @@ one-answer-each t c (r ∷ rs) = ap suc (one-answer-each t (turn t c r .cabinet)
 pub answered-length : (t : Table) (commands : List Command) → length (answered t commands) ≡ length commands
 answered-length t commands = length-map (runFrom t (started t) commands .answers) numbers ∙ one-answer-each t (started t) commands
 
+pub originated-length : (t : Table) (commands : List Command) → length (originated t commands) ≡ length commands
+originated-length t commands = length-map (runFrom t (started t) commands .answers) originOf ∙ one-answer-each t (started t) commands
+
 module _ (table schedule : List ℕ) (buffers : Buffers) (h : accepted table schedule buffers ≡ true) where
   pub run-valid : validateRun table schedule (lengthsOf buffers) ≡ 0
   unfolding accepted
@@ -70,15 +73,19 @@ module _ (table schedule : List ℕ) (buffers : Buffers) (h : accepted table sch
   unfolding validateRun
   schedule-valid = number-passed (validateSchedule schedule) _ (number-passed (validateTable table) _ run-valid .1) .0
 
-  -- what numbers 11, of two buffers, and 12 ask
+  -- what numbers 11, of two buffers, 12 and 51 ask
   room-tested : ((leb (6 * commandsIn schedule) (length (buffers .answers)) && leb (commandsIn schedule) (length (buffers .reasons))) ≡ true)
       × (leb (20 * processesIn table) (length (buffers .report)) ≡ true)
+      × (leb (2 * commandsIn schedule) (length (buffers .origins)) ≡ true)
   unfolding validateRun
   room-tested =
       let eleven = leb (6 * commandsIn schedule) (length (buffers .answers)) && leb (commandsIn schedule) (length (buffers .reasons)) in
       let twelve = leb (20 * processesIn table) (length (buffers .report)) in
+      let fifty-one = leb (2 * commandsIn schedule) (length (buffers .origins)) in
       let both = number-passed (validateSchedule schedule) _ (number-passed (validateTable table) _ run-valid .1) .1 in
-      (test-passed eleven 10 _ both, test-passed twelve 11 _ (further-passed eleven 10 _ both))
+      let after-eleven = further-passed eleven 10 _ both in
+      let after-twelve = further-passed twelve 11 _ after-eleven in
+      (test-passed eleven 10 _ both, test-passed twelve 11 _ after-eleven, test-passed fifty-one 50 _ after-twelve)
 
   pub answers-fit : 6 * commandsIn schedule ≤ length (buffers .answers)
   answers-fit = leb-true _ _ (and-left (leb (6 * commandsIn schedule) (length (buffers .answers))) _ (room-tested .0))
@@ -89,6 +96,9 @@ module _ (table schedule : List ℕ) (buffers : Buffers) (h : accepted table sch
   pub report-fits : 20 * processesIn table ≤ length (buffers .report)
   report-fits = leb-true _ _ (room-tested .1)
 
+  pub origins-fit : 2 * commandsIn schedule ≤ length (buffers .origins)
+  origins-fit = leb-true _ _ (room-tested .2)
+
   -- ---- the answers, read out of the buffer
 
   pub answers-read : answersIn (run table schedule buffers) ≡ answered (decodeTable table) (decodeSchedule schedule)
@@ -97,6 +107,14 @@ module _ (table schedule : List ℕ) (buffers : Buffers) (h : accepted table sch
       let t = decodeTable table in
       let commands = decodeSchedule schedule in
       rw (run-is, ← answered-length t commands) (answers-back (answered t commands) _)
+
+  -- the origins, read out of theirs
+  pub origins-read : originsIn (run table schedule buffers) ≡ originated (decodeTable table) (decodeSchedule schedule)
+  unfolding ranFrom
+  origins-read =
+      let t = decodeTable table in
+      let commands = decodeSchedule schedule in
+      rw (run-is, ← originated-length t commands) (origins-back (originated t commands) _)
 
   -- the reasons, read out of theirs
   pub reasons-read : reasonsIn (run table schedule buffers)
@@ -120,7 +138,7 @@ module _ (table schedule : List ℕ) (buffers : Buffers) (h : accepted table sch
     end = x .end;
     ran = x .ran;
     injected = rw answers-read (x .injected);
-    same-trace = rw answers-read (x .same-trace);
+    same-trace = rw (answers-read, origins-read) (x .same-trace);
     same-end = λ q. x .same-end (sym quiet-is ∙ q);
     no-step = λ q. x .no-step (sym quiet-is ∙ q);
   }

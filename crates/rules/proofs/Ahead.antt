@@ -1,7 +1,7 @@
 -- What lies between the reference machine of a process and its running machine: local steps whose sends and checkpoints are, in order,
 -- the process's own items of its board's outbox. The reference machine lags behind: it is stepped only when a word of the process is
 -- transmitted (up to exactly that SEND), when its checkpoint is transmitted (up to the snapshot), and at a quiet end.
-use mathlib.Core.Path.{_≡_, ap, sym, _∙_}
+use mathlib.Core.Path.{_≡_, refl, ap, sym, _∙_}
 use mathlib.Core.Bool.{false}
 use mathlib.Core.List.{List, [], _∷_, _++_, append-assoc, append-nil}
 use Prim.Native.Nat.{ℕ, suc, _+_, _*_, _≤_}
@@ -21,13 +21,13 @@ taken-at t p acts m = checkpoint p (record { pc = m .pc; registers = m .register
 -- how many items are checkpoints or transfers
 abbrev pub checkpoints : List Item → ℕ
 checkpoints [] = 0
-checkpoints (message x ∷ q) = checkpoints q
+checkpoints (message x pc ∷ q) = checkpoints q
 checkpoints (checkpoint p s ∷ q) = suc (checkpoints q)
 checkpoints (transfer p ∷ q) = suc (checkpoints q)
 
 pub checkpoints-append : (q r : List Item) → checkpoints (q ++ r) ≡ checkpoints q + checkpoints r
 checkpoints-append [] r = omega arith
-checkpoints-append (message x ∷ q) r = checkpoints-append q r
+checkpoints-append (message x pc ∷ q) r = checkpoints-append q r
 checkpoints-append (checkpoint p s ∷ q) r = let h = checkpoints-append q r in omega arith
 checkpoints-append (transfer p ∷ q) r = let h = checkpoints-append q r in omega arith
 
@@ -37,7 +37,7 @@ pub data Ahead (t : Table) (p : ℕ) : List Act → Machine → List Item → Li
   silent : {u v : List Act} {m m1 m2 : Machine} {q : List Item} {k : Act} → Steps (codeOf t p) m k m1 → isSend k ≡ false
       → Ahead t p (u ++ (k ∷ [])) m1 q v m2 → Ahead t p u m q v m2
   sending : {u v : List Act} {m m1 m2 : Machine} {q : List Item} {x : Mail} → Steps (codeOf t p) m (sent x) m1
-      → Ahead t p (u ++ (sent x ∷ [])) m1 q v m2 → Ahead t p u m (message x ∷ q) v m2
+      → Ahead t p (u ++ (sent x ∷ [])) m1 q v m2 → Ahead t p u m (message x (m .pc) ∷ q) v m2
   issuing : {u v : List Act} {m m2 : Machine} {q : List Item} → Within (limitOf t p) u → Ahead t p [] m q v m2
       → Ahead t p u m (taken-at t p u m ∷ q) v m2
 
@@ -59,7 +59,7 @@ ahead-silent (sending f r) e h = sending f (ahead-silent r e h)
 ahead-silent (issuing f r) e h = issuing f (ahead-silent r e h)
 
 pub ahead-send : {t : Table} {p : ℕ} {u v : List Act} {a b c : Machine} {q : List Item} {x : Mail} → Ahead t p u a q v b → Steps (codeOf t p) b (sent x) c
-    → Ahead t p u a (q ++ (message x ∷ [])) (v ++ (sent x ∷ [])) c
+    → Ahead t p u a (q ++ (message x (b .pc) ∷ [])) (v ++ (sent x ∷ [])) c
 ahead-send level e = sending e level
 ahead-send (silent f g r) e = silent f g (ahead-send r e)
 ahead-send (sending f r) e = sending f (ahead-send r e)
@@ -74,17 +74,20 @@ ahead-issue (issuing f r) h = issuing f (ahead-issue r h)
 
 -- ---- the left end: what the reference machine does when an item is transmitted
 
-pub record UpToSend (t : Table) (p : ℕ) (u : List Act) (a : Machine) (x : Mail) (q : List Item) (v : List Act) (b : Machine) : Type 0 where
+pub record UpToSend (t : Table) (p : ℕ) (u : List Act) (a : Machine) (x : Mail) (pc : ℕ) (q : List Item) (v : List Act) (b : Machine)
+    : Type 0 where
   pub acts : List Act
   pub mid : Machine
   pub last : Machine
   pub to-mid : Run (codeOf t p) a acts mid
   pub silent-there : Silent acts
   pub sends-it : Steps (codeOf t p) mid (sent x) last
+  -- from the place that the entry names
+  pub from-there : mid .pc ≡ pc
   pub rest : Ahead t p (u ++ (acts ++ (sent x ∷ []))) last q v b
 
-pub up-to-send : {t : Table} {p : ℕ} {u v : List Act} {a b : Machine} {q : List Item} {x : Mail} → Ahead t p u a (message x ∷ q) v b
-    → UpToSend t p u a x q v b
+pub up-to-send : {t : Table} {p : ℕ} {u v : List Act} {a b : Machine} {q : List Item} {x : Mail} {pc : ℕ}
+    → Ahead t p u a (message x pc ∷ q) v b → UpToSend t p u a x pc q v b
 up-to-send {u = u} {x = x} (silent {k = k} e h r) =
     let w = up-to-send r in
     record {
@@ -94,10 +97,11 @@ up-to-send {u = u} {x = x} (silent {k = k} e h r) =
       to-mid = more e (w .to-mid);
       silent-there = (h, w .silent-there);
       sends-it = w .sends-it;
+      from-there = w .from-there;
       rest = rw (← append-assoc u (k ∷ []) (w .acts ++ (sent x ∷ []))) (w .rest);
     }
 up-to-send {a = a} (sending {m1 = m1} e r) =
-    record { acts = []; mid = a; last = m1; to-mid = here; silent-there = tt; sends-it = e; rest = r }
+    record { acts = []; mid = a; last = m1; to-mid = here; silent-there = tt; sends-it = e; from-there = refl; rest = r }
 
 pub record UpToIssue (t : Table) (p : ℕ) (u : List Act) (a : Machine) (item : Item) (q : List Item) (v : List Act) (b : Machine) : Type 0 where
   pub acts : List Act

@@ -148,10 +148,10 @@ module _ {t : Table} (ok : Accepted t) {c : Cabinet} {s : Reference} (inv : Inva
       suppresses = λ _ _ _ _ _ _. same-made (same-standby (r .a) _ refl);
       sends = λ _ _ _ _ _ _ _ _. same-made (same-standby (r .a) _ refl);
       issues = λ _ _ _ _. same-made (same-standby (r .a) _ refl);
-      transmits = λ _ _ mail rest oldest.
+      transmits = λ _ _ mail pc rest oldest.
           let q : ℕ = channelAt t (mail .channel) .sender in
           word-added (set (c .processes) q (counts (processAt c q))) mail (length-set (c .processes) q (counts (processAt c q))) (counted-then mail)
-          (room-here (mail .channel) (room .for-oldest (r .a) mail rest oldest));
+          (room-here (mail .channel) (room .for-oldest (r .a) mail pc rest oldest));
       syncs = λ _ _ q v _ _. landed-then q (droppedFrom v (processAt c q .standby)) (protected (processAt c q)) (same-made (synced-then q v));
       completes = λ _ _ q _ _. completed-then q;
       injects = λ _ outside free. word-added (c .processes) (fedMail r) refl has (room-here (r .a) (room .for-feed (r .a) outside free));

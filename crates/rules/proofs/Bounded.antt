@@ -98,9 +98,10 @@ module _ (t : Table) (ok : Accepted t) (c : Cabinet) (s : Reference) (inv : Inva
           saved = by-backed
               (λ y. mails t p (remaining (processAt c p .since .taken) (remaining (issuedTakes p (outboxAt c (processAt c p .board))) (y .replica .log))) ≡ processAt c p .machine .mailbox)
               (backed-saved t p (few-ports t ok p in-table) (outboxAt c (processAt c p .board)));
-          counts = λ d x rest oldest own. count-number t ok p in-table (b .replica) kept below;
-          arrives = λ d x rest oldest reads.
-              arrives-there (x .channel) reads (roomy t ok c s inv rm .for-oldest d x rest oldest b (of-reader (x .channel) reads)) (eqb (channelAt t (x .channel) .sender) p);
+          counts = λ d x pc rest oldest own. count-number t ok p in-table (b .replica) kept below;
+          arrives = λ d x pc rest oldest reads.
+              arrives-there (x .channel) reads (roomy t ok c s inv rm .for-oldest d x pc rest oldest b (of-reader (x .channel) reads))
+              (eqb (channelAt t (x .channel) .sender) p);
           feeds = λ k outside reads free. arrives-there k reads (roomy t ok c s inv rm .for-feed k outside free b (of-reader k reads)) false;
           syncs = syncs-there;
           promotes = ap (λ (f : FailOver). f .number) (takes-over t ok p in-table (b .replica) kept below);

@@ -13,20 +13,22 @@ use Rattle.rules.specs.Table.{Table}
 use Rattle.rules.specs.Cabinet.{Process, Cabinet, started, placed}
 use Rattle.rules.specs.Moves.{Command, deliver, runFrom}
 use Rattle.rules.specs.Reasons.{reasonOf}
-use Rattle.rules.specs.Transparent.{answered, finished}
+use Rattle.rules.specs.Transparent.{answered, originated, finished}
 use Rattle.rules.specs.Bytes.{allBytes, written}
 use Rattle.rules.specs.Format.{processesIn, decodeTable}
 use Rattle.rules.specs.Schedule.{commandsIn, decodeSchedule, command}
-use Rattle.rules.specs.Run.{Buffers, lengthsOf, answerBytes, reportBytes, validateRun, ranFrom, refusedWith, run, accepted}
+use Rattle.rules.specs.Run.{Buffers, lengthsOf, answerBytes, originBytes, reportBytes, validateRun, ranFrom, refusedWith, run}
+use Rattle.rules.specs.Run.{accepted}
 use Rattle.rules.proofs.Guards.{Leaves, after-run}
 use Rattle.rules.proofs.Crashed.{crash-length}
 use Rattle.rules.proofs.Valid.{length-sixes, processes-counted}
-use Rattle.rules.proofs.AcceptedRun.{one-answer-each, answered-length, run-is, answers-fit, reasons-fit, report-fits}
+use Rattle.rules.proofs.AcceptedRun.{one-answer-each, answered-length, originated-length, run-is}
+use Rattle.rules.proofs.AcceptedRun.{answers-fit, reasons-fit, report-fits, origins-fit}
 
 -- ---- written bytes
 
 -- bytes for every element, k for each
-length-bytes : {A : Type 0} (bytes : A → List ℕ) (k : ℕ) (l : List A) → ((x : A) → length (bytes x) ≡ k) → length (allBytes bytes l) ≡ k * length l
+pub length-bytes : {A : Type 0} (bytes : A → List ℕ) (k : ℕ) (l : List A) → ((x : A) → length (bytes x) ≡ k) → length (allBytes bytes l) ≡ k * length l
 length-bytes bytes k [] h = sym (mul-zero k)
 length-bytes bytes k (x ∷ l) h =
     rw (length-append (bytes x) (allBytes bytes l), h x, length-bytes bytes k l h) (let e = mul-suc k (length l) in omega arith)
@@ -55,7 +57,7 @@ module _ (t : Table) (n : ℕ) (c : Cabinet) (h : Many n c) where
     suppresses = λ _ _ _ _ _ _. one (r .a) _;
     sends = λ _ _ _ _ _ _ _ _. one (r .a) _;
     issues = λ _ _ _ _. one (r .a) _;
-    transmits = λ _ _ mail rest e. length-set (set (c .processes) _ _) _ _ ∙ one _ _;
+    transmits = λ _ _ mail pc rest e. length-set (set (c .processes) _ _) _ _ ∙ one _ _;
     syncs = λ _ _ p k rest e. one p _;
     injects = λ _ _ _. one _ _;
     completes = λ _ _ p rest e. one p _;
@@ -92,6 +94,11 @@ module _ (table schedule : List ℕ) where
       length-bytes reportBytes 20 (finished (decodeTable table) (decodeSchedule schedule) .processes) (λ x. refl)
       ∙ ap (λ (n : ℕ). 20 * n) (processes-stay (decodeTable table) (decodeSchedule schedule) ∙ processes-counted table)
 
+  origin-bytes : length (allBytes originBytes (originated (decodeTable table) (decodeSchedule schedule))) ≡ 2 * commandsIn schedule
+  origin-bytes =
+      length-bytes originBytes 2 (originated (decodeTable table) (decodeSchedule schedule)) (λ x. refl)
+      ∙ ap (λ (n : ℕ). 2 * n) (originated-length (decodeTable table) (decodeSchedule schedule) ∙ commands-counted)
+
 -- What a run leaves of a lent buffer: its length, and the bytes behind the first n.
 pub record Lent (n : ℕ) (before after : List ℕ) : Type 0 where
   pub as-long : length after ≡ length before
@@ -122,6 +129,13 @@ module _ (table schedule : List ℕ) (buffers : Buffers) (h : accepted table sch
       rw (run-is table schedule buffers h)
       (lent (allBytes reportBytes (finished (decodeTable table) (decodeSchedule schedule) .processes)) (buffers .report) (20 * processesIn table)
       (report-bytes table schedule) (report-fits table schedule buffers h))
+
+  pub origins-lent : Lent (2 * commandsIn schedule) (buffers .origins) (run table schedule buffers .buffers .origins)
+  unfolding ranFrom
+  origins-lent =
+      rw (run-is table schedule buffers h)
+      (lent (allBytes originBytes (originated (decodeTable table) (decodeSchedule schedule))) (buffers .origins) (2 * commandsIn schedule)
+      (origin-bytes table schedule) (origins-fit table schedule buffers h))
 
 -- what is not accepted is refused
 refused-of : (b : Bool) (number : ℕ) (t : Table) (commands : List Command) (buffers : Buffers)

@@ -5,9 +5,10 @@ use mathlib.Core.Bool.{cond, _&&_}
 use mathlib.Core.List.{List, [], _∷_, map}
 use Prim.Native.Nat.{ℕ}
 use lib.Dec.{eqb}
-use Rattle.rules.specs.Machine.{Mail}
-use Rattle.rules.specs.Moves.{Command, Answer, stepDone, issueDone, crashDone, rejoinDone, rebackupDone, received, queued, suppressed, transmitted, injected, syncKept, syncLost, transferKept, refused, Numbers, numbered, numbers}
-use Rattle.rules.specs.Transparent.{traceOf, fedOf}
+use Rattle.rules.specs.Machine.{Origin, BusWord}
+use Rattle.rules.specs.Moves.{Command, Answer, stepDone, issueDone, crashDone, rejoinDone, rebackupDone, received, queued, suppressed}
+use Rattle.rules.specs.Moves.{transmitted, injected, syncKept, syncLost, transferKept, refused, Numbers, numbered, numbers}
+use Rattle.rules.specs.Transparent.{busOf, fedOf}
 
 -- document 01's own numbers: "5 sync carried [..] (process, 0)"
 abbrev pub numbersBefore : Answer → Numbers
@@ -44,32 +45,33 @@ same-code (syncLost p) = refl
 same-code (transferKept p) = refl
 same-code (refused why a) = refl
 
--- what an answer adds to the bus order
-added : Numbers → List Mail → List Mail
-added n others = cond (eqb (n .code) 4) (record { channel = n .a; word = n .word } ∷ others) others
+-- what an answer of this origin adds to the bus order
+added : Origin → Numbers → List BusWord → List BusWord
+added o n others = cond (eqb (n .code) 4) (record { mail = record { channel = n .a; word = n .word }; origin = o } ∷ others) others
 
-same-added : (a : Answer) (others : List Mail) → added (numbers a) others ≡ added (numbersBefore a) others
+same-added : (o : Origin) (a : Answer) (others : List BusWord) → added o (numbers a) others ≡ added o (numbersBefore a) others
 unfolding numbers added
-same-added (syncKept p dropped) others = refl
-same-added stepDone others = refl
-same-added issueDone others = refl
-same-added crashDone others = refl
-same-added rejoinDone others = refl
-same-added rebackupDone others = refl
-same-added (received x) others = refl
-same-added (queued x) others = refl
-same-added (suppressed x) others = refl
-same-added (transmitted x) others = refl
-same-added (injected x) others = refl
-same-added (syncLost p) others = refl
-same-added (transferKept p) others = refl
-same-added (refused why a) others = refl
+same-added o (syncKept p dropped) others = refl
+same-added o stepDone others = refl
+same-added o issueDone others = refl
+same-added o crashDone others = refl
+same-added o rejoinDone others = refl
+same-added o rebackupDone others = refl
+same-added o (received x) others = refl
+same-added o (queued x) others = refl
+same-added o (suppressed x) others = refl
+same-added o (transmitted x) others = refl
+same-added o (injected x) others = refl
+same-added o (syncLost p) others = refl
+same-added o (transferKept p) others = refl
+same-added o (refused why a) others = refl
 
 -- "The bus order is unaffected."
-pub traceOf-unaffected : (l : List Answer) → traceOf (map numbers l) ≡ traceOf (map numbersBefore l)
-unfolding traceOf added
-traceOf-unaffected [] = refl
-traceOf-unaffected (a ∷ l) = rw (traceOf-unaffected l) (same-added a (traceOf (map numbersBefore l)))
+pub busOf-unaffected : (l : List Answer) (origins : List Origin) → busOf (map numbers l) origins ≡ busOf (map numbersBefore l) origins
+unfolding busOf added
+busOf-unaffected [] origins = refl
+busOf-unaffected (a ∷ l) [] = refl
+busOf-unaffected (a ∷ l) (o ∷ origins) = rw (busOf-unaffected l origins) (same-added o a (busOf (map numbersBefore l) origins))
 
 pub fedOf-unaffected : (rs : List Command) (l : List Answer) → fedOf rs (map numbers l) ≡ fedOf rs (map numbersBefore l)
 unfolding fedOf

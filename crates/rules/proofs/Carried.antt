@@ -27,11 +27,12 @@ pub record Stepped (t : Table) (p : ℕ) (m mid : Machine) : Type 0 where
   pub silent-there : Silent acts
 
 -- a message of the process is transmitted: the reference machine goes on to right after its send
-pub record Transmitted (t : Table) (p : ℕ) (items : List Item) (mail : Mail) (x : Process) (m : Machine) : Type 0 where
+pub record Transmitted (t : Table) (p : ℕ) (items : List Item) (mail : Mail) (pc : ℕ) (x : Process) (m : Machine) : Type 0 where
   pub mid : Machine
   pub last : Machine
   pub steps : Stepped t p m mid
   pub sends-it : Steps (codeOf t p) mid (sent mail) last
+  pub from-there : mid .pc ≡ pc
   pub good : Good t p items x last
 
 -- its checkpoint is transmitted: the reference machine goes on to the snapshot
@@ -44,10 +45,10 @@ module _ {t : Table} (ok : Accepted t) {p : ℕ} (hp : p < length (t .processes)
   -- ---- a word
 
   -- a complete backup counts it
-  counts-trailing : {items : List Item} {x : Process} {m : Machine} (mail : Mail) (h : Backed t p (message mail ∷ items) x m)
-      → Trailing t p (h .standby) (message mail ∷ items) m (h .since) (x .machine) → Transmitted t p items mail (counts x) m
+  counts-trailing : {items : List Item} {x : Process} {m : Machine} (mail : Mail) (pc : ℕ) (h : Backed t p (message mail pc ∷ items) x m)
+      → Trailing t p (h .standby) (message mail pc ∷ items) m (h .since) (x .machine) → Transmitted t p items mail pc (counts x) m
   unfolding counts
-  counts-trailing mail h l =
+  counts-trailing mail pc h l =
       let v = up-to-send (l .ahead) in
       let r : Replica = h .standby .replica in
       record {
@@ -55,6 +56,7 @@ module _ {t : Table} (ok : Accepted t) {p : ℕ} (hp : p < length (t .processes)
         last = v .last;
         steps = record { acts = v .acts; to-mid = v .to-mid; silent-there = v .silent-there };
         sends-it = v .sends-it;
+        from-there = v .from-there;
         good = backed record {
           standby = record { board = h .standby .board; replica = counted r; complete = h .standby .complete };
           is-standby = called-backup count (h .is-standby) (l .complete) (counts-it t ok p hp r (h .kept) (sent-fits ok h));
@@ -74,16 +76,17 @@ module _ {t : Table} (ok : Accepted t) {p : ℕ} (hp : p < length (t .processes)
       }
 
   -- one that is being made doesn't: the word was queued before its state
-  counts-coming : {items : List Item} {x : Process} {m : Machine} (mail : Mail) (h : Backed t p (message mail ∷ items) x m)
-      → Coming t p (h .standby) (message mail ∷ items) m (h .since) (x .machine) → Transmitted t p items mail (counts x) m
+  counts-coming : {items : List Item} {x : Process} {m : Machine} (mail : Mail) (pc : ℕ) (h : Backed t p (message mail pc ∷ items) x m)
+      → Coming t p (h .standby) (message mail pc ∷ items) m (h .since) (x .machine) → Transmitted t p items mail pc (counts x) m
   unfolding counts
-  counts-coming {items} {x} {m} mail h l = go (l .old) (l .is-items) (l .to-snapshot) (l .none-else)
+  counts-coming {items} {x} {m} mail pc h l = go (l .old) (l .is-items) (l .to-snapshot) (l .none-else)
     where
-      go : (old : List Item) → message mail ∷ items ≡ old ++ (transfer p ∷ l .new) → Ahead t p (l .before) m old (l .until) (stateOf t p (h .standby .replica))
-          → checkpoints old + checkpoints (l .new) ≡ 0 → Transmitted t p items mail (counts x) m
+      go : (old : List Item) → message mail pc ∷ items ≡ old ++ (transfer p ∷ l .new)
+          → Ahead t p (l .before) m old (l .until) (stateOf t p (h .standby .replica))
+          → checkpoints old + checkpoints (l .new) ≡ 0 → Transmitted t p items mail pc (counts x) m
       go [] e a n = absurd (no-way (cc))
       go (y ∷ old) e a n =
-          let same : y ≡ message mail = cc in
+          let same : y ≡ message mail pc = cc in
           let rest : items ≡ old ++ (transfer p ∷ l .new) = cc in
           let v = up-to-send (subst (λ (i : Item). Ahead t p (l .before) m (i ∷ old) (l .until) (stateOf t p (h .standby .replica))) same a) in
           record {
@@ -91,6 +94,7 @@ module _ {t : Table} (ok : Accepted t) {p : ℕ} (hp : p < length (t .processes)
             last = v .last;
             steps = record { acts = v .acts; to-mid = v .to-mid; silent-there = v .silent-there };
             sends-it = v .sends-it;
+            from-there = v .from-there;
             good = backed record {
               standby = h .standby;
               is-standby = not-called count (h .is-standby) (l .incomplete);
@@ -114,21 +118,22 @@ module _ {t : Table} (ok : Accepted t) {p : ℕ} (hp : p < length (t .processes)
             };
           }
 
-  pub good-counts : {items : List Item} {x : Process} {m : Machine} (mail : Mail) → Good t p (message mail ∷ items) x m
-      → Transmitted t p items mail (counts x) m
+  pub good-counts : {items : List Item} {x : Process} {m : Machine} (mail : Mail) (pc : ℕ) → Good t p (message mail pc ∷ items) x m
+      → Transmitted t p items mail pc (counts x) m
   unfolding counts
-  good-counts {items} {x} {m} mail (backed h) = go (h .link)
+  good-counts {items} {x} {m} mail pc (backed h) = go (h .link)
     where
-      go : Link t p (h .standby) (message mail ∷ items) m (h .since) (x .machine) → Transmitted t p items mail (counts x) m
-      go (trailing l) = counts-trailing mail h l
-      go (coming l) = counts-coming mail h l
-  good-counts mail (alone h) =
+      go : Link t p (h .standby) (message mail pc ∷ items) m (h .since) (x .machine) → Transmitted t p items mail pc (counts x) m
+      go (trailing l) = counts-trailing mail pc h l
+      go (coming l) = counts-coming mail pc h l
+  good-counts mail pc (alone h) =
       let v = up-to-send (h .ahead) in
       record {
         mid = v .mid;
         last = v .last;
         steps = record { acts = v .acts; to-mid = v .to-mid; silent-there = v .silent-there };
         sends-it = v .sends-it;
+        from-there = v .from-there;
         good = alone record {
           no-standby = rw (h .no-standby);
           no-suppress = h .no-suppress;
@@ -139,7 +144,7 @@ module _ {t : Table} (ok : Accepted t) {p : ℕ} (hp : p < length (t .processes)
           low = h .low;
         };
       }
-  good-counts mail (late h) = absurd (no-way (let e = h .no-items in cc))
+  good-counts mail pc (late h) = absurd (no-way (let e = h .no-items in cc))
 
   -- ---- a checkpoint
 

@@ -90,7 +90,9 @@ limitedBytes t = bytesBy 2 (λ x. x .primary ∷ x .standby ∷ x .limit ∷ [])
 -- ---- a run, with buffers that are just long enough
 
 abbrev pub runOf : List ℕ → List Command → Ran
-runOf table l = run table (scheduleBytes l) (buffersOf (replicate (6 * length l) 0) (replicate (length l) 0) (replicate (20 * processesIn table) 0))
+runOf table l =
+    run table (scheduleBytes l)
+    (buffersOf (replicate (6 * length l) 0) (replicate (length l) 0) (replicate (20 * processesIn table) 0) (replicate (2 * length l) 0))
 
 -- the number that it returns
 abbrev pub numberOf : List ℕ → List Command → List (List ℕ)

@@ -11,15 +11,16 @@ use lib.ListN.{length, replicate, take}
 use Rattle.backup.specs.Report.{syncReport}
 use Rattle.backup.specs.Replica.{fit, arriveNumber, countNumber, syncNumber}
 use Rattle.rules.specs.Table.{TAKE, ADD, SEND, JUMP}
+use Rattle.rules.specs.Machine.{sentFrom, fromOutside}
 use Rattle.rules.specs.Reference.{Reference, Action, inject, referenceStart, referenceRun}
 use Rattle.rules.specs.Cabinet.{Process, processAt, protected}
 use Rattle.rules.specs.Moves.{guard, Command, Numbers, runFrom}
-use Rattle.rules.specs.Transparent.{traceOf, fedOf, machinesOf, finished}
+use Rattle.rules.specs.Transparent.{busOf, fedOf, machinesOf, finished}
 use Rattle.rules.specs.Rebackup.{anyCompletes}
 use Rattle.rules.specs.Recovery.{Repairs}
 use Rattle.rules.specs.Format.{decodeTable, processesIn}
 use Rattle.rules.specs.Run.{Buffers, buffersOf, run, accepted}
-use Rattle.rules.specs.Transparency.{FailureTransparency, answersIn}
+use Rattle.rules.specs.Transparency.{FailureTransparency, answersIn, originsIn}
 use Rattle.rules.proofs.Cases.{step, carry, feed, crash, rejoin, rebackup, times, scheduleBytes, channel, placement, cabinet, tableBytes, runOf}
 use Rattle.rules.proofs.ReferenceCases.{mail}
 use Rattle.rules.proofs.Theorem.{failure-transparency}
@@ -51,7 +52,9 @@ abbrev pub years : List Command
 years = first ++ (second ++ third)
 
 abbrev lent : Buffers
-lent = buffersOf (replicate (6 * length years) 0) (replicate (length years) 0) (replicate (20 * processesIn warehouse) 0)
+lent =
+    buffersOf (replicate (6 * length years) 0) (replicate (length years) 0) (replicate (20 * processesIn warehouse) 0)
+    (replicate (2 * length years) 0)
 
 -- ---- what it gives
 
@@ -95,16 +98,22 @@ through w = inject (mail 0 w) ∷ replicate 4 (Action.step 0) ++ replicate 3 (Ac
 abbrev plainYears : Reference
 plainYears = record {
   machines = record { registers = 9 ∷ 21 ∷ 0 ∷ 0 ∷ []; pc = 0; mailbox = [] } ∷ record { registers = 21 ∷ 0 ∷ 0 ∷ 0 ∷ []; pc = 0; mailbox = [] } ∷ [];
-  trace = mail 0 5 ∷ mail 1 5 ∷ mail 2 5 ∷ mail 0 7 ∷ mail 1 12 ∷ mail 2 12 ∷ mail 0 9 ∷ mail 1 21 ∷ mail 2 21 ∷ [];
+  trace = fromOutside (mail 0 5) ∷ sentFrom 0 2 (mail 1 5) ∷ sentFrom 1 1 (mail 2 5)
+      ∷ fromOutside (mail 0 7) ∷ sentFrom 0 2 (mail 1 12) ∷ sentFrom 1 1 (mail 2 12)
+      ∷ fromOutside (mail 0 9) ∷ sentFrom 0 2 (mail 1 21) ∷ sentFrom 1 1 (mail 2 21) ∷ [];
 }
 
 pub years-plain : referenceRun (decodeTable warehouse) (referenceStart (decodeTable warehouse)) (through 5 ++ (through 7 ++ through 9)) ≡ some plainYears
 unfolding referenceRun referenceStart decodeTable
 years-plain = refl
 
--- the feeds that answered 4, the bus order, and the end, which is quiet
-pub years-compared : fedOf years yearAnswers ∷ traceOf yearAnswers ∷ [] ≡ (mail 0 5 ∷ mail 0 7 ∷ mail 0 9 ∷ []) ∷ plainYears .trace ∷ []
-unfolding fedOf traceOf run guard syncReport syncNumber arriveNumber countNumber fit
+-- the feeds that answered 4, the bus order with the origins, and the end, which is quiet
+pub years-fed : fedOf years yearAnswers ≡ mail 0 5 ∷ mail 0 7 ∷ mail 0 9 ∷ []
+unfolding fedOf run guard syncReport syncNumber arriveNumber countNumber fit
+years-fed = refl
+
+pub years-compared : busOf yearAnswers (originsIn (runOf warehouse years)) ≡ plainYears .trace
+unfolding busOf run guard syncReport syncNumber arriveNumber countNumber fit
 years-compared = refl
 
 pub years-end : machinesOf (finished (decodeTable warehouse) years) ≡ plainYears .machines

@@ -21,11 +21,13 @@ use Rattle.rules.proofs.Counting.{flight-total}
 -- a word of channel k is one of its sender's own items
 queued-mine : (t : Table) (k : ℕ) (q : List Item) → queuedOn k q ≤ length (mine t (channelAt t k .sender) q)
 queued-mine t k [] = omega arith
-queued-mine t k (message x ∷ q) = go (eqb k (x .channel)) (eqb (channelAt t k .sender) (channelAt t (x .channel) .sender)) refl refl (queued-mine t k q)
+queued-mine t k (message x pc ∷ q) =
+    go (eqb k (x .channel)) (eqb (channelAt t k .sender) (channelAt t (x .channel) .sender)) refl refl (queued-mine t k q)
   where
     go : (a b : Bool) → eqb k (x .channel) ≡ a → eqb (channelAt t k .sender) (channelAt t (x .channel) .sender) ≡ b
         → queuedOn k q ≤ length (mine t (channelAt t k .sender) q)
-        → cond a (suc (queuedOn k q)) (queuedOn k q) ≤ length (cond b (message x ∷ mine t (channelAt t k .sender) q) (mine t (channelAt t k .sender) q))
+        → cond a (suc (queuedOn k q)) (queuedOn k q)
+        ≤ length (cond b (message x pc ∷ mine t (channelAt t k .sender) q) (mine t (channelAt t k .sender) q))
     go true true ha hb h = omega arith
     go true false ha hb h =
         let same : eqb (channelAt t k .sender) (channelAt t (x .channel) .sender) ≡ true =

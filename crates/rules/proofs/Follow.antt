@@ -12,7 +12,7 @@ use lib.Seq.{set-getD}
 use borrow.Author.Tests.{leb-false, eqb-true, eqb-false}
 use Rattle.facts.specs.Tests.{no-way, or-left, or-right}
 use Rattle.rules.specs.Table.{Table, channelAt, placementAt, codeOf, limitOf, portOf}
-use Rattle.rules.specs.Machine.{Mail, Machine, booted, Act, internal, took, sent, moved, localStep}
+use Rattle.rules.specs.Machine.{Mail, BusWord, Machine, booted, Act, internal, took, sent, moved, localStep}
 use Rattle.rules.specs.Reference.{Reference, Action, referenceRun, injections}
 use Rattle.rules.specs.Cabinet.{instructionsMost, Standby, Process, Item, message, checkpoint, transfer, Cabinet, processAt, outboxAt, deadAt, protected, limited, otherBoard, exhausted, overrun, owing, waiting}
 use Rattle.rules.specs.Moves.{withProcess, withOutbox, enqueue, advanced, counting, oneDone, oneSent, oneTaken, issued, snapshot, copied, rebacking}
@@ -29,7 +29,7 @@ use Rattle.rules.proofs.Frame.{SameSeat, same-boards, seated-same, chan
 use Rattle.rules.proofs.References.{run-append, injections-append}
 
 -- from s the reference machine can go on so that the invariant holds beside c, its trace has `trace` more, and its feeds are `fed`
-pub record Follows (t : Table) (c : Cabinet) (s : Reference) (trace fed : List Mail) : Type 0 where
+pub record Follows (t : Table) (c : Cabinet) (s : Reference) (trace : List BusWord) (fed : List Mail) : Type 0 where
   pub actions : List Action
   pub end : Reference
   pub ran : referenceRun t s actions ≡ some end
@@ -38,15 +38,15 @@ pub record Follows (t : Table) (c : Cabinet) (s : Reference) (trace fed : List M
   pub injected : injections actions ≡ fed
 
 -- one after another
-pub follows-then : {t : Table} {c d : Cabinet} {s : Reference} {tr fd tr′ fd′ : List Mail} (f : Follows t c s tr fd) → Follows t d (f .end) tr′ fd′
-    → Follows t d s (tr ++ tr′) (fd ++ fd′)
+pub follows-then : {t : Table} {c d : Cabinet} {s : Reference} {tr tr′ : List BusWord} {fd fd′ : List Mail} (f : Follows t c s tr fd)
+    → Follows t d (f .end) tr′ fd′ → Follows t d s (tr ++ tr′) (fd ++ fd′)
 follows-then {t} {s = s} {tr = tr} {tr′ = tr′} f g =
     record {
       actions = f .actions ++ g .actions;
       end = g .end;
       ran = run-append t s (f .actions) (g .actions) (f .end) (f .ran) ∙ g .ran;
       invariant = g .invariant;
-      traced = g .traced ∙ ap (λ (l : List Mail). l ++ tr′) (f .traced) ∙ append-assoc (s .trace) tr tr′;
+      traced = g .traced ∙ ap (λ (l : List BusWord). l ++ tr′) (f .traced) ∙ append-assoc (s .trace) tr tr′;
       injected = injections-append (f .actions) (g .actions) ∙ (let a = f .injected in let b = g .injected in cc);
     }
 
@@ -78,9 +78,9 @@ allows-act limit x k one none safe = record {
 
 none-waits : (t : Table) (p : ℕ) (q : List Item) → waiting p q ≡ false → checkpoints (mine t p q) ≡ 0
 none-waits t p [] h = refl
-none-waits t p (message x ∷ q) h = go (eqb p (channelAt t (x .channel) .sender)) (none-waits t p q h)
+none-waits t p (message x pc ∷ q) h = go (eqb p (channelAt t (x .channel) .sender)) (none-waits t p q h)
   where
-    go : (b : Bool) → checkpoints (mine t p q) ≡ 0 → checkpoints (cond b (message x ∷ mine t p q) (mine t p q)) ≡ 0
+    go : (b : Bool) → checkpoints (mine t p q) ≡ 0 → checkpoints (cond b (message x pc ∷ mine t p q) (mine t p q)) ≡ 0
     go true ih = ih
     go false ih = ih
 none-waits t p (checkpoint r s ∷ q) h = go (eqb p r) (none-waits t p q) h
@@ -168,10 +168,12 @@ module _ {t : Table} (ok : Accepted t) {c : Cabinet} {s : Reference} (inv : Inva
 
   pub follow-sending : (m : Machine) (mail : Mail) → localStep (codeOf t p) (processAt c p .machine) ≡ moved m (sent mail)
       → processAt c p .suppress ≡ 0 → owing (limitOf t p) (processAt c p) ≡ false
-      → Follows t (withProcess p (advanced m (counting oneSent (processAt c p)) 0 (processAt c p)) (enqueue (processAt c p .board) (message mail) c)) s [] []
+      → Follows t (withProcess p (advanced m (counting oneSent (processAt c p)) 0 (processAt c p))
+      (enqueue (processAt c p .board) (message mail (processAt c p .machine .pc)) c)) s [] []
   unfolding advanced
   follow-sending m mail e z limit =
-      wait-joined (advanced m (counting oneSent (processAt c p)) 0 (processAt c p)) (message mail) refl (same-seat (same-boards refl refl))
+      wait-joined (advanced m (counting oneSent (processAt c p)) 0 (processAt c p)) (message mail (processAt c p .machine .pc)) refl
+      (same-seat (same-boards refl refl))
       (step-own t ok p (in-table inv hp) (record { is = e }))
       (good-send ok (in-table inv hp) (inv .good p hp) z (record { is = e }) (allows-act (limitOf t p) (processAt c p) (sent mail) refl limit))
 

@@ -12,7 +12,7 @@ use Rattle.rules.proofs.Marked.{sample}
 
 -- the number of a table, with an empty schedule
 abbrev numberFor : List ℕ → ℕ
-numberFor table = run table (0 ∷ 1 ∷ 1 ∷ []) (buffersOf [] [] (replicate 320 0)) .number
+numberFor table = run table (0 ∷ 1 ∷ 1 ∷ []) (buffersOf [] [] (replicate 320 0) []) .number
 
 -- channels 0 and 1 are fed and process 0 reads them, 2 goes from process 0 to 1, 3 from 1 to the outside; the program of process 0
 -- and the boards of process 1
@@ -63,10 +63,10 @@ unfolding run guard
 tables-hold = refl
 
 -- number and all buffers of a run of the sample
-abbrev outcome : List ℕ → List ℕ → List ℕ → List ℕ → List (List ℕ)
-outcome schedule answers reasons report =
-    let r = run sample schedule (buffersOf answers reasons report) in
-    (r .number ∷ []) ∷ r .buffers .answers ∷ r .buffers .reasons ∷ r .buffers .report ∷ []
+abbrev outcome : List ℕ → List ℕ → List ℕ → List ℕ → List ℕ → List (List ℕ)
+outcome schedule answers reasons report origins =
+    let r = run sample schedule (buffersOf answers reasons report origins) in
+    (r .number ∷ []) ∷ r .buffers .answers ∷ r .buffers .reasons ∷ r .buffers .report ∷ r .buffers .origins ∷ []
 
 abbrev buffer : ℕ → List ℕ
 buffer n = replicate n 170
@@ -74,20 +74,27 @@ buffer n = replicate n 170
 abbrev pub runs : List Case
 runs =
     -- 9 "schedule under 3 bytes, wrong length field, broken record", before 10 "its version"; an empty one passes
-    case (map (λ l. run sample l (buffersOf [] [] (buffer 20)) .number)
+    case (map (λ l. run sample l (buffersOf [] [] (buffer 20) []) .number)
     ([] ∷ (0 ∷ 0 ∷ []) ∷ (0 ∷ 2 ∷ 1 ∷ []) ∷ (0 ∷ 2 ∷ 2 ∷ 0 ∷ []) ∷ (0 ∷ 1 ∷ 2 ∷ []) ∷ (0 ∷ 1 ∷ 1 ∷ []) ∷ []) ∷ [])
     ((9 ∷ 9 ∷ 9 ∷ 9 ∷ 10 ∷ 0 ∷ []) ∷ [])
     -- "11 answer buffer under six bytes a record; 12 report buffer under 20 bytes a process"; refused, nothing is written
-    ∷ case (outcome (withLength (1 ∷ 1 ∷ 0 ∷ 0 ∷ 0 ∷ 0 ∷ 0 ∷ [])) (buffer 5) (buffer 1) (buffer 19)) ((11 ∷ []) ∷ buffer 5 ∷ buffer 1 ∷ buffer 19 ∷ [])
+    ∷ case (outcome (withLength (1 ∷ 1 ∷ 0 ∷ 0 ∷ 0 ∷ 0 ∷ 0 ∷ [])) (buffer 5) (buffer 1) (buffer 19) (buffer 1))
+    ((11 ∷ []) ∷ buffer 5 ∷ buffer 1 ∷ buffer 19 ∷ buffer 1 ∷ [])
     -- W-206: "A buffer for this list under one byte a record makes the run answer 11."
-    ∷ case (outcome (withLength (1 ∷ 1 ∷ 0 ∷ 0 ∷ 0 ∷ 0 ∷ 0 ∷ [])) (buffer 6) [] (buffer 19)) ((11 ∷ []) ∷ buffer 6 ∷ [] ∷ buffer 19 ∷ [])
-    ∷ case (outcome (withLength (1 ∷ 1 ∷ 0 ∷ 0 ∷ 0 ∷ 0 ∷ 0 ∷ [])) (buffer 6) (buffer 1) (buffer 19)) ((12 ∷ []) ∷ buffer 6 ∷ buffer 1 ∷ buffer 19 ∷ [])
+    ∷ case (outcome (withLength (1 ∷ 1 ∷ 0 ∷ 0 ∷ 0 ∷ 0 ∷ 0 ∷ [])) (buffer 6) [] (buffer 19) (buffer 1))
+    ((11 ∷ []) ∷ buffer 6 ∷ [] ∷ buffer 19 ∷ buffer 1 ∷ [])
+    ∷ case (outcome (withLength (1 ∷ 1 ∷ 0 ∷ 0 ∷ 0 ∷ 0 ∷ 0 ∷ [])) (buffer 6) (buffer 1) (buffer 19) (buffer 1))
+    ((12 ∷ []) ∷ buffer 6 ∷ buffer 1 ∷ buffer 19 ∷ buffer 1 ∷ [])
+    -- W-212: "51, that buffer is under two bytes a record, after 12"
+    ∷ case (outcome (withLength (1 ∷ 1 ∷ 0 ∷ 0 ∷ 0 ∷ 0 ∷ 0 ∷ [])) (buffer 6) (buffer 1) (buffer 20) (buffer 1))
+    ((51 ∷ []) ∷ buffer 6 ∷ buffer 1 ∷ buffer 20 ∷ buffer 1 ∷ [])
     -- "Bytes beyond those are untouched."
-    ∷ case (outcome (withLength (1 ∷ 4 ∷ 0 ∷ 1 ∷ 2 ∷ 3 ∷ 4 ∷ 1 ∷ 0 ∷ 0 ∷ 0 ∷ 0 ∷ 0 ∷ [])) (buffer 13) (buffer 4) (buffer 22))
+    ∷ case (outcome (withLength (1 ∷ 4 ∷ 0 ∷ 1 ∷ 2 ∷ 3 ∷ 4 ∷ 1 ∷ 0 ∷ 0 ∷ 0 ∷ 0 ∷ 0 ∷ [])) (buffer 13) (buffer 4) (buffer 22) (buffer 5))
     ((0 ∷ [])
     ∷ (4 ∷ 0 ∷ 1 ∷ 2 ∷ 3 ∷ 4 ∷ 1 ∷ 0 ∷ 1 ∷ 2 ∷ 3 ∷ 4 ∷ 170 ∷ [])
     ∷ (17 ∷ 4 ∷ 170 ∷ 170 ∷ [])
     ∷ (0 ∷ 1 ∷ 0 ∷ 0 ∷ 1 ∷ 2 ∷ 3 ∷ 4 ∷ (replicate 12 0 ++ (170 ∷ 170 ∷ [])))
+    ∷ (255 ∷ 0 ∷ 255 ∷ 255 ∷ 170 ∷ [])
     ∷ [])
     ∷ []
 

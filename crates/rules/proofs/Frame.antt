@@ -12,7 +12,7 @@ use lib.Seq.{getD-set-same, getD-set-other, set-out}
 use Rattle.facts.specs.Tests.{no-way, by-eq, by-lt}
 use Rattle.backup.specs.Replica.{Replica, Reply, arrive}
 use Rattle.rules.specs.Table.{Table, channelAt, portOf}
-use Rattle.rules.specs.Machine.{Mail, Machine, booted, delivered}
+use Rattle.rules.specs.Machine.{Mail, BusWord, Machine, booted, delivered}
 use Rattle.rules.specs.Reference.{Reference, posted}
 use Rattle.rules.specs.Cabinet.{Standby, Process, Item, Cabinet, nobody, processAt, outboxAt, isComplete}
 use Rattle.rules.specs.Moves.{onReplica, onBackup, completed, receive, deliver}
@@ -72,7 +72,7 @@ seated-same {t} {dead} {x} h g =
 abbrev pub changed : ℕ → Process → List (List Item) → Cabinet → Cabinet
 changed p x outboxes c = record { processes = set (c .processes) p x; outboxes = outboxes; dead = c .dead }
 
-abbrev put : ℕ → Machine → List Mail → Reference → Reference
+abbrev put : ℕ → Machine → List BusWord → Reference → Reference
 put p m trace s = record { machines = set (s .machines) p m; trace = trace }
 
 -- in no other outbox, and of no other process in its own, do the items change
@@ -83,7 +83,7 @@ OthersStay t p outboxes c = (b j : ℕ) → (j ≡ p → b ≡ processAt c p .bo
 module _ {t : Table} {c : Cabinet} {s : Reference} (inv : Invariant t c s) (p : ℕ) (hp : p < length (c .processes))
     (x : Process) (same-board : x .board ≡ processAt c p .board) (sits : Seated t (c .dead) x)
     (m : Machine) (outboxes : List (List Item)) (others : OthersStay t p outboxes c)
-    (good-x : Good t p (mine t p (getD outboxes (processAt c p .board) [])) x m) (trace : List Mail) where
+    (good-x : Good t p (mine t p (getD outboxes (processAt c p .board) [])) x m) (trace : List BusWord) where
   is-x : processAt (changed p x outboxes c) p ≡ x
   is-x = getD-set-same (c .processes) p x nobody hp
 
@@ -127,23 +127,24 @@ module _ {t : Table} {c : Cabinet} {s : Reference} (inv : Invariant t c s) (p : 
 
 -- its backup stands where it stood, too
 pub change-same : {t : Table} {c : Cabinet} {s : Reference} (inv : Invariant t c s) (p : ℕ) (hp : p < length (c .processes)) (x : Process) → SameSeat x (processAt c p)
-    → (m : Machine) (outboxes : List (List Item)) → OthersStay t p outboxes c → Good t p (mine t p (getD outboxes (processAt c p .board) [])) x m → (trace : List Mail)
-    → length outboxes ≡ length (c .outboxes) → Invariant t (changed p x outboxes c) (put p m trace s)
+    → (m : Machine) (outboxes : List (List Item)) → OthersStay t p outboxes c → Good t p (mine t p (getD outboxes (processAt c p .board) [])) x m
+    → (trace : List BusWord) → length outboxes ≡ length (c .outboxes) → Invariant t (changed p x outboxes c) (put p m trace s)
 change-same inv p hp x seat =
     change inv p hp x (seat .board) (seated-same seat (inv .seated p hp))
 
 -- ---- a word arrives
 
-pub deliver-keeps : {t : Table} {c : Cabinet} {s : Reference} (mail : Mail) → Accepted t → Invariant t c s → RoomFor t c (mail .channel)
-    → Invariant t (deliver t mail c) (posted t mail s)
+pub deliver-keeps : {t : Table} {c : Cabinet} {s : Reference} (word : BusWord) → Accepted t → Invariant t c s
+    → RoomFor t c (word .mail .channel) → Invariant t (deliver t (word .mail) c) (posted t word s)
 unfolding deliver posted receive
-deliver-keeps {t} {c} {s} mail ok inv room =
+deliver-keeps {t} {c} {s} word ok inv room =
+    let mail : Mail = word .mail in
     let r : ℕ = channelAt t (mail .channel) .reader in
     let x : Process = processAt c r in
     by-lt r (length (c .processes))
     (λ h. change-same inv r h (receive t r mail x) (record { board = refl; standby = called-board (λ k. arrive k (portOf t r (mail .channel)) (mail .word)) (x .standby) })
     (delivered mail (machineAt s r)) (c .outboxes) (λ b j n. refl)
-    (good-receive ok (in-table inv h) mail refl room (inv .good r h)) (s .trace ++ (mail ∷ [])) refl)
+    (good-receive ok (in-table inv h) mail refl room (inv .good r h)) (s .trace ++ (word ∷ [])) refl)
     (λ h. rw (set-out (c .processes) r (receive t r mail x) h, set-out (s .machines) r (delivered mail (machineAt s r)) (omega (arith, inv .same-number)))
     (record {
       same-number = inv .same-number;

@@ -158,23 +158,23 @@ module _ {t : Table} (ok : Accepted t) {p : ℕ} (hp : p < length (t .processes)
       }
 
   alone-send : {items : List Item} {x : Process} {m n : Machine} {mail : Mail} (counted : Since) → Alone t p items x m
-      → Steps (codeOf t p) (x .machine) (sent mail) n → Alone t p (items ++ (message mail ∷ [])) (advanced n counted 0 x) m
+      → Steps (codeOf t p) (x .machine) (sent mail) n → Alone t p (items ++ (message mail (x .machine .pc) ∷ [])) (advanced n counted 0 x) m
   unfolding advanced
-  alone-send {items = items} {mail = mail} counted h e =
+  alone-send {items = items} {x = x} {mail = mail} counted h e =
       record {
         no-standby = h .no-standby;
         no-suppress = refl;
         before = h .before;
         since = h .since ++ (sent mail ∷ []);
         ahead = ahead-send (h .ahead) e;
-        one = (let o = h .one in let c = checkpoints-append items (message mail ∷ []) in omega arith);
+        one = (let o = h .one in let c = checkpoints-append items (message mail (x .machine .pc) ∷ []) in omega arith);
         low = step-low t ok p hp e;
       }
 
   -- a word joins the outbox
   pub good-send : {items : List Item} {x : Process} {m n : Machine} {mail : Mail} → Good t p items x m → x .suppress ≡ 0
       → Steps (codeOf t p) (x .machine) (sent mail) n → (limited x ≡ true → Allows (limitOf t p) (sent mail) (x .since))
-      → Good t p (items ++ (message mail ∷ [])) (advanced n (counting oneSent x) 0 x) m
+      → Good t p (items ++ (message mail (x .machine .pc) ∷ [])) (advanced n (counting oneSent x) 0 x) m
   unfolding advanced
   good-send {x = x} {mail = mail} (backed h) z e limit =
       let safe : limited x ≡ true = ap isSome (h .is-standby) in

@@ -10,7 +10,7 @@ use borrow.Author.Tests.{leb-false, not-false, eqb-true}
 use Rattle.facts.specs.Tests.{no-way, or-left, or-right}
 use Rattle.backup.specs.Replica.{Checkpoint}
 use Rattle.rules.specs.Table.{Table, environment, channelAt, codeOf, limitOf, portOf}
-use Rattle.rules.specs.Machine.{Mail, Machine, internal, took, sent, Outcome, halted, noMail, moved, localStep}
+use Rattle.rules.specs.Machine.{Mail, Machine, internal, took, sent, Outcome, halted, noMail, moved, sentFrom, localStep}
 use Rattle.rules.specs.Cabinet.{outboxMost, Process, Item, message, checkpoint, transfer, Cabinet, processAt, outboxAt, deadAt, protected, otherBoard, someUnbacked, overrun, owing, full, crowded, waiting}
 use Rattle.rules.specs.Moves.{Command, Refusal, Answer, stepDone, issueDone, crashDone, rejoinDone, rebackupDone, transferKept, received, queued, suppressed, transmitted, injected, refused, Result, refuse, accept, guard, withProcess, withOutbox, enqueue, advanced, counting, oneDone, oneSent, oneTaken, send, stepFrom, step, issued, snapshot, issue, deliver, counts, keeps, rebacked, landed, transmitItem, transmitOldest, transmit, inject, allAfterCrash, crash, rejoin, rebacking, rebackup, Move, stepMove, issueMove, transmitMove, injectMove, crashMove, rejoinMove, rebackupMove, unknown, moveOf, perform, judged, settle, turn, runFrom}
 
@@ -52,14 +52,17 @@ module _ (t : Table) (c : Cabinet) (r : Command) (P : Move → Cabinet → Answe
     -- a SEND whose word joins the queue
     pub sends : r .a < length (t .processes) → (m : Machine) (mail : Mail) → localStep (codeOf t (r .a)) (x .machine) ≡ moved m (sent mail)
         → x .suppress ≡ 0 → owing (limitOf t (r .a)) x ≡ false → leb outboxMost (length (outboxAt c (x .board))) ≡ false → full t c (mail .channel) ≡ false
-        → P stepMove (withProcess (r .a) (advanced m (counting oneSent x) 0 x) (enqueue (x .board) (message mail) c)) (queued mail)
+        → P stepMove
+        (withProcess (r .a) (advanced m (counting oneSent x) 0 x) (enqueue (x .board) (message mail (x .machine .pc)) c)) (queued mail)
     pub issues : r .a < length (t .processes) → protected x ≡ true → waiting (r .a) (outboxAt c (x .board)) ≡ false
         → leb outboxMost (length (outboxAt c (x .board))) ≡ false
         → P issueMove (withProcess (r .a) (issued x) (enqueue (x .board) (checkpoint (r .a) (snapshot x)) c)) issueDone
     -- a word is carried
-    pub transmits : r .a < t .boards → deadAt c (r .a) ≡ false → (mail : Mail) (rest : List Item) → outboxAt c (r .a) ≡ message mail ∷ rest
+    pub transmits : r .a < t .boards → deadAt c (r .a) ≡ false → (mail : Mail) (pc : ℕ) (rest : List Item)
+        → outboxAt c (r .a) ≡ message mail pc ∷ rest
         → (let sender = channelAt t (mail .channel) .sender in
-        P transmitMove (deliver t mail (withProcess sender (counts (processAt c sender)) (withOutbox (r .a) rest c))) (transmitted mail))
+        P transmitMove (deliver t mail (withProcess sender (counts (processAt c sender)) (withOutbox (r .a) rest c)))
+        (transmitted (sentFrom sender pc mail)))
     -- a sync is carried
     pub syncs : r .a < t .boards → deadAt c (r .a) ≡ false → (p : ℕ) (s : Checkpoint) (rest : List Item) → outboxAt c (r .a) ≡ checkpoint p s ∷ rest
         → P transmitMove (withProcess p (keeps s (processAt c p)) (withOutbox (r .a) rest c)) (landed p s (processAt c p))
@@ -106,7 +109,7 @@ module _ (t : Table) (c : Cabinet) (r : Command) (P : Move → Cabinet → Answe
     by-oldest : r .a < t .boards → deadAt c (r .a) ≡ false → (q : List Item) → outboxAt c (r .a) ≡ q → Yields transmitMove (transmitOldest t c (r .a) q)
     unfolding transmitOldest transmitItem
     by-oldest l alive [] e = unmoved
-    by-oldest l alive (message mail ∷ rest) e = leaves (d .transmits l alive mail rest e)
+    by-oldest l alive (message mail pc ∷ rest) e = leaves (d .transmits l alive mail pc rest e)
     by-oldest l alive (checkpoint p s ∷ rest) e = leaves (d .syncs l alive p s rest e)
     by-oldest l alive (transfer p ∷ rest) e = leaves (d .completes l alive p rest e)
 

@@ -134,7 +134,7 @@ module _ (t : Table) (c : Cabinet) (h : AtHome t c) where
     suppresses = λ _ m _ _ _ _. home-stays t (c .processes) (r .a) _ h (same-boards refl refl);
     sends = λ _ m _ _ _ _ _ _. home-stays t (c .processes) (r .a) _ h (same-boards refl refl);
     issues = λ _ _ _ _. home-stays t (c .processes) (r .a) _ h (same-boards refl refl);
-    transmits = λ _ _ mail _ _. home-carried mail;
+    transmits = λ _ _ mail _ _ _. home-carried mail;
     syncs = λ _ _ p k _ _. home-keeps p k;
     completes = λ _ _ p _ _. home-rebacked p;
     injects = λ _ _ _. home-deliver t (c .processes) _ h;

@@ -21,7 +21,7 @@ use Rattle.rules.proofs.Good.{Good}
 
 -- the process that an item comes from: a word names its channel and so its sender
 abbrev pub ownerOf : Table → Item → ℕ
-ownerOf t (message x) = channelAt t (x .channel) .sender
+ownerOf t (message x pc) = channelAt t (x .channel) .sender
 ownerOf t (checkpoint p s) = p
 ownerOf t (transfer p) = p
 
@@ -98,7 +98,7 @@ pub record Roomy (t : Table) (c : Cabinet) : Type 0 where
   -- for a feed that is not refused
   pub for-feed : (k : ℕ) → channelAt t k .sender ≡ environment → full t c k ≡ false → RoomFor t c k
   -- for the oldest item of an outbox
-  pub for-oldest : (b : ℕ) (x : Mail) (rest : List Item) → outboxAt c b ≡ message x ∷ rest → RoomFor t c (x .channel)
+  pub for-oldest : (b : ℕ) (x : Mail) (pc : ℕ) (rest : List Item) → outboxAt c b ≡ message x pc ∷ rest → RoomFor t c (x .channel)
   -- for the copies of a resync
   pub for-copies : (p : ℕ) → p < length (c .processes) → Copyable t c p
 

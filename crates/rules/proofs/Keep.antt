@@ -51,10 +51,11 @@ module _ (t : Table) (c : Cabinet) (small : length (c .processes) ≤ environmen
 
   pub sent-room : (p : ℕ) (m : Machine) (mail : Mail) → localStep (codeOf t p) (processAt c p .machine) ≡ moved m (sent mail) → full t c (mail .channel) ≡ false
       → (counted : Since)
-      → Room t [] (withProcess p (advanced m counted 0 (processAt c p)) (enqueue (processAt c p .board) (message mail) c))
+      → Room t []
+      (withProcess p (advanced m counted 0 (processAt c p)) (enqueue (processAt c p .board) (message mail (processAt c p .machine .pc)) c))
   sent-room p m mail e free counted =
       step-room p m (sent mail) e (mail .channel ∷ []) (admit t c (mail .channel) small free rm) counted 0 _
-      (λ k. let j = flight-join k (c .outboxes) (processAt c p .board) (message mail) in omega arith)
+      (λ k. let j = flight-join k (c .outboxes) (processAt c p .board) (message mail (processAt c p .machine .pc)) in omega arith)
 
   -- ---- sync
 
@@ -89,12 +90,13 @@ module _ (t : Table) (c : Cabinet) (small : length (c .processes) ≤ environmen
       (λ k. let a = same-mail k in let d = few k in let l = flight-leave k (c .outboxes) b item rest e in omega arith)
       (λ hp k n. same-mail k ∙ rm p hp .own k n)
 
-  pub word-room : (b : ℕ) (mail : Mail) (rest : List Item) → outboxAt c b ≡ message mail ∷ rest
+  pub word-room : (b : ℕ) (mail : Mail) (pc : ℕ) (rest : List Item) → outboxAt c b ≡ message mail pc ∷ rest
       → (let sender = channelAt t (mail .channel) .sender in Room t [] (deliver t mail (withProcess sender (counts (processAt c sender)) (withOutbox b rest c))))
   unfolding counts
-  word-room b mail rest e =
+  word-room b mail pc rest e =
       let sender : ℕ = channelAt t (mail .channel) .sender in
-      deliver-room t _ mail (called-room b sender (message mail) rest (mail .channel ∷ []) e (λ k. omega arith) (counts (processAt c sender)) refl
+      deliver-room t _ mail
+      (called-room b sender (message mail pc) rest (mail .channel ∷ []) e (λ k. omega arith) (counts (processAt c sender)) refl
       (backup-some count (processAt c sender .standby)))
 
   pub sync-room : (b p : ℕ) (s : Checkpoint) (rest : List Item) → outboxAt c b ≡ checkpoint p s ∷ rest

@@ -66,7 +66,7 @@ module _ (t : Table) (ok : Accepted t) (c : Cabinet) (s : Reference) (inv : Inva
         suppresses = λ _ m mail e h _. stays t c small rm (r .a) m (sent mail) e _ h;
         sends = λ _ m mail e _ _ _ free. sent-room t c small rm (r .a) m mail e free _;
         issues = λ _ _ _ _. issued-room t c small rm (r .a);
-        transmits = λ _ _ mail rest e. word-room t c small rm (r .a) mail rest e;
+        transmits = λ _ _ mail pc rest e. word-room t c small rm (r .a) mail pc rest e;
         syncs = λ _ _ p k rest e. sync-room t c small rm (r .a) p k rest e;
         injects = λ _ _ free. fed-room t c small rm (fedMail r) free;
         completes = λ _ _ p rest e. transfer-room t c small rm (r .a) p rest e;

@@ -73,9 +73,15 @@ pub mod PageCases
 pub mod ReferenceCases
 -- W-202 leaves the bus order alone.
 pub mod BusOrder
+-- W-212: channel and word, as they were compared before; what tells an origin; a wrong jump that only an origin shows.
+pub mod BusWords
+pub mod Origins
+pub mod OriginCases
 -- W-206: one byte never fits two causes.
 pub mod OneCause
 -- Demand 3 of every accepted run.
 pub mod Theorem
+-- W-212 of every accepted run: an origin names a SEND.
+pub mod Senders
 -- W-211, computed.
 pub mod CrashAfterCrash

@@ -89,7 +89,7 @@ savedWords-hold = refl
 
 -- the number of a table with a schedule, one that is empty and one that is none
 abbrev numberWith : List ℕ → List ℕ → ℕ
-numberWith schedule table = run table schedule (buffersOf [] [] (replicate 320 0)) .number
+numberWith schedule table = run table schedule (buffersOf [] [] (replicate 320 0) []) .number
 
 abbrev number : List ℕ → ℕ
 number table = numberWith (0 ∷ 1 ∷ 1 ∷ []) table

@@ -62,27 +62,29 @@ module _ {t : Table} {p : ℕ} {s : Standby} {items : List Item} {m : Machine} {
       }
 
   pub link-send : {mail : Mail} {c : Machine} → Link t p s items m since b → Steps (codeOf t p) b (sent mail) c
-      → Link t p s (items ++ (message mail ∷ [])) m (since ++ (sent mail ∷ [])) c
+      → Link t p s (items ++ (message mail (b .pc) ∷ [])) m (since ++ (sent mail ∷ [])) c
   link-send {mail} (trailing l) e =
       trailing record {
         complete = l .complete;
         before = l .before;
         replay = l .replay;
         ahead = ahead-send (l .ahead) e;
-        one = (let o = l .one in let c = checkpoints-append items (message mail ∷ []) in omega arith);
+        one = (let o = l .one in let c = checkpoints-append items (message mail (b .pc) ∷ []) in omega arith);
       }
   link-send {mail} (coming l) e =
       coming record {
         incomplete = l .incomplete;
         uncounted = l .uncounted;
         old = l .old;
-        new = l .new ++ (message mail ∷ []);
-        is-items = ap (λ (q : List Item). q ++ (message mail ∷ [])) (l .is-items) ∙ append-assoc (l .old) (transfer p ∷ l .new) (message mail ∷ []);
+        new = l .new ++ (message mail (b .pc) ∷ []);
+        is-items =
+            ap (λ (q : List Item). q ++ (message mail (b .pc) ∷ [])) (l .is-items)
+            ∙ append-assoc (l .old) (transfer p ∷ l .new) (message mail (b .pc) ∷ []);
         before = l .before;
         until = l .until;
         to-snapshot = l .to-snapshot;
         ahead = ahead-send (l .ahead) e;
-        none-else = (let o = l .none-else in let c = checkpoints-append (l .new) (message mail ∷ []) in omega arith);
+        none-else = (let o = l .none-else in let c = checkpoints-append (l .new) (message mail (b .pc) ∷ []) in omega arith);
       }
 
 -- ---- the oldest item, where a backup is being made

@@ -110,7 +110,7 @@ arrivals-fill = refl
 
 -- the theorem's one hypothesis holds of the sample
 abbrev pub sampleBuffers : Buffers
-sampleBuffers = buffersOf (replicate 120 0) (replicate 20 0) (replicate 20 0)
+sampleBuffers = buffersOf (replicate 120 0) (replicate 20 0) (replicate 20 0) (replicate 40 0)
 
 pub sample-accepted : accepted sample (scheduleBytes samplePage) sampleBuffers ≡ true
 unfolding accepted

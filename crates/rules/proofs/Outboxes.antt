@@ -43,9 +43,9 @@ module _ (t : Table) (c : Cabinet) (h : OutboxBounds c) where
     computes = λ _ _ _ _. h;
     takes = λ _ _ _ _ _. h;
     suppresses = λ _ _ _ _ _ _. h;
-    sends = λ _ m mail _ _ _ free _. joined (processAt c (r .a) .board) (message mail) free;
+    sends = λ _ m mail _ _ _ free _. joined (processAt c (r .a) .board) (message mail (processAt c (r .a) .machine .pc)) free;
     issues = λ _ _ _ free. joined (processAt c (r .a) .board) (checkpoint (r .a) (snapshot (processAt c (r .a)))) free;
-    transmits = λ _ _ mail rest e. left (r .a) (message mail) rest e;
+    transmits = λ _ _ mail pc rest e. left (r .a) (message mail pc) rest e;
     syncs = λ _ _ p k rest e. left (r .a) (checkpoint p k) rest e;
     injects = λ _ _ _. h;
     completes = λ _ _ p rest e. left (r .a) (transfer p) rest e;

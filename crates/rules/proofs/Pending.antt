@@ -30,8 +30,8 @@ pending-mine t p (item ∷ q) = go item (eqb p (ownerOf t item)) refl (pending-m
   where
     go : (i : Item) (b : Bool) → eqb p (ownerOf t i) ≡ b → checkpoints (mine t p q) ≡ pendingOf p q
         → checkpoints (cond b (i ∷ mine t p q) (mine t p q)) ≡ cond (isCheckpointOf p i) (suc (pendingOf p q)) (pendingOf p q)
-    go (message x) true e h = h
-    go (message x) false e h = h
+    go (message x pc) true e h = h
+    go (message x pc) false e h = h
     go (checkpoint r k) true e h = rw e (ap suc h)
     go (checkpoint r k) false e h = rw e h
     go (transfer r) true e h = rw e (ap suc h)
@@ -43,8 +43,8 @@ waits-mine t p (item ∷ q) = go item (eqb p (ownerOf t item)) refl (waits-mine 
   where
     go : (i : Item) (b : Bool) → eqb p (ownerOf t i) ≡ b → waiting p (mine t p q) ≡ waiting p q
         → waiting p (cond b (i ∷ mine t p q) (mine t p q)) ≡ isCheckpointOf p i || waiting p q
-    go (message x) true e h = h
-    go (message x) false e h = h
+    go (message x pc) true e h = h
+    go (message x pc) false e h = h
     go (checkpoint r k) true e h = rw e
     go (checkpoint r k) false e h = rw e h
     go (transfer r) true e h = rw e

@@ -111,7 +111,7 @@ module _ {t : Table} {c : Cabinet} {s : Reference} (inv : Invariant t c s) (r : 
     suppresses = λ _ _ _ _ _ _ _ p _ e. change-kept (r .a) _ (λ h. h) p e;
     sends = λ _ _ _ _ _ _ _ _ _ p _ e. change-kept (r .a) _ (λ h. h) p e;
     issues = λ _ _ _ _ _ p _ e. change-kept (r .a) _ (λ h. h) p e;
-    transmits = λ _ _ mail _ _ _ p _ e.
+    transmits = λ _ _ mail _ _ _ _ p _ e.
         let sender : ℕ = channelAt t (mail .channel) .sender in
         receive-kept (set (c .processes) sender (counts (processAt c sender))) (channelAt t (mail .channel) .reader) mail p (counts-kept sender p e);
     syncs = λ _ _ q v rest _. landed-kept q _ (protected (processAt c q)) (withProcess q (keeps v (processAt c q)) (withOutbox (r .a) rest c)) (λ p e. keeps-kept q v p e);

@@ -6,13 +6,13 @@ use mathlib.Core.List.{List, [], _∷_, _++_, map}
 use Prim.Native.Nat.{ℕ}
 use lib.ListN.{replicate}
 use Rattle.backup.specs.Replica.{fit, arriveNumber, countNumber}
-use Rattle.rules.specs.Machine.{Mail}
+use Rattle.rules.specs.Machine.{Mail, sentFrom, fromOutside}
 use Rattle.rules.specs.Reference.{Reference, Action, inject, step, referenceStart, referenceRun}
 use Rattle.rules.specs.Moves.{guard, Numbers}
-use Rattle.rules.specs.Transparent.{traceOf, fedOf, machinesOf, finished}
+use Rattle.rules.specs.Transparent.{busOf, fedOf, machinesOf, finished}
 use Rattle.rules.specs.Format.{decodeTable}
 use Rattle.rules.specs.Run.{run}
-use Rattle.rules.specs.Transparency.{answersIn}
+use Rattle.rules.specs.Transparency.{answersIn, originsIn}
 use Rattle.rules.proofs.Cases.{runOf}
 use Rattle.rules.proofs.Marked.{sample, samplePage}
 
@@ -29,7 +29,7 @@ plainPage = inject (mail 0 5) ∷ inject (mail 0 7) ∷ replicate 8 (step 0)
 abbrev plainEnd : Reference
 plainEnd = record {
   machines = record { registers = 7 ∷ 12 ∷ 0 ∷ 0 ∷ []; pc = 0; mailbox = [] } ∷ [];
-  trace = mail 0 5 ∷ mail 0 7 ∷ mail 1 5 ∷ mail 1 12 ∷ [];
+  trace = fromOutside (mail 0 5) ∷ fromOutside (mail 0 7) ∷ sentFrom 0 2 (mail 1 5) ∷ sentFrom 0 2 (mail 1 12) ∷ [];
 }
 
 -- that run; one more step, for which there is no word; a step of no process; feeds of a channel whose sender is a process, and of none
@@ -44,9 +44,14 @@ plain-page = refl
 abbrev pageAnswers : List Numbers
 pageAnswers = answersIn (runOf sample samplePage)
 
--- "its feeds are, in order, the feeds of our list that answered 4", and "the answers 4, each as its channel and word"
-pub page-compared : fedOf samplePage pageAnswers ∷ traceOf pageAnswers ∷ [] ≡ (mail 0 5 ∷ mail 0 7 ∷ []) ∷ plainEnd .trace ∷ []
-unfolding fedOf traceOf run guard fit arriveNumber countNumber
+-- "its feeds are, in order, the feeds of our list that answered 4"
+pub page-fed : fedOf samplePage pageAnswers ≡ mail 0 5 ∷ mail 0 7 ∷ []
+unfolding fedOf run guard fit arriveNumber countNumber
+page-fed = refl
+
+-- "the answers 4, each as its channel and word", with sender and place: its one SEND stands at place 2
+pub page-compared : busOf pageAnswers (originsIn (runOf sample samplePage)) ≡ plainEnd .trace
+unfolding busOf run guard fit arriveNumber countNumber
 page-compared = refl
 
 -- "At a quiet end its places, registers and inboxes": those after our last record

@@ -9,7 +9,7 @@ use lib.Seq.{getD-set-same, set-set, set-getD}
 use borrow.Author.Tests.{lt-ltb}
 use Rattle.facts.specs.Tests.{no-way}
 use Rattle.rules.specs.Table.{Table, Instruction, codeOf}
-use Rattle.rules.specs.Machine.{Mail, Machine, booted, Act, internal, took, sent, moved}
+use Rattle.rules.specs.Machine.{Mail, sentFrom, Machine, booted, Act, internal, took, sent, moved}
 use Rattle.rules.specs.Reference.{Reference, Action, inject, step, posted, withMachine, stepped, act, andThen, referenceRun, injections}
 use Rattle.rules.proofs.Steps.{Steps}
 use Rattle.rules.proofs.Runs.{Run, here, more, isSend, Silent}
@@ -60,7 +60,8 @@ module _ (t : Table) (s : Reference) (p : ℕ) (hp : p < length (s .machines)) w
   act-silent m (took x) e h = act-step e
   act-silent m (sent x) e h = absurd (no-way (cc))
 
-  pub act-sent : {m : Machine} {x : Mail} → Steps (codeOf t p) (machineAt s p) (sent x) m → act t s (step p) ≡ some (posted t x (withMachine p m s))
+  pub act-sent : {m : Machine} {x : Mail} → Steps (codeOf t p) (machineAt s p) (sent x) m → act t s (step p)
+      ≡ some (posted t (sentFrom p (machineAt s p .pc) x) (withMachine p m s))
   unfolding stepped
   act-sent e = act-step e
 

@@ -43,9 +43,9 @@ tally-busy t p (sent x ∷ acts) i = let a = tally-busy t p acts i in omega arit
 
 pub issued-mine : (t : Table) (p : ℕ) (q : List Item) → issuedTakes p (mine t p q) ≡ issuedTakes p q
 issued-mine t p [] = refl
-issued-mine t p (message x ∷ q) = go (eqb p (ownerOf t (message x))) ∙ issued-mine t p q
+issued-mine t p (message x pc ∷ q) = go (eqb p (ownerOf t (message x pc))) ∙ issued-mine t p q
   where
-    go : (b : Bool) → issuedTakes p (cond b (message x ∷ mine t p q) (mine t p q)) ≡ issuedTakes p (mine t p q)
+    go : (b : Bool) → issuedTakes p (cond b (message x pc ∷ mine t p q) (mine t p q)) ≡ issuedTakes p (mine t p q)
     go true = refl
     go false = refl
 issued-mine t p (checkpoint r s ∷ q) = go (eqb p r) refl (issued-mine t p q)
@@ -62,14 +62,14 @@ issued-mine t p (transfer r ∷ q) = go (eqb p r) ∙ issued-mine t p q
 
 none-issued : (p : ℕ) (q : List Item) → checkpoints q ≡ 0 → issuedTakes p q ≡ noTakes
 none-issued p [] h = refl
-none-issued p (message x ∷ q) h = none-issued p q h
+none-issued p (message x pc ∷ q) h = none-issued p q h
 none-issued p (checkpoint r s ∷ q) h = absurd (omega arith)
 none-issued p (transfer r ∷ q) h = absurd (omega arith)
 
 -- none beside a transfer
 none-beside : (p r : ℕ) (old new : List Item) → checkpoints old + checkpoints new ≡ 0 → issuedTakes p (old ++ (transfer r ∷ new)) ≡ noTakes
 none-beside p r [] new h = none-issued p new (omega arith)
-none-beside p r (message x ∷ old) new h = none-beside p r old new h
+none-beside p r (message x pc ∷ old) new h = none-beside p r old new h
 none-beside p r (checkpoint j s ∷ old) new h = absurd (omega arith)
 none-beside p r (transfer j ∷ old) new h = absurd (omega arith)
 

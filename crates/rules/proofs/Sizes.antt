@@ -111,6 +111,7 @@ module _ (t : Table) (ok : Accepted t) (c : Cabinet) (s : Reference) (inv : Inva
       let small : length (c .processes) ≤ environment = (let a = inv .all-processes in let b = ok .processes-high in omega arith) in
       record {
         for-feed = λ k _ free. log-short (k ∷ []) (admit t c k small free rm) k (λ i. omega arith);
-        for-oldest = λ b x rest e. log-short [] rm (x .channel) (λ i. let a = flight-leave i (c .outboxes) b (message x) rest e in omega arith);
+        for-oldest = λ b x pc rest e.
+            log-short [] rm (x .channel) (λ i. let a = flight-leave i (c .outboxes) b (message x pc) rest e in omega arith);
         for-copies = λ p hp. record { short = mailbox-short t ok [] c p (rw (inv .all-processes) at hp) (rm p hp); own = rm p hp .own };
       }

@@ -11,7 +11,7 @@ use Rattle.facts.specs.Tests.{no-way, by-eq}
 use Rattle.backup.specs.Limits.{logMost}
 use Rattle.backup.specs.Replica.{Replica, Checkpoint, answer, counted, countNumber, count, sync}
 use Rattle.rules.specs.Table.{Table, environment, channelAt, codeOf}
-use Rattle.rules.specs.Machine.{Mail, Machine, sent}
+use Rattle.rules.specs.Machine.{Mail, sentFrom, fromOutside, Machine, sent}
 use Rattle.rules.specs.Reference.{Reference, Action, posted, withMachine, act, injections}
 use Rattle.rules.specs.Cabinet.{Standby, Process, Item, message, checkpoint, transfer, isComplete, Cabinet, nobody, processAt, outboxAt, full}
 use Rattle.rules.specs.Moves.{withProcess, withOutbox, onReplica, onBackup, counts, keeps, rebacked, deliver}
@@ -76,26 +76,33 @@ module _ {t : Table} (ok : Accepted t) {c : Cabinet} {s : Reference} (inv : Inva
 
   -- ---- a word
 
-  follow-word : (mail : Mail) (rest : List Item) → senderOf t mail ≡ p → outboxAt c (processAt c p .board) ≡ message mail ∷ rest → RoomFor t c (mail .channel)
-      → Transmitted t p (mine t p (getD (set (c .outboxes) (processAt c p .board) rest) (processAt c p .board) [])) mail (counts (processAt c p)) (machineAt s p)
-      → Follows t (deliver t mail (withProcess p (counts (processAt c p)) (withOutbox (processAt c p .board) rest c))) s (mail ∷ []) []
+  follow-word : (mail : Mail) (pc : ℕ) (rest : List Item) → senderOf t mail ≡ p → outboxAt c (processAt c p .board) ≡ message mail pc ∷ rest
+      → RoomFor t c (mail .channel)
+      → Transmitted t p (mine t p (getD (set (c .outboxes) (processAt c p .board) rest) (processAt c p .board) [])) mail pc
+      (counts (processAt c p)) (machineAt s p)
+      → Follows t (deliver t mail (withProcess p (counts (processAt c p)) (withOutbox (processAt c p .board) rest c))) s
+      (sentFrom p pc mail ∷ []) []
   unfolding counts posted withMachine injections
-  follow-word mail rest is-own oldest room v =
+  follow-word mail pc rest is-own oldest room v =
       let B : ℕ = processAt c p .board in
       let mid : Reference = withMachine p (v .mid) s in
-      let end : Reference = posted t mail (withMachine p (v .last) s) in
+      let end : Reference = posted t (sentFrom p pc mail) (withMachine p (v .last) s) in
       let up-to-mid = run-silent t p (v .steps .to-mid) refl (v .steps .silent-there) s (in-reference inv hp) refl in
       let sends-it : Steps (codeOf t p) (machineAt mid p) (sent mail) (v .last) =
       subst (λ (m : Machine). Steps (codeOf t p) m (sent mail) (v .last)) (sym (put-get p (v .mid) s (in-reference inv hp))) (v .sends-it) in
       let acts = act-sent t mid p (subst (λ (n : ℕ). p < n) (sym (put-length p (v .mid) s)) (in-reference inv hp)) sends-it in
+      let from-there : machineAt mid p .pc ≡ pc =
+      ap (λ (m : Machine). m .pc) (put-get p (v .mid) s (in-reference inv hp)) ∙ v .from-there in
       record {
         actions = steps p (v .steps .acts) ++ (Action.step p ∷ []);
         end = end;
         ran = run-append t s (steps p (v .steps .acts)) (Action.step p ∷ []) mid up-to-mid
-            ∙ run-one t mid (Action.step p) end (acts ∙ ap (λ (z : Reference). some (posted t mail z)) (put-put p (v .mid) s (v .last)));
-        invariant = deliver-keeps mail ok
+            ∙ run-one t mid (Action.step p) end
+            (acts ∙ ap (λ (n : ℕ). some (posted t (sentFrom p n mail) (withMachine p (v .last) mid))) from-there
+            ∙ ap (λ (z : Reference). some (posted t (sentFrom p pc mail) z)) (put-put p (v .mid) s (v .last)));
+        invariant = deliver-keeps (sentFrom p pc mail) ok
             (change-same inv p hp (counts (processAt c p)) (record { board = refl; standby = called-backup-board count (processAt c p .standby) }) (v .last)
-            (set (c .outboxes) B rest) (others (message mail) is-own rest oldest) (v .good) (s .trace) (length-set (c .outboxes) B rest))
+            (set (c .outboxes) B rest) (others (message mail pc) is-own rest oldest) (v .good) (s .trace) (length-set (c .outboxes) B rest))
             (room-left t c (mail .channel) p B rest hp room);
         traced = refl;
         injected = injections-append (steps p (v .steps .acts)) (Action.step p ∷ []) ∙ ap (λ (l : List Mail). l ++ []) (injections-steps p (v .steps .acts));
@@ -140,14 +147,14 @@ module _ {t : Table} (ok : Accepted t) {c : Cabinet} {s : Reference} (inv : Inva
 
   -- ---- each, from the board that p runs on
 
-  transmits-word : (b : ℕ) (mail : Mail) (rest : List Item) → processAt c p .board ≡ b → senderOf t mail ≡ p → outboxAt c b ≡ message mail ∷ rest
-      → RoomFor t c (mail .channel)
-      → Follows t (deliver t mail (withProcess p (counts (processAt c p)) (withOutbox b rest c))) s (mail ∷ []) []
-  transmits-word b mail rest runs is-own =
-      subst (λ (B : ℕ). outboxAt c B ≡ message mail ∷ rest → RoomFor t c (mail .channel)
-      → Follows t (deliver t mail (withProcess p (counts (processAt c p)) (withOutbox B rest c))) s (mail ∷ []) []) runs
-      (λ oldest room. follow-word mail rest is-own oldest room (good-counts ok (in-table inv hp) mail
-      (subst (λ (l : List Item). Good t p l (processAt c p) (machineAt s p)) (items (message mail) is-own rest oldest) (inv .good p hp))))
+  transmits-word : (b : ℕ) (mail : Mail) (pc : ℕ) (rest : List Item) → processAt c p .board ≡ b → senderOf t mail ≡ p
+      → outboxAt c b ≡ message mail pc ∷ rest → RoomFor t c (mail .channel)
+      → Follows t (deliver t mail (withProcess p (counts (processAt c p)) (withOutbox b rest c))) s (sentFrom p pc mail ∷ []) []
+  transmits-word b mail pc rest runs is-own =
+      subst (λ (B : ℕ). outboxAt c B ≡ message mail pc ∷ rest → RoomFor t c (mail .channel)
+      → Follows t (deliver t mail (withProcess p (counts (processAt c p)) (withOutbox B rest c))) s (sentFrom p pc mail ∷ []) []) runs
+      (λ oldest room. follow-word mail pc rest is-own oldest room (good-counts ok (in-table inv hp) mail pc
+      (subst (λ (l : List Item). Good t p l (processAt c p) (machineAt s p)) (items (message mail pc) is-own rest oldest) (inv .good p hp))))
 
   transmits-checkpoint : (b : ℕ) (k : Checkpoint) (rest : List Item) → processAt c p .board ≡ b → outboxAt c b ≡ checkpoint p k ∷ rest
       → Follows t (withProcess p (keeps k (processAt c p)) (withOutbox b rest c)) s [] []
@@ -164,11 +171,12 @@ module _ {t : Table} (ok : Accepted t) {c : Cabinet} {s : Reference} (inv : Inva
       (subst (λ (l : List Item). Good t p l (processAt c p) (machineAt s p)) (items (transfer p) refl rest oldest) (inv .good p hp))))
 
 module _ {t : Table} (ok : Accepted t) {c : Cabinet} {s : Reference} (inv : Invariant t c s) where
-  pub follow-transmit : Roomy t c → (b : ℕ) (mail : Mail) (rest : List Item) → outboxAt c b ≡ message mail ∷ rest
-      → Follows t (deliver t mail (withProcess (senderOf t mail) (counts (processAt c (senderOf t mail))) (withOutbox b rest c))) s (mail ∷ []) []
-  follow-transmit roomy b mail rest oldest =
-      let o = owner t c s b (message mail) rest inv oldest in
-      transmits-word ok inv (senderOf t mail) (o .there) b mail rest (o .runs) refl oldest (roomy .for-oldest b mail rest oldest)
+  pub follow-transmit : Roomy t c → (b : ℕ) (mail : Mail) (pc : ℕ) (rest : List Item) → outboxAt c b ≡ message mail pc ∷ rest
+      → Follows t (deliver t mail (withProcess (senderOf t mail) (counts (processAt c (senderOf t mail))) (withOutbox b rest c))) s
+      (sentFrom (senderOf t mail) pc mail ∷ []) []
+  follow-transmit roomy b mail pc rest oldest =
+      let o = owner t c s b (message mail pc) rest inv oldest in
+      transmits-word ok inv (senderOf t mail) (o .there) b mail pc rest (o .runs) refl oldest (roomy .for-oldest b mail pc rest oldest)
 
   pub follow-sync : (b p : ℕ) (k : Checkpoint) (rest : List Item) → outboxAt c b ≡ checkpoint p k ∷ rest
       → Follows t (withProcess p (keeps k (processAt c p)) (withOutbox b rest c)) s [] []
@@ -185,14 +193,15 @@ module _ {t : Table} (ok : Accepted t) {c : Cabinet} {s : Reference} (inv : Inva
   -- ---- feed
 
   pub follow-inject : Roomy t c → (mail : Mail) → mail .channel < length (t .channels) → senderOf t mail ≡ environment → full t c (mail .channel) ≡ false
-      → Follows t (deliver t mail c) s (mail ∷ []) (mail ∷ [])
+      → Follows t (deliver t mail c) s (fromOutside mail ∷ []) (mail ∷ [])
   unfolding act posted injections
   follow-inject roomy mail h outside free =
       record {
         actions = Action.inject mail ∷ [];
-        end = posted t mail s;
-        ran = run-one t s (Action.inject mail) (posted t mail s) (rw (lt-ltb (mail .channel) (length (t .channels)) h, eq-eqb (senderOf t mail) environment outside));
-        invariant = deliver-keeps mail ok inv (roomy .for-feed (mail .channel) outside free);
+        end = posted t (fromOutside mail) s;
+        ran = run-one t s (Action.inject mail) (posted t (fromOutside mail) s)
+            (rw (lt-ltb (mail .channel) (length (t .channels)) h, eq-eqb (senderOf t mail) environment outside));
+        invariant = deliver-keeps (fromOutside mail) ok inv (roomy .for-feed (mail .channel) outside free);
         traced = refl;
         injected = refl;
       }

@@ -11,14 +11,15 @@ use Rattle.rules.specs.Reference.{referenceStart, injections}
 use Rattle.rules.specs.Cabinet.{quiescent}
 use Rattle.rules.specs.Moves.{Command}
 use Rattle.rules.specs.Judge.{Accepted}
-use Rattle.rules.specs.Transparent.{ListTransparent, traceOf, fedOf, answered, finished}
+use Rattle.rules.specs.Transparent.{ListTransparent, busOf, fedOf, answered, originated, finished}
 use Rattle.rules.proofs.References.{run-append, injections-append}
 use Rattle.rules.proofs.Follow.{Follows}
 use Rattle.rules.proofs.Start.{reached}
 use Rattle.rules.proofs.Quiet.{all-caught-up, same-machines, no-more}
 
 -- at a quiet end the reference machine goes on to the running machines
-finish : (t : Table) (commands : List Command) → Follows t (finished t commands) (referenceStart t) (traceOf (answered t commands)) (fedOf commands (answered t commands))
+finish : (t : Table) (commands : List Command)
+    → Follows t (finished t commands) (referenceStart t) (busOf (answered t commands) (originated t commands)) (fedOf commands (answered t commands))
     → (quiet : Bool) → quiescent t (finished t commands) ≡ quiet → ListTransparent t commands
 unfolding referenceStart
 finish t commands f false q =

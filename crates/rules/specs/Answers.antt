@@ -1,6 +1,7 @@
 -- Commands, answers and refusals, and the numbers of each (document 01, "What each move replies").
 use Prim.Native.Nat.{ℕ}
-use Rattle.rules.specs.Machine.{Mail}
+use Rattle.rules.specs.Table.{environment}
+use Rattle.rules.specs.Machine.{Mail, Origin, BusWord, outside}
 
 -- a schedule's record, one command (document 01: "records of six bytes: move, a, word")
 pub record Command : Type 0 where
@@ -62,7 +63,8 @@ pub data Answer : Type 0 where
   stepDone issueDone crashDone rejoinDone rebackupDone : Answer
   received queued suppressed : Mail → Answer
   -- on the bus: a word that was carried, and one that was fed
-  transmitted injected : Mail → Answer
+  transmitted : BusWord → Answer
+  injected : Mail → Answer
   -- of a process: a sync that its backup kept, with how many words that dropped, and one with no backup left
   syncKept : ℕ → ℕ → Answer
   syncLost : ℕ → Answer
@@ -92,9 +94,31 @@ numbers rebackupDone = numbered 0 0 0
 numbers (received x) = numbered 1 (x .channel) (x .word)
 numbers (queued x) = numbered 2 (x .channel) (x .word)
 numbers (suppressed x) = numbered 3 (x .channel) (x .word)
-numbers (transmitted x) = numbered 4 (x .channel) (x .word)
+numbers (transmitted x) = numbered 4 (x .mail .channel) (x .mail .word)
 numbers (injected x) = numbered 4 (x .channel) (x .word)
 numbers (syncKept p dropped) = numbered 5 p dropped
 numbers (syncLost p) = numbered 6 p 0
 numbers (transferKept p) = numbered 5 p 0
 numbers (refused why a) = numbered (refusalNumber why) a 0
+
+-- ---- W-212: where the word on the bus comes from
+
+-- "255 and 255 where no word was on the bus"
+abbrev pub noOrigin : Origin
+noOrigin = record { sender = environment; pc = 255 }
+
+unfoldable pub originOf : Answer → Origin
+originOf (transmitted x) = x .origin
+originOf (injected x) = outside
+originOf stepDone = noOrigin
+originOf issueDone = noOrigin
+originOf crashDone = noOrigin
+originOf rejoinDone = noOrigin
+originOf rebackupDone = noOrigin
+originOf (received x) = noOrigin
+originOf (queued x) = noOrigin
+originOf (suppressed x) = noOrigin
+originOf (syncKept p dropped) = noOrigin
+originOf (syncLost p) = noOrigin
+originOf (transferKept p) = noOrigin
+originOf (refused why a) = noOrigin

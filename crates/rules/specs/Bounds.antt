@@ -23,7 +23,7 @@ mails t p log = map (λ (m : Message). record { channel = channelOn t p (m .port
 -- the takes of process p's checkpoint that waits in an outbox, and none if none waits
 abbrev pub issuedTakes : ℕ → List Item → List ℕ
 issuedTakes p [] = noTakes
-issuedTakes p (message x ∷ q) = issuedTakes p q
+issuedTakes p (message x pc ∷ q) = issuedTakes p q
 issuedTakes p (checkpoint r s ∷ q) = cond (eqb p r) (s .taken) (issuedTakes p q)
 issuedTakes p (transfer r ∷ q) = issuedTakes p q
 
@@ -51,10 +51,10 @@ pub record BackupBounds (t : Table) (c : Cabinet) (p : ℕ) (s : Standby) : Type
   pub saved : mails t p (remaining (processAt c p .since .taken)
       (remaining (issuedTakes p (outboxAt c (processAt c p .board))) (s .replica .log))) ≡ processAt c p .machine .mailbox
   -- no call of the backup is refused. "A word goes [..] to the sender's backup record, which counts it":
-  pub counts : (b : ℕ) (x : Mail) (rest : List Item) → outboxAt c b ≡ message x ∷ rest → channelAt t (x .channel) .sender ≡ p
+  pub counts : (b : ℕ) (x : Mail) (pc : ℕ) (rest : List Item) → outboxAt c b ≡ message x pc ∷ rest → channelAt t (x .channel) .sender ≡ p
       → countNumber (s .replica) ≡ 0
   -- "to [..] the reader's backup record". "Where a process sends to itself, its one record saves the word and counts it."
-  pub arrives : (b : ℕ) (x : Mail) (rest : List Item) → outboxAt c b ≡ message x ∷ rest → channelAt t (x .channel) .reader ≡ p
+  pub arrives : (b : ℕ) (x : Mail) (pc : ℕ) (rest : List Item) → outboxAt c b ≡ message x pc ∷ rest → channelAt t (x .channel) .reader ≡ p
       → arriveNumber (cond (eqb (channelAt t (x .channel) .sender) p) (counted (s .replica)) (s .replica)) (portOf t p (x .channel)) ≡ 0
   -- "feed outside channel a with a word: to the inbox and the backup record"
   pub feeds : (k : ℕ) → channelAt t k .sender ≡ environment → channelAt t k .reader ≡ p → full t c k ≡ false

@@ -22,6 +22,11 @@ sixes make (suc n) bytes =
     make (byteAt bytes 0) (byteAt bytes 1) (number32 (byteAt bytes 2) (byteAt bytes 3) (byteAt bytes 4) (byteAt bytes 5))
     ∷ sixes make n (drop 6 bytes)
 
+-- the same of two bytes each
+abbrev pub twos : {A : Type 0} → (ℕ → ℕ → A) → ℕ → List ℕ → List A
+twos make zero bytes = []
+twos make (suc n) bytes = make (byteAt bytes 0) (byteAt bytes 1) ∷ twos make n (drop 2 bytes)
+
 -- ---- into bytes
 
 -- a word as four bytes (of a number below 2^32 the first, too, is below 256)

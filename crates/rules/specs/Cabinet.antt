@@ -38,11 +38,12 @@ pub record Process : Type 0 where
   pub since : Since
   pub standby : Option Standby
 
--- "An entry of an outgoing queue is a word or a sync". A word names its channel and so, by the table, its sender. W-210: "its snapshot and
--- copies of all its unread words join the queue as one entry", a state transfer to a new backup (document 02: resync). It names the process:
--- snapshot and copies stand in the record that is being made, which from issue on saves what arrives.
+-- "An entry of an outgoing queue is a word or a sync". A word names its channel and so, by the table, its sender; beside it stands "the place
+-- of its SEND" (W-212). W-210: "its snapshot and copies of all its unread words join the queue as one entry", a state transfer to a new backup
+-- (document 02: resync). It names the process: snapshot and copies stand in the record that is being made, which from issue on saves what
+-- arrives.
 pub data Item : Type 0 where
-  message : Mail → Item
+  message : Mail → ℕ → Item
   checkpoint : ℕ → Checkpoint → Item
   transfer : ℕ → Item
 
@@ -144,7 +145,7 @@ unreadOn k (x ∷ l) =
 
 -- W-210: "Those copies count on no channel, neither for 39 and 49 nor in the totals."
 abbrev pub isOn : ℕ → Item → Bool
-isOn k (message x) = eqb k (x .channel)
+isOn k (message x pc) = eqb k (x .channel)
 isOn k (checkpoint p s) = false
 isOn k (transfer p) = false
 
@@ -176,7 +177,7 @@ crowded t c p = anyBelow (λ i. ltb occupancyMost (occupancy t c (channelOn t p 
 
 -- a sync of process p waits in an outbox, or a resync: "41 (for a waiting resync too)"
 abbrev pub isCheckpointOf : ℕ → Item → Bool
-isCheckpointOf p (message x) = false
+isCheckpointOf p (message x pc) = false
 isCheckpointOf p (checkpoint q s) = eqb p q
 isCheckpointOf p (transfer q) = eqb p q
 

@@ -14,6 +14,7 @@ pub mod RollForward
 pub mod Transparent
 pub mod Rebackup
 pub mod Recovery
+pub mod Origins
 pub mod Bytes
 pub mod Format
 pub mod FirstVersion

@@ -6,12 +6,32 @@ use Prim.Native.Nat.{ℕ, zero, suc, _+_, _/_, _%_, _^_}
 use lib.Dec.{eqb, ltb}
 use lib.ListN.{length, getD, set}
 use Rattle.backup.specs.Replica.{noRegisters}
-use Rattle.rules.specs.Table.{Instruction, SET, ADD, TAKE, FIRST, SEND, JUMP, NONE}
+use Rattle.rules.specs.Table.{environment, Instruction, SET, ADD, TAKE, FIRST, SEND, JUMP, NONE}
 
 -- a word on a channel
 pub record Mail : Type 0 where
   pub channel : ℕ
   pub word : ℕ
+
+-- where a word on the bus comes from. W-212: "the place of its SEND and the sender"
+pub record Origin : Type 0 where
+  pub sender : ℕ
+  pub pc : ℕ
+
+pub record BusWord : Type 0 where
+  pub mail : Mail
+  pub origin : Origin
+
+-- a word that this process sent, from this place
+abbrev pub sentFrom : ℕ → ℕ → Mail → BusWord
+sentFrom p pc x = record { mail = x; origin = record { sender = p; pc = pc } }
+
+-- "255 and 0 for a feed"
+abbrev pub outside : Origin
+outside = record { sender = environment; pc = 0 }
+
+abbrev pub fromOutside : Mail → BusWord
+fromOutside x = record { mail = x; origin = outside }
 
 pub record Machine : Type 0 where
   pub registers : List ℕ

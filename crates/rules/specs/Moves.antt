@@ -10,7 +10,7 @@ use Rattle.backup.specs.Replica.{Message, Replica, Checkpoint, Reply, FailOver,
 use Rattle.rules.specs.Table.{Table, Instruction, SET, ADD, TAKE, FIRST, SEND, JUMP, NONE, environment, channelAt, codeOf, limitOf}
 use Rattle.rules.specs.Table.{portOf, channelOn}
 use Rattle.rules.specs.Machine.{Mail, Machine, Act, internal, took, sent, Outcome, halted, noMail, moved, instructionAt, localStep}
-use Rattle.rules.specs.Machine.{delivered}
+use Rattle.rules.specs.Machine.{sentFrom, delivered}
 use Rattle.rules.specs.Cabinet.{outboxMost, Standby, Since, Process, Item, message, checkpoint, transfer, isComplete, Cabinet}
 use Rattle.rules.specs.Cabinet.{noneSince, nobody, processAt, outboxAt, deadAt, protected, limited, otherBoard, someUnbacked}
 use Rattle.rules.specs.Cabinet.{exhausted, overrun, owing, full, crowded, waiting}
@@ -19,8 +19,8 @@ pub use Rattle.rules.specs.Answers.{isHalted, noWordToTake, noWordForFir
 pub use Rattle.rules.specs.Answers.{rebackupBlocked, sendHeld, injectHeld, syncWaits, rebackupWaits, noBackup, outboxEmpty}
 pub use Rattle.rules.specs.Answers.{notOutside, notBacked, boardLive, unready, hasBackup}
 pub use Rattle.rules.specs.Answers.{Answer, stepDone, issueDone, crashDone, rejoinDone, rebackupDone, received, queued, suppressed}
-pub use Rattle.rules.specs.Answers.{transmitted, injected, syncKept, syncLost, transferKept, refused, Numbers, numbered}
-unfoldable pub use Rattle.rules.specs.Answers.{refusalNumber, numbers}
+pub use Rattle.rules.specs.Answers.{transmitted, injected, syncKept, syncLost, transferKept, refused, Numbers, numbered, noOrigin}
+unfoldable pub use Rattle.rules.specs.Answers.{refusalNumber, numbers, originOf}
 
 -- what a move comes to: a refusal, or the cabinet afterwards and the answer
 pub data Result : Type 0 where
@@ -95,7 +95,7 @@ send t c p x m mail zero =
     guard (owing (limitOf t p) x) (owedFor (limitOf t p) x)
     (guard (leb outboxMost (length (outboxAt c (x .board)))) sendBlocked
     (guard (full t c (mail .channel)) sendHeld
-    (accept (withProcess p (advanced m (counting oneSent x) 0 x) (enqueue (x .board) (message mail) c)) (queued mail))))
+    (accept (withProcess p (advanced m (counting oneSent x) 0 x) (enqueue (x .board) (message mail (x .machine .pc)) c)) (queued mail))))
 
 -- "36 no such word": which of the two found none
 unfoldable pub missing : Instruction → Refusal
@@ -197,9 +197,9 @@ rebacked x = withStandby (completed (x .standby)) x
 -- "A word goes, in one move, to the reader's inbox, the reader's backup record, and the sender's backup record."
 unfoldable pub transmitItem : Table → Cabinet → Item → Result
 unfolding deliver counts keeps rebacked nobody
-transmitItem t c (message mail) =
+transmitItem t c (message mail pc) =
     let sender = channelAt t (mail .channel) .sender in
-    accept (deliver t mail (withProcess sender (counts (processAt c sender)) c)) (transmitted mail)
+    accept (deliver t mail (withProcess sender (counts (processAt c sender)) c)) (transmitted (sentFrom sender pc mail))
 transmitItem t c (checkpoint p s) =
     accept (withProcess p (keeps s (processAt c p)) c) (landed p s (processAt c p))
 transmitItem t c (transfer p) = accept (withProcess p (rebacked (processAt c p)) c) (transferKept p)

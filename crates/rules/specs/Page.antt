@@ -105,9 +105,11 @@ tableIn input = take (2 + lengthField input) input
 abbrev pub scheduleIn : List ℕ → List ℕ
 scheduleIn input = drop (2 + lengthField input) input
 
--- buffers that hold the answers, the reasons and the report of every run
+-- buffers that hold the answers, the reasons, the report and the origins of every run
 abbrev pub benchBuffers : Buffers
-benchBuffers = buffersOf (replicate (6 * commandsMost) 0) (replicate commandsMost 0) (replicate (20 * processesMost) 0)
+benchBuffers =
+    buffersOf (replicate (6 * commandsMost) 0) (replicate commandsMost 0) (replicate (20 * processesMost) 0)
+    (replicate (2 * commandsMost) 0)
 
 -- what the program prints for all of its input: "A table length over 6,260 prints `refused 1`"; W-207: over 6,276
 unfoldable pub benchPage : List ℕ → List ℕ

@@ -10,8 +10,8 @@ use Rattle.rules.specs.Table.{Table}
 use Rattle.rules.specs.Reference.{Reference, Action, referenceStart, referenceRun, injections}
 use Rattle.rules.specs.Cabinet.{Cabinet, processAt, protected}
 use Rattle.rules.specs.Moves.{Command, Answer, stepDone, issueDone, crashDone, rejoinDone, rebackupDone, received, queued, suppressed}
-use Rattle.rules.specs.Moves.{transmitted, injected, syncKept, syncLost, transferKept, refused, numbers, runFrom}
-use Rattle.rules.specs.Transparent.{traceOf, fedOf, answered, finished}
+use Rattle.rules.specs.Moves.{transmitted, injected, syncKept, syncLost, transferKept, refused, numbers, originOf, runFrom}
+use Rattle.rules.specs.Transparent.{busOf, fedOf, answered, originated, finished}
 use Rattle.rules.specs.Rebackup.{anyCompletes}
 
 -- ---- backed again
@@ -53,11 +53,11 @@ pub record Continues (t : Table) (before after : List Command) : Type 0 where
   pub actions : List Action
   pub mid : Reference
   pub ran : referenceRun t (referenceStart t) actions ≡ some mid
-  pub traced : mid .trace ≡ traceOf (answered t before)
+  pub traced : mid .trace ≡ busOf (answered t before) (originated t before)
   pub fed : injections actions ≡ fedOf before (answered t before)
   -- and on
   pub more : List Action
   pub end : Reference
   pub ran-on : referenceRun t mid more ≡ some end
-  pub traced-on : end .trace ≡ mid .trace ++ traceOf (map numbers (answersThen t before after))
+  pub traced-on : end .trace ≡ mid .trace ++ busOf (map numbers (answersThen t before after)) (map originOf (answersThen t before after))
   pub fed-on : injections more ≡ fedOf after (map numbers (answersThen t before after))

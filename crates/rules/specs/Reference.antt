@@ -7,13 +7,14 @@ use Prim.Native.Nat.{ℕ, zero, suc}
 use lib.Dec.{eqb, ltb}
 use lib.ListN.{length, getD, set}
 use Rattle.rules.specs.Table.{Table, environment, channelAt, codeOf}
-use Rattle.rules.specs.Machine.{Mail, Machine, booted, Act, internal, took, sent, Outcome, halted, noMail, moved, localStep, delivered}
+use Rattle.rules.specs.Machine.{Mail, BusWord, sentFrom, fromOutside, Machine, booted, Act, internal, took, sent}
+use Rattle.rules.specs.Machine.{Outcome, halted, noMail, moved, localStep, delivered}
 
 -- "It holds for each process four registers and a place, all 0 at first, and an inbox [..]. Beside them is its bus order."
 pub record Reference : Type 0 where
   pub machines : List Machine
-  -- the total order of transmitted messages (bus order)
-  pub trace : List Mail
+  -- the total order of transmitted messages (bus order). W-212: each with its origin, "and the plain cabinet lists them"
+  pub trace : List BusWord
 
 pub data Action : Type 0 where
   inject : Mail → Action
@@ -24,14 +25,14 @@ unfoldable pub referenceStart : Table → Reference
 unfolding booted
 referenceStart t = record { machines = map (λ _. booted) (t .processes); trace = [] }
 
--- channel and word go to the end of the bus order and, unless the outside reads the channel, of the reader's inbox
+-- channel and word, with where they come from, go to the end of the bus order and, unless the outside reads the channel, of the reader's inbox
 -- (a reader of 255 is no machine of the list, and a store there changes nothing)
-unfoldable pub posted : Table → Mail → Reference → Reference
+unfoldable pub posted : Table → BusWord → Reference → Reference
 unfolding booted delivered
 posted t x s =
-    let reader = channelAt t (x .channel) .reader in
+    let reader = channelAt t (x .mail .channel) .reader in
     record {
-      machines = set (s .machines) reader (delivered x (getD (s .machines) reader booted));
+      machines = set (s .machines) reader (delivered (x .mail) (getD (s .machines) reader booted));
       trace = s .trace ++ (x ∷ []);
     }
 
@@ -39,20 +40,21 @@ unfoldable pub withMachine : ℕ → Machine → Reference → Reference
 withMachine p m s = record { machines = set (s .machines) p m; trace = s .trace }
 
 -- "A step is refused exactly where the place is n, or TAKE or FIRST finds no such word." Refused is none: "What is refused changes nothing."
+-- The place of a SEND is the one at which the machine stood before it.
 unfoldable pub stepped : Table → Reference → ℕ → Outcome → Option Reference
-unfolding posted withMachine
+unfolding posted withMachine booted
 stepped t s p halted = none
 stepped t s p noMail = none
 stepped t s p (moved m internal) = some (withMachine p m s)
 stepped t s p (moved m (took x)) = some (withMachine p m s)
-stepped t s p (moved m (sent x)) = some (posted t x (withMachine p m s))
+stepped t s p (moved m (sent x)) = some (posted t (sentFrom p (getD (s .machines) p booted .pc) x) (withMachine p m s))
 
 -- "Feed of a channel whose sender is the outside [..]. A feed of any other channel is refused."
 unfoldable pub act : Table → Reference → Action → Option Reference
 unfolding stepped localStep booted posted
 act t s (inject x) =
     cond (ltb (x .channel) (length (t .channels)))
-    (cond (eqb (channelAt t (x .channel) .sender) environment) (some (posted t x s)) none)
+    (cond (eqb (channelAt t (x .channel) .sender) environment) (some (posted t (fromOutside x) s)) none)
     none
 act t s (step p) = cond (ltb p (length (s .machines))) (stepped t s p (localStep (codeOf t p) (getD (s .machines) p booted))) none
 

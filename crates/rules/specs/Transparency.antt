@@ -2,9 +2,10 @@
 use mathlib.Core.List.{List}
 use Prim.Native.Nat.{ℕ}
 use lib.ListN.{take}
+use Rattle.rules.specs.Machine.{Origin}
 use Rattle.rules.specs.Moves.{Numbers, numbered}
-use Rattle.rules.specs.Transparent.{Transparent, traceOf, fedOf, machinesOf, finished}
-use Rattle.rules.specs.Bytes.{sixes}
+use Rattle.rules.specs.Transparent.{Transparent, busOf, fedOf, machinesOf, finished}
+use Rattle.rules.specs.Bytes.{sixes, twos}
 use Rattle.rules.specs.Format.{decodeTable}
 use Rattle.rules.specs.Schedule.{decodeSchedule}
 use Rattle.rules.specs.Run.{Ran}
@@ -21,9 +22,17 @@ answersIn r = readAnswers (r .records) (r .buffers .answers)
 abbrev pub reasonsIn : Ran → List ℕ
 reasonsIn r = take (r .records) (r .buffers .reasons)
 
+-- W-212: "two bytes a record: sender and place", the first n of a buffer
+abbrev pub readOrigins : ℕ → List ℕ → List Origin
+readOrigins n buffer = twos (λ sender pc. record { sender = sender; pc = pc }) n buffer
+
+abbrev pub originsIn : Ran → List Origin
+originsIn r = readOrigins (r .records) (r .buffers .origins)
+
 -- Of the bytes of a table and a schedule, and of what a run of them returned and left in its buffers: what was fed and the bus order are
--- read out of the answers there, and quiet is the one returned. "those that the five moves give after our last record" are the rules' own.
+-- read out of the answers and the origins there, and quiet is the one returned. "those that the five moves give after our last record" are
+-- the rules' own.
 abbrev pub FailureTransparency : List ℕ → List ℕ → Ran → Type 0
 FailureTransparency table schedule r =
-    Transparent (decodeTable table) (fedOf (decodeSchedule schedule) (answersIn r)) (traceOf (answersIn r)) (r .quiet)
+    Transparent (decodeTable table) (fedOf (decodeSchedule schedule) (answersIn r)) (busOf (answersIn r) (originsIn r)) (r .quiet)
     (machinesOf (finished (decodeTable table) (decodeSchedule schedule)))

@@ -6,14 +6,14 @@ use mathlib.Core.List.{List, [], _∷_, map}
 use Prim.Native.Nat.{ℕ}
 use lib.Dec.{eqb}
 use Rattle.rules.specs.Table.{Table}
-use Rattle.rules.specs.Machine.{Mail, Machine}
+use Rattle.rules.specs.Machine.{Mail, Origin, BusWord, Machine}
 use Rattle.rules.specs.Reference.{Reference, Action, step, referenceStart, referenceRun, act, injections}
 use Rattle.rules.specs.Cabinet.{Process, Cabinet, started, quiescent}
-use Rattle.rules.specs.Moves.{Command, Numbers, numbers, runFrom}
+use Rattle.rules.specs.Moves.{Command, Numbers, numbers, originOf, runFrom}
 
 -- Of a table, the words that were fed, the bus order, whether the end was quiet, and the machines at the end: some plain run of the table
 -- explains them. It rests on nothing else of our cabinet.
-pub record Transparent (t : Table) (fed trace : List Mail) (quiet : Bool) (machines : List Machine) : Type 0 where
+pub record Transparent (t : Table) (fed : List Mail) (trace : List BusWord) (quiet : Bool) (machines : List Machine) : Type 0 where
   -- "The plain cabinet is given the table and a list of feeds and steps, and nothing of our cabinet." "Which steps it holds, and where, is free"
   pub actions : List Action
   -- the plain cabinet afterwards
@@ -22,7 +22,7 @@ pub record Transparent (t : Table) (fed trace : List Mail) (quiet : Bool) (machi
   pub ran : referenceRun t (referenceStart t) actions ≡ some end
   -- "its feeds are, in order, the feeds of our list that answered 4"
   pub injected : injections actions ≡ fed
-  -- its bus order is ours
+  -- its bus order is ours. W-212: channel, word, sender and place of each
   pub same-trace : end .trace ≡ trace
   -- "At a quiet end its places, registers and inboxes, each inbox with channels and order, are compared with those that the five moves give
   -- after our last record."
@@ -38,6 +38,18 @@ traceOf [] = []
 traceOf (n ∷ l) =
     let others = traceOf l in
     cond (eqb (n .code) 4) (record { channel = n .a; word = n .word } ∷ others) others
+
+-- the same with the origins beside it. W-212: "Each bus word shall also show the place of its SEND and the sender"
+unfoldable pub busOf : List Numbers → List Origin → List BusWord
+busOf [] origins = []
+busOf (n ∷ l) [] = []
+busOf (n ∷ l) (o ∷ origins) =
+    let others = busOf l origins in
+    cond (eqb (n .code) 4) (record { mail = record { channel = n .a; word = n .word }; origin = o } ∷ others) others
+
+-- channel and word of each alone, which is all that was compared before W-212
+abbrev pub withoutOrigins : List BusWord → List Mail
+withoutOrigins l = map (λ (x : BusWord). x .mail) l
 
 -- "the feeds of our list that answered 4", in order, each as its record's channel and word
 unfoldable pub fedOf : List Command → List Numbers → List Mail
@@ -57,11 +69,15 @@ machinesOf c = map (λ (x : Process). x .machine) (c .processes)
 abbrev pub answered : Table → List Command → List Numbers
 answered t commands = map numbers (runFrom t (started t) commands .answers)
 
+-- and where the words on the bus come from
+abbrev pub originated : Table → List Command → List Origin
+originated t commands = map originOf (runFrom t (started t) commands .answers)
+
 abbrev pub finished : Table → List Command → Cabinet
 finished t commands = runFrom t (started t) commands .cabinet
 
 -- "Demand 3 speaks of that list as a whole, in one theorem, and not of each move by itself."
 abbrev pub ListTransparent : Table → List Command → Type 0
 ListTransparent t commands =
-    Transparent t (fedOf commands (answered t commands)) (traceOf (answered t commands)) (quiescent t (finished t commands))
-    (machinesOf (finished t commands))
+    Transparent t (fedOf commands (answered t commands)) (busOf (answered t commands) (originated t commands))
+    (quiescent t (finished t commands)) (machinesOf (finished t commands))

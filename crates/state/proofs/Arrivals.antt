@@ -63,12 +63,13 @@ module _ {t : Table} {c : Cabinet} (r : Reachable t c) where
   inside p l = rw (known r .invariant .all-processes) l
 
   -- the oldest entry of a queue is a word
-  pub room-for-oldest : (b : ℕ) (x : Mail) (rest : List Item) → outboxAt c b ≡ message x ∷ rest → channelAt t (x .channel) .reader < length (t .processes)
+  pub room-for-oldest : (b : ℕ) (x : Mail) (pc : ℕ) (rest : List Item) → outboxAt c b ≡ message x pc ∷ rest
+      → channelAt t (x .channel) .reader < length (t .processes)
       → length (processAt c (channelAt t (x .channel) .reader) .machine .mailbox) < logMost
-  room-for-oldest b x rest e l =
+  room-for-oldest b x pc rest e l =
       let p : ℕ = channelAt t (x .channel) .reader in
       room-for t (r .accepted) [] c p l (inside p l) (known r .room p (inside p l)) x refl (set (c .outboxes) b rest)
-      (λ k. let a = flight-leave k (c .outboxes) b (message x) rest e in omega arith)
+      (λ k. let a = flight-leave k (c .outboxes) b (message x pc) rest e in omega arith)
 
   -- a feed that is not refused
   pub room-for-feed : (k : ℕ) → full t c k ≡ false → channelAt t k .reader < length (t .processes)

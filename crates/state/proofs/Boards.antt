@@ -15,7 +15,7 @@ use Rattle.rules.specs.Table.{Table}
 use Rattle.rules.specs.Cabinet as rules
 use Rattle.rules.specs.Cabinet.{Cabinet, outboxMost}
 use Rattle.state.specs.declared.entry.Entry.{Entry}
-use Rattle.state.specs.Queue.{firstIn, countIn, deadIn, queueCount, queueDead, queueFirst}
+use Rattle.state.specs.Queue.{firstIn, countIn, deadIn, queueCount, queueDead, queueFirst, resetIn}
 use Rattle.state.specs.Store.{Store, Holds, itemOf, blankEntry, outboxIn}
 
 -- what `Holds` says of the boards' rows
@@ -75,15 +75,15 @@ module _ {t : Table} {s : Store} {entries : List Entry} {c : Cabinet} (h : Holds
 
   -- its queue is empty then, and the board dead or live
   pub boards-emptied : (dead : ℕ)
-      → Boarded t (set (s .queues) b (set (set (getD (s .queues) b []) 1 0) 2 dead)) entries (set (c .outboxes) b []) (set (c .dead) b (not (eqb dead 0)))
+      → Boarded t (set (s .queues) b (resetIn (getD (s .queues) b []) dead)) entries (set (c .outboxes) b []) (set (c .dead) b (not (eqb dead 0)))
   unfolding ring
   boards-emptied dead =
       let queue : List ℕ = getD (s .queues) b [] in
       let l = h .queue-three b hb in
       let m = length-set queue 1 0 in
-      let is-first : getD (set (set queue 1 0) 2 dead) 0 0 ≡ queueFirst queue =
+      let is-first : queueFirst (resetIn queue dead) ≡ queueFirst queue =
       getD-set-other (set queue 1 0) 2 0 dead 0 (λ e. omega arith) ∙ getD-set-other queue 1 0 0 0 (λ e. omega arith) in
-      let is-count : getD (set (set queue 1 0) 2 dead) 1 0 ≡ 0 =
+      let is-count : queueCount (resetIn queue dead) ≡ 0 =
       getD-set-other (set queue 1 0) 2 1 dead 0 (λ e. omega arith) ∙ getD-set-same queue 1 0 0 (omega arith) in
       boards-then (record {
         first-fits = rw is-first (h .first-small b hb);

@@ -3,10 +3,12 @@ pub mod Reading
 pub mod Totals
 pub mod Changing
 pub mod Boards
+pub mod Popping
 pub mod Queueing
 pub mod Backing
 pub mod Reaching
 pub mod Refusing
+pub mod Making
 -- What the moves rest on: facts of an accepted table and of every cabinet that commands reach.
 pub mod Ends
 pub mod Known

@@ -31,16 +31,16 @@ module _ (t : Table) where
   -- no word of a channel that p sends on
   pub none-queued : (k : ℕ) (q : List Item) → mine t (channelAt t k .sender) q ≡ [] → queuedOn k q ≡ 0
   none-queued k [] h = refl
-  none-queued k (message x ∷ q) h =
-      rw (ne-eqb k (x .channel) (λ e. first-other (channelAt t k .sender) (message x) q h (ap (λ (j : ℕ). channelAt t j .sender) e)))
-      (none-queued k q (rest-other (channelAt t k .sender) (message x) q h))
+  none-queued k (message x pc ∷ q) h =
+      rw (ne-eqb k (x .channel) (λ e. first-other (channelAt t k .sender) (message x pc) q h (ap (λ (j : ℕ). channelAt t j .sender) e)))
+      (none-queued k q (rest-other (channelAt t k .sender) (message x pc) q h))
   none-queued k (checkpoint p s ∷ q) h = none-queued k q (rest-other (channelAt t k .sender) (checkpoint p s) q h)
   none-queued k (transfer p ∷ q) h = none-queued k q (rest-other (channelAt t k .sender) (transfer p) q h)
 
   -- no checkpoint or transfer of p
   pub none-waiting : (p : ℕ) (q : List Item) → mine t p q ≡ [] → waiting p q ≡ false
   none-waiting p [] h = refl
-  none-waiting p (message x ∷ q) h = none-waiting p q (rest-other p (message x) q h)
+  none-waiting p (message x pc ∷ q) h = none-waiting p q (rest-other p (message x pc) q h)
   none-waiting p (checkpoint r s ∷ q) h = rw (ne-eqb p r (first-other p (checkpoint r s) q h)) (none-waiting p q (rest-other p (checkpoint r s) q h))
   none-waiting p (transfer r ∷ q) h = rw (ne-eqb p r (first-other p (transfer r) q h)) (none-waiting p q (rest-other p (transfer r) q h))
 
@@ -52,9 +52,9 @@ module _ {t : Table} {c : Cabinet} (r : Reachable t c) where
       let o = owner t c (known r .reference) b item rest (known r .invariant) e in
       (rw (known r .invariant .all-processes) at (o .there), o .runs)
 
-  pub word-owner : (b : ℕ) (x : Mail) (rest : List Item) → outboxAt c b ≡ message x ∷ rest
+  pub word-owner : (b : ℕ) (x : Mail) (pc : ℕ) (rest : List Item) → outboxAt c b ≡ message x pc ∷ rest
       → (channelAt t (x .channel) .sender < length (t .processes)) × (processAt c (channelAt t (x .channel) .sender) .board ≡ b)
-  word-owner b x rest e = owned b (message x) rest e
+  word-owner b x pc rest e = owned b (message x pc) rest e
 
   pub checkpoint-owner : (b p : ℕ) (s : Checkpoint) (rest : List Item) → outboxAt c b ≡ checkpoint p s ∷ rest
       → (p < length (t .processes)) × (processAt c p .board ≡ b)

@@ -14,7 +14,6 @@ use Rattle.rules.specs.Reasons.{causeOf}
 use Rattle.plan.specs.Plan.{Plan, Planned}
 use Rattle.rules.specs.Sizes.{entriesMost}
 use Rattle.state.specs.declared.entry.Entry.{Entry}
-use Rattle.state.specs.declared.entry.Item.the-variants.{Word}
 use Rattle.state.specs.declared.moved.Answer.{Answer}
 use Rattle.state.specs.declared.moved.Moved.{Moved}
 use Rattle.state.specs.Store.{Store, Holds, blankEntry}
@@ -44,10 +43,6 @@ refusedWith code cause a = aloneOf (refusalOf code cause a)
 -- with an entry put at a place, or as they are where that is no place
 abbrev pub joined : List Entry → ℕ → Entry → List Entry
 joined entries at entry = cond (ltb at entriesMost) (set entries at entry) entries
-
--- the entry of a queued word, which an answer shows
-abbrev pub wordOf : Answer → Entry
-wordOf answer = record { item = Word (answer .a) (answer .word) }
 
 -- ---- what a move makes
 

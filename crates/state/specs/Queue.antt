@@ -1,10 +1,14 @@
--- A board's row: its queue's first place and count, and whether the board is dead.
-use mathlib.Core.Bool.{Bool, not}
+-- A board's row: its queue's first place and count, and whether the board is dead; and what is done to it.
+use mathlib.Core.Path.{_≡_}
+use mathlib.Core.Bool.{Bool, not, cond}
 use mathlib.Core.List.{List, []}
-use Prim.Native.Nat.{ℕ, _+_, _*_, _%_, _^_}
+use Prim.Native.Nat.{ℕ, suc, _+_, _*_, _%_, _^_}
 use lib.Dec.{eqb}
-use lib.ListN.{getD, set}
+use lib.ListN.{length, getD, set}
 use Rattle.rules.specs.Sizes.{outboxMost}
+use Rattle.state.specs.declared.entry.Entry.{Entry}
+use Rattle.state.specs.declared.queue.Front.{Front}
+use Rattle.state.specs.declared.queue.Front.the-variants.{Oldest, Empty}
 
 -- how many numbers it has, and its cells
 abbrev pub queueLength : ℕ
@@ -36,3 +40,30 @@ placeOf queue b = outboxMost * b + (queueFirst queue + queueCount queue) % outbo
 -- the row after an entry joined
 abbrev pub pushedIn : List ℕ → List ℕ
 pushedIn queue = set queue 1 ((queueCount queue + 1) % 2 ^ 32)
+
+-- where board b's oldest entry stands, if it has one
+abbrev pub oldestOf : List ℕ → ℕ → ℕ
+oldestOf queue b = outboxMost * b + queueFirst queue % outboxMost
+
+-- "Carry looks at the oldest entry; with none the answer is 42."
+abbrev pub frontOf : List ℕ → Entry → Front
+frontOf queue oldest = cond (eqb (queueCount queue) 0) Empty (Oldest (oldest .item))
+
+-- one less, in 32 bits
+abbrev pub lessOne : ℕ → ℕ
+lessOne n = (n + 4294967295) % 2 ^ 32
+
+-- the row after the oldest left
+abbrev pub poppedIn : List ℕ → List ℕ
+poppedIn queue = set (set queue 0 ((queueFirst queue + 1) % outboxMost)) 1 (lessOne (queueCount queue))
+
+-- the row before and after it, of a queue that had an entry
+pub record Popped (queue queue′ : List ℕ) : Type 0 where
+  pub first-is : queueFirst queue′ ≡ (queueFirst queue + 1) % outboxMost
+  pub count-is : suc (queueCount queue′) ≡ queueCount queue
+  pub dead-is : queueDead queue′ ≡ queueDead queue
+  pub three : length queue′ ≡ queueLength
+
+-- the row of a board that has no entry left and is dead, or live
+abbrev pub resetIn : List ℕ → ℕ → List ℕ
+resetIn queue dead = set (set queue 1 0) 2 dead

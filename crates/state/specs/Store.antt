@@ -40,13 +40,13 @@ processIn s p = processOf (getD (s .rows) p []) (getD (s .mails) p []) (getD (s 
 -- ---- entries
 
 abbrev pub itemOf : Item → rules.Item
-itemOf (Word channel word) = rules.message (record { channel = channel; word = word })
+itemOf (Word channel word pc) = rules.message (record { channel = channel; word = word }) pc
 itemOf (Sync process c) = rules.checkpoint process (checkpointOf c)
 itemOf (Transfer process) = rules.transfer process
 
 -- what stands where no entry was ever put
 unfoldable pub blankEntry : Entry
-blankEntry = record { item = Word 0 0 }
+blankEntry = record { item = Word 0 0 0 }
 
 -- board b's queue, oldest entry first
 unfoldable pub outboxIn : List (List ℕ) → List Entry → ℕ → List rules.Item

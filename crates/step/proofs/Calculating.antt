@@ -22,7 +22,7 @@ use Rattle.state.specs.Moved.{Reachable, answerOf, aloneOf, refusedWith}
 use Rattle.state.proofs.Changing.{row-changed}
 use Rattle.state.proofs.Refusing.{turned-away, makes-refused}
 use Rattle.step.specs.Parts.{overrunIn, Calculated, Calculates, CalculateTurns}
-use Rattle.step.proofs.Making.{its-index, answered, lengths, makes-alone}
+use Rattle.state.proofs.Making.{its-index, answered, lengths, makes-alone}
 use Rattle.step.proofs.Stepping.{machine-is, step-is, overrun-is, instructions-room}
 
 module _ {t : Table} {s : Store} {entries : List Entry} {c : Cabinet} (h : Holds t s entries c) (p : ℕ) (hp : p < length (t .processes))

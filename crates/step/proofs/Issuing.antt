@@ -23,11 +23,11 @@ use Rattle.state.specs.Store.{itemOf, Store, storeOf, Holds}
 use Rattle.state.specs.Moved.{Reachable, refusedWith, answerOf, movedOf}
 use Rattle.state.proofs.Changing.{row-changed}
 use Rattle.state.proofs.Flagging.{withFlag}
-use Rattle.state.proofs.Joining.{is-protected, board-is, queue-has, waits-on, waits-off, Waiter, waiter-joins}
+use Rattle.state.proofs.Joining.{is-protected, board-is, board-there, queue-has, waits-on, waits-off, Waiter, waiter-joins}
 use Rattle.state.proofs.Reading.{at-process}
 use Rattle.state.proofs.Refusing.{turned-away, makes-refused}
 use Rattle.step.specs.Issues.{Issues, syncEntry}
-use Rattle.step.proofs.Making.{its-index, its-board, answered, lengths, makes-joined}
+use Rattle.state.proofs.Making.{its-index, its-board, answered, lengths, makes-joined}
 
 module _ {t : Table} {s : Store} {entries : List Entry} {c : Cabinet} (reach : Reachable t c) (h : Holds t s entries c) (p : ℕ) (hp : p < length (t .processes)) where
   abbrev row : List ℕ
@@ -117,7 +117,7 @@ module _ (rows queues : List (List ℕ)) (p a : ℕ) (is-p : a < 16 → p ≡ a)
           makes-refused 38 1 e (λ t entries c command reach planned h f ha.
           let q = its-index reach ha is-p in
           let hp : p < length (t .processes) = rw q ha in
-          turned-away command a syncBlocked h (rw (← q) (refused-38 reach h p hp n w (rw (← its-board reach h p hp is-b) full))) f refl)
+          turned-away command a syncBlocked h (rw (← q) (refused-38 reach h p hp n w (rw (← its-board reach (board-there reach h p hp) is-b) full))) f refl)
 
       pub issues-done : (row′ : List ℕ) → countIn queues b < outboxMost → RowBecame (getD (withFlag rows p 1) p []) row′ issued
           → placeOf (getD queues b []) b < 512 → r ≡ movedOf (answerOf 0 1 0 0) (placeOf (getD queues b []) b)
@@ -130,6 +130,6 @@ module _ (rows queues : List (List ℕ)) (p a : ℕ) (is-p : a < 16 → p ≡ a)
           (λ t entries c command reach planned h f ha.
           let q = its-index reach ha is-p in
           let hp : p < length (t .processes) = rw q ha in
-          let bb = its-board reach h p hp is-b in
+          let bb = its-board reach (board-there reach h p hp) is-b in
           let few0 : countIn queues (boardIn its-row) < outboxMost = rw (← bb) few in
           rw (← q, bb) (answered _ issueDone (accepted-so reach h p hp n w few0) refl refl (issue-holds reach h p hp row′ few0 became)))

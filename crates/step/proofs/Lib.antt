@@ -1,5 +1,4 @@
 -- Why moves 1 and 2 are the rules'.
-pub mod Making
 pub mod Issuing
 pub mod Stepping
 pub mod Calculating

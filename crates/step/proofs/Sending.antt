@@ -1,5 +1,5 @@
 -- A step that sends a word, in the lists: one that is suppressed, the refusals 37, 38 and 39, and the word that joins its board's queue.
-use mathlib.Core.Path.{_≡_, refl, ap, ap₂, sym, _∙_, subst}
+use mathlib.Core.Path.{_≡_, refl, ap, ap₂, sym, _∙_, subst, subst₂}
 use mathlib.Core.Bool.{Bool, true, false, _||_}
 use mathlib.Core.List.{List, [], _∷_, _++_}
 use Prim.Native.Nat.{ℕ, suc, _+_, _-_, _%_, _^_, _≤_, _<_}
@@ -10,7 +10,7 @@ use lib.Seq.{getD-set-same, getD-set-other}
 use borrow.Author.Tests.{eq-eqb, ne-eqb, lt-ltb, le-leb, lt-leb}
 use Rattle.facts.specs.Tests.{by-eq}
 use Rattle.facts.specs.Counts.{same}
-use Rattle.process.specs.Row.{boardIn, suppressIn, waitsIn, machineOf, processOf}
+use Rattle.process.specs.Row.{pcIn, boardIn, suppressIn, waitsIn, machineOf, processOf}
 use Rattle.instruction.specs.Instruction.{Intends, Suppresses, Queues, afterSend}
 use Rattle.instruction.specs.declared.instruction.Intent.the-variants.{Send}
 use Rattle.plan.specs.Plan.{readerIn}
@@ -21,7 +21,7 @@ use Rattle.rules.specs.Cabinet.{Cabinet, Process, outboxMost, isCheckpointOf, p
 use Rattle.rules.specs.Moves as moves
 use Rattle.rules.specs.Moves.{guard, refuse, accept, owedFor, sendBlocked, sendHeld, refusalNumber, suppressed, numbers, advanced, counting, oneSent, step, stepFrom, withProcess, withOutbox, enqueue}
 use Rattle.rules.specs.Reasons.{refusalCause, causeOf}
-use Rattle.rules.proofs.Steps.{Steps}
+use Rattle.rules.proofs.Steps.{Steps, executes}
 use Rattle.rules.proofs.Counting.{weight, flight-joined}
 use Rattle.rules.proofs.Decoded.{owed-number}
 use Rattle.rules.proofs.Tables.{step-own}
@@ -29,7 +29,7 @@ use Rattle.state.specs.declared.entry.Entry.{Entry}
 use Rattle.state.specs.declared.moved.Moved.{Moved}
 use Rattle.state.specs.Queue.{firstIn, countIn, placeOf, pushedIn, queueCount}
 use Rattle.state.specs.Store.{itemOf, Store, storeOf, Totalled, Holds, flag}
-use Rattle.state.specs.Moved.{Reachable, answerOf, refusalOf, movedOf, aloneOf, refusedWith, wordOf}
+use Rattle.state.specs.Moved.{Reachable, answerOf, refusalOf, movedOf, aloneOf, refusedWith}
 use Rattle.state.proofs.Reading.{at-process, how-many-boards}
 use Rattle.state.proofs.Queueing.{QueueThen, entry-joins}
 use Rattle.state.proofs.Flagging.{flagged-none}
@@ -37,17 +37,17 @@ use Rattle.state.proofs.Totals.{occupancy-outbox, totalled-more}
 use Rattle.state.proofs.Changing.{row-changed}
 use Rattle.state.proofs.Ends.{sent-inside, reader-inside}
 use Rattle.state.proofs.Refusing.{turned-away, makes-refused}
-use Rattle.step.specs.Parts.{owingIn, blameIn, SendTurns}
+use Rattle.step.specs.Parts.{owingIn, blameIn, wordEntry, SendTurns}
 use Rattle.state.specs.Channel.{fullIn}
 use Rattle.state.proofs.Held.{full-is, occupancy-small}
 use Rattle.state.proofs.Joining.{board-is, board-there, queue-has}
-use Rattle.step.proofs.Making.{its-index, its-board, answered, lengths, makes-alone, makes-joined}
+use Rattle.state.proofs.Making.{its-index, its-board, answered, lengths, makes-alone, makes-joined}
 use Rattle.step.proofs.Stepping.{machine-is, step-is, owing-is, blame-is, instructions-room, events-room}
 
 -- a word that joins a queue is no checkpoint
-waiting-joined : (q : ℕ) (l : List rules.Item) (x : Mail) → waiting q (l ++ (rules.message x ∷ [])) ≡ waiting q l
-waiting-joined q [] x = refl
-waiting-joined q (i ∷ l) x = ap (λ (b : Bool). isCheckpointOf q i || b) (waiting-joined q l x)
+waiting-joined : (q : ℕ) (l : List rules.Item) (x : Mail) (pc : ℕ) → waiting q (l ++ (rules.message x pc ∷ [])) ≡ waiting q l
+waiting-joined q [] x pc = refl
+waiting-joined q (i ∷ l) x pc = ap (λ (b : Bool). isCheckpointOf q i || b) (waiting-joined q l x pc)
 
 module _ {t : Table} {s : Store} {entries : List Entry} {c : Cabinet} (reach : Reachable t c) (h : Holds t s entries c) (p : ℕ) (hp : p < length (t .processes))
     (n code a operand channel word : ℕ) (i : Intends (codeOf t p) (getD (s .rows) p []) (getD (s .mails) p []) n code a operand (Send channel word)) where
@@ -75,6 +75,15 @@ module _ {t : Table} {s : Store} {entries : List Entry} {c : Cabinet} (reach : R
 
   went : Steps (codeOf t p) (machineOf row mail) (sent x) m1
   went = record { is = i .outcome }
+
+  -- its place, as the row has it, and in a byte
+  at-place : processAt c p .machine .pc ≡ pcIn row
+  unfolding machineOf
+  at-place = ap (λ (m : Machine). m .pc) (machine-is h p hp)
+
+  pub place-fits : pcIn row % 256 ≡ pcIn row
+  unfolding machineOf
+  place-fits = let w = executes went .within in let z = reach .accepted .short p hp in omega arith
 
   -- the process sends on that channel
   own : channelAt t channel .sender ≡ p
@@ -113,7 +122,7 @@ module _ {t : Table} {s : Store} {entries : List Entry} {c : Cabinet} (reach : R
   queueing y = advanced m1 (counting oneSent y) 0 y
 
   abbrev then : Cabinet
-  then = withProcess p (queueing (processAt c p)) (enqueue (processAt c p .board) (rules.message x) c)
+  then = withProcess p (queueing (processAt c p)) (enqueue (processAt c p .board) (rules.message x (processAt c p .machine .pc)) c)
 
   module _ (none : suppressIn row ≡ 0) (reader : ℕ) (is-reader : reader ≡ channelAt t channel .reader) where
     queues-so : (b1 b2 b3 : Bool) → owingIn (limitOf t p) row ≡ b1 → leb outboxMost (countIn (s .queues) b) ≡ b2 → fullIn reader (getD (s .totals) channel 0) ≡ b3
@@ -145,7 +154,7 @@ module _ {t : Table} {s : Store} {entries : List Entry} {c : Cabinet} (reach : R
 
   -- ---- the word joins
 
-  module _ (few : countIn (s .queues) b < outboxMost) (e : Entry) (is-item : itemOf (e .item) ≡ rules.message x) where
+  module _ (few : countIn (s .queues) b < outboxMost) (e : Entry) (is-item : itemOf (e .item) ≡ rules.message x (pcIn row)) where
     hb : b < t .boards
     hb = board-there reach h p hp
 
@@ -164,7 +173,7 @@ module _ {t : Table} {s : Store} {entries : List Entry} {c : Cabinet} (reach : R
         let there : b < length (c .outboxes) = rw (how-many-boards h) hb in
         by-eq (processAt c q .board) b
         (λ f. let now-is : getD (set (c .outboxes) b items) (processAt c q .board) [] ≡ items = rw f (getD-set-same (c .outboxes) b items [] there) in
-        let still : waiting q items ≡ waiting q (outboxAt c b) = ap (λ (j : rules.Item). waiting q (outboxAt c b ++ (j ∷ []))) is-item ∙ waiting-joined q (outboxAt c b) x in
+        let still : waiting q items ≡ waiting q (outboxAt c b) = ap (λ (j : rules.Item). waiting q (outboxAt c b ++ (j ∷ []))) is-item ∙ waiting-joined q (outboxAt c b) x (pcIn row) in
         h .waits-is q hq ∙ ap (λ (j : ℕ). flag (waiting q (outboxAt c j))) f ∙ ap flag (sym still) ∙ ap (λ (l : List rules.Item). flag (waiting q l)) (sym now-is))
         (λ f. h .waits-is q hq ∙ ap (λ (l : List rules.Item). flag (waiting q l)) (sym (getD-set-other (c .outboxes) b (processAt c q .board) items [] f)))
 
@@ -174,7 +183,7 @@ module _ {t : Table} {s : Store} {entries : List Entry} {c : Cabinet} (reach : R
         totalled-more (s .totals) (reach .accepted .channels-high) channel channel-inside (h .totalled .totals-length) _
         (λ k hk.
         let more = flight-joined k (c .outboxes) b (itemOf (e .item)) (rw (how-many-boards h) hb) in
-        let w : weight k (itemOf (e .item)) ≡ weight k (rules.message x) = ap (weight k) is-item in
+        let w : weight k (itemOf (e .item)) ≡ weight k (rules.message x (pcIn row)) = ap (weight k) is-item in
         let now = occupancy-outbox t c b items k 0 (same k channel) (omega arith) in
         let was = h .totalled .total-is k hk in
         omega arith)
@@ -208,9 +217,9 @@ module _ {t : Table} {s : Store} {entries : List Entry} {c : Cabinet} (reach : R
         → Holds t (storeOf (set (s .rows) p row′) (s .mails) (s .logs) (s .heads) (set (s .queues) b (pushedIn queue)) totals′) (set entries (placeOf queue b) e) then
     send-holds-so row′ none became =
         let after : Store = storeOf (set (s .rows) p row′) (s .mails) (s .logs) (s .heads) (set (s .queues) b (pushedIn queue)) totals′ in
-        subst (λ (j : ℕ). Holds t after (set entries (placeOf queue b) e) (withProcess p (queueing (processAt c p)) (enqueue j (rules.message x) c))) (sym (board-is reach h p hp))
-        (subst (λ (j : rules.Item). Holds t after (set entries (placeOf queue b) e) (withProcess p (queueing (processAt c p)) (enqueue b j c))) is-item
-        (send-holds row′ none became))
+        let Then : ℕ → rules.Item → Type 0 =
+        λ j item. Holds t after (set entries (placeOf queue b) e) (withProcess p (queueing (processAt c p)) (enqueue j item c)) in
+        subst₂ Then (sym (board-is reach h p hp)) (is-item ∙ ap (rules.message x) (sym at-place)) (send-holds row′ none became)
 
 -- ---- what the part promises
 
@@ -253,7 +262,7 @@ module _ (wires : List ℕ) (rows queues : List (List ℕ)) (totals : List ℕ) 
           let q = its-index reach (i .process-there) is-p in
           let j = rw (← q) at i in
           let hp = j .process-there in
-          let all : outboxMost ≤ countIn queues (boardIn its-row) = rw (← its-board reach h p hp is-b) many in
+          let all : outboxMost ≤ countIn queues (boardIn its-row) = rw (← its-board reach (board-there reach h p hp) is-b) many in
           rw (← q) (turned-away command p sendBlocked h
           (refused-38 reach h p hp n code register operand channel word (j .intends) none _ refl (rw (j .limit-is) fresh) (le-leb outboxMost _ all)) (f ∙ sym q) refl))
 
@@ -267,7 +276,7 @@ module _ (wires : List ℕ) (rows queues : List (List ℕ)) (totals : List ℕ) 
             let hp = j .process-there in
             let l = channel-inside reach h p hp n code register operand channel word (j .intends) in
             let kk : k ≡ channel = is-k (let z = reach .accepted .channels-high in omega arith) in
-            let few0 : countIn queues (boardIn its-row) < outboxMost = rw (← its-board reach h p hp is-b) few in
+            let few0 : countIn queues (boardIn its-row) < outboxMost = rw (← its-board reach (board-there reach h p hp) is-b) few in
             rw (← q) (turned-away command p sendHeld h
             (refused-39 reach h p hp n code register operand channel word (j .intends) none reader (is-reader ∙ ap (readerIn wires) kk ∙ planned .reader-at channel l)
             (rw (j .limit-is) fresh) (lt-leb outboxMost _ few0) (rw (← kk) e)) (f ∙ sym q) refl))
@@ -285,10 +294,12 @@ module _ (wires : List ℕ) (rows queues : List (List ℕ)) (totals : List ℕ) 
             let hp = j .process-there in
             let l = channel-inside reach h p hp n code register operand channel word (j .intends) in
             let kk : k ≡ channel = is-k (let z = reach .accepted .channels-high in omega arith) in
-            let bb = its-board reach h p hp is-b in
+            let bb = its-board reach (board-there reach h p hp) is-b in
             let few0 : countIn queues (boardIn its-row) < outboxMost = rw (← bb) few in
             let so = queued-so reach h p hp n code register operand channel word (j .intends) none reader (is-reader ∙ ap (readerIn wires) kk ∙ planned .reader-at channel l)
             (rw (j .limit-is) fresh) (lt-leb outboxMost _ few0) (rw (← kk) e) in
-            let there = send-holds-so reach h p hp n code register operand channel word (j .intends) few0 (wordOf (r .answer))
-            (ap (λ (z : Moved). itemOf (wordOf (z .answer) .item)) g) row′ none became in
+            let there = send-holds-so reach h p hp n code register operand channel word (j .intends) few0 (wordEntry rows p (r .answer))
+            (ap (λ (z : Moved). itemOf (wordEntry rows p (z .answer) .item)) g
+            ∙ ap (rules.message (record { channel = channel; word = word })) (place-fits reach h p hp n code register operand channel word (j .intends)))
+            row′ none became in
             rw (← q, bb, kk) (answered _ (moves.queued (record { channel = channel; word = word })) so refl refl there))

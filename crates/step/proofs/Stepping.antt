@@ -34,7 +34,7 @@ use Rattle.state.proofs.Counters.{instructions-few, events-few}
 use Rattle.state.proofs.Refusing.{turned-away, makes-refused}
 use Rattle.step.specs.Parts.{exhaustedIn, overrunIn, owingIn, blameIn, missingOf, Intending, CalculateTurns, TakeTurns, SendTurns}
 use Rattle.step.specs.Steps as specs
-use Rattle.step.proofs.Making.{its-index, makes-under}
+use Rattle.state.proofs.Making.{its-index, makes-under}
 
 -- ---- the case of the rules' step
 

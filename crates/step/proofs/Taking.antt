@@ -35,7 +35,7 @@ use Rattle.state.proofs.Owners.{unread-own}
 use Rattle.state.proofs.Counters.{takes-few}
 use Rattle.state.proofs.Refusing.{turned-away, makes-refused}
 use Rattle.step.specs.Parts.{owingIn, blameIn, TakeTurns}
-use Rattle.step.proofs.Making.{its-index, answered, lengths, makes-alone}
+use Rattle.state.proofs.Making.{its-index, answered, lengths, makes-alone}
 use Rattle.step.proofs.Stepping.{machine-is, step-is, owing-is, blame-is, limited-here, instructions-room, events-room}
 
 -- a row's receives on a port

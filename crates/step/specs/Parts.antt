@@ -4,7 +4,7 @@
 use mathlib.Core.Path.{_≡_}
 use mathlib.Core.Bool.{Bool, true, false, not, cond, _&&_, _||_}
 use mathlib.Core.List.{List, []}
-use Prim.Native.Nat.{ℕ, _<_}
+use Prim.Native.Nat.{ℕ, _%_, _<_}
 use lib.Dec.{eqb, leb}
 use lib.ListN.{length, getD}
 use Rattle.instruction.specs.Instruction.{Intends, Computes}
@@ -15,10 +15,13 @@ use Rattle.plan.specs.Plan.{Plan, planOf}
 use Rattle.rules.specs.Table.{Table, codeOf, limitOf}
 use Rattle.rules.specs.Cabinet.{instructionsMost}
 use Rattle.rules.specs.Moves.{step}
+use Rattle.state.specs.declared.entry.Entry.{Entry}
+use Rattle.state.specs.declared.entry.Item.the-variants.{Word}
+use Rattle.state.specs.declared.moved.Answer.{Answer}
 use Rattle.state.specs.declared.moved.Moved.{Moved}
 use Rattle.state.specs.Store.{storeOf}
-use Rattle.state.specs.Moved.{Makes, wordOf, answerOf, aloneOf, refusedWith}
-use Rattle.process.specs.Row.{eventsIn, flagIn, instructionsIn}
+use Rattle.state.specs.Moved.{Makes, answerOf, aloneOf, refusedWith}
+use Rattle.process.specs.Row.{pcIn, eventsIn, flagIn, instructionsIn}
 
 -- "if backed and acts are 8", of a process's row; W-207: with its limit for 8
 abbrev pub exhaustedIn : ℕ → List ℕ → Bool
@@ -40,6 +43,11 @@ blameIn limit row = cond (exhaustedIn limit row) 0 1
 abbrev pub missingOf : ℕ → ℕ
 missingOf code = cond (eqb code 4) 1 0
 
+-- The entry that joins: a queued word, which the answer shows, and "the place of its SEND" (W-212), of the process's row before the step. A place
+-- is at most 64 and fits a byte.
+abbrev pub wordEntry : List (List ℕ) → ℕ → Answer → Entry
+wordEntry rows a answer = record { item = Word (answer .a) (answer .word) (pcIn (getD rows a []) % 256) }
+
 -- what a part of a step is given: process a is one of the table's, its limit is this one, and the instruction at its place has this intent
 pub record Intending (t : Table) (limit a : ℕ) (row mail : List ℕ) (n code register operand : ℕ) (intent : Intent) : Type 0 where
   pub process-there : a < length (t .processes)
@@ -59,7 +67,7 @@ abbrev pub CalculateTurns : List (List ℕ) → ℕ → ℕ → ℕ → ℕ → 
 CalculateTurns rows a code register operand rows′ r =
     (l : Plan) (mails logs heads queues : List (List ℕ)) (totals : List ℕ) (limit n : ℕ)
     → Makes step (λ t entries. Intending t limit a (getD rows a []) (getD mails a []) n code register operand Internal) 2 l
-    (storeOf rows mails logs heads queues totals) a (wordOf (r .answer)) (storeOf rows′ mails logs heads queues totals) r
+    (storeOf rows mails logs heads queues totals) a (wordEntry rows a (r .answer)) (storeOf rows′ mails logs heads queues totals) r
 
 -- Process a's instruction, where a's limit is this one, takes the word at a position of its mailbox.
 abbrev pub TakeTurns : List ℕ → List (List ℕ) → List (List ℕ) → List ℕ → ℕ → ℕ → ℕ → ℕ → ℕ → List (List ℕ) → List (List ℕ) → List ℕ → Moved
@@ -67,7 +75,7 @@ abbrev pub TakeTurns : List ℕ → List (List ℕ) → List (List ℕ) → List
 TakeTurns wires rows mails totals limit a code register at rows′ mails′ totals′ r =
     (table : List ℕ) (counts : Counts) (programs : List ℕ) (logs heads queues : List (List ℕ)) (n operand : ℕ)
     → Makes step (λ t entries. Intending t limit a (getD rows a []) (getD mails a []) n code register operand (Take at)) 2
-    (planOf table counts programs wires) (storeOf rows mails logs heads queues totals) a (wordOf (r .answer))
+    (planOf table counts programs wires) (storeOf rows mails logs heads queues totals) a (wordEntry rows a (r .answer))
     (storeOf rows′ mails′ logs heads queues totals′) r
 
 -- Process a's instruction sends a word to a channel.
@@ -75,5 +83,5 @@ abbrev pub SendTurns : List ℕ → List (List ℕ) → List (List ℕ) → List
 SendTurns wires rows queues totals limit a channel word rows′ queues′ totals′ r =
     (table : List ℕ) (counts : Counts) (programs : List ℕ) (mails logs heads : List (List ℕ)) (n code register operand : ℕ)
     → Makes step (λ t entries. Intending t limit a (getD rows a []) (getD mails a []) n code register operand (Send channel word)) 2
-    (planOf table counts programs wires) (storeOf rows mails logs heads queues totals) a (wordOf (r .answer))
+    (planOf table counts programs wires) (storeOf rows mails logs heads queues totals) a (wordEntry rows a (r .answer))
     (storeOf rows′ mails logs heads queues′ totals′) r

@@ -206,7 +206,7 @@ fn front(s: &[u8], length: usize) -> &[u8] {
 
 fn table_case(name: &[u8], table: &[u8]) {
     let schedule = SCHEDULE;
-    line(name, ks_judge(table, &schedule, 12, 2, 320));
+    line(name, ks_judge(table, &schedule, 12, 2, 320, 4));
 }
 
 // The sample with a byte changed.
@@ -496,9 +496,19 @@ fn masks() {
 
 // ---- schedules and buffers, with the sample
 
-fn run_case(name: &[u8], schedule: &[u8], answers: usize, reasons: usize, report: usize) {
+fn run_case(
+    name: &[u8],
+    schedule: &[u8],
+    answers: usize,
+    reasons: usize,
+    report: usize,
+    origins: usize,
+) {
     let table = SAMPLE;
-    line(name, ks_judge(&table, schedule, answers, reasons, report));
+    line(
+        name,
+        ks_judge(&table, schedule, answers, reasons, report, origins),
+    );
 }
 
 // The schedule with two bytes changed.
@@ -506,13 +516,13 @@ fn schedule(name: &[u8], at: usize, byte: u8, at2: usize, byte2: u8) {
     let mut s = SCHEDULE;
     s[at % 15] = byte;
     s[at2 % 15] = byte2;
-    run_case(name, &s, 12, 2, 20);
+    run_case(name, &s, 12, 2, 20, 4);
 }
 
 // The first bytes of the schedule.
 fn short(name: &[u8], length: usize) {
     let s = SCHEDULE;
-    run_case(name, front(&s, length), 12, 2, 20);
+    run_case(name, front(&s, length), 12, 2, 20, 4);
 }
 
 // Records of zeros, a version, and at most five bytes behind the last record; the length field is true.
@@ -522,7 +532,7 @@ fn records(name: &[u8], n: usize, version: u8, behind: usize) {
     s[0] = (field / 256 % 256) as u8;
     s[1] = (field % 256) as u8;
     s[2] = version;
-    run_case(name, front(&s, field + 2), 60006, 10001, 20);
+    run_case(name, front(&s, field + 2), 60006, 10001, 20, 20002);
 }
 
 fn schedules() {
@@ -545,23 +555,33 @@ fn schedules() {
 
 fn buffers() {
     let s = SCHEDULE;
-    run_case(b"buffers just long enough", &s, 12, 2, 20);
-    run_case(b"11 bytes for two answers", &s, 11, 2, 20);
-    run_case(b"1 byte for two reasons", &s, 12, 1, 20);
+    run_case(b"buffers just long enough", &s, 12, 2, 20, 4);
+    run_case(b"11 bytes for two answers", &s, 11, 2, 20, 4);
+    run_case(b"1 byte for two reasons", &s, 12, 1, 20, 4);
     run_case(
         b"1 byte for two reasons and 19 for a process",
         &s,
         12,
         1,
         19,
+        4,
     );
-    run_case(b"19 bytes for one process", &s, 12, 2, 19);
-    run_case(b"no bytes in any buffer", &s, 0, 0, 0);
+    run_case(b"19 bytes for one process", &s, 12, 2, 19, 4);
+    run_case(b"3 bytes for two origins", &s, 12, 2, 20, 3);
+    run_case(
+        b"3 bytes for two origins and 19 for a process",
+        &s,
+        12,
+        2,
+        19,
+        3,
+    );
+    run_case(b"no bytes in any buffer", &s, 0, 0, 0, 0);
     let mut empty = [0, 1, 1];
-    run_case(b"no bytes for no answers", &empty, 0, 0, 20);
-    run_case(b"no bytes for no answers and a process", &empty, 0, 0, 0);
+    run_case(b"no bytes for no answers", &empty, 0, 0, 20, 0);
+    run_case(b"no bytes for no answers and a process", &empty, 0, 0, 0, 0);
     empty[2] = 2;
-    run_case(b"version 2 and short buffers", &empty, 0, 0, 0);
+    run_case(b"version 2 and short buffers", &empty, 0, 0, 0, 0);
 }
 
 // The table's number comes before the schedule's and the buffers'.
@@ -571,11 +591,11 @@ fn order() {
     let s = [0u8];
     line(
         b"an instruction and a schedule of one byte",
-        ks_judge(&table, &s, 12, 2, 20),
+        ks_judge(&table, &s, 12, 2, 20, 4),
     );
     line(
         b"an instruction and short buffers",
-        ks_judge(&table, &s, 0, 0, 0),
+        ks_judge(&table, &s, 0, 0, 0, 0),
     );
 }
 
@@ -586,9 +606,12 @@ fn limit_order() {
     let s = [0u8];
     line(
         b"a limit and a schedule of one byte",
-        ks_judge(&table, &s, 12, 2, 40),
+        ks_judge(&table, &s, 12, 2, 40, 4),
     );
-    line(b"a limit and short buffers", ks_judge(&table, &s, 0, 0, 0));
+    line(
+        b"a limit and short buffers",
+        ks_judge(&table, &s, 0, 0, 0, 0),
+    );
 }
 
 fn main() {

@@ -33,18 +33,18 @@ pub fn pair(b1: u8, b0: u8) -> usize
 
 // ---- clamps
 
-// A number below 16; 0 stands for any other.
+// A number below 16, and any other by its remainder.
 pub fn index16(x: u32) -> usize
     ensures { λ r. ⌜ (r < 16) × (x < 16 → r ≡ x) ⌝ }
 {
-    if x < 16 { wide(x) } else { 0 }
+    wide(x % 16)
 }
 
-// A number below 32; 0 stands for any other.
+// A number below 32, and any other by its remainder.
 pub fn index32(x: u32) -> usize
     ensures { λ r. ⌜ (r < 32) × (x < 32 → r ≡ x) ⌝ }
 {
-    if x < 32 { wide(x) } else { 0 }
+    wide(x % 32)
 }
 
 // The lesser of two.

@@ -1,7 +1,7 @@
 -- Single pieces stored by straight-line code, and pieces stored in a loop while some are left.
 use mathlib.Core.Path.{_≡_, refl, ap}
 use mathlib.Core.List.{List, [], _∷_, map}
-use Prim.Native.Nat.{ℕ, suc, _+_, _-_, _*_, _/_, _%_, _^_, _≤_, _<_}
+use Prim.Native.Nat.{ℕ, _+_, _-_, _*_, _/_, _%_, _≤_, _<_}
 use native.Mathlib.Omega.{arith}
 use lib.ListN.{length, getD, drop, set, drop-of-length-le}
 use lib.Seq.{sets}
@@ -12,27 +12,6 @@ use Rattle.facts.specs.Laying.{Laying, laying-start, laying-more, laying-end}
 use Rattle.writer.proofs.Pieces.{ends-next, program-next}
 
 -- ---- one behind the other
-
-pub four-put : (l : List ℕ) (n a b c d x y z w : ℕ) → x ≡ a → y ≡ b → z ≡ c → w ≡ d
-    → set (set (set (set l n x) (n + 1) y) (n + 2) z) (n + 3) w ≡ sets l n (a ∷ b ∷ c ∷ d ∷ [])
-four-put l n a b c d x y z w e0 e1 e2 e3 =
-    let i1 : n + 1 ≡ suc n = omega arith in
-    let i2 : n + 2 ≡ suc (suc n) = omega arith in
-    let i3 : n + 3 ≡ suc (suc (suc n)) = omega arith in
-    λ j. set (set (set (set l n (e0 j)) (i1 j) (e1 j)) (i2 j) (e2 j)) (i3 j) (e3 j)
-
-pub instruction-put : (l : List ℕ) (n code a operand x0 x1 x2 x3 x4 x5 : ℕ) → operand < 2 ^ 32 → x0 ≡ fitByte code → x1 ≡ fitByte a
-    → x2 ≡ operand / 16777216 % 256 → x3 ≡ operand / 65536 % 256 → x4 ≡ operand / 256 % 256 → x5 ≡ operand % 256
-    → set (set (set (set (set (set l n x0) (n + 1) x1) (n + 2) x2) (n + 3) x3) (n + 4) x4) (n + 5) x5
-    ≡ sets l n (instructionBytes (fitByte code) (fitByte a) operand)
-instruction-put l n code a operand x0 x1 x2 x3 x4 x5 w e0 e1 e2 e3 e4 e5 =
-    let i1 : n + 1 ≡ suc n = omega arith in
-    let i2 : n + 2 ≡ suc (suc n) = omega arith in
-    let i3 : n + 3 ≡ suc (suc (suc n)) = omega arith in
-    let i4 : n + 4 ≡ suc (suc (suc (suc n))) = omega arith in
-    let i5 : n + 5 ≡ suc (suc (suc (suc (suc n)))) = omega arith in
-    let y2 : x2 ≡ operand / 2 ^ 24 = omega arith in
-    λ j. set (set (set (set (set (set l n (e0 j)) (i1 j) (e1 j)) (i2 j) (y2 j)) (i3 j) (e3 j)) (i4 j) (e4 j)) (i5 j) (e5 j)
 
 pub head-put : (l : List ℕ) (size : ℕ) (head : Head) (x0 x1 x2 x3 x4 x5 : ℕ) → x0 ≡ size / 256 % 256 → x1 ≡ size % 256 → x2 ≡ fitByte (head .version)
     → x3 ≡ fitByte (head .boards) → x4 ≡ fitByte (head .processes) → x5 ≡ fitByte (head .channels)

@@ -9,6 +9,7 @@ ghost use Rattle.rules.specs.Encode.{instructionBytes, programBytes, encode};
 ghost use Rattle.writer.specs.Given.{given, Fitting, Programs};
 ghost use Rattle.writer.specs.Fitted.{fitByte, fitThrees, fitted, headBytes, headFor, recordsLaid};
 use crate::write::Head;
+use records::store::put_six;
 use table::format::HEAD;
 use table::format::WITH_LIMITS;
 use table::record::record_head;
@@ -27,12 +28,7 @@ fn put_instruction(bytes: &mut [u8], at: usize, code: u32, a: u32, operand: u32)
     requires { ⌜ at + 6 ≤ length (now bytes) ⌝ }
     ensures { λ _. ⌜ now (bytes .exit) ≡ sets (now (bytes .entry)) at (instructionBytes (fitByte code) (fitByte a) operand) ⌝ }
 {
-    bytes[at] = fit(code);
-    bytes[at + 1] = fit(a);
-    bytes[at + 2] = low_byte(operand / 16777216);
-    bytes[at + 3] = low_byte(operand / 65536);
-    bytes[at + 4] = low_byte(operand / 256);
-    bytes[at + 5] = low_byte(operand);
+    put_six(bytes, at, fit(code), fit(a), operand);
 }
 
 // The n instructions from the i-th on.

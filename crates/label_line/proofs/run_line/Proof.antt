@@ -13,8 +13,8 @@ make-table-requires c κs = search needs
 
 returns : tie.Need-returns
 returns c =
-    let s = c .before .before .before .before .before .before .before .args in
-    refused (s .first) (s .schedule .now) (buffersOf (s .answers .now) (s .reasons .now) (s .report .now)) (c .before .before .make-table .result) (c .before .before .make-table .ensures) (c .if1 .taken)
+    let s = c .before .before .before .before .before .before .before .before .args in
+    refused (s .first) (s .schedule .now) (buffersOf (s .answers .now) (s .reasons .now) (s .report .now) (s .origins .now)) (c .before .before .make-table .result) (c .before .before .make-table .ensures) (c .if1 .taken)
 
 slice-aggregate-run : tie.Need-slice-aggregate-run
 slice-aggregate-run c = search needs
@@ -31,11 +31,14 @@ same-length-2 c = search needs
 same-length-3 : tie.Need-same-length-3
 same-length-3 c = search needs
 
+same-length-4 : tie.Need-same-length-4
+same-length-4 c = search needs
+
 returns-2 : tie.Need-returns-2
 returns-2 c =
-    let s = c .before .before .before .before .before .before .before .before .before .before .before .before .before .before .before .before .before .before .args in
-    ran-line (s .first) (s .schedule .now) (buffersOf (s .answers .now) (s .reasons .now) (s .report .now)) (c .before .before .before .before .before .before .before .before .before .before .before .before .before .make-table .result) (c .before .before .before .before .before .before .before .before .before .before .before .before .before .make-table .ensures)
-    (c .before .before .before .before .before .before .run .result) _ (c .before .before .before .before .before .before .before .before .before .before .before .if1 .left) (c .before .before .before .before .before .before .run .ensures)
+    let s = c .before .before .before .before .before .before .before .before .before .before .before .before .before .before .before .before .before .before .before .before .before .before .args in
+    ran-line (s .first) (s .schedule .now) (buffersOf (s .answers .now) (s .reasons .now) (s .report .now) (s .origins .now)) (c .before .before .before .before .before .before .before .before .before .before .before .before .before .before .before .before .make-table .result) (c .before .before .before .before .before .before .before .before .before .before .before .before .before .before .before .before .make-table .ensures)
+    (c .before .before .before .before .before .before .before .before .run .result) _ (c .before .before .before .before .before .before .before .before .before .before .before .before .before .before .if1 .left) (c .before .before .before .before .before .before .before .before .run .ensures)
 
 pub run-line-spec : {M : Type 1} → statement M
 run-line-spec =
@@ -48,4 +51,5 @@ run-line-spec =
     same-length
     same-length-2
     same-length-3
+    same-length-4
     returns-2)

@@ -20,6 +20,9 @@ slice-aggregate-run-2 c = search needs
 slice-aggregate-run-3 : tie.Need-slice-aggregate-run-3
 slice-aggregate-run-3 c = search needs
 
+slice-aggregate-run-4 : tie.Need-slice-aggregate-run-4
+slice-aggregate-run-4 c = search needs
+
 run-requires : tie.Need-run-requires
 run-requires c κs = search needs
 
@@ -43,8 +46,8 @@ same-length c = search needs
 
 returns : tie.Need-returns
 returns c =
-    let s = c .before .before .before .before .before .before .before .before .before .before .before .before .before .before .before .before .before .before .args in
-    run-page (s .table .now) (s .schedule .now) (c .before .before .before .before .before .before .before .before .before .before .before .run .result) _ (c .before .before .before .before .before .before .before .before .before .before .before .run .ensures) (c .before .before .before .before .before .before .byte-wide .result) (c .before .before .before .before .before .before .byte-wide .ensures .0 ∙ c .before .before .before .before .before .before .before .byte .ensures) _ _ _ (c .before .before .print .ensures)
+    let s = c .before .before .before .before .before .before .before .before .before .before .before .before .before .before .before .before .before .before .before .before .args in
+    run-page (s .table .now) (s .schedule .now) (c .before .before .before .before .before .before .before .before .before .before .before .before .run .result) _ (c .before .before .before .before .before .before .before .before .before .before .before .before .run .ensures) (c .before .before .before .before .before .before .byte-wide .result) (c .before .before .before .before .before .before .byte-wide .ensures .0 ∙ c .before .before .before .before .before .before .before .byte .ensures) _ _ _ (c .before .before .print .ensures)
 
 pub run-page-spec : {M : Type 1} → statement M
 run-page-spec =
@@ -53,6 +56,7 @@ run-page-spec =
     slice-aggregate-run
     slice-aggregate-run-2
     slice-aggregate-run-3
+    slice-aggregate-run-4
     run-requires
     byte-requires
     byte-wide-requires

@@ -1,17 +1,17 @@
 use mathlib.Core.Path.{sym, _∙_}
-use Rattle.bus.proofs.Transmitting.{transmits-34, transmits-42, transmits-word, transmits-sync, transmits-transfer}
+use Rattle.bus.proofs.Transmitting.{transmits-34, transmits-42, transmits-word, transmits-sync, no-fourth, transmits-transfer}
 use native.Mathlib.Omega.{arith}
 use borrow.Author.Needs.{needs}
 use Rattle.bus.proofs.transmit.transmit.Statement.{statement}
 use Rattle.bus.proofs.transmit.transmit.Tie as tie
 use Rattle.bus.proofs.transmit.transmit.Reads as reads
 use Rattle.bus.proofs.transmit.transmit.Lts as lts
-use Rattle.bus.proofs.queue.peek.Reads as peek-reads
-use Rattle.bus.proofs.queue.pop.Reads as pop-reads
 use Rattle.bus.proofs.sync.transmit_sync.Reads as transmit-sync-reads
 use Rattle.bus.proofs.transfer.transmit_transfer.Reads as transmit-transfer-reads
 use Rattle.bus.proofs.word.transmit_word.Reads as transmit-word-reads
 use Rattle.state.proofs.moved.refusal.Reads as refusal-reads
+use Rattle.state.proofs.queue.peek.Reads as peek-reads
+use Rattle.state.proofs.queue.pop.Reads as pop-reads
 use Rattle.words.proofs.index16.Reads as index16-reads
 
 index16-requires : tie.Need-index16-requires
@@ -79,18 +79,6 @@ enum-known-item-2 c = search needs
 transmit-word-requires : tie.Need-transmit-word-requires
 transmit-word-requires c κs = search needs
 
-enum-known-item-3 : tie.Need-enum-known-item-3
-enum-known-item-3 c = search needs
-
-transmit-sync-requires : tie.Need-transmit-sync-requires
-transmit-sync-requires c κs = search needs
-
-enum-known-item-4 : tie.Need-enum-known-item-4
-enum-known-item-4 c = search needs
-
-transmit-transfer-requires : tie.Need-transmit-transfer-requires
-transmit-transfer-requires c κs = search needs
-
 returns-3 : tie.Need-returns-3
 returns-3 c =
     let left = c .before .before .before .before .before .before .before .before .before in
@@ -104,12 +92,18 @@ returns-3 c =
     let y = c .transmit-word in
     transmits-word (s .wires .now) (s .rows .now) (s .mails .now) (s .logs .now) (s .heads .now) (s .queues .now) (s .totals .now)
     (s .a) (b .result) (s .oldest) _ (b .ensures .1) (test .if1 .left) (i .0 .0) (sym (seen .peek .ensures) ∙ i .1)
-    (left .pop .last .0) (left .pop .ensures) (x .0 .0) (x .0 .1 .0) (x .1)
+    (left .pop .last .0) (left .pop .ensures) (x .0 .0) (x .0 .1 .0) (x .0 .1 .1 .0) (x .1)
     (y .last .1 .0) (y .last .1 .1 .0) (y .last .1 .1 .1 .0) (y .last .1 .1 .1 .1 .0) (y .last .1 .1 .1 .1 .1 .0) (y .ensures)
+
+enum-known-item-3 : tie.Need-enum-known-item-3
+enum-known-item-3 c = search needs
+
+transmit-sync-requires : tie.Need-transmit-sync-requires
+transmit-sync-requires c κs = search needs
 
 returns-4 : tie.Need-returns-4
 returns-4 c =
-    let left = c .before .before .before .before .before .before .before in
+    let left = c .before .before .before .before .before .before .before .before in
     let front = left .before .before .before in
     let seen = front .before .before in
     let test = seen .before .before in
@@ -123,9 +117,21 @@ returns-4 c =
     (left .pop .last .0) (left .pop .ensures) (x .0 .0) (x .0 .1 .0) (x .1)
     (y .last .0) (y .last .1 .0) (y .last .1 .1 .0) (y .ensures)
 
+enum-known-item-4 : tie.Need-enum-known-item-4
+enum-known-item-4 c = search needs
+
+refusal-requires-3 : tie.Need-refusal-requires-3
+refusal-requires-3 c κs = search needs
+
 returns-5 : tie.Need-returns-5
-returns-5 c =
-    let left = c .before .before .before .before .before in
+returns-5 c = no-fourth _ (c .before .before .before .match2 .keys2) (c .before .before .match3 .keys2) (c .before .match4 .keys2)
+
+transmit-transfer-requires : tie.Need-transmit-transfer-requires
+transmit-transfer-requires c κs = search needs
+
+returns-6 : tie.Need-returns-6
+returns-6 c =
+    let left = c .before .before .before .before .before .before .before in
     let front = left .before .before .before in
     let seen = front .before .before in
     let test = seen .before .before in
@@ -160,10 +166,12 @@ transmit-spec =
     pop-requires
     enum-known-item-2
     transmit-word-requires
+    returns-3
     enum-known-item-3
     transmit-sync-requires
-    enum-known-item-4
-    transmit-transfer-requires
-    returns-3
     returns-4
-    returns-5)
+    enum-known-item-4
+    refusal-requires-3
+    returns-5
+    transmit-transfer-requires
+    returns-6)

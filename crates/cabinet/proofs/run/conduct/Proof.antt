@@ -1,22 +1,23 @@
-use mathlib.Core.Path.{refl}
-use Rattle.outcome.proofs.Starting.{fresh-made}
 use Rattle.cabinet.proofs.Running.{conducts}
-use native.Mathlib.Omega.{arith}
 use borrow.Author.Needs.{needs}
 use Rattle.cabinet.proofs.run.conduct.Statement.{statement}
 use Rattle.cabinet.proofs.run.conduct.Tie as tie
 use Rattle.cabinet.proofs.run.conduct.Reads as reads
 use Rattle.cabinet.proofs.run.conduct.Lts as lts
-use Rattle.play.proofs.play.play.Reads as play-reads
 use Rattle.outcome.proofs.quiet.quiescent.Reads as quiescent-reads
 use Rattle.outcome.proofs.report.write_report.Reads as write-report-reads
-use Rattle.outcome.proofs.start.seat.Reads as seat-reads
+use Rattle.outcome.proofs.start.start.Reads as start-reads
+use Rattle.play.proofs.play.count.Reads as count-reads
+use Rattle.play.proofs.play.play.Reads as play-reads
 
-seat-requires : tie.Need-seat-requires
-seat-requires c κs = search needs
+start-requires : tie.Need-start-requires
+start-requires c κs = search needs
+
+count-requires : tie.Need-count-requires
+count-requires c κs = search needs
 
 play-requires : tie.Need-play-requires
-play-requires c κs = c .before .before .before .before .before .before .before .before .before .before .before .before .before .before .before .before .before .before .before .before .before .before .before .before .pre
+play-requires c κs = rw (c .before .before .before .before .before .before .before .before .before .before .before .count .ensures) (c .before .before .before .before .before .before .before .before .before .before .before .before .before .before .before .before .before .before .before .before .before .before .before .before .before .before .before .before .before .before .before .before .pre)
 
 write-report-requires : tie.Need-write-report-requires
 write-report-requires c κs = search needs
@@ -33,21 +34,26 @@ same-length-2 c = search needs
 same-length-3 : tie.Need-same-length-3
 same-length-3 c = search needs
 
+same-length-4 : tie.Need-same-length-4
+same-length-4 c = search needs
+
 returns : tie.Need-returns
 returns c =
-    let s = c .before .before .before .before .before .before .before .before .before .before .before .before .before .before .before .before .before .before .before .before .before .before .before .before .before .before .before .before .before .before .before .before .before .before .before .before .before .before .before .args in
-    conducts (s .table .now) (s .schedule .now) (s .plan) (s .answers .now) (s .reasons .now) (s .report .now) _ _ _ _ _ _ _ _ _ _ _ (c .quiescent .result)
-    (fresh-made _ refl) (c .before .before .before .before .before .before .before .before .before .before .before .before .before .before .before .before .before .before .before .before .before .before .before .before .before .seat .ensures) (c .before .before .before .before .before .before .before .before .before .before .before .before .before .before .play .ensures) (c .before .before .before .before .before .before .before .write-report .ensures) (c .quiescent .ensures)
+    let s = c .before .before .before .before .before .before .before .before .before .before .before .before .before .before .before .before .before .before .before .before .before .before .before .before .before .before .before .before .before .before .before .before .before .before .before .before .before .before .before .before .before .before .before .before .before .before .before .before .before .args in
+    conducts (s .table .now) (s .schedule .now) (s .plan) (s .answers .now) (s .reasons .now) (s .report .now) (s .origins .now) _ _ _ _ _ (c .before .before .before .before .before .before .before .before .before .before .before .before .before .before .before .before .before .before .before .before .before .before .before .before .before .before .before .before .count .ensures) _ _ _ _
+    (c .quiescent .result) (c .before .before .before .before .before .before .before .before .before .before .before .before .before .before .before .before .before .before .before .before .before .before .before .before .before .before .before .before .before .start .ensures) (c .before .before .before .before .before .before .before .before .before .before .before .before .before .before .before .before .play .ensures) (c .before .before .before .before .before .before .before .write-report .ensures) (c .quiescent .ensures)
 
 pub conduct-spec : {M : Type 1} → statement M
 conduct-spec =
     tie.close
     (tie.spec
-    seat-requires
+    start-requires
+    count-requires
     play-requires
     write-report-requires
     quiescent-requires
     same-length
     same-length-2
     same-length-3
+    same-length-4
     returns)

@@ -8,7 +8,7 @@ use Rattle.cabinet.proofs.run.run.Reads as reads
 use Rattle.cabinet.proofs.run.run.Lts as lts
 use Rattle.cabinet.proofs.run.conduct.Reads as conduct-reads
 use Rattle.table.proofs.decode.Reads as decode-reads
-use Rattle.records.proofs.schedule.judge_run.Reads as judge-run-reads
+use Rattle.cabinet.proofs.judge.judge_run.Reads as judge-run-reads
 use Rattle.records.proofs.schedule.judge_schedule.Reads as judge-schedule-reads
 
 decode-requires : tie.Need-decode-requires
@@ -22,21 +22,21 @@ judge-run-requires c κs = search needs
 
 returns : tie.Need-returns
 returns c =
-    let s = c .before .before .before .before .before .before .before .before .before .before .before .args in
+    let s = c .before .before .before .before .before .before .before .before .before .before .before .before .args in
     let d = c .before .before .before .before .before .decode in
     let j = c .before .before .before .before .judge-schedule in
     let n = c .before .judge-run in
-    refuses (s .table .now) (s .schedule .now) (buffersOf (s .answers .now) (s .reasons .now) (s .report .now)) (d .result) (j .result) (d .ensures) (j .ensures)
+    refuses (s .table .now) (s .schedule .now) (buffersOf (s .answers .now) (s .reasons .now) (s .report .now) (s .origins .now)) (d .result) (j .result) (d .ensures) (j .ensures)
     (n .result) (n .ensures) (c .if1 .taken)
 
 conduct-requires : tie.Need-conduct-requires
 conduct-requires c κs =
-    let s = c .before .before .before .before .before .before .before .before .before .before .before .before .before .before .args in
-    let d = c .before .before .before .before .before .before .before .before .decode in
-    let j = c .before .before .before .before .before .before .before .judge-schedule in
-    let n = c .before .before .before .before .judge-run in
-    roomy (s .table .now) (s .schedule .now) (buffersOf (s .answers .now) (s .reasons .now) (s .report .now)) (d .result) (j .result) (d .ensures) (j .ensures)
-    (n .result) (n .ensures) (c .before .before .before .if1 .left)
+    let s = c .before .before .before .before .before .before .before .before .before .before .before .before .before .before .before .before .args in
+    let d = c .before .before .before .before .before .before .before .before .before .decode in
+    let j = c .before .before .before .before .before .before .before .before .judge-schedule in
+    let n = c .before .before .before .before .before .judge-run in
+    roomy (s .table .now) (s .schedule .now) (buffersOf (s .answers .now) (s .reasons .now) (s .report .now) (s .origins .now)) (d .result) (j .result) (d .ensures) (j .ensures)
+    (n .result) (n .ensures) (c .before .before .before .before .if1 .left)
 
 same-length : tie.Need-same-length
 same-length c = search needs
@@ -47,14 +47,17 @@ same-length-2 c = search needs
 same-length-3 : tie.Need-same-length-3
 same-length-3 c = search needs
 
+same-length-4 : tie.Need-same-length-4
+same-length-4 c = search needs
+
 returns-2 : tie.Need-returns-2
 returns-2 c =
-    let s = c .before .before .before .before .before .before .before .before .before .before .before .before .before .before .before .before .before .before .before .before .before .args in
-    let d = c .before .before .before .before .before .before .before .before .before .before .before .before .before .before .before .decode in
-    let j = c .before .before .before .before .before .before .before .before .before .before .before .before .before .before .judge-schedule in
-    let n = c .before .before .before .before .before .before .before .before .before .before .before .judge-run in
-    accepts (s .table .now) (s .schedule .now) (buffersOf (s .answers .now) (s .reasons .now) (s .report .now)) (d .result) (j .result) (d .ensures) (j .ensures)
-    (n .result) (n .ensures) (c .before .before .before .before .before .before .before .before .before .before .if1 .left) (c .before .before .before .before .before .before .conduct .result) _ (c .before .before .before .before .before .before .conduct .ensures)
+    let s = c .before .before .before .before .before .before .before .before .before .before .before .before .before .before .before .before .before .before .before .before .before .before .before .before .before .args in
+    let d = c .before .before .before .before .before .before .before .before .before .before .before .before .before .before .before .before .before .before .decode in
+    let j = c .before .before .before .before .before .before .before .before .before .before .before .before .before .before .before .before .before .judge-schedule in
+    let n = c .before .before .before .before .before .before .before .before .before .before .before .before .before .before .judge-run in
+    accepts (s .table .now) (s .schedule .now) (buffersOf (s .answers .now) (s .reasons .now) (s .report .now) (s .origins .now)) (d .result) (j .result) (d .ensures) (j .ensures)
+    (n .result) (n .ensures) (c .before .before .before .before .before .before .before .before .before .before .before .before .before .if1 .left) (c .before .before .before .before .before .before .before .before .conduct .result) _ (c .before .before .before .before .before .before .before .before .conduct .ensures)
 
 pub run-spec : {M : Type 1} → statement M
 run-spec =
@@ -68,4 +71,5 @@ run-spec =
     same-length
     same-length-2
     same-length-3
+    same-length-4
     returns-2)

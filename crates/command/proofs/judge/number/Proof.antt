@@ -8,6 +8,13 @@ use Rattle.command.proofs.judge.number.Tie as tie
 use Rattle.command.proofs.judge.number.Reads as reads
 use Rattle.command.proofs.judge.number.Lts as lts
 use Rattle.command.proofs.judge.beyond.Reads as beyond-reads
+use Rattle.command.proofs.judge.number_above_3.Reads as number-above-3-reads
+
+number-above-3-requires : tie.Need-number-above-3-requires
+number-above-3-requires c κs = search needs
+
+returns : tie.Need-returns
+returns c = search needs
 
 beyond-requires : tie.Need-beyond-requires
 beyond-requires c κs = search needs
@@ -18,68 +25,35 @@ beyond-requires-2 c κs = search needs
 beyond-requires-3 : tie.Need-beyond-requires-3
 beyond-requires-3 c κs = search needs
 
-beyond-requires-4 : tie.Need-beyond-requires-4
-beyond-requires-4 c κs = search needs
-
-beyond-requires-5 : tie.Need-beyond-requires-5
-beyond-requires-5 c κs = search needs
-
-beyond-requires-6 : tie.Need-beyond-requires-6
-beyond-requires-6 c κs = search needs
-
-beyond-requires-7 : tie.Need-beyond-requires-7
-beyond-requires-7 c κs = search needs
-
-returns : tie.Need-returns
-unfolding numberOf
-returns c = rw (c .beyond .ensures, c .before .match .keys1)
-
 returns-2 : tie.Need-returns-2
 unfolding numberOf
-returns-2 c = rw (c .beyond2 .ensures, c .before .match .keys2)
+returns-2 c = rw (c .beyond .ensures, c .before .match .keys1)
 
 returns-3 : tie.Need-returns-3
 unfolding numberOf
-returns-3 c = rw (c .beyond3 .ensures, c .before .match .keys3)
+returns-3 c = rw (c .beyond2 .ensures, c .before .match .keys2)
 
 returns-4 : tie.Need-returns-4
 unfolding numberOf
-returns-4 c = rw (c .beyond4 .ensures, c .before .match .keys4)
+returns-4 c = rw (c .beyond3 .ensures, c .before .match .keys3)
 
 returns-5 : tie.Need-returns-5
 unfolding numberOf
-returns-5 c = rw (c .beyond5 .ensures, c .before .match .keys5)
-
-returns-6 : tie.Need-returns-6
-unfolding numberOf
-returns-6 c = rw (c .beyond6 .ensures, c .before .match .keys6)
-
-returns-7 : tie.Need-returns-7
-unfolding numberOf
-returns-7 c = rw (c .beyond7 .ensures, c .before .match .keys7)
-
-returns-8 : tie.Need-returns-8
-unfolding numberOf
-returns-8 c =
+returns-5 c =
     let n = c .match .rest in
-    sym (unknown-number _ (n .0 .0 .0 .0 .0 .0 .1) (n .0 .0 .0 .0 .0 .1) (n .0 .0 .0 .0 .1) (n .0 .0 .0 .1) (n .0 .0 .1) (n .0 .1) (n .1) _ _)
+    let most = c .before .if1 .left in
+    sym (unknown-number _ (n .0 .0 .1) (n .0 .1) (n .1) (λ e. omega arith) (λ e. omega arith) (λ e. omega arith) (λ e. omega arith) _ _)
 
 pub number-spec : {M : Type 1} → statement M
 number-spec =
     tie.close
     (tie.spec
+    number-above-3-requires
+    returns
     beyond-requires
     beyond-requires-2
     beyond-requires-3
-    beyond-requires-4
-    beyond-requires-5
-    beyond-requires-6
-    beyond-requires-7
-    returns
     returns-2
     returns-3
     returns-4
-    returns-5
-    returns-6
-    returns-7
-    returns-8)
+    returns-5)

@@ -5,7 +5,7 @@ use Rattle.crash.proofs.crash.crash.Statement.{statement}
 use Rattle.crash.proofs.crash.crash.Tie as tie
 use Rattle.crash.proofs.crash.crash.Reads as reads
 use Rattle.crash.proofs.crash.crash.Lts as lts
-use Rattle.crash.proofs.losses.die.Reads as die-reads
+use Rattle.state.proofs.queue.die.Reads as die-reads
 use Rattle.crash.proofs.losses.lose_words.Reads as lose-words-reads
 use Rattle.crash.proofs.losses.some_unbacked.Reads as some-unbacked-reads
 use Rattle.crash.proofs.processes.crash_all.Reads as crash-all-reads

@@ -12,9 +12,9 @@ run-line-requires c κs = search needs
 
 packed-requires : tie.Need-packed-requires
 packed-requires c κs =
-    let s = c .before .before .before .before .before .before .before .before .before .before .before .before .before .before .args in
-    let r = c .before .before .before .before .before .before .run-line in
-    line-few (s .first) (s .schedule .now) (buffersOf (s .answers .now) (s .reasons .now) (s .report .now)) (r .result) _ (r .ensures)
+    let s = c .before .before .before .before .before .before .before .before .before .before .before .before .before .before .before .before .before .before .args in
+    let r = c .before .before .before .before .before .before .before .before .run-line in
+    line-few (s .first) (s .schedule .now) (buffersOf (s .answers .now) (s .reasons .now) (s .report .now) (s .origins .now)) (r .result) _ (r .ensures)
 
 same-length : tie.Need-same-length
 same-length c = search needs
@@ -25,13 +25,16 @@ same-length-2 c = search needs
 same-length-3 : tie.Need-same-length-3
 same-length-3 c = search needs
 
+same-length-4 : tie.Need-same-length-4
+same-length-4 c = search needs
+
 returns : tie.Need-returns
 returns c =
-    let s = c .before .before .before .before .before .before .before .before .before .before .before .before .before .before .before .args in
-    let r = c .before .before .before .before .before .before .before .run-line in
-    keeps-packed (λ v. RunsLine (s .first) (s .schedule .now) (buffersOf (s .answers .now) (s .reasons .now) (s .report .now)) v _) (r .result) (r .ensures)
+    let s = c .before .before .before .before .before .before .before .before .before .before .before .before .before .before .before .before .before .before .before .args in
+    let r = c .before .before .before .before .before .before .before .before .before .run-line in
+    keeps-packed (λ v. RunsLine (s .first) (s .schedule .now) (buffersOf (s .answers .now) (s .reasons .now) (s .report .now) (s .origins .now)) v _) (r .result) (r .ensures)
     (c .packed .ensures .1) (c .packed .result) (c .packed .ensures .0)
 
 pub ks-label-run-spec : {M : Type 1} → statement M
 ks-label-run-spec =
-    tie.close (tie.spec run-line-requires packed-requires same-length same-length-2 same-length-3 returns)
+    tie.close (tie.spec run-line-requires packed-requires same-length same-length-2 same-length-3 same-length-4 returns)

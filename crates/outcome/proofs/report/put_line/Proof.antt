@@ -6,7 +6,7 @@ use Rattle.outcome.proofs.report.put_line.Tie as tie
 use Rattle.outcome.proofs.report.put_line.Reads as reads
 use Rattle.outcome.proofs.report.put_line.Lts as lts
 use Rattle.outcome.proofs.report.put_head.Reads as put-head-reads
-use Rattle.outcome.proofs.report.put_word.Reads as put-word-reads
+use Rattle.records.proofs.store.put_word.Reads as put-word-reads
 
 returns : tie.Need-returns
 returns c = let s = c .before .before .args in line-none (s .row .now) (s .report .now) (s .p) (c .if1 .taken)

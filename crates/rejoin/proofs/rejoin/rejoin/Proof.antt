@@ -5,7 +5,7 @@ use Rattle.rejoin.proofs.rejoin.rejoin.Statement.{statement}
 use Rattle.rejoin.proofs.rejoin.rejoin.Tie as tie
 use Rattle.rejoin.proofs.rejoin.rejoin.Reads as reads
 use Rattle.rejoin.proofs.rejoin.rejoin.Lts as lts
-use Rattle.rejoin.proofs.rejoin.revive.Reads as revive-reads
+use Rattle.state.proofs.queue.revive.Reads as revive-reads
 use Rattle.state.proofs.moved.refusal.Reads as refusal-reads
 use Rattle.words.proofs.index16.Reads as index16-reads
 

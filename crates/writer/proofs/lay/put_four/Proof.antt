@@ -1,5 +1,5 @@
 use lib.ListN.{length-set}
-use Rattle.writer.proofs.Storing.{four-put}
+use Rattle.records.proofs.Writing.{four-put}
 use native.Mathlib.Omega.{arith}
 use borrow.Author.Needs.{needs}
 use Rattle.writer.proofs.lay.put_four.Statement.{statement}
