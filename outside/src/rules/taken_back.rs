@@ -2,6 +2,7 @@
 use super::answer::Answer;
 use super::generate::schedule;
 use super::line;
+use super::plain::transparent;
 use super::reader::Instruction::{Jump, Send, Set};
 use super::reader::{judge_table, Channel, Process, Record, Table, OUTSIDE};
 use super::repairs::{crash_after_crash, row};
@@ -136,6 +137,20 @@ fn what_stands() {
     assert_eq!(standing_of(&answers(&[back(), stray, unknown, stray])), [2]);
     assert_eq!(standing_of(&answers(&[feed(0, 5), feed(0, 6), back(), feed(0, 7), step(0), back()])), [0, 3]);
     assert_eq!(standing([(4, 4), (8, 7), (4, 4), (8, 32), (8, 53)]), [2]);
+}
+
+#[test]
+fn what_counts_is_told() {
+    // Were the records that are taken back to stand, for the moves 8 are shown as refused, the plain cabinet would tell: a feed that counts as fed,
+    // and a word that stays in the bus order.
+    for (table, records) in [(sample(), vec![feed(0, 5), back()]), (sender(), vec![step(0), step(0), carry(0), back(), carry(0)])]
+    {
+        let mut session = Session::new(&table);
+        let mut run: Vec<(Record, Answer)> = records.iter().map(|&record| (record, session.answer(record))).collect();
+        assert_eq!(transparent(&table, &run, &session.cabinet), Ok(()));
+        run.iter_mut().filter(|(record, _)| record.kind == 8).for_each(|(_, answer)| answer.code = 53);
+        assert!(transparent(&table, &run, &session.cabinet).is_err(), "{records:?}");
+    }
 }
 
 #[test]
