@@ -24,11 +24,16 @@ fn sample() -> Table {
     judge_table(&SAMPLE).unwrap()
 }
 
-/// One process that sends a word to the outside again and again: nothing is fed, and each step but the first counts.
-fn sender() -> Table {
+/// One process that sends a word to the outside: again and again, or once.
+fn sends(again: bool) -> Table {
     let mut table = Table::new(2, vec![Channel { sender: 0, reader: OUTSIDE }]);
-    table.processes.push(Process::new(0, 1, vec![Set { a: 0, word: 9 }, Send { a: 0, channel: 0 }, Jump { a: 0, place: 1 }]));
+    let program = [Set { a: 0, word: 9 }, Send { a: 0, channel: 0 }, Jump { a: 0, place: 1 }];
+    table.processes.push(Process::new(0, 1, program[..if again { 3 } else { 2 }].to_vec()));
     table
+}
+
+fn sender() -> Table {
+    sends(true)
 }
 
 /// So many records that are all accepted and all change the cabinet: the SET, then words sent and carried.
@@ -143,7 +148,8 @@ fn what_stands() {
 fn what_counts_is_told() {
     // Were the records that are taken back to stand, for the moves 8 are shown as refused, the plain cabinet would tell: a feed that counts as fed,
     // and a word that stays in the bus order.
-    for (table, records) in [(sample(), vec![feed(0, 5), back()]), (sender(), vec![step(0), step(0), carry(0), back(), carry(0)])]
+    for (table, records) in
+        [(sample(), vec![feed(0, 5), back()]), (sends(false), vec![step(0), step(0), carry(0), back(), carry(0)])]
     {
         let mut session = Session::new(&table);
         let mut run: Vec<(Record, Answer)> = records.iter().map(|&record| (record, session.answer(record))).collect();
