@@ -133,7 +133,7 @@ fn often(counts: &mut Counts, random: &mut Random, first: u32, table: &Table) {
 /// Records taken back (W-214), across crashes, returns and resyncs, with cartons and labels among them.
 fn taken_back(counts: &mut Counts, random: &mut Random, first: u32, table: &Table) {
     for i in 0..200 {
-        let (crashes, records, most) = if i % 50 == 0 { (20, 2_000, 10_000) } else { (random.below(4) as usize, 200, 1_000) };
+        let (crashes, records, most) = if i % 50 == 0 { (20, 2_000, 10_000) } else { (2 + random.below(5) as usize, 400, 2_000) };
         let records = crash_after_crash(random, table, crashes, records);
         let records = going_back(random, table, records, most);
         compare(counts, first, &records, enough());
@@ -187,6 +187,6 @@ fn main() {
     assert!(thrice >= 1_900 && crashes >= 200, "too few crashes: {thrice} runs with three or more, {crashes} at most");
     println!("label: ok, {runs} runs, {crashed} with a crash, {quiet} quiet, up to {cartons} cartons and {labels} labels in one");
     println!("label: {thrice} runs with three crashes or more, up to {crashes} in one");
-    assert!(back >= 900 && unfed > 1_000 && unprinted > 1_000, "too little was taken back: {back}, {unfed}, {unprinted}");
+    assert!(back >= 800 && unfed > 5_000 && unprinted > 2_000, "too little was taken back: {back}, {unfed}, {unprinted}");
     println!("label: {back} runs with records taken back, {unfed} cartons and {unprinted} words at the outlet among them");
 }
