@@ -64,7 +64,7 @@ fn taken_back() {
     let fed = [[4, 0, 9], back, [4, 0, 8]];
     prints(&["7", "-"], &schedule(&[&fed, &printed[..]].concat()), "8 7\nto come 0\n");
     prints(&["7", "-"], &schedule(&[&fed, &printed[..], &[back]].concat()), "8 -\nto come 1\n");
-    prints(&["7", "-"], &schedule(&[&fed, &printed[..], &[back; 14]].concat()), "to come 0\n");
+    prints(&["7", "-"], &schedule(&[&fed, &printed[..], &[back; 16]].concat()), "to come 0\n");
 }
 
 /// A year of a warehouse: four crashes, and the labels in order.
