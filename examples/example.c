@@ -160,6 +160,17 @@ static void driver_bench(void) {
     give_back(l);
 }
 
+/* Every place to pull a board, of the sample up to its crash; with that crash in it a schedule is refused. */
+static void before_release(void) {
+    struct piece sound = table_of_version(1), unharmed = first_records(10), schedule = first_records(20);
+    uint64_t result = ks_sweep(sound.at, sound.len, unharmed.at, unharmed.len);
+    printf("before release\nquiet %u, held %u, open %u\n", ks_swept_quiet(result), ks_swept_held(result), ks_swept_open(result));
+    printf("refused %u\n", (unsigned)ks_number(ks_sweep(sound.at, sound.len, schedule.at, schedule.len)));
+    free(sound.at);
+    free(unharmed.at);
+    free(schedule.at);
+}
+
 /* A board is pulled: what is on the bus until then, each word fed or with its sender and the place of its SEND, why each answer is what it is,
  * and with how much unread and held back the stand-by begins. */
 static void service_desk(void) {
@@ -280,6 +291,7 @@ int main(void) {
     }
     board_programmer();
     driver_bench();
+    before_release();
     service_desk();
     programmer();
     label_line();

@@ -1,5 +1,5 @@
-/* The proved calls for programs in C and C++: the run of a schedule, the judging of its input, the backup record and the label line. One
- * library has them all, target/staticlib/libkunzeastylus.a, and exports nothing else:
+/* The proved calls for programs in C and C++: the run of a schedule, the judging of its input, every place to pull a board, tables, the backup
+ * record and the label line. One library has them all, target/staticlib/libkunzeastylus.a, and exports nothing else:
  *
  *     rt staticlib kunzeastylus
  *
@@ -30,6 +30,7 @@ extern "C" {
 #define KS_TABLE_MOST 6278      /* the longest table: its length field at most 6,276, and that field */
 #define KS_SCHEDULE_MOST 60003  /* the longest schedule: 10,000 records */
 #define KS_RECORDS_MOST 10000
+#define KS_SWEEP_MOST 500       /* records of a schedule that is swept */
 #define KS_PROCESSES_MOST 16
 #define KS_ENDS_MOST 64         /* the longest lists of a table, in numbers */
 #define KS_PLACEMENTS_MOST 48
@@ -68,7 +69,8 @@ enum ks_refusal {
     KS_REPORT_SHORT = 12,     /* report buffer under 20 bytes a process */
     KS_FIRST_SERIAL = 46,     /* of the label line: a first serial above 4,294,957,295 */
     KS_LIMIT = 47,            /* a process's limit outside 1 to 16 */
-    KS_ORIGINS_SHORT = 51     /* buffer of origins under two bytes a record */
+    KS_ORIGINS_SHORT = 51,    /* buffer of origins under two bytes a record */
+    KS_UNSWEPT = 52           /* of a sweep: a record of move 5 or 8, whatever its a and word, or over 500 records */
 };
 
 /* ---- why a table is not written or not taken apart, beside 1 to 8 and KS_LIMIT of ks_refusal, and after those */
@@ -185,6 +187,12 @@ uint64_t ks_run(const uint8_t *table, size_t table_len, const uint8_t *schedule,
 uint32_t ks_judge(const uint8_t *table, size_t table_len, const uint8_t *schedule, size_t schedule_len, size_t answers_len,
                   size_t reasons_len, size_t report_len, size_t origins_len);
 
+/* Every place to pull a board: puts the crash of each board at each of the n + 1 places of a schedule of n records, and counts how these runs
+ * end. The result is number + 2^16 * those that end quiet + 2^32 * those that end unquiet with some hold-back left + 2^48 * those that end unquiet
+ * with none, unpacked by ks_number, ks_swept_quiet, ks_swept_held and ks_swept_open; together they are (n + 1) * boards. Refused, with 1 to 10,
+ * KS_LIMIT or KS_UNSWEPT, they are 0. */
+uint64_t ks_sweep(const uint8_t *table, size_t table_len, const uint8_t *schedule, size_t schedule_len);
+
 /* A call of the backup record. state is KS_STATE numbers: how many words are saved, count, place, four registers, then 64 pairs of slot and
  * word. call is KS_CALL numbers, its own and its arguments:
  *     KS_NEW                                                    state becomes the record as it starts
@@ -226,6 +234,11 @@ uint64_t ks_label_run(uint32_t first, const uint8_t *schedule, size_t schedule_l
 static inline enum ks_refusal ks_number(uint64_t result) { return (enum ks_refusal)(result & 255); }
 static inline int ks_quiet(uint64_t result) { return (int)(result >> 8 & 1); }
 static inline uint32_t ks_records(uint64_t result) { return (uint32_t)(result >> 32); }
+
+/* ks_sweep's result is number + 2^16 * quiet + 2^32 * held + 2^48 * open. */
+static inline uint32_t ks_swept_quiet(uint64_t result) { return (uint32_t)(result >> 16 & 65535); }
+static inline uint32_t ks_swept_held(uint64_t result) { return (uint32_t)(result >> 32 & 65535); }
+static inline uint32_t ks_swept_open(uint64_t result) { return (uint32_t)(result >> 48); }
 
 static inline uint32_t ks_word(const uint8_t *bytes) {
     return (uint32_t)bytes[0] << 24 | (uint32_t)bytes[1] << 16 | (uint32_t)bytes[2] << 8 | (uint32_t)bytes[3];

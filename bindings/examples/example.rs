@@ -1,8 +1,8 @@
 //! The proved calls from Rust, as board programmers, the driver bench, the service desk, programmers who go back, the label line and the planner's
 //! office use them. examples/example.c is the same in C; both print examples/example.out.
 use kunzeastylus::{
-    check_abi, judge, label_run, label_table, labels, run, Backup, BackupRefusal, Buffers, End, Lengths, Lists, Record, Refusal,
-    Snapshot, Synced, SCANNER,
+    check_abi, judge, label_run, label_table, labels, run, sweep, Backup, BackupRefusal, Buffers, End, Lengths, Lists, Record,
+    Refusal, Snapshot, Synced, SCANNER,
 };
 
 /// Document 01's sample table.
@@ -92,6 +92,13 @@ fn driver_bench() {
     println!("quiet {}", run.quiet as u8);
 }
 
+/// Every place to pull a board, of the sample up to its crash; with that crash in it a schedule is refused.
+fn before_release() {
+    let swept = sweep(&TABLE, &Record::schedule(&records()[..10])).unwrap();
+    println!("before release\nquiet {}, held {}, open {}", swept.quiet, swept.held, swept.open);
+    println!("refused {}", sweep(&TABLE, &Record::schedule(&records())).unwrap_err().number());
+}
+
 /// A board is pulled: what is on the bus until then, each word fed or with its sender and the place of its SEND, why each answer is what it is,
 /// and with how much unread and held back the stand-by begins.
 fn service_desk() {
@@ -177,6 +184,7 @@ fn main() {
     }
     board_programmer();
     driver_bench();
+    before_release();
     service_desk();
     programmer();
     label_line();

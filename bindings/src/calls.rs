@@ -65,6 +65,8 @@ mod raw {
             origins_len: usize,
         ) -> u64;
 
+        pub fn ks_sweep(table: *const u8, table_len: usize, schedule: *const u8, schedule_len: usize) -> u64;
+
         pub fn ks_table_write(
             version: u32,
             boards: u32,
@@ -173,6 +175,13 @@ pub fn ks_label_run(first: u32, schedule: &[u8], lent: &mut Buffers<&mut [u8]>) 
             origins.len(),
         )
     }
+}
+
+/// The number by which a sweep is refused or 0, plus 2^16 times quiet, 2^32 times held and 2^48 times open.
+pub fn ks_sweep(table: &[u8], schedule: &[u8]) -> u64 {
+    same_library();
+    // SAFETY: two slices, each with its own length; the call only reads them and asks nothing else.
+    unsafe { raw::ks_sweep(table.as_ptr(), table.len(), schedule.as_ptr(), schedule.len()) }
 }
 
 /// The number by which lists or a buffer are refused or 0, plus 2^32 times the table's length.

@@ -23,6 +23,7 @@ worded! {
         FirstSerial = 46 => "of the label line alone: a first serial above 4,294,957,295; then no table is made",
         Limit = 47 => "a table of version 2: a process's limit is outside 1 to 16",
         OriginsShort = 51 => "the buffer of origins has under two bytes a record",
+        Unswept = 52 => "of a sweep alone: the schedule has a record of move 5 or 8, whatever its a and word, or over 500 records",
     }
 }
 

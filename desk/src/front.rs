@@ -1,7 +1,7 @@
 //! How a front is called and how it ends.
 //!
 //! Exit codes: 0 for a result, 2 for what never reached the library (wrong arguments, a file that can't be read, text that is no hex text),
-//! 3 for what the library refused. 1 is of `tools/front` alone: the program could not be built.
+//! 3 for what the library refused, 4 for a result that isn't as it was required. 1 is of `tools/front` alone: the program could not be built.
 use std::io::Write;
 use std::process::ExitCode;
 
@@ -16,6 +16,8 @@ pub enum Failure {
     Refused(u8),
     /// The library refused, with this number: `refused` and the number are printed as the result, and what it means and where it is are said.
     Explained(u8, String),
+    /// The result is not as it was required to be: it is printed, and what is wrong with it is said.
+    Unmet(Vec<u8>, String),
 }
 
 impl Failure {
@@ -23,6 +25,7 @@ impl Failure {
         match self {
             Failure::Usage | Failure::Unasked(_) => 2,
             Failure::Refused(_) | Failure::Explained(..) => 3,
+            Failure::Unmet(..) => 4,
         }
     }
 
@@ -32,7 +35,7 @@ impl Failure {
             Failure::Usage => format!("usage: {}", usage.trim_end()),
             Failure::Unasked(why) => why.clone(),
             Failure::Refused(number) => format!("refused {number}"),
-            Failure::Explained(_, why) => why.clone(),
+            Failure::Explained(_, why) | Failure::Unmet(_, why) => why.clone(),
         }
     }
 }
@@ -59,9 +62,11 @@ fn print(bytes: &[u8]) -> ExitCode {
 }
 
 fn complain(name: &str, usage: &str, failure: &Failure) -> ExitCode {
-    if let Failure::Explained(number, _) = failure {
-        print(format!("refused {number}\n").as_bytes());
-    }
+    match failure {
+        Failure::Explained(number, _) => print(format!("refused {number}\n").as_bytes()),
+        Failure::Unmet(result, _) => print(result),
+        Failure::Usage | Failure::Unasked(_) | Failure::Refused(_) => ExitCode::SUCCESS,
+    };
     let _ = writeln!(std::io::stderr(), "{name}: {}", failure.message(usage));
     ExitCode::from(failure.exit_code())
 }

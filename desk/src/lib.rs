@@ -1,4 +1,5 @@
-//! What the fronts share: how they end and what they say, how they read what they are given, a run in words, and a run record by record.
+//! What the fronts share: how they end and what they say, how they read what they are given, a run in words and record by record, and every
+//! place to pull a board.
 #![forbid(unsafe_code)]
 
 pub mod explain;
@@ -7,5 +8,7 @@ pub mod front;
 pub mod hex;
 pub mod input;
 pub mod lists;
+pub mod progress;
 pub mod step;
+pub mod sweep;
 pub mod words;

@@ -7,6 +7,7 @@ fn the_same_without_a_program() {
         ("explain", env!("CARGO_BIN_EXE_explain")),
         ("label", env!("CARGO_BIN_EXE_label")),
         ("step", env!("CARGO_BIN_EXE_step")),
+        ("sweep", env!("CARGO_BIN_EXE_sweep")),
         ("table", env!("CARGO_BIN_EXE_table")),
     ];
     for (name, program) in programs {

@@ -1,5 +1,5 @@
 -- A SET, an ADD or a JUMP: what its stores make of the process.
-use mathlib.Core.Path.{_≡_, refl, sym, _∙_}
+use mathlib.Core.Path.{_≡_, refl, ap, sym, subst, _∙_}
 use mathlib.Core.Logic.{_≢_}
 use mathlib.Core.Bool.{true, false}
 use mathlib.Core.List.{List}
@@ -7,9 +7,9 @@ use Prim.Native.Nat.{ℕ, zero, suc, _+_, _%_, _^_, _<_}
 use native.Mathlib.Omega.{arith}
 use lib.Dec.{eqb}
 use lib.ListN.{getD, set}
-use lib.Seq.{getD-set-other}
+use lib.Seq.{getD-set-other, set-getD}
 use borrow.Author.Tests.{eq-eqb, ne-eqb}
-use Rattle.facts.specs.Tests.{no-way}
+use Rattle.facts.specs.Tests.{no-way, by-eq}
 use Rattle.rules.specs.Table.{Instruction}
 use Rattle.rules.specs.Machine.{Machine, moved, internal, next, Pull, nothing, found, take1, first1, pull, bit, execute}
 use Rattle.rules.specs.Format.{instruction}
@@ -17,7 +17,7 @@ use Rattle.rules.specs.Cabinet.{Process}
 use Rattle.rules.specs.Moves.{advanced}
 use Rattle.process.specs.Row.{pcIn, machineOf, standbyOf, processOf, Kept}
 use Rattle.process.specs.Change.{Became}
-use Rattle.instruction.specs.Instruction.{afterInternal, Intends, bumped, Room, Evaluates}
+use Rattle.instruction.specs.Instruction.{afterInternal, Intends, bumped, Room, wordAfter, placeAfter, Evaluates}
 use Rattle.instruction.specs.declared.instruction.Intent.the-variants.{Internal}
 use Rattle.process.proofs.Rows.{spelled, waits-cell}
 use Rattle.instruction.proofs.Examining.{register-is, step-executes}
@@ -102,11 +102,11 @@ module _ (row : List ℕ) (code a operand : ℕ) where
       sym (step-executes row mail n code a operand program (i .fetched) (going _ _ i refl)) ∙ i .outcome
 
   -- no other does
-  pub evaluates-none : code ≢ 1 → code ≢ 2 → code ≢ 6 → Evaluates row code a operand row
-  evaluates-none x y z program n mail log head k i =
+  evaluates-none : code ≢ 1 → code ≢ 2 → code ≢ 6 → (row′ : List ℕ) → Evaluates row code a operand row′
+  evaluates-none x y z row′ program n mail log head k i =
       absurd (acts-none code a operand (machineOf row mail) _ x y z (executed program n mail log head i))
 
-  pub evaluates-set : code ≡ 1 → operand < 2 ^ 32 → Evaluates row code a operand (bumped (set row (2 + a % 4) operand) 1)
+  evaluates-set : code ≡ 1 → operand < 2 ^ 32 → Evaluates row code a operand (bumped (set row (2 + a % 4) operand) 1)
   unfolding execute
   evaluates-set c w program n mail log head k i =
       let g = going _ _ i refl in
@@ -114,7 +114,7 @@ module _ (row : List ℕ) (code a operand : ℕ) where
       let l = f .few in
       rw c (set-became row mail log head k a operand (f .in-range g .first) w (omega arith))
 
-  pub evaluates-add : code ≡ 2 → (v : ℕ) → v ≡ (getD row (2 + a % 4) 0 + getD row (2 + operand % 4) 0) % 2 ^ 32
+  evaluates-add : code ≡ 2 → (v : ℕ) → v ≡ (getD row (2 + a % 4) 0 + getD row (2 + operand % 4) 0) % 2 ^ 32
       → Evaluates row code a operand (bumped (set row (2 + a % 4) v) 1)
   unfolding execute machineOf
   evaluates-add c v w program n mail log head k i =
@@ -126,7 +126,7 @@ module _ (row : List ℕ) (code a operand : ℕ) where
       rw (register-is row a (q .first), register-is row operand (q .second c)) (sym w) in
       rw (c, e) (set-became row mail log head k a v (q .first) (omega arith) (omega arith))
 
-  pub evaluates-on : code ≡ 6 → getD row (2 + a % 4) 0 ≡ 0 → Evaluates row code a operand (bumped row 1)
+  evaluates-on : code ≡ 6 → getD row (2 + a % 4) 0 ≡ 0 → Evaluates row code a operand (bumped row 1)
   unfolding execute machineOf
   evaluates-on c z program n mail log head k i =
       let g = going _ _ i refl in
@@ -135,10 +135,44 @@ module _ (row : List ℕ) (code a operand : ℕ) where
       let e : eqb (getD (machineOf row mail .registers) a 0) 0 ≡ true = rw (register-is row a (f .in-range g .first)) (eq-eqb _ 0 z) in
       rw (c, e, bumped-is row 1 (omega arith)) (pc-became row mail log head k (suc (pcIn row)) (omega arith))
 
-  pub evaluates-jump : code ≡ 6 → getD row (2 + a % 4) 0 ≢ 0 → operand < 2 ^ 32 → Evaluates row code a operand (set row 1 operand)
+  evaluates-jump : code ≡ 6 → getD row (2 + a % 4) 0 ≢ 0 → operand < 2 ^ 32 → Evaluates row code a operand (set row 1 operand)
   unfolding execute machineOf
   evaluates-jump c z w program n mail log head k i =
       let g = going _ _ i refl in
       let f = i .fetched in
       let e : eqb (getD (machineOf row mail .registers) a 0) 0 ≡ false = rw (register-is row a (f .in-range g .first)) (ne-eqb _ 0 z) in
       rw (c, e) (pc-became row mail log head k operand w)
+
+  -- All three at once: register and place are stored, by the code. Of a JUMP the register stays what it was.
+  module _ (old sum next : ℕ) (is-old : old ≡ getD row (2 + a % 4) 0) (is-sum : sum ≡ (getD row (2 + a % 4) 0 + getD row (2 + operand % 4) 0) % 2 ^ 32)
+      (is-next : next ≡ (getD row 1 0 + 1) % 2 ^ 32) (w : operand < 2 ^ 32) where
+    abbrev both : ℕ → ℕ → List ℕ
+    both word place = set (set row (2 + a % 4) word) 1 place
+
+    abbrev after : List ℕ
+    after = both (wordAfter code old sum operand) (placeAfter code old next operand)
+
+    -- as one of the laws above has it
+    so : {row′ : List ℕ} → row′ ≡ after → Evaluates row code a operand row′ → Evaluates row code a operand after
+    so e h = subst (λ (r : List ℕ). Evaluates row code a operand r) e h
+
+    moved-on : (v : ℕ) → bumped (set row (2 + a % 4) v) 1 ≡ both v next
+    moved-on v = ap (λ (p : ℕ). both v ((p + 1) % 2 ^ 32)) (getD-set-other row (2 + a % 4) 1 v 0 (λ e. omega arith)) ∙ ap (both v) (sym is-next)
+
+    stays : (p : ℕ) → set row 1 p ≡ both old p
+    stays p = ap (λ (r : List ℕ). set r 1 p) (sym (ap (set row (2 + a % 4)) is-old ∙ set-getD row (2 + a % 4) 0))
+
+    pub evaluates : Evaluates row code a operand after
+    evaluates =
+        by-eq code 1
+        (λ e. so (moved-on operand ∙ rw e) (evaluates-set e w))
+        (λ x.
+        by-eq code 2
+        (λ e. so (moved-on sum ∙ rw e) (evaluates-add e sum is-sum))
+        (λ y.
+        by-eq code 6
+        (λ e.
+        by-eq old 0
+        (λ z. so (ap (set row 1) (sym is-next) ∙ stays next ∙ rw (e, z)) (evaluates-on e (sym is-old ∙ z)))
+        (λ z. so (stays operand ∙ rw (e, ne-eqb old 0 z)) (evaluates-jump e (λ n. z (is-old ∙ n)) w)))
+        (λ z. evaluates-none x y z after)))

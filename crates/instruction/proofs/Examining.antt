@@ -1,18 +1,19 @@
 -- What an instruction would do: each intent against the rules' local step.
 use mathlib.Core.Path.{_≡_, refl, ap, sym, subst, _∙_}
-use mathlib.Core.Logic.{_≢_, _⊎_, inl, inr, ⊎-elim}
+use mathlib.Core.Logic.{⊎-elim}
 use mathlib.Core.List.{List, [], _∷_}
 use Prim.Native.Nat.{ℕ, zero, suc, _+_, _%_, _≤_, _<_}
 use native.Mathlib.Omega.{arith}
 use lib.ListN.{getD}
 use borrow.Author.Tests.{lt-ltb, le-ltb}
-use Rattle.facts.specs.Tests.{no-way, by-eq}
+use Rattle.facts.specs.Tests.{no-way}
 use Rattle.rules.specs.Table.{Instruction}
 use Rattle.rules.specs.Machine.{Machine, halted, moved, internal, take1, first1, execute, localStep}
 use Rattle.rules.specs.Format.{instruction}
 use Rattle.rules.proofs.Decoded.{instruction-none}
 use Rattle.process.specs.Row.{pcIn, unreadIn, oldestIn, machineOf, registerIn}
-use Rattle.instruction.specs.Instruction.{InRange, Fetched, afterInternal, outcomeOf, Examined, Sought}
+use Rattle.instruction.specs.Instruction.{InRange, Fetched, Sorted, afterInternal, outcomeOf, Examined, Sought}
+use Rattle.instruction.specs.declared.instruction.Kind.the-variants.{Calculation, Taking, Sending, Unknown}
 use Rattle.instruction.specs.declared.instruction.Intent.{Intent}
 use Rattle.instruction.specs.declared.instruction.Intent.the-variants.{Halted, NoMail, Internal, Take, Send}
 
@@ -46,7 +47,7 @@ module _ (row mail : List ℕ) (n code a operand : ℕ) where
   decided i h t e program f = record { fetched = f; outcome = step-executes program f h ∙ e (f .in-range h); inside = t }
 
 -- SET, ADD and JUMP
-computes : (code a operand : ℕ) (m : Machine) → (code ≡ 1) ⊎ ((code ≡ 2) ⊎ (code ≡ 6))
+computes : (code a operand : ℕ) (m : Machine) → Sorted code Calculation
     → execute (instruction code a operand) m ≡ moved (afterInternal code a operand m) internal
 unfolding execute
 computes code a operand m h = ⊎-elim (λ e. rw e) (⊎-elim (λ e. rw e) (λ e. rw e)) h
@@ -70,24 +71,25 @@ module _ (row mail : List ℕ) (a operand : ℕ) where
   first-outcome (Send channel word) s = absurd s
 
 module _ (row mail : List ℕ) (n code a operand : ℕ) (h : pcIn row < n) where
-  pub examined-internal : (code ≡ 1) ⊎ ((code ≡ 2) ⊎ (code ≡ 6)) → Examined row mail n code a operand Internal
+  pub examined-internal : Sorted code Calculation → Examined row mail n code a operand Internal
   examined-internal e =
       decided row mail n code a operand Internal h (λ at f. absurd (no-way (cc))) (λ _. computes code a operand (machineOf row mail) e)
 
   -- no instruction
-  pub examined-none : code ≢ 1 → code ≢ 2 → code ≢ 3 → code ≢ 4 → code ≢ 5 → code ≢ 6 → Examined row mail n code a operand Halted
+  pub examined-none : Sorted code Unknown → Examined row mail n code a operand Halted
   unfolding execute
-  examined-none h1 h2 h3 h4 h5 h6 =
-      decided row mail n code a operand Halted h (λ at e. absurd (no-way (cc))) (λ _. rw (instruction-none code a operand h1 h2 h3 h4 h5 h6))
+  examined-none r =
+      decided row mail n code a operand Halted h (λ at e. absurd (no-way (cc)))
+      (λ _. rw (instruction-none code a operand (r .0 .0 .0 .0 .0) (r .0 .0 .0 .0 .1) (r .0 .0 .0 .1) (r .0 .0 .1) (r .0 .1) (r .1)))
 
-  pub examined-send : code ≡ 5 → (word : ℕ) → word ≡ getD row (2 + a % 4) 0 → Examined row mail n code a operand (Send operand word)
+  pub examined-send : Sorted code Sending → (word : ℕ) → word ≡ getD row (2 + a % 4) 0 → Examined row mail n code a operand (Send operand word)
   unfolding execute machineOf
   examined-send e word w =
       decided row mail n code a operand (Send operand word) h (λ at e. absurd (no-way (cc)))
       (λ r. rw (e, w, register-is row a (r .first)))
 
   -- a TAKE or a FIRST, whatever its look found
-  pub examined-sought : (code ≡ 3) ⊎ (code ≡ 4) → (i : Intent) → Sought mail (oldestIn row) (unreadIn row) code operand i → Examined row mail n code a operand i
+  pub examined-sought : Sorted code Taking → (i : Intent) → Sought mail (oldestIn row) (unreadIn row) code operand i → Examined row mail n code a operand i
   examined-sought e i s =
       decided row mail n code a operand i h (place i s)
       (λ _.
@@ -100,9 +102,3 @@ module _ (row mail : List ℕ) (n code a operand : ℕ) (h : pcIn row < n) where
       place Internal s at e = absurd s
       place (Take k) s at e = let z : k ≡ at = cc in rw (← z) (s .0)
       place (Send channel word) s at e = absurd s
-
-pub three-or-four : (code : ℕ) → 3 ≤ code → code < 5 → (code ≡ 3) ⊎ (code ≡ 4)
-three-or-four code g l = by-eq code 3 (λ e. inl e) (λ e. inr (omega arith))
-
-pub one-or-two : (code : ℕ) → 1 ≤ code → code < 3 → (code ≡ 1) ⊎ ((code ≡ 2) ⊎ (code ≡ 6))
-one-or-two code g l = by-eq code 1 (λ e. inl e) (λ e. inr (inl (omega arith)))

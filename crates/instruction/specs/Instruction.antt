@@ -1,6 +1,7 @@
 -- What the calls on one instruction promise: what it would do is what the rules' `localStep` says, and what it does makes the process
 -- that the rules' `advanced` gives. Document 01: "Instructions, each moving the place on by one unless said".
 use mathlib.Core.Path.{_≡_}
+use mathlib.Core.Logic.{_≢_, _⊎_}
 use mathlib.Core.Bool.{cond}
 use mathlib.Core.List.{List}
 use Prim.Native.Nat.{ℕ, suc, _+_, _%_, _^_, _≤_, _<_}
@@ -16,6 +17,8 @@ use Rattle.rules.specs.Moves.{advanced, counting, oneDone, oneSent, oneTaken}
 use Rattle.process.specs.Row.{pcIn, suppressIn, flagIn, unreadIn, mailIn, packedAt, mailsIn, mailAt, machineOf, Kept}
 use Rattle.process.specs.Change.{Became}
 use Rattle.instruction.specs.Mailbox.{names}
+use Rattle.instruction.specs.declared.instruction.Kind.{Kind}
+use Rattle.instruction.specs.declared.instruction.Kind.the-variants.{Calculation, Taking, Sending, Unknown}
 use Rattle.instruction.specs.declared.instruction.Intent.{Intent}
 use Rattle.instruction.specs.declared.instruction.Intent.the-variants.{Halted, NoMail, Internal, Take, Send}
 
@@ -35,6 +38,13 @@ pub record Fetched (program : List Instruction) (row : List ℕ) (n code a opera
   pub in-range : pcIn row < n → InRange code a operand
 
 -- ---- what it would do
+
+-- the codes of each kind; "with the rest refused"
+abbrev pub Sorted : ℕ → Kind → Type 0
+Sorted code Calculation = (code ≡ 1) ⊎ ((code ≡ 2) ⊎ (code ≡ 6))
+Sorted code Taking = (code ≡ 3) ⊎ (code ≡ 4)
+Sorted code Sending = code ≡ 5
+Sorted code Unknown = ((((((code ≢ 1) × (code ≢ 2)) × (code ≢ 3)) × (code ≢ 4)) × (code ≢ 5)) × (code ≢ 6))
 
 abbrev pub machineAfter : Outcome → Machine
 machineAfter halted = booted
@@ -108,7 +118,14 @@ pub record Loads (row : List ℕ) (code a x : ℕ) (row′ : List ℕ) : Type 0 
   pub is : row′ ≡ loadedIn code a (mailIn x) row
   pub fits : mailIn x .channel < 2 ^ 32
 
--- What a SET, an ADD or a JUMP does to registers and place: machine and nothing else.
+-- What a SET, an ADD or a JUMP leaves in register a, and its next place, by what stood there, the sum of an ADD and the place behind it.
+abbrev pub wordAfter : ℕ → ℕ → ℕ → ℕ → ℕ
+wordAfter code old sum operand = cond (eqb code 6) old (cond (eqb code 1) operand sum)
+
+abbrev pub placeAfter : ℕ → ℕ → ℕ → ℕ → ℕ
+placeAfter code old next operand = cond (eqb (cond (eqb code 6) old 0) 0) next operand
+
+-- What it does to registers and place: machine and nothing else.
 abbrev pub Evaluates : List ℕ → ℕ → ℕ → ℕ → List ℕ → Type 0
 Evaluates row code a operand row′ =
     (program : List Instruction) (n : ℕ) (mail log head : List ℕ) → Kept row mail log head → Intends program row mail n code a operand Internal

@@ -5,7 +5,7 @@ ghost use mathlib.Core.Path.{_≡_};
 ghost use Prim.Native.Nat.{_+_, _%_, _^_, _<_};
 ghost use lib.ListN.{getD};
 ghost use Rattle.process.specs.Row.{rowLength};
-ghost use Rattle.instruction.specs.Instruction.{bumped, oneIn, tallied, Loads, Examined, Sought, Evaluates};
+ghost use Rattle.instruction.specs.Instruction.{Sorted, bumped, oneIn, tallied, Loads, Examined, Sought, wordAfter, placeAfter, Evaluates};
 ghost use Rattle.instruction.specs.Instruction.{Computes, Takes, Suppresses, Queues};
 use crate::mailbox::look;
 use crate::mailbox::remove;
@@ -39,6 +39,33 @@ pub enum Intent {
     Take { at: usize },
     // a SEND of this word to this channel
     Send { channel: u32, word: u32 },
+}
+
+// The kinds of instructions, by what they ask for.
+enum Kind {
+    // a SET, an ADD or a JUMP
+    Calculation,
+    // a TAKE or a FIRST
+    Taking,
+    // a SEND
+    Sending,
+    // none
+    Unknown,
+}
+
+// Each code stands by itself, so that the compiler tells the kinds by one bit test each, with no jump by a table.
+fn kind_of(code: u8) -> Kind
+    ensures { λ r. ⌜ Sorted code r ⌝ }
+{
+    match code {
+        1 => Kind::Calculation,
+        2 => Kind::Calculation,
+        3 => Kind::Taking,
+        4 => Kind::Taking,
+        5 => Kind::Sending,
+        6 => Kind::Calculation,
+        _ => Kind::Unknown,
+    }
 }
 
 // The cell of register a; a is 0 to 3, and any other number stands for one of these.
@@ -110,14 +137,14 @@ pub fn examine(
     if row[PC] >= length {
         return Intent::Halted;
     }
-    match code {
-        1 | 2 | 6 => Intent::Internal,
-        3 | 4 => seek(mail, wide(row[OLDEST]), wide(row[UNREAD]), code, operand),
-        5 => Intent::Send {
+    match kind_of(code) {
+        Kind::Calculation => Intent::Internal,
+        Kind::Taking => seek(mail, wide(row[OLDEST]), wide(row[UNREAD]), code, operand),
+        Kind::Sending => Intent::Send {
             channel: operand,
             word: register(row, a),
         },
-        _ => Intent::Halted,
+        Kind::Unknown => Intent::Halted,
     }
 }
 
@@ -128,28 +155,41 @@ fn sum(row: &[u32; ROW], a: u32, b: u32) -> u32
     std::num::wrapping_add_u32(register(row, a), register(row, b))
 }
 
-// What a SET, an ADD or a JUMP does to registers and place.
+// What register a, which held `old`, holds after a SET, an ADD, whose sum this is, or a JUMP.
+fn word_after(code: u8, old: u32, sum: u32, operand: u32) -> u32
+    ensures { λ r. ⌜ r ≡ wordAfter code old sum operand ⌝ }
+{
+    let computed = match code {
+        1 => operand,
+        _ => sum,
+    };
+    match code {
+        6 => old,
+        _ => computed,
+    }
+}
+
+// The place after it: the next one, or of a JUMP where register a is not 0 its operand.
+fn place_after(code: u8, old: u32, next: u32, operand: u32) -> u32
+    ensures { λ r. ⌜ r ≡ placeAfter code old next operand ⌝ }
+{
+    let jumps = match code {
+        6 => old,
+        _ => 0,
+    };
+    if jumps == 0 { next } else { operand }
+}
+
+// What a SET, an ADD or a JUMP does to registers and place. Word and place are chosen by the code and stored once, with no branch: which of the
+// three comes next nobody can foretell.
 fn evaluate(row: &mut [u32; ROW], code: u8, a: u32, operand: u32)
     ensures { λ _. ⌜ Evaluates (now (row .entry)) code a operand (now (row .exit)) ⌝ }
 {
-    match code {
-        1 => {
-            row[cell(a)] = operand;
-            bump(row, PC);
-        }
-        2 => {
-            row[cell(a)] = sum(row, a, operand);
-            bump(row, PC);
-        }
-        6 => {
-            if register(row, a) == 0 {
-                bump(row, PC);
-            } else {
-                row[PC] = operand;
-            }
-        }
-        _ => {}
-    }
+    let old = register(row, a);
+    let both = sum(row, a, operand);
+    let next = std::num::wrapping_add_u32(row[PC], 1);
+    row[cell(a)] = word_after(code, old, both, operand);
+    row[PC] = place_after(code, old, next, operand);
 }
 
 // A SET, an ADD or a JUMP is done, an instruction more.

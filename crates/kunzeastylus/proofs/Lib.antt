@@ -3,3 +3,4 @@ pub mod Judging
 pub mod Packing
 pub mod Lending
 pub mod Tabling
+pub mod Sweeping

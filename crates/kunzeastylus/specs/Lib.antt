@@ -3,4 +3,5 @@ pub mod Abi
 pub mod Judges
 pub mod Packed
 pub mod Label
+pub mod Sweep
 pub mod Tables

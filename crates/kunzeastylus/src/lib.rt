@@ -5,4 +5,5 @@ pub mod backup;
 pub mod judge;
 pub mod label;
 pub mod run;
+pub mod swept;
 pub mod tables;

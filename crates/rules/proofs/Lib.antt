@@ -51,8 +51,16 @@ pub mod Totals
 pub mod Homes
 -- W-211: backed again, and nothing again.
 pub mod Recovery
+-- W-214: a session by records, the records that stand in it, and what is taken back.
+pub mod Undo
+pub mod Standing
+pub mod Undoes
+-- W-213: the three counts together, what the runs of a sweep share, and that the crash put in is never refused.
+pub mod Sweep
+pub mod PutIn
 -- Tables and runs in bytes. What lists give is computed of two of them before it is proved of all.
 pub mod Valid
+pub mod Scheduled
 pub mod FirstVersion
 pub mod ReadBack
 pub mod EncodeCases
@@ -67,6 +75,8 @@ pub mod MoveCases
 pub mod LongCases
 pub mod LimitCases
 pub mod RejoinCases
+pub mod SweepCases
+pub mod UndoCases
 pub mod ReasonCases
 pub mod FormatCases
 pub mod PageCases

@@ -191,6 +191,12 @@ unfolding runFrom
 run-parts t c [] after = refl
 run-parts t c (r ∷ rs) after = rw (run-parts t (turn t c r .cabinet) rs after)
 
+-- the cabinet after one record more
+pub one-more : (t : Table) (c : Cabinet) (rs : List Command) (r : Command)
+    → runFrom t c (rs ++ (r ∷ [])) .cabinet ≡ turn t (runFrom t c rs .cabinet) r .cabinet
+unfolding runFrom
+one-more t c rs r = rw (run-parts t c rs (r ∷ []))
+
 -- "so the next crash is accepted": of any live board, where every process has a backup
 pub next-crash : (t : Table) (c : Cabinet) (b : ℕ) → someUnbacked c ≡ false → deadAt c b ≡ false → crash t c b ≡ accept (crashedBy t b c) crashDone
 unfolding crash guard

@@ -1,6 +1,6 @@
 -- The sizes that document 01 gives the cabinet, its table and its schedule, each named once; those of the backup record, the largest program
 -- among them, are its `Limits`. What stands above passes them on. The code names the same numbers in records/src/schedule.rt, plan/src/lib.rt,
--- table/src/format.rt, state/src/queue.rt, state/src/channel.rt and step/src/guards.rt.
+-- table/src/format.rt, state/src/queue.rt, state/src/channel.rt, step/src/guards.rt and sweep/src/judge.rt.
 use mathlib.Core.Bool.{Bool, cond}
 use Prim.Native.Nat.{ℕ, _+_, _*_}
 use lib.Dec.{eqb}
@@ -48,6 +48,14 @@ scheduleHead = 3
 
 abbrev pub commandsMost : ℕ
 commandsMost = 10000
+
+-- W-213: "or over 500 records"
+abbrev pub sweepMost : ℕ
+sweepMost = 500
+
+-- W-214: "Of the others 64 are kept to go back to"
+abbrev pub keptMost : ℕ
+keptMost = 64
 
 -- ---- the cabinet
 

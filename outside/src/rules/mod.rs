@@ -21,6 +21,7 @@ pub mod run;
 pub mod sample;
 pub mod session;
 pub mod simulator;
+pub mod sweep;
 
 #[cfg(test)]
 mod marked;

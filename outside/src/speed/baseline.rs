@@ -227,23 +227,33 @@ impl<'t> Cabinet<'t> {
     }
 
     fn answer(&mut self, kind: u8, a: usize, word: u32, origin: &mut Origin) -> Answer {
+        if kind == 4 {
+            return if a < self.channels.len() { self.feed(a, word, origin) } else { Err(code(33) + 2) };
+        }
         if !(1..=7).contains(&kind) {
             return Err(code(32));
         }
-        if word != 0 && kind != 4 {
+        if word != 0 {
             return Err(code(32) + 1);
         }
         match kind {
             1 if a < self.processes.len() => self.step(a),
             2 if a < self.processes.len() => self.sync(a),
             3 if a < self.queues.len() => self.carry(a, origin),
-            4 if a < self.channels.len() => self.feed(a, word, origin),
+            1 | 2 => Err(code(33)),
+            3 => Err(code(33) + 1),
+            _ => self.repair(kind, a),
+        }
+    }
+
+    /// Moves 5 to 7.
+    fn repair(&mut self, kind: u8, a: usize) -> Answer {
+        match kind {
             5 if a < self.queues.len() => self.crash(a),
             6 if a < self.queues.len() => self.give_back(a),
             7 if a < self.processes.len() => self.resync(a),
-            1 | 2 | 7 => Err(code(33)),
-            3 | 5 | 6 => Err(code(33) + 1),
-            _ => Err(code(33) + 2),
+            7 => Err(code(33)),
+            _ => Err(code(33) + 1),
         }
     }
 

@@ -26,7 +26,9 @@ std::arch::global_asm!(concat!(
 ));
 
 const SEED: u64 = 0xE703_7ED1_A0B4_28DB;
-const REPETITIONS: u64 = 400;
+const REPETITIONS: u64 = 50;
+/// How many runs of a mix a repetition has, each drawn by itself: the branches of one alone, over and over, a processor knows by heart.
+const RUNS: usize = 8;
 
 /// The mixes of which it is shown that time grows as records do.
 const GROWTH: [&str; 3] = ["steps mostly", "feeds, full inboxes", "the even mix"];
@@ -78,13 +80,15 @@ impl Asked {
         println!("|---|---|---|---|---|---|---|---|---|---|---|---|---|---|");
         let (mut worst, mut least) = ([0.0f64; 2], 100.0f64);
         for mix in self.mixes(among) {
-            let input = mix.draw(&mut Random::new(self.seed), RECORDS);
-            let shares: Vec<String> = input.moves.iter().map(|share| format!("{share:.0}%")).collect();
-            let accepted = input.accepted;
-            let [ours, plain, floor] = time(&[input], self.repetitions);
+            let mut random = Random::new(self.seed);
+            let inputs = [(); RUNS].map(|()| mix.draw(&mut random, RECORDS));
+            let mean = |share: &dyn Fn(&Input) -> f64| inputs.iter().map(share).sum::<f64>() / RUNS as f64;
+            let shares: Vec<String> = (0..5).map(|kind| format!("{:.0}%", mean(&|input| input.moves[kind]))).collect();
+            let accepted = mean(&|input| input.accepted);
+            let [ours, plain, floor] = time(&inputs, self.repetitions);
             let ratio = [ours.least / plain.least, ours.median / plain.median];
             let times = [ours.least, ours.median, plain.least, plain.median, floor.least];
-            let times: Vec<String> = times.iter().map(|time| format!("{:.1}", time / RECORDS as f64)).collect();
+            let times: Vec<String> = times.iter().map(|time| format!("{:.1}", time / (RUNS * RECORDS) as f64)).collect();
             let (shares, times) = (shares.join(" | "), times.join(" | "));
             println!("| {} | {shares} | {accepted:.1}% | {times} | {:.2} | {:.2} |", mix.name, ratio[0], ratio[1]);
             worst = [worst[0].max(ratio[0]), worst[1].max(ratio[1])];
@@ -93,15 +97,15 @@ impl Asked {
         (worst, least)
     }
 
-    /// Whole calls with 0, 100, 1,000 and 10,000 records in microseconds, and what a record takes above a call with none. A round has 10,000
-    /// records, of as many runs as that makes, each drawn by itself: no run is repeated so soon that its branches are known by heart.
+    /// Whole calls with 0, 100, 1,000 and 10,000 records in microseconds, and what a record takes above a call with none. A round has as many
+    /// records as one of the other tables, of as many runs as that makes, each drawn by itself.
     fn print_growth(&self, among: Vec<Mix>) {
         println!("| mix | whose | no records | 100 | 1,000 | 10,000 | a record of 100 | of 1,000 | of 10,000 |");
         println!("|---|---|---|---|---|---|---|---|---|");
         for mix in self.mixes(among).filter(|mix| GROWTH.contains(&mix.name)) {
             let mut random = Random::new(self.seed);
             let times = [0, 100, 1_000, RECORDS].map(|records| {
-                let runs = RECORDS / records.max(100);
+                let runs = RUNS * RECORDS / records.max(100);
                 let inputs: Vec<Input> = (0..runs).map(|_| mix.draw(&mut random, records)).collect();
                 time(&inputs, self.repetitions).map(|figures| (records as f64, figures.least / runs as f64))
             });
@@ -130,7 +134,7 @@ fn main() {
     };
     check_plain(&mut Random::new(asked.seed));
     println!(
-        "{RECORDS} records, {} repetitions, seed {}. Buffers are filled before each run, outside the time.",
+        "{RUNS} runs of {RECORDS} records a mix, {} repetitions, seed {}. Buffers are filled before each run, outside the time.",
         asked.repetitions, asked.seed
     );
     println!("Whole calls: table and schedule judged, answers, reasons, report and origins written.");
