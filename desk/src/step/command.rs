@@ -104,15 +104,14 @@ fn typed(first: &str, rest: &[&str]) -> Result<Bytes, String> {
     };
     match (first, &numbers[..]) {
         ("feed", [channel, word]) => Ok(bytes(Move::Feed.number(), a(channel)?, number(word, "a word")?)),
-        ("move", [kind, other, word]) => Ok(bytes(a(kind)?, a(other)?, number(word, "a word")?)),
-        (_, [other]) => match named(first) {
-            Some(kind) => Ok(bytes(kind.number(), a(other)?, 0)),
-            None => Err(unknown(first)),
-        },
         ("feed", _) => Err("feed: a channel and a word are wanted".to_string()),
+        ("move", [kind, other, word]) => Ok(bytes(a(kind)?, a(other)?, number(word, "a word")?)),
         ("move", _) => Err("move: its number, a and a word are wanted".to_string()),
-        _ if named(first).is_some() => Err(format!("{first}: one number is wanted")),
-        _ => Err(unknown(first)),
+        (_, numbers) => match (named(first), numbers) {
+            (Some(kind), [other]) => Ok(bytes(kind.number(), a(other)?, 0)),
+            (Some(_), _) => Err(format!("{first}: one number is wanted")),
+            (None, _) => Err(format!("{first}: no such command; h says which there are")),
+        },
     }
 }
 
@@ -127,8 +126,4 @@ fn named(name: &str) -> Option<Move> {
         "resync" => Some(Move::Resync),
         _ => None,
     }
-}
-
-fn unknown(first: &str) -> String {
-    format!("{first}: no such command; h says which there are")
 }
