@@ -1,5 +1,5 @@
-/* The proved calls from C, as board programmers, the driver bench, the service desk, the label line and the planner's office use them.
- * bindings/examples/example.rs is the same in Rust; both print examples/example.out.
+/* The proved calls from C, as board programmers, the driver bench, the service desk, programmers who go back, the label line and the planner's
+ * office use them. bindings/examples/example.rs is the same in Rust; both print examples/example.out.
  *
  *     cc -I include examples/example.c target/staticlib/libkunzeastylus.a -o example
  *
@@ -200,6 +200,38 @@ static void service_desk(void) {
     give_back(l);
 }
 
+/* The second carton is taken back, and a step is, and given again: which records stand, and what is on the bus by them. */
+static void programmer(void) {
+    static const uint8_t keys[6] = {KS_FEED, KS_FEED, KS_BACK, KS_STEP, KS_BACK, KS_STEP};
+    struct piece sound = table_of_version(1), schedule = first_records(6);
+    struct lent l = lend(6, 1);
+    for (size_t i = 0; i < 6; i++) {
+        schedule.at[3 + KS_RECORD * i] = keys[i];
+    }
+    uint64_t result = run(sound, schedule, l);
+    printf("programmer\nanswers");
+    for (size_t i = 0; i < ks_records(result); i++) {
+        printf(" %u", (unsigned)ks_code(l.answers.at, i));
+    }
+    uint16_t *standing = memory(6 * sizeof *standing);
+    size_t count = ks_standing(schedule.at, l.answers.at, ks_records(result), standing);
+    printf("\nstanding");
+    for (size_t i = 0; i < count; i++) {
+        printf(" %u", standing[i] + 1u);
+    }
+    printf("\non the bus");
+    for (size_t i = 0; i < count; i++) {
+        if (ks_code(l.answers.at, standing[i]) == KS_ON_THE_BUS) {
+            printf(" %u:%u", ks_a(l.answers.at, standing[i]), ks_answer_word(l.answers.at, standing[i]));
+        }
+    }
+    printf("\n");
+    free(sound.at);
+    free(schedule.at);
+    free(standing);
+    give_back(l);
+}
+
 /* A carton is fed to the label line, numbered and printed: its code and its serial are at the outlet. A first serial can be too high. */
 static void label_line(void) {
     static const uint8_t made[][2] = {{KS_FEED, KS_SCANNER}, {KS_STEP, 0}, {KS_STEP, 0}, {KS_STEP, 0}, {KS_STEP, 0}, {KS_STEP, 0},
@@ -261,6 +293,7 @@ int main(void) {
     driver_bench();
     before_release();
     service_desk();
+    programmer();
     label_line();
     planners_office();
     return 0;

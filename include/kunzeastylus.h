@@ -4,8 +4,9 @@
  *     rt staticlib kunzeastylus
  *
  * All numbers are those of document 01 (docs/NUMBERS.md has each in a line). The calls keep nothing between them, allocate nothing and may
- * be used from several threads at once. Of stack ks_run and ks_label_run take less than 76 KB, ks_sweep less than 82, ks_table_write less than 12
- * and the others less than 5 (measured: 72,952, 69,960, 78,888 and 11,224 bytes, and 4,792 at most). Of the C library they call memcpy and
+ * be used from several threads at once. Of stack ks_run and ks_label_run take less than 272 KB, ks_sweep less than 280, ks_table_write less than 12
+ * and the others less than 5 (measured: 267,544, 267,704, 276,632 and 11,224 bytes, and 4,792 at most), whether a schedule has a KS_BACK or
+ * not: give a thread that calls one of the first three half a megabyte. Of the C library they call memcpy and
  * memset. Each lent piece of memory is a pointer and a length, or an array of a fixed length. Its pointer is not null, not even
  * where the length is 0, and what is lent to be written overlaps nothing else that is lent. Otherwise the calls ask nothing of their caller:
  * any bytes, any lengths.
@@ -48,7 +49,7 @@ extern "C" {
 /* ---- a table's instructions and a schedule's moves */
 
 enum ks_instruction { KS_SET = 1, KS_ADD = 2, KS_TAKE = 3, KS_FIRST = 4, KS_SEND = 5, KS_JUMP = 6 };
-enum ks_move { KS_STEP = 1, KS_SYNC = 2, KS_CARRY = 3, KS_FEED = 4, KS_CRASH = 5, KS_RETURN = 6, KS_RESYNC = 7 };
+enum ks_move { KS_STEP = 1, KS_SYNC = 2, KS_CARRY = 3, KS_FEED = 4, KS_CRASH = 5, KS_RETURN = 6, KS_RESYNC = 7, KS_BACK = 8 };
 enum { KS_SCANNER = 0, KS_PRINTER = 1, KS_OUTLET = 2 }; /* the label line's channels */
 enum { KS_OUTSIDE = 255 }; /* as the sender or the reader of a channel, and as the sender of a word that is fed */
 
@@ -71,7 +72,7 @@ enum ks_refusal {
     KS_FIRST_SERIAL = 46,     /* of the label line: a first serial above 4,294,957,295 */
     KS_LIMIT = 47,            /* a process's limit outside 1 to 16 */
     KS_ORIGINS_SHORT = 51,    /* buffer of origins under two bytes a record */
-    KS_UNSWEPT = 52           /* of a sweep: a record of move 5, whatever its a and word, or over 500 records */
+    KS_UNSWEPT = 52           /* of a sweep: a record of move 5 or 8, whatever its a and word, or over 500 records */
 };
 
 /* ---- why a table is not written or not taken apart, beside 1 to 8 and KS_LIMIT of ks_refusal, and after those */
@@ -90,8 +91,9 @@ enum ks_answer {
     KS_ON_THE_BUS = 4,
     KS_SYNC_CARRIED = 5,      /* (process, how many saved words it dropped); of a resync (process, 0) */
     KS_SYNC_UNBACKED = 6,     /* (process, 0): no backup left */
+    KS_TAKEN_BACK = 7,        /* (0, 0): the last record not yet taken back, refused or not, is taken back */
     /* refusals: the record's a, and word 0 */
-    KS_BAD_RECORD = 32,       /* unknown move, or a word that should be 0 */
+    KS_BAD_RECORD = 32,       /* unknown move, or a word that should be 0; of KS_BACK, also an a that should be */
     KS_BAD_INDEX = 33,        /* a is no process, board or channel of this table */
     KS_BOARD_DEAD = 34,
     KS_HALTED = 35,
@@ -106,7 +108,8 @@ enum ks_answer {
     KS_SOME_UNBACKED = 44,    /* some process has no backup */
     KS_BOARD_LIVE = 48,       /* a return of a live board */
     KS_NOT_READY = 49,        /* a resync with hold-back above 0, or more than 8 words on one channel it reads */
-    KS_HAS_BACKUP = 50        /* a resync of a process that has a backup, or whose other table board is dead */
+    KS_HAS_BACKUP = 50,       /* a resync of a process that has a backup, or whose other table board is dead */
+    KS_NONE_KEPT = 53         /* no record is kept to go back to: of those not taken back, the last 64 are */
 };
 
 /* ---- why it is that answer: a byte of the list of reasons, the answer's code times 4, plus its cause */
@@ -124,8 +127,9 @@ enum ks_cause {
     KS_CAUSE_SYNC_CARRIED = 20,         /* sync carried */
     KS_CAUSE_RESYNC_CARRIED = 23,       /* resync carried, a new backup */
     KS_CAUSE_SYNC_UNBACKED = 24,        /* sync carried, no backup left */
+    KS_CAUSE_TAKEN_BACK = 28,           /* took back a record */
     KS_CAUSE_NO_SUCH_MOVE = 128,        /* bad record: no such move */
-    KS_CAUSE_WORD_NOT_ZERO = 129,       /* bad record: its word should be 0 */
+    KS_CAUSE_WORD_NOT_ZERO = 129,       /* bad record: its word should be 0 (of a back, also its a) */
     KS_CAUSE_NO_SUCH_PROCESS = 132,     /* not in this table: the process */
     KS_CAUSE_NO_SUCH_BOARD = 133,       /* not in this table: the board */
     KS_CAUSE_NO_SUCH_CHANNEL = 134,     /* not in this table: the channel */
@@ -149,7 +153,8 @@ enum ks_cause {
     KS_CAUSE_SOME_UNBACKED = 176,       /* some process has no backup */
     KS_CAUSE_BOARD_LIVE = 192,          /* board live: only a dead one returns */
     KS_CAUSE_NOT_READY = 196,           /* not ready: hold-back, or over 8 words on a channel */
-    KS_CAUSE_HAS_BACKUP = 200           /* has a backup, or its other board is dead */
+    KS_CAUSE_HAS_BACKUP = 200,          /* has a backup, or its other board is dead */
+    KS_CAUSE_NONE_KEPT = 212            /* no record is kept to go back to */
 };
 
 /* ---- what the backup record replies */
@@ -175,7 +180,8 @@ uint32_t ks_abi(void);
 /* The run of a schedule on a table. The result is unpacked by ks_number, ks_quiet and ks_records. An accepted run writes six bytes a record
  * to answers, one byte a record to reasons, 20 bytes a process to report and two bytes a record to origins, and nothing beyond those; a refused
  * one writes nothing at all. The two bytes of origins are the sender and the place of its SEND for a word that the record carried, KS_OUTSIDE and
- * 0 for a word that it fed, and 255 and 255 where no word was on the bus. */
+ * 0 for a word that it fed, and 255 and 255 where no word was on the bus. What is written for a record stays where KS_BACK takes the record back,
+ * but its word counts in the bus order no longer, and its feed not as fed: ks_standing says which records stand. */
 uint64_t ks_run(const uint8_t *table, size_t table_len, const uint8_t *schedule, size_t schedule_len, uint8_t *answers, size_t answers_len,
                 uint8_t *reasons, size_t reasons_len, uint8_t *report, size_t report_len, uint8_t *origins, size_t origins_len);
 
@@ -220,7 +226,7 @@ uint64_t ks_table_apart(const uint8_t *table, size_t table_len, uint32_t *ends, 
 uint32_t ks_label_table(uint32_t first, uint8_t table[KS_LABEL_TABLE]);
 
 /* The run of a schedule on that table: what ks_run would return, or KS_FIRST_SERIAL. The outlet gets each carton's code and then its serial:
- * the words of the answers KS_ON_THE_BUS on KS_OUTLET. */
+ * the words of the answers KS_ON_THE_BUS on KS_OUTLET, of the records that stand. */
 uint64_t ks_label_run(uint32_t first, const uint8_t *schedule, size_t schedule_len, uint8_t *answers, size_t answers_len, uint8_t *reasons,
                       size_t reasons_len, uint8_t *report, size_t report_len, uint8_t *origins, size_t origins_len);
 
@@ -251,6 +257,20 @@ static inline enum ks_cause ks_cause(const uint8_t *reasons, size_t i) { return 
 /* From where the word came that record i, from 0, put on the bus: its answer is KS_ON_THE_BUS. */
 static inline uint8_t ks_sender(const uint8_t *origins, size_t i) { return origins[KS_ORIGIN * i]; }
 static inline uint8_t ks_sent_at(const uint8_t *origins, size_t i) { return origins[KS_ORIGIN * i + 1]; }
+
+/* The records that stand in the end, in order, from 0: all but those of KS_BACK and those that they took back. How many there are; standing has
+ * room for all records of the schedule. */
+static inline size_t ks_standing(const uint8_t *schedule, const uint8_t *answers, size_t records, uint16_t *standing) {
+    size_t count = 0;
+    for (size_t i = 0; i < records; i++) {
+        if (schedule[3 + KS_RECORD * i] != KS_BACK) {
+            standing[count++] = (uint16_t)i;
+        } else if (ks_code(answers, i) == KS_TAKEN_BACK) {
+            count--;
+        }
+    }
+    return count;
+}
 
 /* What the report says of process p. */
 static inline uint8_t ks_board(const uint8_t *report, size_t p) { return report[KS_REPORT * p]; }

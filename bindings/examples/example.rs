@@ -1,5 +1,5 @@
-//! The proved calls from Rust, as board programmers, the driver bench, the service desk, the label line and the planner's office use them.
-//! examples/example.c is the same in C; both print examples/example.out.
+//! The proved calls from Rust, as board programmers, the driver bench, the service desk, programmers who go back, the label line and the planner's
+//! office use them. examples/example.c is the same in C; both print examples/example.out.
 use kunzeastylus::{
     check_abi, judge, label_run, label_table, labels, run, sweep, Backup, BackupRefusal, Buffers, End, Lengths, Lists, Record,
     Refusal, Snapshot, Synced, SCANNER,
@@ -125,6 +125,21 @@ fn service_desk() {
     }
 }
 
+/// The second carton is taken back, and a step is, and given again: which records stand, and what is on the bus by them.
+fn programmer() {
+    let (step, back) = (Record::step(0), Record::back());
+    let schedule = Record::schedule(&[Record::feed(0, 5), Record::feed(0, 7), back, step, back, step]);
+    let mut buffers = Buffers::for_run(&TABLE, &schedule);
+    let run = run(&TABLE, &schedule, &mut buffers).unwrap();
+    print!("programmer\nanswers");
+    run.answers().for_each(|answer| print!(" {}", answer.code.number()));
+    print!("\nstanding");
+    run.standing().for_each(|(i, _)| print!(" {}", i + 1));
+    print!("\non the bus");
+    run.bus().for_each(|on_the_bus| print!(" {}:{}", on_the_bus.channel, on_the_bus.word));
+    println!();
+}
+
 /// A carton is fed to the label line, numbered and printed: its code and its serial are at the outlet. A first serial can be too high.
 fn label_line() {
     let mut records = vec![Record::feed(SCANNER, 77)];
@@ -140,7 +155,7 @@ fn label_line() {
     let mut buffers = Buffers::for_label_run(&schedule);
     let run = label_run(1000, &schedule, &mut buffers).unwrap();
     print!("outlet");
-    labels(run.answers()).iter().for_each(|label| print!(" {} {}", label.code, label.serial.unwrap()));
+    labels(&run).iter().for_each(|label| print!(" {} {}", label.code, label.serial.unwrap()));
     println!("\nrefused {}", number(label_run(u32::MAX, &schedule, &mut buffers).err()));
 }
 
@@ -171,6 +186,7 @@ fn main() {
     driver_bench();
     before_release();
     service_desk();
+    programmer();
     label_line();
     planners_office();
 }

@@ -4,7 +4,7 @@ use crate::numbers::{numbers, worded};
 use crate::table::End;
 
 numbers! {
-    /// An answer's code: what was done (0 to 6), or why the record was refused (32 to 44, 48 to 50).
+    /// An answer's code: what was done (0 to 7), or why the record was refused (32 to 44, 48 to 50, 53).
     Code {
         Done = 0,
         /// Took: channel and word.
@@ -19,7 +19,9 @@ numbers! {
         SyncCarried = 5,
         /// Sync with no backup left: the process.
         SyncUnbacked = 6,
-        /// An unknown move, or a word that should be 0.
+        /// A record was taken back.
+        TakenBack = 7,
+        /// An unknown move, or a word that should be 0; of a back, also an `a` that should be.
         BadRecord = 32,
         /// No process, board or channel of this table.
         BadIndex = 33,
@@ -45,6 +47,8 @@ numbers! {
         NotReady = 49,
         /// A resync of a process that has a backup, or whose other table board is dead.
         HasBackup = 50,
+        /// No record is kept to go back to.
+        NoneKept = 53,
     }
 }
 
@@ -70,8 +74,9 @@ worded! {
         SyncCarried = 20 => "sync carried",
         ResyncCarried = 23 => "resync carried, a new backup",
         SyncUnbacked = 24 => "sync carried, no backup left",
+        TakenBack = 28 => "took back a record",
         NoSuchMove = 128 => "bad record: no such move",
-        WordNotZero = 129 => "bad record: its word should be 0",
+        WordNotZero = 129 => "bad record: its word should be 0 (of a back, also its a)",
         NoSuchProcess = 132 => "not in this table: the process",
         NoSuchBoard = 133 => "not in this table: the board",
         NoSuchChannel = 134 => "not in this table: the channel",
@@ -96,6 +101,7 @@ worded! {
         BoardLive = 192 => "board live: only a dead one returns",
         NotReady = 196 => "not ready: hold-back, or over 8 words on a channel",
         HasBackup = 200 => "has a backup, or its other board is dead",
+        NoneKept = 212 => "no record is kept to go back to",
     }
 }
 

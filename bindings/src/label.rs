@@ -1,5 +1,4 @@
 //! The label line: one scanner, one numbering program and one printer program on two boards.
-use crate::answer::{Answer, Code};
 use crate::buffers::Buffers;
 use crate::calls;
 use crate::run::{refusal, Refusal, Run};
@@ -27,15 +26,14 @@ pub fn label_table(first: u32) -> Result<[u8; LABEL_TABLE], Refusal> {
 }
 
 /// Runs a schedule on the table of a first serial, as [`run`](crate::run) does on any; [`Buffers::for_label_run`] makes what it is lent.
-pub fn label_run<'b, B: AsMut<[u8]>>(first: u32, schedule: &[u8], buffers: &'b mut Buffers<B>) -> Result<Run<'b>, Refusal> {
+pub fn label_run<'b, B: AsMut<[u8]>>(first: u32, schedule: &'b [u8], buffers: &'b mut Buffers<B>) -> Result<Run<'b>, Refusal> {
     let mut lent = buffers.lend();
     let result = calls::ks_label_run(first, schedule, &mut lent);
-    Run::of(result, || 2, lent)
+    Run::of(result, || 2, schedule, lent)
 }
 
-/// The labels at the outlet, in order.
-pub fn labels(answers: impl Iterator<Item = Answer>) -> Vec<Label> {
-    let at_outlet = answers.filter(|answer| (answer.code, answer.a) == (Code::OnTheBus, OUTLET));
-    let words: Vec<u32> = at_outlet.map(|answer| answer.word).collect();
+/// The labels at the outlet, in order, of the records that stand.
+pub fn labels(run: &Run) -> Vec<Label> {
+    let words: Vec<u32> = run.bus().filter(|on_the_bus| on_the_bus.channel == OUTLET).map(|on_the_bus| on_the_bus.word).collect();
     words.chunks(2).map(|label| Label { code: label[0], serial: label.get(1).copied() }).collect()
 }

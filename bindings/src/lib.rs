@@ -12,6 +12,7 @@ mod backup;
 mod buffers;
 #[allow(unsafe_code)]
 mod calls;
+mod fate;
 mod label;
 mod numbers;
 mod record;
@@ -23,6 +24,7 @@ pub use abi::{check_abi, OtherLibrary, ABI};
 pub use answer::{Answer, BusWord, Cause, Code};
 pub use backup::{Backup, BackupRefusal, Snapshot, Synced, STATE};
 pub use buffers::{Buffers, Lengths};
+pub use fate::Fate;
 pub use label::{label_run, label_table, labels, Label, LABEL_TABLE, OUTLET, SCANNER};
 pub use record::{Instruction, Move, Record, OUTSIDE};
 pub use run::{judge, run, ProcessEnd, Refusal, Run};

@@ -21,6 +21,8 @@ numbers! {
         Return = 6,
         /// A process gets a backup again: its snapshot and copies of its unread words join its board's queue.
         Resync = 7,
+        /// The last record not yet taken back, refused or not, is taken back: the cabinet is as it was before it. 64 records are kept for that.
+        Back = 8,
     }
 }
 
@@ -36,8 +38,8 @@ numbers! {
     }
 }
 
-/// One record of a schedule: a process for steps, syncs and resyncs, a board for carries, crashes and returns, a channel for feeds; and a
-/// feed's word.
+/// One record of a schedule: a process for steps, syncs and resyncs, a board for carries, crashes and returns, a channel for feeds, 0 for a
+/// back; and a feed's word.
 #[derive(Clone, Copy, Debug, PartialEq, Eq, Hash)]
 pub struct Record {
     pub kind: Move,
@@ -72,6 +74,10 @@ impl Record {
 
     pub fn resync(process: u8) -> Record {
         Record { kind: Move::Resync, a: process, word: 0 }
+    }
+
+    pub fn back() -> Record {
+        Record { kind: Move::Back, a: 0, word: 0 }
     }
 
     /// Its six bytes.

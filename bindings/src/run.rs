@@ -2,6 +2,7 @@
 use crate::answer::{word, Answer, BusWord};
 use crate::buffers::{Buffers, Lengths};
 use crate::calls;
+use crate::fate::{fates, Fate};
 use crate::numbers::worded;
 
 worded! {
@@ -22,15 +23,16 @@ worded! {
         FirstSerial = 46 => "of the label line alone: a first serial above 4,294,957,295; then no table is made",
         Limit = 47 => "a table of version 2: a process's limit is outside 1 to 16",
         OriginsShort = 51 => "the buffer of origins has under two bytes a record",
-        Unswept = 52 => "of a sweep alone: the schedule has a record of move 5, whatever its a and word, or over 500 records",
+        Unswept = 52 => "of a sweep alone: the schedule has a record of move 5 or 8, whatever its a and word, or over 500 records",
     }
 }
 
-/// An accepted run: what it wrote, read where it was lent.
+/// An accepted run: what it wrote, read where it was lent, beside the schedule.
 #[derive(Clone, Copy, Debug, PartialEq, Eq)]
 pub struct Run<'b> {
     /// Whether it ended quiet.
     pub quiet: bool,
+    schedule: &'b [u8],
     written: Buffers<&'b [u8]>,
 }
 
@@ -45,8 +47,13 @@ pub struct ProcessEnd {
 }
 
 impl<'b> Run<'b> {
-    /// What a call returned, number + 256 quiet + 2^32 records, and wrote, for a table of so many processes.
-    pub(crate) fn of(result: u64, processes: impl Fn() -> u8, lent: Buffers<&'b mut [u8]>) -> Result<Run<'b>, Refusal> {
+    /// What a call returned, number + 256 quiet + 2^32 records, and wrote, for this schedule on a table of so many processes.
+    pub(crate) fn of(
+        result: u64,
+        processes: impl Fn() -> u8,
+        schedule: &'b [u8],
+        lent: Buffers<&'b mut [u8]>,
+    ) -> Result<Run<'b>, Refusal> {
         if let Some(refusal) = refusal(result as u32 & 255) {
             return Err(refusal);
         }
@@ -57,23 +64,36 @@ impl<'b> Run<'b> {
             report: &lent.report[..lengths.report],
             origins: &lent.origins[..lengths.origins],
         };
-        Ok(Run { quiet: result >> 8 & 1 == 1, written })
+        Ok(Run { quiet: result >> 8 & 1 == 1, schedule, written })
     }
 
     pub fn records(&self) -> usize {
         self.written.reasons.len()
     }
 
-    /// An answer for each record, in order.
+    /// An answer for each record, in order, also for those taken back.
     pub fn answers(&self) -> impl ExactSizeIterator<Item = Answer> + 'b {
         let Buffers { answers, reasons, origins, .. } = self.written;
         let told = reasons.iter().zip(origins.chunks_exact(2));
         answers.chunks_exact(6).zip(told).map(|(bytes, (&reason, origin))| Answer::of(bytes, reason, origin))
     }
 
-    /// The bus order: each word that was on the bus, with its channel, its sender and the place of its SEND.
+    /// What became of each record, in order: whether it stands in the end, or was taken back, or took back another.
+    pub fn fates(&self) -> Vec<Fate> {
+        let codes = self.written.answers.chunks_exact(6).map(|answer| answer[0]);
+        fates(self.schedule[3..].chunks_exact(6).map(|record| record[0]).zip(codes))
+    }
+
+    /// The records that stand, by their places in the schedule, from 0, each with its answer: all but the move 8s and what those took back.
+    pub fn standing(&self) -> impl Iterator<Item = (usize, Answer)> + 'b {
+        let run = self.answers().enumerate().zip(self.fates());
+        run.filter(|(_, fate)| *fate == Fate::Stands).map(|(answer, _)| answer)
+    }
+
+    /// The bus order: each word that was on the bus, with its channel, its sender and the place of its SEND. Words of records taken back don't
+    /// count.
     pub fn bus(&self) -> impl Iterator<Item = BusWord> + 'b {
-        self.answers().filter_map(|answer| answer.bus)
+        self.standing().filter_map(|(_, answer)| answer.bus)
     }
 
     /// What became of each process, in order.
@@ -95,10 +115,10 @@ pub(crate) fn refusal(number: u32) -> Option<Refusal> {
 
 /// Runs a schedule on a table, in lent buffers ([`Buffers::for_run`] makes them): bytes beyond what the run writes are untouched, and a refused
 /// run touches none.
-pub fn run<'b, B: AsMut<[u8]>>(table: &[u8], schedule: &[u8], buffers: &'b mut Buffers<B>) -> Result<Run<'b>, Refusal> {
+pub fn run<'b, B: AsMut<[u8]>>(table: &[u8], schedule: &'b [u8], buffers: &'b mut Buffers<B>) -> Result<Run<'b>, Refusal> {
     let mut lent = buffers.lend();
     let result = calls::ks_run(table, schedule, &mut lent);
-    Run::of(result, || table[4], lent)
+    Run::of(result, || table[4], schedule, lent)
 }
 
 /// Whether a run of these with buffers of these lengths would be accepted. Nothing is run.

@@ -12,9 +12,9 @@ const NUMBERS: &str = include_str!("../../docs/NUMBERS.md");
 const TABLE: [u8; 11] = [0, 9, 1, 2, 1, 1, 255, 0, 0, 1, 0];
 
 /// The bytes that a list of reasons can have: of each code its causes, which are 0 but where W-206 says otherwise.
-const REASONS: [u8; 38] = [
-    0, 1, 2, 3, 4, 8, 12, 16, 17, 20, 23, 24, 128, 129, 132, 133, 134, 136, 137, 140, 144, 145, 148, 149, 152, 153, 155, 156,
-    157, 160, 164, 167, 168, 172, 176, 192, 196, 200,
+const REASONS: [u8; 40] = [
+    0, 1, 2, 3, 4, 8, 12, 16, 17, 20, 23, 24, 28, 128, 129, 132, 133, 134, 136, 137, 140, 144, 145, 148, 149, 152, 153, 155, 156,
+    157, 160, 164, 167, 168, 172, 176, 192, 196, 200, 212,
 ];
 
 /// The numbers of an enum of the header, ascending.
@@ -45,10 +45,10 @@ macro_rules! numbered {
 #[test]
 fn numbers() {
     numbered!(Refusal, "ks_refusal", (1..=12).chain([46, 47, 51, 52]));
-    numbered!(Code, "ks_answer", (0..=6).chain(32..=44).chain(48..=50));
+    numbered!(Code, "ks_answer", (0..=7).chain(32..=44).chain(48..=50).chain([53]));
     numbered!(Cause, "ks_cause", REASONS.into_iter());
     numbered!(BackupRefusal, "ks_backup_reply", 20..=26);
-    numbered!(Move, "ks_move", 1..=7);
+    numbered!(Move, "ks_move", 1..=8);
     numbered!(Instruction, "ks_instruction", 1..=6);
     assert!(Code::ALL.iter().all(|code| code.refused() == (code.number() >= 32)));
     assert!(Cause::ALL.iter().all(|cause| cause.code().number() == cause.number() / 4));
@@ -97,6 +97,7 @@ fn records_as_bytes() {
     assert_eq!(Record::schedule(&[]), [0, 1, 1]);
     assert_eq!(Record::schedule(&[Record::crash(2)]), [0, 7, 1, 5, 2, 0, 0, 0, 0]);
     assert_eq!((Record::return_board(2).bytes(), Record::resync(9).bytes()), ([6, 2, 0, 0, 0, 0], [7, 9, 0, 0, 0, 0]));
+    assert_eq!(Record::back().bytes(), [8, 0, 0, 0, 0, 0]);
     assert_eq!(Record::schedule(&[Record::step(0); 10_000]).len(), 60_003);
     // However many there are, too many are too many.
     for records in [10_001, 10_922, 10_923, 20_000] {

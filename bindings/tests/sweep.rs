@@ -25,6 +25,8 @@ fn refused() {
     assert_eq!(sweep(&[], &[]), Err(Refusal::TableLength));
     assert_eq!(sweep(&SAMPLE, &[]), Err(Refusal::ScheduleLength));
     assert_eq!(swept(&[Record::step(0), Record::crash(9)]), Err(Refusal::Unswept));
+    assert_eq!(swept(&[Record::step(0), Record::back()]), Err(Refusal::Unswept));
+    assert_eq!(swept(&[Record { a: 1, word: 1, ..Record::back() }]), Err(Refusal::Unswept));
     assert_eq!(swept(&[Record::step(0); 501]), Err(Refusal::Unswept));
     assert_eq!(swept(&[Record::step(0); 500]).map(Sweep::runs), Ok(1_002));
 }

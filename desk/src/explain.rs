@@ -1,8 +1,8 @@
 //! A run in words: a line for each record, then each process, and whether the cabinet ended quiet.
-use crate::follow::{Followed, Standing};
+use crate::follow::{Followed, Spot};
 use crate::front::Failure;
-use crate::input;
-use kunzeastylus::{Answer, Buffers, BusWord, Cause, Code, End, Lengths, Move, Operation, ProcessEnd, Refusal, Run, Table};
+use crate::{input, words};
+use kunzeastylus::{Buffers, Fate, Lengths, Move, Refusal, Run, Table};
 use std::fmt::Write;
 
 /// A table and a schedule, as `./run` takes them one behind the other.
@@ -32,6 +32,13 @@ struct Line<'s> {
     /// Which lines it stands with: for a pulled board, those of the record that it is put before.
     with: usize,
     record: &'s [u8],
+}
+
+impl Line<'_> {
+    /// What the record is called.
+    fn name(&self) -> String {
+        self.number.map_or("pull".to_string(), |number| number.to_string())
+    }
 }
 
 impl Input {
@@ -77,7 +84,7 @@ pub fn refused(input: &Input, file: &str, refusal: Refusal, with: &str) -> Failu
 }
 
 /// The two length bytes of a schedule of so many bytes. A length that fits no field is of a schedule that is refused.
-fn schedule_length(bytes: usize) -> [u8; 2] {
+pub(crate) fn schedule_length(bytes: usize) -> [u8; 2] {
     ((bytes - 2).min(65_535) as u16).to_be_bytes()
 }
 
@@ -87,41 +94,35 @@ pub fn explain(input: &Input, asked: Asked) -> Result<String, Refusal> {
     input.run(records, |run| {
         let table = Table::of(&input.table).expect("the table of an accepted run");
         let mut text = String::new();
-        writeln!(text, "{}", heading(records, &table)).unwrap();
+        writeln!(text, "{}", words::heading(records, &table)).unwrap();
         let followed = lines(input, &table, &run, asked, &mut text);
-        let ends: Vec<Standing> = run.processes().map(Standing::from).collect();
-        assert_eq!(followed.standing(), ends, "a fault of this program: it followed the run to another end");
+        let ends: Vec<Spot> = run.processes().map(Spot::from).collect();
+        assert_eq!(followed.spots(), ends, "a fault of this program: it followed the run to another end");
         for (p, end) in run.processes().enumerate() {
-            writeln!(text, "{}", process(p, end, followed.next(p as u8))).unwrap();
+            writeln!(text, "{}", words::process(p, end, followed.next(p as u8))).unwrap();
         }
-        let quiet = match run.quiet {
-            true => "quiet: no queue has an entry, and each process has halted or waits for a word",
-            false => "not quiet: a queue has an entry, or a process could go on",
-        };
-        writeln!(text, "{quiet}").unwrap();
+        writeln!(text, "{}", words::quiet(run.quiet)).unwrap();
         text
     })
-}
-
-pub(crate) fn heading(records: usize, table: &Table) -> String {
-    let processes = many(table.processes.len(), "process", "processes");
-    let channels = many(table.channels.len(), "channel", "channels");
-    format!("{} on {} boards with {processes} and {channels}", many(records, "record", "records"), table.boards)
 }
 
 /// A line for each record that is asked for; all of them are followed.
 fn lines<'t>(input: &Input, table: &'t Table, run: &Run, asked: Asked, text: &mut String) -> Followed<'t> {
     let mut followed = Followed::new(table);
-    for (i, (line, answer)) in numbered(&input.schedule[3..], asked.pull).zip(run.answers()).enumerate() {
-        let (kind, a) = (Move::of(line.record[0]), line.record[1]);
+    let lines: Vec<Line> = numbered(&input.schedule[3..], asked.pull).collect();
+    for (i, ((line, fate), answer)) in lines.iter().zip(run.fates()).zip(run.answers()).enumerate() {
         if (asked.from..=asked.to).contains(&line.with) {
-            let number = line.number.map_or("pull".to_string(), |number| number.to_string());
-            let record = record(line.record, &followed, table);
-            writeln!(text, "{number:>5}  {record:<47}  {}", self::answer(answer)).unwrap();
+            let record = words::record(line.record, |process| followed.has(process).then(|| words::next(followed.next(process))));
+            let (mark, taken) = match fate {
+                Fate::TakenBackBy(_) => (words::TAKEN_BACK, None),
+                Fate::TookBack(taken) => (' ', Some(lines[taken].name())),
+                Fate::Stands | Fate::TookNothing => (' ', None),
+            };
+            writeln!(text, "{}", words::line(&line.name(), mark, &record, &words::answer(answer, taken.as_deref()))).unwrap();
         }
         let report =
-            || input.run(i + 1, |run| run.processes().map(Standing::from).collect()).expect("a beginning of an accepted run");
-        followed.record(kind, a, answer, report);
+            || input.run(i + 1, |run| run.processes().map(Spot::from).collect()).expect("a beginning of an accepted run");
+        followed.record(Move::of(line.record[0]), line.record[1], answer, report);
     }
     followed
 }
@@ -133,86 +134,4 @@ fn numbered(records: &[u8], pull: Option<Pull>) -> impl Iterator<Item = Line<'_>
         let with = i - usize::from(i > before);
         Line { number: (i != before).then_some(with), with, record }
     })
-}
-
-/// A record in words, and of a step the instruction.
-fn record(bytes: &[u8], followed: &Followed, table: &Table) -> String {
-    let (a, word) = (bytes[1], u32::from_be_bytes([bytes[2], bytes[3], bytes[4], bytes[5]]));
-    let with_word = if word == 0 { String::new() } else { format!(", word {word}") };
-    match Move::of(bytes[0]) {
-        Some(Move::Step) if usize::from(a) < table.processes.len() => {
-            format!("step process {a}, {}{with_word}", followed.next(a).map_or("halted".to_string(), instruction))
-        }
-        Some(Move::Step) => format!("step process {a}{with_word}"),
-        Some(Move::Sync) => format!("sync process {a}{with_word}"),
-        Some(Move::Carry) => format!("carry board {a}{with_word}"),
-        Some(Move::Feed) => format!("feed channel {a}, word {word}"),
-        Some(Move::Crash) => format!("crash board {a}{with_word}"),
-        Some(Move::Return) => format!("return board {a}{with_word}"),
-        Some(Move::Resync) => format!("resync process {a}{with_word}"),
-        None => format!("move {}, a {a}, word {word}", bytes[0]),
-    }
-}
-
-/// An instruction in words.
-fn instruction(operation: Operation) -> String {
-    match operation {
-        Operation::Set { register, word } => format!("SET register {register} to {word}"),
-        Operation::Add { register, other } => format!("ADD register {other} to register {register}"),
-        Operation::Take { channel, .. } => format!("TAKE channel {channel}"),
-        Operation::First { mask, .. } => {
-            let channels: Vec<String> = (0..32).filter(|k| mask >> k & 1 == 1).map(|k| k.to_string()).collect();
-            format!("FIRST of channel {}", channels.join(" or "))
-        }
-        Operation::Send { channel, .. } => format!("SEND channel {channel}"),
-        Operation::Jump { register, place } => format!("JUMP to place {place} by register {register}"),
-    }
-}
-
-/// An answer in words: those of its cause, and what it names; of a word on the bus also from where it came.
-fn answer(answer: Answer) -> String {
-    let Answer { code, a, word, cause, bus } = answer;
-    let words = cause.words();
-    match code {
-        _ if code.refused() => format!("refused {}, {words}", code.number()),
-        Code::Took | Code::Queued | Code::HeldBack | Code::OnTheBus => {
-            let from = bus.map(|on_the_bus| format!(", {}", origin(on_the_bus))).unwrap_or_default();
-            format!("{words} (channel {a}, word {word}{from})")
-        }
-        Code::SyncCarried if cause == Cause::SyncCarried => {
-            format!("{words} (process {a}, {} dropped)", many(word as usize, "word", "words"))
-        }
-        Code::SyncCarried | Code::SyncUnbacked => format!("{words} (process {a})"),
-        _ => words.to_string(),
-    }
-}
-
-/// From where a word on the bus came: the process whose SEND it was, and at which place.
-fn origin(on_the_bus: BusWord) -> String {
-    match on_the_bus.sender {
-        End::Outside => "from outside".to_string(),
-        End::Process(p) => format!("from process {p}, place {}", on_the_bus.place),
-    }
-}
-
-/// How many of something.
-pub(crate) fn many(count: usize, one: &str, several: &str) -> String {
-    match count {
-        0 => format!("no {several}"),
-        1 => format!("1 {one}"),
-        _ => format!("{count} {several}"),
-    }
-}
-
-/// What became of a process, in words.
-fn process(p: usize, end: ProcessEnd, next: Option<Operation>) -> String {
-    let ProcessEnd { board, place, unread, hold_back, registers: [r0, r1, r2, r3] } = end;
-    let at = next.map_or("halted".to_string(), |operation| format!("next is {}", instruction(operation)));
-    let held = match hold_back {
-        0 => "holds nothing back".to_string(),
-        1 => "holds back its next send, which was on the bus before the crash".to_string(),
-        n => format!("holds back its next {n} sends, which were on the bus before the crash"),
-    };
-    let unread = many(unread.into(), "word", "words");
-    format!("process {p} runs on board {board}, at place {place}, {at}; {unread} unread; {held}; registers {r0} {r1} {r2} {r3}")
 }

@@ -1,24 +1,25 @@
 //! Where each process stands before each record of an accepted run, so that a step can be named by its instruction.
 //!
-//! Why it is right: a process's place and registers change with its own steps alone, by document 01's instructions, and what a step takes is in its
-//! answer; with every other record but a crash both stay. After a crash they are those of the report of the run up to there. At the end
-//! they must be those of the report. So a run costs one run more for each crash, and what the stand-bys hold is nobody's business here.
-use kunzeastylus::{Answer, Move, Operation, ProcessEnd, Table};
+//! Why it is right: a process's place and registers change with its own steps alone, by document 01's instructions, and what a step takes is in
+//! its answer; with every other record but a crash and a back both stay. After a crash they are those of the report of the run up to there;
+//! after a back, those before the record that it took back. At the end they must be those of the report. So a run costs one run more for each
+//! crash, and what the stand-bys hold is nobody's business here.
+use kunzeastylus::{Answer, Code, Move, Operation, ProcessEnd, Table};
 
 /// A process's place and registers.
 #[derive(Clone, Copy, Debug, Default, PartialEq, Eq)]
-pub struct Standing {
+pub struct Spot {
     pub place: usize,
     pub registers: [u32; 4],
 }
 
-impl From<ProcessEnd> for Standing {
-    fn from(end: ProcessEnd) -> Standing {
-        Standing { place: end.place.into(), registers: end.registers }
+impl From<ProcessEnd> for Spot {
+    fn from(end: ProcessEnd) -> Spot {
+        Spot { place: end.place.into(), registers: end.registers }
     }
 }
 
-impl Standing {
+impl Spot {
     /// The instruction is done, with this answer.
     fn step(&mut self, operation: Operation, answer: Answer) {
         let registers = &mut self.registers;
@@ -43,35 +44,49 @@ impl Standing {
 /// The processes of a table, while a run is followed.
 pub struct Followed<'t> {
     table: &'t Table,
-    standing: Vec<Standing>,
+    spots: Vec<Spot>,
+    /// The same before each record that stands, in order.
+    before: Vec<Vec<Spot>>,
 }
 
 impl<'t> Followed<'t> {
     /// All places and registers are 0 at first.
     pub fn new(table: &'t Table) -> Followed<'t> {
-        Followed { table, standing: vec![Standing::default(); table.processes.len()] }
+        Followed { table, spots: vec![Spot::default(); table.processes.len()], before: Vec::new() }
+    }
+
+    /// Whether there is such a process.
+    pub fn has(&self, process: u8) -> bool {
+        usize::from(process) < self.spots.len()
     }
 
     /// The instruction that a process does next; none where it has halted, or where there is no such process.
     pub fn next(&self, process: u8) -> Option<Operation> {
-        let standing = self.standing.get(usize::from(process))?;
-        self.table.processes[usize::from(process)].program.get(standing.place).copied()
+        let spot = self.spots.get(usize::from(process))?;
+        self.table.processes[usize::from(process)].program.get(spot.place).copied()
     }
 
     /// One record, by its move and `a`, with its answer; `report` gives the report of the run up to and with this record.
-    pub fn record(&mut self, kind: Option<Move>, a: u8, answer: Answer, report: impl FnOnce() -> Vec<Standing>) {
+    pub fn record(&mut self, kind: Option<Move>, a: u8, answer: Answer, report: impl FnOnce() -> Vec<Spot>) {
+        if kind == Some(Move::Back) {
+            if answer.code == Code::TakenBack {
+                self.spots = self.before.pop().expect("a back that is done takes back a record");
+            }
+            return;
+        }
+        self.before.push(self.spots.clone());
         match kind {
             _ if answer.code.refused() => (),
             Some(Move::Step) => {
                 let operation = self.next(a).expect("a step that is done has an instruction");
-                self.standing[usize::from(a)].step(operation, answer);
+                self.spots[usize::from(a)].step(operation, answer);
             }
-            Some(Move::Crash) => self.standing = report(),
-            Some(Move::Sync | Move::Carry | Move::Feed | Move::Return | Move::Resync) | None => (),
+            Some(Move::Crash) => self.spots = report(),
+            Some(Move::Sync | Move::Carry | Move::Feed | Move::Return | Move::Resync | Move::Back) | None => (),
         }
     }
 
-    pub fn standing(&self) -> &[Standing] {
-        &self.standing
+    pub fn spots(&self) -> &[Spot] {
+        &self.spots
     }
 }

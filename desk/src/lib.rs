@@ -1,4 +1,5 @@
-//! What the fronts share: how they end and what they say, how they read what they are given, a run in words, and every place to pull a board.
+//! What the fronts share: how they end and what they say, how they read what they are given, a run in words and record by record, and every
+//! place to pull a board.
 #![forbid(unsafe_code)]
 
 pub mod explain;
@@ -8,4 +9,6 @@ pub mod hex;
 pub mod input;
 pub mod lists;
 pub mod progress;
+pub mod step;
 pub mod sweep;
+pub mod words;

@@ -2,8 +2,9 @@
 //!
 //! A place is called BOARD@N, as `./explain --pull` takes it: the crash of a board before record N, from 1; one past the last puts it at the
 //! end.
-use crate::explain::{heading, many, refused, Input, Pull};
+use crate::explain::{refused, Input, Pull};
 use crate::front::Failure;
+use crate::words::{heading, many};
 use kunzeastylus::{Move, Refusal, Run, Sweep, Table};
 use std::fmt::Write;
 
@@ -76,12 +77,15 @@ pub fn sweep(input: &Input, file: &str) -> Result<Sweep, Failure> {
 /// Why a sound schedule isn't swept.
 fn unswept(input: &Input) -> String {
     let records = input.schedule.len() / 6;
-    let crash = input.schedule[3..].chunks_exact(6).position(|record| Move::of(record[0]) == Some(Move::Crash));
-    let crash =
-        crash.map(|i| format!("record {} is a crash; a sweep puts its own at every place, so leave out all of them", i + 1));
+    let first = |kind| input.schedule[3..].chunks_exact(6).position(|record| Move::of(record[0]) == Some(kind));
+    let crash = first(Move::Crash)
+        .map(|i| format!("record {} is a crash; a sweep puts its own at every place, so leave out all of them", i + 1));
+    let back = first(Move::Back).map(|i| {
+        format!("record {} is a back, which could take back the crash; leave out all of them and what they take back", i + 1)
+    });
     let long = (records > RECORDS_MOST)
         .then(|| format!("the schedule has {records} records and a sweep takes at most {RECORDS_MOST}, so sweep parts of it"));
-    [crash, long].into_iter().flatten().collect::<Vec<_>>().join("; ")
+    [crash, back, long].into_iter().flatten().collect::<Vec<_>>().join("; ")
 }
 
 /// The counts in words.

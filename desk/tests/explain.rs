@@ -1,11 +1,12 @@
-//! `./explain`: three samples in words, as stored beside them; a pulled board; what is said where it can't; and that the places it follows are
-//! those of the report, after every record of generated runs.
+//! `./explain`: four samples in words, as stored beside them; a pulled board, also where records are taken back; what is said where it can't; and
+//! that the places it follows are those of the report, after every record of generated runs.
 use desk::explain::{explain, Asked, Input, Pull};
-use desk::follow::{Followed, Standing};
+use desk::follow::{Followed, Spot};
 use desk::hex;
 use kunzeastylus::{run, Buffers, BusWord, End, Move, Operation, Table};
 use outside::random::Random;
 use outside::rules::generate::{encode_schedule, encode_table, schedule, table};
+use outside::rules::going_back::going_back;
 use outside::rules::lent::Lent;
 use outside::rules::loops::loops;
 use std::io::Write;
@@ -54,7 +55,7 @@ fn complains(arguments: &[&str], input: &[u8], code: i32, shown: &str, about: &s
 
 #[test]
 fn samples() {
-    for name in ["lost_queue", "held", "repaired"] {
+    for name in ["lost_queue", "held", "repaired", "back"] {
         let words = file(&format!("{name}.words"));
         assert_eq!(explain(&sample(name), ALL).as_deref(), Ok(&words[..]), "{name}");
         assert_eq!(printed(&[&format!("samples/{name}.hex")], &[]), words, "{name}");
@@ -116,6 +117,22 @@ fn pulled() {
     assert_eq!(pull("2@1", &["--to", "1"])[1], "pull crash board 2 refused 33, not in this table: the board");
 }
 
+/// A back may take back the crash that is put in, and then takes back another record than without it.
+#[test]
+fn pulled_and_taken_back() {
+    let pull = |at: &str| lines(&printed(&["--pull", at, "--from", "5", "--to", "7", "samples/back.hex"], &[]));
+    let carried = "carry board 0 on the bus: carried (channel 1, word 5, from process 0, place 2)";
+    let queued = "5 step process 0, SEND channel 1 queued (channel 1, word 5)";
+    assert_eq!(
+        pull("1@7")[1..5],
+        [queued, &format!("6 {carried}"), "pull~ crash board 1 done: board crashed", "7 back took back record pull"]
+    );
+    assert_eq!(
+        pull("1@6")[1..5],
+        [queued, "pull crash board 1 done: board crashed", &format!("6~ {carried}"), "7 back took back record 6"]
+    );
+}
+
 #[test]
 fn complaints() {
     let sample = "samples/sample.hex";
@@ -172,12 +189,12 @@ fn origin(table: &Table, bus: Option<BusWord>) -> [u8; 2] {
 fn follows(table: &[u8], schedule: &[u8]) {
     let decoded = Table::of(table).expect("a sound table");
     let mut followed = Followed::new(&decoded);
-    let report = |records: usize| -> Vec<Standing> {
+    let report = |records: usize| -> Vec<Spot> {
         let mut beginning = schedule[..3 + 6 * records].to_vec();
         beginning.splice(..2, ((1 + 6 * records) as u16).to_be_bytes());
         let mut buffers = Buffers::for_run(table, &beginning);
         let run = run(table, &beginning, &mut buffers).expect("a sound run");
-        run.processes().map(Standing::from).collect()
+        run.processes().map(Spot::from).collect()
     };
     let records = schedule.len() / 6;
     let mut buffers = Buffers::for_run(table, schedule);
@@ -187,7 +204,7 @@ fn follows(table: &[u8], schedule: &[u8]) {
     assert_eq!(whole.answers().flat_map(|answer| origin(&decoded, answer.bus)).collect::<Vec<_>>(), simulated.origins);
     for (i, (record, answer)) in schedule[3..].chunks_exact(6).zip(whole.answers()).enumerate() {
         followed.record(Move::of(record[0]), record[1], answer, || report(i + 1));
-        assert_eq!(followed.standing(), report(i + 1), "after record {}: {table:02X?} {schedule:02X?}", i + 1);
+        assert_eq!(followed.spots(), report(i + 1), "after record {}: {table:02X?} {schedule:02X?}", i + 1);
     }
     // The same in words, with each board pulled somewhere.
     for board in 0..table[3] {
@@ -205,7 +222,10 @@ fn followed_as_reported() {
     for i in 0..150 {
         let table = if i % 3 == 0 { loops(&mut random) } else { table(&mut random) };
         let records = random.pick(&[0, 1, 20, 60, 150]);
-        let schedule = schedule(&mut random, &table, records);
+        let mut schedule = schedule(&mut random, &table, records);
+        if i % 2 == 0 {
+            schedule = going_back(&mut random, &table, schedule, 300);
+        }
         follows(&encode_table(&table), &encode_schedule(&schedule));
     }
 }

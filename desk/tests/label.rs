@@ -54,6 +54,19 @@ fn labels() {
     prints(&["7", "-"], b"00 01 01 # no records", "to come 0\n");
 }
 
+/// Cartons and labels that are taken back count no longer.
+#[test]
+fn taken_back() {
+    let (step, carry, back) = (|p| [1, p, 0], |board| [3, board, 0], [8, 0, 0]);
+    prints(&["7", "-"], &schedule(&[[4, 0, 9], back, [4, 0, 8]]), "to come 1\n");
+    prints(&["7", "-"], &schedule(&[[4, 0, 9], back, back, [8, 1, 0]]), "to come 0\n");
+    let printed = [&[step(0); 5][..], &[carry(0), carry(0)], &[step(1); 3], &[carry(1)], &[step(1); 3], &[carry(1)]].concat();
+    let fed = [[4, 0, 9], back, [4, 0, 8]];
+    prints(&["7", "-"], &schedule(&[&fed, &printed[..]].concat()), "8 7\nto come 0\n");
+    prints(&["7", "-"], &schedule(&[&fed, &printed[..], &[back]].concat()), "8 -\nto come 1\n");
+    prints(&["7", "-"], &schedule(&[&fed, &printed[..], &[back; 16]].concat()), "to come 0\n");
+}
+
 /// A year of a warehouse: four crashes, and the labels in order.
 #[test]
 fn year() {

@@ -150,6 +150,10 @@ fn complaints() {
     // 52: where, and what to do.
     let crash = "record 11 is a crash; a sweep puts its own at every place, so leave out all of them";
     complains(&["samples/sample.hex"], &[], 3, "refused 52\n", &format!("samples/sample.hex: {crash}"));
+    let back = "record 2 is a back, which could take back the crash; leave out all of them and what they take back";
+    complains(&["-"], &idle(&[Record::step(0), Record::back()]), 3, "refused 52\n", back);
+    let both = idle(&[Record::crash(0), Record { a: 1, ..Record::back() }]);
+    complains(&["-"], &both, 3, "refused 52\n", &format!("so leave out all of them; {back}"));
     let long = idle(&[Record::step(0); 501]);
     let parts = "the schedule has 501 records and a sweep takes at most 500, so sweep parts of it";
     complains(&["-"], &long, 3, "refused 52\n", parts);

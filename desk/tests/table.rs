@@ -2,7 +2,8 @@
 use desk::{hex, lists};
 use kunzeastylus::Lists;
 
-const SAMPLES: [&str; 9] = ["sample", "lost_queue", "roll_forward", "first", "held", "limits", "repaired", "swept", "year"];
+const SAMPLES: [&str; 10] =
+    ["sample", "back", "lost_queue", "roll_forward", "first", "held", "limits", "repaired", "swept", "year"];
 
 fn file(name: &str) -> String {
     std::fs::read_to_string(format!("{}/../samples/{name}", env!("CARGO_MANIFEST_DIR"))).expect("a sample")

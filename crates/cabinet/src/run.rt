@@ -11,18 +11,15 @@ use backup::limits::LOG;
 use backup::place::HEAD;
 use outcome::quiet::quiescent;
 use outcome::report::write_report;
-use outcome::start::start;
 use plan::BOARDS;
 use plan::CHANNELS;
 use plan::PROCESSES;
-use play::play::Stretch;
-use play::play::count;
-use play::play::play;
 use process::row::ROW;
 use records::schedule::judge_schedule;
 use state::queue::QUEUE_ROW;
 use table::Plan;
 use table::decode;
+use undo::all::play_all;
 
 // "An accepted run returns 0, its number of records, and whether it ended quiet." A refused one its number, 0 and false.
 pub struct Verdict {
@@ -31,7 +28,7 @@ pub struct Verdict {
     pub quiet: bool,
 }
 
-// An accepted run: the start, the records, the report, and whether it ended quiet.
+// An accepted run: all records from the start on, the report, and whether it ended quiet.
 fn conduct(
     table: &[u8],
     schedule: &[u8],
@@ -57,28 +54,14 @@ fn conduct(
     let mut heads = [[0u32; HEAD]; PROCESSES];
     let mut queues = [[0u32; QUEUE_ROW]; BOARDS];
     let mut totals = [0u32; CHANNELS];
-    let entries = start(
-        &mut rows,
-        &mut mails,
-        &mut logs,
-        &mut heads,
-        &mut queues,
-        &mut totals,
-        &primary,
-        &standby,
-        counts.processes,
-    );
-    let all = Stretch {
-        from: 0,
-        to: count(schedule),
-        entries: entries,
-    };
-    play(
+    play_all(
         table,
         schedule,
         counts,
         &programs,
         &wires,
+        &primary,
+        &standby,
         &mut rows,
         &mut mails,
         &mut logs,
@@ -88,7 +71,6 @@ fn conduct(
         answers,
         reasons,
         origins,
-        all,
     );
     write_report(&rows, counts.processes, report);
     quiescent(table, counts, &programs, &rows, &mails, &queues)

@@ -5,11 +5,14 @@ use mathlib.Core.List.{List, [], _∷_, IsPrefix}
 use Prim.Native.Nat.{ℕ, suc, _+_, _^_, _≤_, _<_}
 use native.Mathlib.Omega.{arith}
 use lib.Dec.{eqb}
-use lib.ListN.{length}
+use lib.ListN.{length, length-map}
 use Rattle.rules.specs.Machine.{Mail, Origin, BusWord, Machine}
 use Rattle.rules.specs.Moves.{Command, Numbers}
 use Rattle.rules.specs.Schedule.{commandsMost}
-use Rattle.rules.specs.Transparent.{Transparent, traceOf, busOf, withoutOrigins, fedOf}
+use Rattle.rules.specs.Undo.{Noted, standing, commandsOf, answersOf}
+use Rattle.rules.specs.Transparent.{Transparent, withoutOrigins, fedOf, busOrder, fedIn}
+use Rattle.rules.proofs.Standing.{standing-length}
+use Rattle.rules.proofs.BusWords.{words-stand}
 use Rattle.label_line.specs.Line.{serialMost, scanner, outlet, lineTable}
 use Rattle.label_line.specs.Outlet.{labels, wordsOn, cartons, atOutlet, serials, inARow}
 use Rattle.label_line.specs.Labels.{Labelled}
@@ -29,35 +32,45 @@ length-fedOf (r ∷ rs) (n ∷ l) = go (eqb (r .move) 4 && eqb (n .code) 4) (len
     go true h = omega arith
     go false h = omega arith
 
-module _ (first : ℕ) (small : first ≤ serialMost) (commands : List Command) (answers : List Numbers) (origins : List Origin)
-    (words : withoutOrigins (busOf answers origins) ≡ traceOf answers) (quiet : Bool) (few : length answers ≤ commandsMost)
-    (machines : List Machine) (x : Transparent (lineTable first) (fedOf commands answers) (busOf answers origins) quiet machines) where
-  fits : first + length (cartons commands answers) < 2 ^ 32
-  fits = omega (arith, length-wordsOn scanner (fedOf commands answers), length-fedOf commands answers)
+-- of the records that stand (W-214), no more than were answered
+length-fedIn : (commands : List Command) (answers : List Numbers) (origins : List Origin) → length (fedIn commands answers origins) ≤ length answers
+length-fedIn commands answers origins =
+    let l = standing commands answers origins in
+    let a = length-fedOf (commandsOf l) (answersOf l) in
+    let b = length-map l (λ (x : Noted). x .answer) in
+    let c = standing-length commands answers origins in
+    omega arith
 
-  plain : PlainLine first (cartons commands answers) (x .end)
+module _ (first : ℕ) (small : first ≤ serialMost) (commands : List Command) (answers : List Numbers) (origins : List Origin) (quiet : Bool)
+    (few : length answers ≤ commandsMost) (machines : List Machine)
+    (x : Transparent (lineTable first) (fedIn commands answers origins) (busOrder commands answers origins) quiet machines) where
+  fits : first + length (cartons commands answers origins) < 2 ^ 32
+  fits = omega (arith, length-wordsOn scanner (fedIn commands answers origins), length-fedIn commands answers origins)
+
+  plain : PlainLine first (cartons commands answers origins) (x .end)
   plain =
       subst (λ (l : List Mail). PlainLine first (wordsOn scanner l) (x .end)) (x .injected)
       (plain-line first (omega arith) (x .actions) (x .end) (x .ran))
 
   -- the labels are channel and word alone
-  printed-is : wordsOn outlet (withoutOrigins (x .end .trace)) ≡ atOutlet answers
-  printed-is = ap (λ (l : List BusWord). wordsOn outlet (withoutOrigins l)) (x .same-trace) ∙ ap (wordsOn outlet) words
+  printed-is : wordsOn outlet (withoutOrigins (x .end .trace)) ≡ atOutlet commands answers origins
+  printed-is =
+      ap (λ (l : List BusWord). wordsOn outlet (withoutOrigins l)) (x .same-trace) ∙ ap (wordsOn outlet) (words-stand commands answers origins)
 
-  labels-are : wordLabels first (cartons commands answers) ≡ labels first (cartons commands answers)
-  labels-are = wordLabels-labels first (cartons commands answers) (omega (arith, fits))
+  labels-are : wordLabels first (cartons commands answers origins) ≡ labels first (cartons commands answers origins)
+  labels-are = wordLabels-labels first (cartons commands answers origins) (omega (arith, fits))
 
-  begins : IsPrefix (atOutlet answers) (labels first (cartons commands answers))
-  begins = rw (← printed-is, ← labels-are) (plain-begins first (cartons commands answers) (x .end) plain)
+  begins : IsPrefix (atOutlet commands answers origins) (labels first (cartons commands answers origins))
+  begins = rw (← printed-is, ← labels-are) (plain-begins first (cartons commands answers origins) (x .end) plain)
 
-  row : serials (atOutlet answers) ≡ inARow first (length (serials (atOutlet answers)))
-  row = serials-in-a-row first (cartons commands answers) (atOutlet answers) begins
+  row : serials (atOutlet commands answers origins) ≡ inARow first (length (serials (atOutlet commands answers origins)))
+  row = serials-in-a-row first (cartons commands answers origins) (atOutlet commands answers origins) begins
 
-  pub labelled : Labelled first commands answers quiet
+  pub labelled : Labelled first commands answers origins quiet
   labelled = record {
     beginning = begins;
-    all-printed = λ q. sym printed-is ∙ plain-ends first (cartons commands answers) (x .end) plain (x .no-step q) ∙ labels-are;
+    all-printed = λ q. sym printed-is ∙ plain-ends first (cartons commands answers origins) (x .end) plain (x .no-step q) ∙ labels-are;
     in-a-row = row;
-    no-repeat = in-a-row-apart first (serials (atOutlet answers)) row;
+    no-repeat = in-a-row-apart first (serials (atOutlet commands answers origins)) row;
     no-wrap = fits;
   }

@@ -13,7 +13,6 @@ use Rattle.rules.specs.Schedule.{commandsMost, decodeSchedule}
 use Rattle.rules.specs.Run.{Buffers, Ran, run, refusedWith}
 use Rattle.rules.specs.Transparency.{answersIn, originsIn}
 use Rattle.rules.proofs.Valid.{length-sixes}
-use Rattle.rules.proofs.BusWords.{words-read}
 use Rattle.cabinet.specs.Runs.{ranBy, Runs}
 use Rattle.cabinet.specs.declared.run.Verdict.{Verdict}
 use Rattle.cabinet.proofs.Running.{run-few}
@@ -58,7 +57,7 @@ module _ (first : ℕ) (schedule : List ℕ) (before : Buffers) (m : MadeTable) 
         failure-transparent = λ e. rw (← bytes) (runs .failure-transparent e);
         labelled = λ e.
             labelled first (leb-true first serialMost within) (decodeSchedule schedule) (answersIn (ranBy r after)) (originsIn (ranBy r after))
-            (words-read (r .records) (after .answers) (after .origins)) (r .quiet) (rw many few) _
+            (r .quiet) (rw many few) _
             (rw (made .says z) at (runs .failure-transparent e));
       }
 

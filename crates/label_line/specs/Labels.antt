@@ -5,12 +5,13 @@ use mathlib.Core.List.{List, IsPrefix}
 use Prim.Native.Nat.{ℕ, _+_, _^_, _<_}
 use lib.Dec.{leb}
 use lib.ListN.{length, getD, replicate}
+use Rattle.rules.specs.Machine.{Origin}
 use Rattle.rules.specs.Moves.{Command, Numbers}
 use Rattle.rules.specs.Format.{decodeTable, validateTable}
 use Rattle.rules.specs.Encode.{encode, validateLists}
 use Rattle.rules.specs.Schedule.{decodeSchedule}
 use Rattle.rules.specs.Run.{Buffers, Ran, run, refusedWith}
-use Rattle.rules.specs.Transparency.{answersIn, FailureTransparency}
+use Rattle.rules.specs.Transparency.{answersIn, originsIn, FailureTransparency}
 use Rattle.cabinet.specs.Runs.{ranBy}
 use Rattle.cabinet.specs.declared.run.Verdict.{Verdict}
 use Rattle.label_line.specs.Line.{serialMost, lineNumber, lineTable, lineLength, lineLists, lineBytes}
@@ -18,19 +19,19 @@ use Rattle.label_line.specs.Outlet.{labels, cartons, atOutlet, serials, 
 use Rattle.label_line.specs.Spaced.{TakesOften}
 use Rattle.label_line.specs.declared.MadeTable.{MadeTable}
 
--- Of the commands of a schedule, their answers, and whether the run ended quiet. W-203 asks it of "one crash at any place or none"; since
+-- Of the commands of a schedule, their answers and origins, and whether the run ended quiet. W-203 asks it of "one crash at any place or none"; since
 -- W-211 it is of "every accepted sequence of crashes, returns and resyncs".
-pub record Labelled (first : ℕ) (commands : List Command) (answers : List Numbers) (quiet : Bool) : Type 0 where
+pub record Labelled (first : ℕ) (commands : List Command) (answers : List Numbers) (origins : List Origin) (quiet : Bool) : Type 0 where
   -- "With one crash at any place or none, the outlet's words so far are a beginning of that sequence."
-  pub beginning : IsPrefix (atOutlet answers) (labels first (cartons commands answers))
+  pub beginning : IsPrefix (atOutlet commands answers origins) (labels first (cartons commands answers origins))
   -- "When the run ends quiet they are all of it"
-  pub all-printed : quiet ≡ true → atOutlet answers ≡ labels first (cartons commands answers)
+  pub all-printed : quiet ≡ true → atOutlet commands answers origins ≡ labels first (cartons commands answers origins)
   -- "no serial repeats, none is skipped": the serials are first, first + 1, ..
-  pub in-a-row : serials (atOutlet answers) ≡ inARow first (length (serials (atOutlet answers)))
-  pub no-repeat : (i j : ℕ) → i < length (serials (atOutlet answers)) → j < length (serials (atOutlet answers))
-      → getD (serials (atOutlet answers)) i 0 ≡ getD (serials (atOutlet answers)) j 0 → i ≡ j
+  pub in-a-row : serials (atOutlet commands answers origins) ≡ inARow first (length (serials (atOutlet commands answers origins)))
+  pub no-repeat : (i j : ℕ) → i < length (serials (atOutlet commands answers origins)) → j < length (serials (atOutlet commands answers origins))
+      → getD (serials (atOutlet commands answers origins)) i 0 ≡ getD (serials (atOutlet commands answers origins)) j 0 → i ≡ j
   -- and none wraps: with a label for every carton even the serial after the last fits 32 bits
-  pub no-wrap : first + length (cartons commands answers) < 2 ^ 32
+  pub no-wrap : first + length (cartons commands answers origins) < 2 ^ 32
 
 -- ---- the table
 
@@ -60,5 +61,5 @@ pub record RunsLine (first : ℕ) (schedule : List ℕ) (before : Buffers) (r : 
   pub ran : ranBy r after ≡ lineRun first schedule before
   -- demand 3 of an accepted run, as of every table: its bus order with senders and places (W-212) is that of a plain run
   pub failure-transparent : r .number ≡ 0 → FailureTransparency (lineBytes first) schedule (ranBy r after)
-  -- the labels of an accepted run, about the answers in the buffer as the call left it and the `quiet` that it returned
-  pub labelled : r .number ≡ 0 → Labelled first (decodeSchedule schedule) (answersIn (ranBy r after)) (r .quiet)
+  -- the labels of an accepted run, about the answers and origins in the buffers as the call left them and the `quiet` that it returned
+  pub labelled : r .number ≡ 0 → Labelled first (decodeSchedule schedule) (answersIn (ranBy r after)) (originsIn (ranBy r after)) (r .quiet)

@@ -3,9 +3,9 @@ use mathlib.Core.Bool.{cond}
 use mathlib.Core.List.{List, [], _∷_}
 use Prim.Native.Nat.{ℕ, zero, suc}
 use lib.Dec.{eqb}
-use Rattle.rules.specs.Machine.{Mail}
+use Rattle.rules.specs.Machine.{Mail, Origin}
 use Rattle.rules.specs.Moves.{Numbers, Command}
-use Rattle.rules.specs.Transparent.{traceOf, fedOf}
+use Rattle.rules.specs.Transparent.{wordOrder, fedIn}
 use Rattle.label_line.specs.Line.{scanner, outlet}
 
 -- "For every carton fed, the outlet gets the carton's code and then the next serial": the first carton's is the first serial itself
@@ -20,13 +20,13 @@ wordsOn k (x ∷ l) =
     let others = wordsOn k l in
     cond (eqb k (x .channel)) (x .word ∷ others) others
 
--- the codes of the cartons fed: the feeds of the scanner's channel that were answered 4
-abbrev pub cartons : List Command → List Numbers → List ℕ
-cartons commands answers = wordsOn scanner (fedOf commands answers)
+-- the codes of the cartons fed: the feeds of the scanner's channel that were answered 4. W-214: "feeds taken back don't count as fed"
+abbrev pub cartons : List Command → List Numbers → List Origin → List ℕ
+cartons commands answers origins = wordsOn scanner (fedIn commands answers origins)
 
--- the outlet's words: the answers 4 on the outlet's channel
-abbrev pub atOutlet : List Numbers → List ℕ
-atOutlet answers = wordsOn outlet (traceOf answers)
+-- the outlet's words: the answers 4 on the outlet's channel. W-214: "Words carried by a record taken back don't count"
+abbrev pub atOutlet : List Command → List Numbers → List Origin → List ℕ
+atOutlet commands answers origins = wordsOn outlet (wordOrder commands answers origins)
 
 -- the serials among the outlet's words: every second one
 unfoldable pub serials : List ℕ → List ℕ

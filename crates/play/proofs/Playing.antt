@@ -1,11 +1,13 @@
 -- The records of a stretch, one after the other: what each round of the loop adds, and what all of them come to.
 use mathlib.Core.Path.{_≡_, refl, ap, sym, _∙_, subst}
+use mathlib.Core.Bool.{Bool, true, false, cond, _||_}
 use mathlib.Core.List.{List, [], _∷_, _++_}
 use Prim.Native.Nat.{ℕ, zero, suc, _+_, _-_, _≤_, _<_, min}
 use native.Mathlib.Omega.{arith}
 use lib.ListN.{length, getD, set, take, drop, length-drop}
 use lib.Seq.{take-suc, take-all, take-add, getD-drop, drop-drop, length-take-le}
-use borrow.Author.Tests.{lt-ltb, le-ltb}
+use lib.Dec.{eqb}
+use borrow.Author.Tests.{lt-ltb, le-ltb, eq-eqb, ne-eqb}
 use Rattle.records.specs.Commands.{commandOf}
 use Rattle.records.specs.declared.schedule.Command as code
 use Rattle.rules.specs.Table.{Table}
@@ -15,18 +17,20 @@ use Rattle.rules.specs.Cabinet.{Cabinet, started, outboxAt}
 use Rattle.rules.specs.Moves as rules
 use Rattle.rules.specs.Moves.{Command, Numbers, transmitMove, moveOf, judged, numbers, originOf, noOrigin, turn, runFrom}
 use Rattle.rules.specs.Origins.{toldBy}
+use Rattle.rules.specs.Undo.{isUndo, anyUndo}
 use Rattle.rules.specs.Schedule.{command, commandsIn, decodeSchedule}
 use Rattle.rules.proofs.AcceptedRun.{one-answer-each}
 use Rattle.rules.proofs.Recovery.{run-parts}
 use Rattle.rules.proofs.Origins.{origin-told, carried-waited}
-use Rattle.rules.proofs.Valid.{length-sixes}
+use Rattle.rules.proofs.Scheduled.{commands-counted}
 use Rattle.state.specs.declared.entry.Entry.{Entry}
 use Rattle.state.specs.declared.moved.Answer.{Answer}
 use Rattle.state.specs.declared.moved.Moved.{Moved}
 use Rattle.state.specs.Store.{Store, Holds}
 use Rattle.state.specs.Moved.{Reachable, Answered, Makes, joined, refusalOf}
-use Rattle.command.specs.Judges.{judgeOf, causeBy}
+use Rattle.command.specs.Judges.{numberOf, wordedOf, judgeOf, causeBy}
 use Rattle.command.proofs.Judging.{ruleOf, mostOf, passes, made, refused, refused-origin, known}
+use Rattle.plan.specs.declared.Counts.{Counts}
 use Rattle.plan.specs.Plan.{Plan, Planned}
 use Rattle.play.specs.declared.play.Stretch.{Stretch}
 use Rattle.play.specs.Plays.{Sheets, AsLong, Writes, between, Suited, Played, Plays}
@@ -72,14 +76,10 @@ module _ {t : Table} {c : Cabinet} where
 
 -- ---- the records of a schedule
 
-pub commands-many : (schedule : List ℕ) → length (decodeSchedule schedule) ≡ commandsIn schedule
-unfolding decodeSchedule
-commands-many schedule = length-sixes command (commandsIn schedule) _
-
 module _ (schedule : List ℕ) (i : ℕ) where
   pub between-length : (j : ℕ) → j ≤ commandsIn schedule → length (between schedule i j) ≡ j - i
   between-length j h =
-      let a = commands-many schedule in
+      let a = commands-counted schedule in
       let b = length-drop i (decodeSchedule schedule) in
       length-take-le (j - i) (drop i (decodeSchedule schedule)) (omega arith)
 
@@ -92,18 +92,37 @@ module _ (schedule : List ℕ) (i : ℕ) where
 
 -- all of them
 pub between-all : (schedule : List ℕ) → between schedule 0 (commandsIn schedule) ≡ decodeSchedule schedule
-between-all schedule = let a = commands-many schedule in take-all (commandsIn schedule - 0) (decodeSchedule schedule) (omega arith)
+between-all schedule = let a = commands-counted schedule in take-all (commandsIn schedule - 0) (decodeSchedule schedule) (omega arith)
 
 -- a single one
-between-one : (schedule : List ℕ) (i : ℕ) → i < commandsIn schedule → between schedule i (i + 1) ≡ getD (decodeSchedule schedule) i (command 0 0 0) ∷ []
+pub between-one : (schedule : List ℕ) (i : ℕ) → i < commandsIn schedule → between schedule i (i + 1) ≡ getD (decodeSchedule schedule) i (command 0 0 0) ∷ []
 between-one schedule i h =
     let a : (i + 1) - i ≡ 1 = omega arith in
-    let m = commands-many schedule in
+    let m = commands-counted schedule in
     let b = length-drop i (decodeSchedule schedule) in
     let z : i + 0 ≡ i = omega arith in
     ap (λ (n : ℕ). take n (drop i (decodeSchedule schedule))) a
     ∙ take-suc (drop i (decodeSchedule schedule)) 0 (command 0 0 0) (omega arith)
     ∙ ap (λ (x : Command). x ∷ []) (getD-drop i (decodeSchedule schedule) 0 (command 0 0 0) ∙ ap (λ (n : ℕ). getD (decodeSchedule schedule) n (command 0 0 0)) z)
+
+-- ---- no move 8 (W-214)
+
+pub anyUndo-parts : (l m : List Command) → anyUndo (l ++ m) ≡ anyUndo l || anyUndo m
+anyUndo-parts [] m = refl
+anyUndo-parts (r ∷ l) m = rw (anyUndo-parts l m) (go (isUndo r))
+  where
+    go : (b : Bool) → b || (anyUndo l || anyUndo m) ≡ (b || anyUndo l) || anyUndo m
+    go true = refl
+    go false = refl
+
+-- the judging refuses it with 32
+judgeOf-undo : (counts : Counts) (c : code.Command) → c .mv ≡ 8 → judgeOf counts c ≡ 32
+unfolding judgeOf numberOf
+judgeOf-undo counts c e = rw e (go (wordedOf 8 (c .word)))
+  where
+    go : (b : Bool) → _≡_ {A = ℕ} (cond b 32 32) 32
+    go true = refl
+    go false = refl
 
 -- ---- the rounds
 
@@ -125,6 +144,7 @@ pub record Playing (l : Plan) (schedule : List ℕ) (from end : ℕ) (s₀ : Sto
     (i : ℕ) (s : Store) (entries : List Entry) (sheets : Sheets) : Type 0 where
   pub forward : from ≤ i
   pub inside : (n : ℕ) → from ≤ n → end ≤ n → i ≤ n
+  pub no-undo : anyUndo (between schedule from i) ≡ false
   pub long : AsLong sheets₀ sheets
   pub played : (t : Table) (c : Cabinet) → Suited t l c s₀ entries₀ → Played t c (between schedule from i) s entries sheets₀ from sheets
 
@@ -132,7 +152,13 @@ pub at-first : (l : Plan) (schedule : List ℕ) (from end : ℕ) (s : Store) (en
     → Playing l schedule from end s entries sheets from s entries sheets
 at-first l schedule from end s entries sheets =
     let none : from - from ≡ 0 = omega arith in
-    record { forward = omega arith; inside = λ n h k. h; long = as-long sheets; played = λ t c u. rw none (played-none sheets from (u .holds)) }
+    record {
+      forward = omega arith;
+      inside = λ n h k. h;
+      no-undo = rw none;
+      long = as-long sheets;
+      played = λ t c u. rw none (played-none sheets from (u .holds));
+    }
 
 -- In a round record i is judged: c is the code's command of it, a its a as a word, n the judging's number.
 pub record Round (l : Plan) (schedule : List ℕ) (from end : ℕ) (s₀ : Store) (entries₀ : List Entry) (sheets₀ : Sheets)
@@ -151,12 +177,21 @@ module _ {l : Plan} {schedule : List ℕ} {from end : ℕ} {s₀ : Store} {entri
   abbrev Next : Store → List Entry → Sheets → Type 0
   Next s′ entries′ sheets′ = Playing l schedule from end s₀ entries₀ sheets₀ (i + 1) s′ entries′ sheets′
 
-  -- what the rules make of the record is played with those before it
-  on : (s′ : Store) (entries′ : List Entry) (sheets′ : Sheets) (r : Answer) (o : Origin) → Writes sheets i r o sheets′
+  -- those before the record, and it
+  with-it : between schedule from (i + 1) ≡ between schedule from i ++ (commandOf c ∷ [])
+  with-it =
+      let forward = p .so-far .forward in
+      let below = p .below in
+      let few = p .few in
+      between-parts schedule from i (i + 1) forward (omega arith)
+      ∙ ap (λ (r : List Command). between schedule from i ++ r) (between-one schedule i (omega arith) ∙ ap (λ (y : Command). y ∷ []) (sym (p .is-c)))
+
+  -- what the rules make of the record, which is no move 8, is played with those before it
+  on : eqb (c .mv) 8 ≡ false → (s′ : Store) (entries′ : List Entry) (sheets′ : Sheets) (r : Answer) (o : Origin) → Writes sheets i r o sheets′
       → ((t : Table) (now : Cabinet) → Suited t l now s entries → Answered t s′ entries′ now (commandOf c) (judged t now (commandOf c)) r)
       → ((t : Table) (now : Cabinet) → Suited t l now s entries → originOf (turn t now (commandOf c) .answer) ≡ o)
       → Next s′ entries′ sheets′
-  on s′ entries′ sheets′ r o w answers comes =
+  on other s′ entries′ sheets′ r o w answers comes =
       let before = p .so-far in
       let below = p .below in
       let few = p .few in
@@ -164,6 +199,7 @@ module _ {l : Plan} {schedule : List ℕ} {from end : ℕ} {s₀ : Store} {entri
       record {
         forward = omega arith;
         inside = λ n h k. omega arith;
+        no-undo = rw (with-it, anyUndo-parts (between schedule from i) (commandOf c ∷ []), before .no-undo, other);
         long = still-long (before .long) w;
         played = λ t start u.
             let done = before .played t start u in
@@ -172,17 +208,14 @@ module _ {l : Plan} {schedule : List ℕ} {from end : ℕ} {s₀ : Store} {entri
             let low : x .a < 256 = (let e = p .is-a in let f = p .small in omega arith) in
             let one = played-one (fit .reached) x low (answers t _ fit) (comes t _ fit) w in
             let so-many = between-length schedule from i (omega arith) in
-            let all : between schedule from (i + 1) ≡ between schedule from i ++ (x ∷ []) =
-            between-parts schedule from i (i + 1) forward (omega arith)
-            ∙ ap (λ (r : List Command). between schedule from i ++ r) (between-one schedule i (omega arith) ∙ ap (λ (y : Command). y ∷ []) (sym (p .is-c))) in
-            subst (λ (l : List Command). Played t start l s′ entries′ sheets₀ from sheets′) (sym all) (played-parts done one (omega arith));
+            subst (λ (l : List Command). Played t start l s′ entries′ sheets₀ from sheets′) (sym with-it) (played-parts done one (omega arith));
       }
 
   -- a record that is refused before its move is looked at
-  pub on-refused : (n ≡ 0 → ⊥) → {cause : ℕ} → cause ≡ causeBy n (moveOf (c .mv)) → {r : Answer} → r ≡ refusalOf n cause a → {sheets′ : Sheets}
+  pub on-refused : (n ≡ 0 → ⊥) → (c .mv ≡ 8 → ⊥) → {cause : ℕ} → cause ≡ causeBy n (moveOf (c .mv)) → {r : Answer} → r ≡ refusalOf n cause a → {sheets′ : Sheets}
       → Writes sheets i r noOrigin sheets′ → Next s entries sheets′
-  on-refused z {cause} e {r} f {sheets′} w =
-      on s entries sheets′ r noOrigin w (λ t now u. refused (u .planned) c n (p .is-n) now a (p .is-a) cause (u .holds) z e f)
+  on-refused z other {cause} e {r} f {sheets′} w =
+      on (ne-eqb (c .mv) 8 other) s entries sheets′ r noOrigin w (λ t now u. refused (u .planned) c n (p .is-n) now a (p .is-a) cause (u .holds) z e f)
       (λ t now u. refused-origin (u .planned) c n (p .is-n) now a (p .is-a) z)
 
   -- What tells the origin of the word that move k puts on the bus is o, where the move has what it asks. A word that is carried was waiting.
@@ -203,13 +236,13 @@ module _ {l : Plan} {schedule : List ℕ} {from end : ℕ} {s₀ : Store} {entri
       ∙ tells t now u inside asked (λ e f g. carried-waited t now x (ap moveOf is-k ∙ e) (code-is ∙ f) (ap (outboxAt now) (sym (p .is-a)) ∙ g))
 
   -- one that is its move: what the rules call the move of number k
-  pub on-made : n ≡ 0 → (k : ℕ) → c .mv ≡ k → {asks : Table → List Entry → Type 0} {joins : ℕ} {entry : Entry} {s′ : Store} {entries′ : List Entry}
+  pub on-made : n ≡ 0 → (k : ℕ) → eqb k 8 ≡ false → c .mv ≡ k → {asks : Table → List Entry → Type 0} {joins : ℕ} {entry : Entry} {s′ : Store} {entries′ : List Entry}
       {sheets′ : Sheets} {m : Moved} {o : Origin} → Writes sheets i (m .answer) o sheets′
       → Makes (ruleOf (moveOf k) (c .word)) asks joins l s a entry s′ m
       → ((t : Table) (now : Cabinet) → Accepted t → Holds t s entries now → a < mostOf (moveOf k) t → asks t entries × (entries′ ≡ joined entries (m .at) entry))
       → Told asks k m o → Next s′ entries′ sheets′
   unfolding turn
-  on-made z k is-k {asks = asks} {entry = entry} {s′ = s′} {entries′ = entries′} {sheets′ = sheets′} {m = m} {o = o} w h given tells =
+  on-made z k other is-k {asks = asks} {entry = entry} {s′ = s′} {entries′ = entries′} {sheets′ = sheets′} {m = m} {o = o} w h given tells =
       let inside : (t : Table) (now : Cabinet) → Suited t l now s entries → a < mostOf (moveOf k) t =
       λ t now u. passes (u .planned) c n (p .is-n) now a (p .is-a) k is-k z .a-inside in
       let there : (t : Table) (now : Cabinet) → Suited t l now s entries → asks t entries × (entries′ ≡ joined entries (m .at) entry) =
@@ -220,26 +253,40 @@ module _ {l : Plan} {schedule : List ℕ} {from end : ℕ} {s₀ : Store} {entri
       subst (λ (l : List Entry). Answered t s′ l now (commandOf c) (judged t now (commandOf c)) (m .answer)) (sym (there t now u .1))
       (made (u .planned) c n (p .is-n) now a (p .is-a) k is-k z
       (h .made t entries now (commandOf c) (u .reached) (u .planned) (u .holds) (sym (p .is-a)) (there t now u .0))) in
-      on s′ entries′ sheets′ (m .answer) o w answers (λ t now u.
+      on (ap (λ (m : ℕ). eqb m 8) is-k ∙ other) s′ entries′ sheets′ (m .answer) o w answers (λ t now u.
       told-by asks k is-k m o tells t now u (inside t now u) (there t now u .0) (ap (λ (y : Numbers). y .code) (answers t now u .answer-is)))
 
   -- and no other passes
   pub on-unknown : n ≡ 0 → (c .mv ≡ 1 → ⊥) → (c .mv ≡ 2 → ⊥) → (c .mv ≡ 3 → ⊥) → (c .mv ≡ 4 → ⊥) → (c .mv ≡ 5 → ⊥) → (c .mv ≡ 6 → ⊥) → (c .mv ≡ 7 → ⊥)
       → {r : Answer} {sheets′ : Sheets} → Writes sheets i r noOrigin sheets′ → Next s entries sheets′
   on-unknown z h1 h2 h3 h4 h5 h6 h7 {r} {sheets′} w =
-      on s entries sheets′ r noOrigin w (λ t now u. absurd (known (u .planned) c n (p .is-n) now a (p .is-a) z h1 h2 h3 h4 h5 h6 h7))
+      on (ne-eqb (c .mv) 8 (λ e. let a = judgeOf-undo (l .counts) c e in let b = p .is-n in omega arith)) s entries sheets′ r noOrigin w (λ t now u. absurd (known (u .planned) c n (p .is-n) now a (p .is-a) z h1 h2 h3 h4 h5 h6 h7))
       (λ t now u. absurd (known (u .planned) c n (p .is-n) now a (p .is-a) z h1 h2 h3 h4 h5 h6 h7))
 
--- all of the stretch is done
-pub at-last : {l : Plan} {schedule : List ℕ} {stretch : Stretch} {end : ℕ} {s₀ s : Store} {sheets₀ sheets : Sheets} {i : ℕ} {entries : List Entry}
-    → end ≡ min (stretch .to) (commandsIn schedule)
-    → Playing l schedule (stretch .from) end s₀ (stretch .entries) sheets₀ i s entries sheets → (i < end → ⊥)
-    → Plays l schedule stretch s₀ sheets₀ (record { from = i; to = stretch .to; entries = entries }) s sheets
-at-last e p z = record {
-  forward = p .forward;
-  inside = λ h. p .inside _ h (omega arith);
-  there = λ h. p .inside _ h (omega arith);
-  ended = λ h k. z (omega arith);
-  same-to = refl;
-  played = p .played;
-}
+-- ---- where the stretch ends
+
+module _ {l : Plan} {schedule : List ℕ} {stretch : Stretch} {end : ℕ} {s₀ s : Store} {sheets₀ sheets : Sheets} {i : ℕ} {entries : List Entry} where
+  ends : end ≡ min (stretch .to) (commandsIn schedule) → Playing l schedule (stretch .from) end s₀ (stretch .entries) sheets₀ i s entries sheets
+      → (i < end → isUndo (getD (decodeSchedule schedule) i (command 0 0 0)) ≡ true)
+      → Plays l schedule stretch s₀ sheets₀ (record { from = i; to = stretch .to; entries = entries }) s sheets
+  ends e p z = record {
+    forward = p .forward;
+    inside = λ h. p .inside _ h (omega arith);
+    there = λ h. p .inside _ h (omega arith);
+    ended = λ h k. z (omega arith);
+    no-undo = p .no-undo;
+    same-to = refl;
+    played = p .played;
+  }
+
+  -- all of it is done
+  pub at-last : end ≡ min (stretch .to) (commandsIn schedule)
+      → Playing l schedule (stretch .from) end s₀ (stretch .entries) sheets₀ i s entries sheets → (i < end → ⊥)
+      → Plays l schedule stretch s₀ sheets₀ (record { from = i; to = stretch .to; entries = entries }) s sheets
+  at-last e p z = ends e p (λ h. absurd (z h))
+
+  -- the next record is a move 8
+  pub at-undo : {c : code.Command} {a n : ℕ} → end ≡ min (stretch .to) (commandsIn schedule)
+      → Round l schedule (stretch .from) end s₀ (stretch .entries) sheets₀ i s entries sheets c a n → c .mv ≡ 8
+      → Plays l schedule stretch s₀ sheets₀ (record { from = i; to = stretch .to; entries = entries }) s sheets
+  at-undo {c} e p z = ends e (p .so-far) (λ h. ap isUndo (sym (p .is-c)) ∙ eq-eqb (c .mv) 8 z)

@@ -1,10 +1,10 @@
 -- What records leave in the lent buffers, one behind the other.
 use mathlib.Core.Path.{_≡_, refl, ap, sym, _∙_}
 use mathlib.Core.List.{List, [], _∷_, _++_, map, map-append, append-nil, append-assoc}
-use Prim.Native.Nat.{ℕ, suc, _+_, _*_, _%_, _≤_, _<_}
+use Prim.Native.Nat.{ℕ, zero, suc, _+_, _-_, _*_, _%_, _≤_, _<_}
 use native.Mathlib.Omega.{arith}
 use lib.ListN.{length, set, drop, length-map, length-set}
-use lib.Seq.{sets, sets-eq, length-sets}
+use lib.Seq.{sets, sets-eq, length-sets, drop-drop}
 use Rattle.rules.specs.Bytes.{wordBytes, allBytes, written}
 use Rattle.rules.specs.Moves as rules
 use Rattle.rules.specs.Machine.{Origin}
@@ -116,6 +116,47 @@ module _ {before after : Sheets} {xs : List rules.Answer} (w : Wrote before 0 xs
 
   pub origins-front : after .origins ≡ written (originsOf xs) (before .origins)
   origins-front = w .origins-are ∙ at-front (originsOf xs) (before .origins) (let a = origins-length xs in let b = room .origins-room in omega arith)
+
+-- answers over others, from the first record on, are written as if those had not been
+drop-past : (a r : List ℕ) (m : ℕ) → length a ≤ m → drop m (a ++ r) ≡ drop (m - length a) r
+drop-past [] r m h = let e : m ≡ m - 0 = omega arith in ap (λ (n : ℕ). drop n r) e
+drop-past (x ∷ a) r zero h = absurd (omega arith)
+drop-past (x ∷ a) r (suc m) h = let e : m - length a ≡ suc m - suc (length a) = omega arith in drop-past a r m (omega arith) ∙ ap (λ (n : ℕ). drop n r) e
+
+written-over : (a b buffer : List ℕ) → length a ≤ length b → written b (written a buffer) ≡ written b buffer
+written-over a b buffer h =
+    let e : length a + (length b - length a) ≡ length b = omega arith in
+    ap (λ (r : List ℕ). b ++ r)
+    (drop-past a (drop (length a) buffer) (length b) h ∙ drop-drop (length b - length a) (length a) buffer ∙ ap (λ (n : ℕ). drop n buffer) e)
+
+sets-over : (a b buffer : List ℕ) → length a ≤ length b → length b ≤ length buffer → sets (sets buffer 0 a) 0 b ≡ sets buffer 0 b
+sets-over a b buffer h k =
+    let same = length-sets buffer 0 a in
+    at-front b (sets buffer 0 a) (omega arith)
+    ∙ ap (written b) (at-front a buffer (omega arith))
+    ∙ written-over a b buffer h
+    ∙ sym (at-front b buffer k)
+
+pub wrote-over : {before middle after : Sheets} {xs ys : List rules.Answer} → Wrote before 0 xs middle → Wrote middle 0 ys after
+    → length xs ≤ length ys → Roomy (length ys) before → Wrote before 0 ys after
+wrote-over {before} {xs = xs} {ys = ys} h k few room = record {
+  answers-are =
+      k .answers-are
+      ∙ ap (λ (l : List ℕ). sets l 0 (bytesOf ys)) (h .answers-are)
+      ∙ sets-over (bytesOf xs) (bytesOf ys) (before .answers)
+      (let a = bytes-length xs in let b = bytes-length ys in omega arith) (let b = bytes-length ys in let c = room .answers-room in omega arith);
+  reasons-are =
+      k .reasons-are
+      ∙ ap (λ (l : List ℕ). sets l 0 (map reasonOf ys)) (h .reasons-are)
+      ∙ sets-over (map reasonOf xs) (map reasonOf ys) (before .reasons)
+      (let a = length-map xs reasonOf in let b = length-map ys reasonOf in omega arith)
+      (let b = length-map ys reasonOf in let c = room .reasons-room in omega arith);
+  origins-are =
+      k .origins-are
+      ∙ ap (λ (l : List ℕ). sets l 0 (originsOf ys)) (h .origins-are)
+      ∙ sets-over (originsOf xs) (originsOf ys) (before .origins)
+      (let a = origins-length xs in let b = origins-length ys in omega arith) (let b = origins-length ys in let c = room .origins-room in omega arith);
+}
 
 -- ---- how long they are
 

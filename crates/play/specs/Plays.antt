@@ -1,8 +1,9 @@
 -- A stretch of a schedule's records, one after the other. "Each schedule record, refused or not, gets the cabinet that the last one left".
 use mathlib.Core.Path.{_≡_}
+use mathlib.Core.Bool.{true, false}
 use mathlib.Core.List.{List, map}
 use Prim.Native.Nat.{ℕ, _+_, _-_, _*_, _≤_, _<_}
-use lib.ListN.{length, set, take, drop}
+use lib.ListN.{length, getD, set, take, drop}
 use lib.Seq.{sets}
 use Rattle.rules.specs.Table.{Table}
 use Rattle.rules.specs.Bytes.{allBytes}
@@ -11,7 +12,8 @@ use Rattle.rules.specs.Cabinet.{Cabinet}
 use Rattle.rules.specs.Moves as rules
 use Rattle.rules.specs.Moves.{Command, numbers, originOf, runFrom}
 use Rattle.rules.specs.Reasons.{reasonOf}
-use Rattle.rules.specs.Schedule.{commandsIn, decodeSchedule}
+use Rattle.rules.specs.Undo.{isUndo, anyUndo}
+use Rattle.rules.specs.Schedule.{commandsIn, command, decodeSchedule}
 use Rattle.rules.specs.Run.{answerBytes, originBytes}
 use Rattle.plan.specs.Plan.{Plan, Planned}
 use Rattle.state.specs.declared.entry.Entry.{Entry}
@@ -88,8 +90,9 @@ pub record Plays (l : Plan) (schedule : List ℕ) (stretch : Stretch) (s : Store
   pub forward : stretch .from ≤ r .from
   pub inside : stretch .from ≤ stretch .to → r .from ≤ stretch .to
   pub there : stretch .from ≤ commandsIn schedule → r .from ≤ commandsIn schedule
-  -- and ends at one of the two
-  pub ended : r .from < stretch .to → r .from < commandsIn schedule → ⊥
+  -- and ends at one of the two, or at a move 8 (W-214), which is no move of a cabinet: none was played
+  pub ended : r .from < stretch .to → r .from < commandsIn schedule → isUndo (getD (decodeSchedule schedule) (r .from) (command 0 0 0)) ≡ true
+  pub no-undo : anyUndo (between schedule (stretch .from) (r .from)) ≡ false
   pub same-to : r .to ≡ stretch .to
   -- what was played, from any cabinet that commands reach
   pub played : (t : Table) (c : Cabinet) → Suited t l c s (stretch .entries)

@@ -31,6 +31,7 @@ use process::checkpoint::snapshot;
 use process::row::PC;
 use process::row::ROW;
 use records::schedule::FIRST_COMMAND;
+use records::schedule::UNDO;
 use records::schedule::command_at;
 use rejoin::rebackup::rebackup;
 use rejoin::rejoin::rejoin;
@@ -75,7 +76,7 @@ fn write_from(
 }
 
 // The i-th answer, of a record that puts no word on the bus.
-fn write(answers: &mut [u8], reasons: &mut [u8], origins: &mut [u8], i: usize, r: Answer)
+pub fn write(answers: &mut [u8], reasons: &mut [u8], origins: &mut [u8], i: usize, r: Answer)
     requires { ⌜ RoomAt i (sheetsOf (now answers) (now reasons) (now origins)) ⌝ }
     ensures { λ _. ⌜ Writes (sheetsOf (now (answers .entry)) (now (reasons .entry)) (now (origins .entry))) i r noOrigin
         (sheetsOf (now (answers .exit)) (now (reasons .exit)) (now (origins .exit))) ⌝ }
@@ -94,9 +95,9 @@ pub fn count(schedule: &[u8]) -> usize
     (len - FIRST_COMMAND) / 6
 }
 
-// A stretch of a schedule's records, on lists that hold any cabinet that commands reach. What is returned is what is left of the stretch: the next
-// record's number, and the entries then. The buffers have room for all records before `to`. The schedule's records are counted here, so that the compiler
-// knows that each of them is there.
+// A stretch of a schedule's records, on lists that hold any cabinet that commands reach. It ends before a move 8, too. What is returned is what is
+// left of the stretch: the next record's number, and the entries then. The buffers have room for all records before `to`. The schedule's records
+// are counted here, so that the compiler knows that each of them is there.
 pub fn play(
     table: &[u8],
     schedule: &[u8],
@@ -134,6 +135,13 @@ pub fn play(
         let a = byte_word(c.a);
         let number = judge(counts, c);
         if number != 0 {
+            if mv == UNDO {
+                return Stretch {
+                    from: k,
+                    to: to,
+                    entries: entries,
+                };
+            }
             write(
                 answers,
                 reasons,

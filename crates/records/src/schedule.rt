@@ -14,6 +14,9 @@ pub const COMMANDS_MOST: usize = 10000;
 
 pub const SCHEDULE_MOST: usize = FIRST_COMMAND + 6 * COMMANDS_MOST;
 
+// W-214's move 8, which takes a record back: no move of a cabinet.
+pub const UNDO: u8 = 8;
+
 // What judging a schedule finds: 0 or the number that refuses it, and how many commands it has (0 where it is refused).
 pub struct Judged {
     pub number: u8,

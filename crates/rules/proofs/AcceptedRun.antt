@@ -9,11 +9,12 @@ use lib.Seq.{take-at}
 use borrow.Author.Tests.{eqb-true, eqb-false, leb-true}
 use Rattle.facts.specs.Tests.{and-left, and-right}
 use Rattle.rules.specs.Table.{Table}
-use Rattle.rules.specs.Cabinet.{Cabinet, started, quiescent}
+use Rattle.rules.specs.Cabinet.{Cabinet, quiescent}
 use Rattle.rules.specs.Moves.{Command, numbers, originOf, turn, runFrom}
+use Rattle.rules.specs.Undo.{Session, opened, stride, playFrom}
 use Rattle.rules.specs.Reasons.{reasonOf}
 use Rattle.rules.specs.Judge.{Accepted}
-use Rattle.rules.specs.Transparent.{answered, originated, finished, ListTransparent}
+use Rattle.rules.specs.Transparent.{shown, shownFrom, ended, ListTransparent}
 use Rattle.rules.specs.Format.{orNumber, processesIn, decodeTable, validateTable}
 use Rattle.rules.specs.Schedule.{commandsIn, decodeSchedule, validateSchedule}
 use Rattle.rules.specs.Run.{Buffers, lengthsOf, validateRun, ranFrom, refusedWith, run, accepted}
@@ -47,11 +48,16 @@ unfolding runFrom
 one-answer-each t c [] = refl
 one-answer-each t c (r ∷ rs) = ap suc (one-answer-each t (turn t c r .cabinet) rs)
 
-pub answered-length : (t : Table) (commands : List Command) → length (answered t commands) ≡ length commands
-answered-length t commands = length-map (runFrom t (started t) commands .answers) numbers ∙ one-answer-each t (started t) commands
+pub one-shown-each : (t : Table) (s : Session) (commands : List Command) → length (playFrom t s commands .answers) ≡ length commands
+unfolding playFrom
+one-shown-each t s [] = refl
+one-shown-each t s (r ∷ rs) = ap suc (one-shown-each t (stride t s r .session) rs)
 
-pub originated-length : (t : Table) (commands : List Command) → length (originated t commands) ≡ length commands
-originated-length t commands = length-map (runFrom t (started t) commands .answers) originOf ∙ one-answer-each t (started t) commands
+pub shown-length : (t : Table) (commands : List Command) → length (shown t commands) ≡ length commands
+shown-length t commands = length-map (playFrom t (opened t) commands .answers) numbers ∙ one-shown-each t (opened t) commands
+
+pub shownFrom-length : (t : Table) (commands : List Command) → length (shownFrom t commands) ≡ length commands
+shownFrom-length t commands = length-map (playFrom t (opened t) commands .answers) originOf ∙ one-shown-each t (opened t) commands
 
 module _ (table schedule : List ℕ) (buffers : Buffers) (h : accepted table schedule buffers ≡ true) where
   pub run-valid : validateRun table schedule (lengthsOf buffers) ≡ 0
@@ -101,32 +107,32 @@ module _ (table schedule : List ℕ) (buffers : Buffers) (h : accepted table sch
 
   -- ---- the answers, read out of the buffer
 
-  pub answers-read : answersIn (run table schedule buffers) ≡ answered (decodeTable table) (decodeSchedule schedule)
+  pub answers-read : answersIn (run table schedule buffers) ≡ shown (decodeTable table) (decodeSchedule schedule)
   unfolding ranFrom
   answers-read =
       let t = decodeTable table in
       let commands = decodeSchedule schedule in
-      rw (run-is, ← answered-length t commands) (answers-back (answered t commands) _)
+      rw (run-is, ← shown-length t commands) (answers-back (shown t commands) _)
 
   -- the origins, read out of theirs
-  pub origins-read : originsIn (run table schedule buffers) ≡ originated (decodeTable table) (decodeSchedule schedule)
+  pub origins-read : originsIn (run table schedule buffers) ≡ shownFrom (decodeTable table) (decodeSchedule schedule)
   unfolding ranFrom
   origins-read =
       let t = decodeTable table in
       let commands = decodeSchedule schedule in
-      rw (run-is, ← originated-length t commands) (origins-back (originated t commands) _)
+      rw (run-is, ← shownFrom-length t commands) (origins-back (shownFrom t commands) _)
 
   -- the reasons, read out of theirs
   pub reasons-read : reasonsIn (run table schedule buffers)
-      ≡ map reasonOf (runFrom (decodeTable table) (started (decodeTable table)) (decodeSchedule schedule) .answers)
+      ≡ map reasonOf (playFrom (decodeTable table) (opened (decodeTable table)) (decodeSchedule schedule) .answers)
   unfolding ranFrom
   reasons-read =
       let t = decodeTable table in
       let commands = decodeSchedule schedule in
-      let l = runFrom t (started t) commands .answers in
-      rw (run-is) (take-at (map reasonOf l) _ (length commands) (length-map l reasonOf ∙ one-answer-each t (started t) commands))
+      let l = playFrom t (opened t) commands .answers in
+      rw (run-is) (take-at (map reasonOf l) _ (length commands) (length-map l reasonOf ∙ one-shown-each t (opened t) commands))
 
-  pub quiet-is : run table schedule buffers .quiet ≡ quiescent (decodeTable table) (finished (decodeTable table) (decodeSchedule schedule))
+  pub quiet-is : run table schedule buffers .quiet ≡ quiescent (decodeTable table) (ended (decodeTable table) (decodeSchedule schedule))
   unfolding ranFrom
   quiet-is = rw run-is
 
@@ -137,7 +143,7 @@ module _ (table schedule : List ℕ) (buffers : Buffers) (h : accepted table sch
     actions = x .actions;
     end = x .end;
     ran = x .ran;
-    injected = rw answers-read (x .injected);
+    injected = rw (answers-read, origins-read) (x .injected);
     same-trace = rw (answers-read, origins-read) (x .same-trace);
     same-end = λ q. x .same-end (sym quiet-is ∙ q);
     no-step = λ q. x .no-step (sym quiet-is ∙ q);

@@ -11,9 +11,10 @@ use lib.Seq.{drop-append-seam}
 use Rattle.facts.specs.Tests.{no-way}
 use Rattle.rules.specs.Table.{Table}
 use Rattle.rules.specs.Cabinet.{Process, Cabinet, started, placed}
-use Rattle.rules.specs.Moves.{Command, deliver, runFrom}
+use Rattle.rules.specs.Moves.{Command, deliver}
+use Rattle.rules.specs.Undo.{opened, playFrom}
 use Rattle.rules.specs.Reasons.{reasonOf}
-use Rattle.rules.specs.Transparent.{answered, originated, finished}
+use Rattle.rules.specs.Transparent.{finished, shown, shownFrom, ended}
 use Rattle.rules.specs.Bytes.{allBytes, written}
 use Rattle.rules.specs.Format.{processesIn, decodeTable}
 use Rattle.rules.specs.Schedule.{commandsIn, decodeSchedule}
@@ -23,7 +24,8 @@ use Rattle.rules.proofs.Guards.{Leaves, after-run}
 use Rattle.rules.proofs.Crashed.{crash-length}
 use Rattle.rules.proofs.Valid.{processes-counted}
 use Rattle.rules.proofs.Scheduled.{commands-counted}
-use Rattle.rules.proofs.AcceptedRun.{one-answer-each, answered-length, originated-length, run-is}
+use Rattle.rules.proofs.Standing.{standingIn, ended-is}
+use Rattle.rules.proofs.AcceptedRun.{one-shown-each, shown-length, shownFrom-length, run-is}
 use Rattle.rules.proofs.AcceptedRun.{answers-fit, reasons-fit, report-fits, origins-fit}
 
 -- ---- written bytes
@@ -72,29 +74,32 @@ unfolding started
 processes-stay t commands =
     after-run t (λ c r h. keep-many t (length (t .processes)) c h r) (started t) commands (length-map (t .processes) placed)
 
+pub processes-end : (t : Table) (commands : List Command) → length (ended t commands .processes) ≡ length (t .processes)
+processes-end t commands = rw (ended-is t commands) (processes-stay t (standingIn t commands))
+
 -- ---- the buffers of a run
 
 module _ (table schedule : List ℕ) where
-  answer-bytes : length (allBytes answerBytes (answered (decodeTable table) (decodeSchedule schedule))) ≡ 6 * commandsIn schedule
+  answer-bytes : length (allBytes answerBytes (shown (decodeTable table) (decodeSchedule schedule))) ≡ 6 * commandsIn schedule
   answer-bytes =
-      length-bytes answerBytes 6 (answered (decodeTable table) (decodeSchedule schedule)) (λ x. refl)
-      ∙ ap (λ (n : ℕ). 6 * n) (answered-length (decodeTable table) (decodeSchedule schedule) ∙ commands-counted schedule)
+      length-bytes answerBytes 6 (shown (decodeTable table) (decodeSchedule schedule)) (λ x. refl)
+      ∙ ap (λ (n : ℕ). 6 * n) (shown-length (decodeTable table) (decodeSchedule schedule) ∙ commands-counted schedule)
 
-  reason-bytes : length (map reasonOf (runFrom (decodeTable table) (started (decodeTable table)) (decodeSchedule schedule) .answers)) ≡ commandsIn schedule
+  reason-bytes : length (map reasonOf (playFrom (decodeTable table) (opened (decodeTable table)) (decodeSchedule schedule) .answers)) ≡ commandsIn schedule
   reason-bytes =
       let t = decodeTable table in
-      let l = runFrom t (started t) (decodeSchedule schedule) .answers in
-      length-map l reasonOf ∙ one-answer-each t (started t) (decodeSchedule schedule) ∙ commands-counted schedule
+      let l = playFrom t (opened t) (decodeSchedule schedule) .answers in
+      length-map l reasonOf ∙ one-shown-each t (opened t) (decodeSchedule schedule) ∙ commands-counted schedule
 
-  report-bytes : length (allBytes reportBytes (finished (decodeTable table) (decodeSchedule schedule) .processes)) ≡ 20 * processesIn table
+  report-bytes : length (allBytes reportBytes (ended (decodeTable table) (decodeSchedule schedule) .processes)) ≡ 20 * processesIn table
   report-bytes =
-      length-bytes reportBytes 20 (finished (decodeTable table) (decodeSchedule schedule) .processes) (λ x. refl)
-      ∙ ap (λ (n : ℕ). 20 * n) (processes-stay (decodeTable table) (decodeSchedule schedule) ∙ processes-counted table)
+      length-bytes reportBytes 20 (ended (decodeTable table) (decodeSchedule schedule) .processes) (λ x. refl)
+      ∙ ap (λ (n : ℕ). 20 * n) (processes-end (decodeTable table) (decodeSchedule schedule) ∙ processes-counted table)
 
-  origin-bytes : length (allBytes originBytes (originated (decodeTable table) (decodeSchedule schedule))) ≡ 2 * commandsIn schedule
+  origin-bytes : length (allBytes originBytes (shownFrom (decodeTable table) (decodeSchedule schedule))) ≡ 2 * commandsIn schedule
   origin-bytes =
-      length-bytes originBytes 2 (originated (decodeTable table) (decodeSchedule schedule)) (λ x. refl)
-      ∙ ap (λ (n : ℕ). 2 * n) (originated-length (decodeTable table) (decodeSchedule schedule) ∙ commands-counted schedule)
+      length-bytes originBytes 2 (shownFrom (decodeTable table) (decodeSchedule schedule)) (λ x. refl)
+      ∙ ap (λ (n : ℕ). 2 * n) (shownFrom-length (decodeTable table) (decodeSchedule schedule) ∙ commands-counted schedule)
 
 -- What a run leaves of a lent buffer: its length, and the bytes behind the first n.
 pub record Lent (n : ℕ) (before after : List ℕ) : Type 0 where
@@ -109,7 +114,7 @@ module _ (table schedule : List ℕ) (buffers : Buffers) (h : accepted table sch
   unfolding ranFrom
   answers-lent =
       rw (run-is table schedule buffers h)
-      (lent (allBytes answerBytes (answered (decodeTable table) (decodeSchedule schedule))) (buffers .answers) (6 * commandsIn schedule)
+      (lent (allBytes answerBytes (shown (decodeTable table) (decodeSchedule schedule))) (buffers .answers) (6 * commandsIn schedule)
       (answer-bytes table schedule) (answers-fit table schedule buffers h))
 
   pub reasons-lent : Lent (commandsIn schedule) (buffers .reasons) (run table schedule buffers .buffers .reasons)
@@ -117,21 +122,21 @@ module _ (table schedule : List ℕ) (buffers : Buffers) (h : accepted table sch
   reasons-lent =
       let t = decodeTable table in
       rw (run-is table schedule buffers h)
-      (lent (map reasonOf (runFrom t (started t) (decodeSchedule schedule) .answers)) (buffers .reasons) (commandsIn schedule)
+      (lent (map reasonOf (playFrom t (opened t) (decodeSchedule schedule) .answers)) (buffers .reasons) (commandsIn schedule)
       (reason-bytes table schedule) (reasons-fit table schedule buffers h))
 
   pub report-lent : Lent (20 * processesIn table) (buffers .report) (run table schedule buffers .buffers .report)
   unfolding ranFrom
   report-lent =
       rw (run-is table schedule buffers h)
-      (lent (allBytes reportBytes (finished (decodeTable table) (decodeSchedule schedule) .processes)) (buffers .report) (20 * processesIn table)
+      (lent (allBytes reportBytes (ended (decodeTable table) (decodeSchedule schedule) .processes)) (buffers .report) (20 * processesIn table)
       (report-bytes table schedule) (report-fits table schedule buffers h))
 
   pub origins-lent : Lent (2 * commandsIn schedule) (buffers .origins) (run table schedule buffers .buffers .origins)
   unfolding ranFrom
   origins-lent =
       rw (run-is table schedule buffers h)
-      (lent (allBytes originBytes (originated (decodeTable table) (decodeSchedule schedule))) (buffers .origins) (2 * commandsIn schedule)
+      (lent (allBytes originBytes (shownFrom (decodeTable table) (decodeSchedule schedule))) (buffers .origins) (2 * commandsIn schedule)
       (origin-bytes table schedule) (origins-fit table schedule buffers h))
 
 -- what is not accepted is refused

@@ -6,8 +6,8 @@ use mathlib.Core.List.{List, [], _∷_, map}
 use Prim.Native.Nat.{ℕ}
 use lib.Dec.{eqb}
 use Rattle.rules.specs.Machine.{Origin, BusWord}
-use Rattle.rules.specs.Moves.{Command, Answer, stepDone, issueDone, crashDone, rejoinDone, rebackupDone, received, queued, suppressed}
-use Rattle.rules.specs.Moves.{transmitted, injected, syncKept, syncLost, transferKept, refused, Numbers, numbered, numbers}
+use Rattle.rules.specs.Moves.{Command, Answer, stepDone, issueDone, crashDone, rejoinDone, rebackupDone, undoDone, received, queued}
+use Rattle.rules.specs.Moves.{suppressed, transmitted, injected, syncKept, syncLost, transferKept, refused, Numbers, numbered, numbers}
 use Rattle.rules.specs.Transparent.{busOf, fedOf}
 
 -- document 01's own numbers: "5 sync carried [..] (process, 0)"
@@ -18,6 +18,7 @@ numbersBefore issueDone = numbers issueDone
 numbersBefore crashDone = numbers crashDone
 numbersBefore rejoinDone = numbers rejoinDone
 numbersBefore rebackupDone = numbers rebackupDone
+numbersBefore undoDone = numbers undoDone
 numbersBefore (received x) = numbers (received x)
 numbersBefore (queued x) = numbers (queued x)
 numbersBefore (suppressed x) = numbers (suppressed x)
@@ -36,6 +37,7 @@ same-code issueDone = refl
 same-code crashDone = refl
 same-code rejoinDone = refl
 same-code rebackupDone = refl
+same-code undoDone = refl
 same-code (received x) = refl
 same-code (queued x) = refl
 same-code (suppressed x) = refl
@@ -57,6 +59,7 @@ same-added o issueDone others = refl
 same-added o crashDone others = refl
 same-added o rejoinDone others = refl
 same-added o rebackupDone others = refl
+same-added o undoDone others = refl
 same-added o (received x) others = refl
 same-added o (queued x) others = refl
 same-added o (suppressed x) others = refl

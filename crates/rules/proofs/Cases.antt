@@ -35,6 +35,9 @@ rejoin b = command 6 b 0
 abbrev pub rebackup : ℕ → Command
 rebackup p = command 7 p 0
 
+abbrev pub back : Command
+back = command 8 0 0
+
 abbrev pub times : {A : Type 0} → ℕ → List A → List A
 times zero l = []
 times (suc n) l = l ++ times n l

@@ -15,7 +15,8 @@ use Rattle.rules.specs.Machine.{sentFrom, fromOutside}
 use Rattle.rules.specs.Reference.{Reference, Action, inject, referenceStart, referenceRun}
 use Rattle.rules.specs.Cabinet.{Process, processAt, protected}
 use Rattle.rules.specs.Moves.{guard, Command, Numbers, runFrom}
-use Rattle.rules.specs.Transparent.{busOf, fedOf, machinesOf, finished}
+use Rattle.rules.specs.Undo.{standing}
+use Rattle.rules.specs.Transparent.{busOf, fedOf, busOrder, fedIn, machinesOf, finished, ended}
 use Rattle.rules.specs.Rebackup.{anyCompletes}
 use Rattle.rules.specs.Recovery.{Repairs}
 use Rattle.rules.specs.Format.{decodeTable, processesIn}
@@ -71,7 +72,7 @@ years-codes = refl
 
 -- the boards of both processes at the start and after each part: away, back, and away
 abbrev boardsAfter : List Command → List ℕ
-boardsAfter l = map (λ (x : Process). x .board) (finished (decodeTable warehouse) l .processes)
+boardsAfter l = map (λ (x : Process). x .board) (ended (decodeTable warehouse) l .processes)
 
 pub years-moved : boardsAfter [] ∷ boardsAfter first ∷ boardsAfter (first ++ second) ∷ boardsAfter years ∷ []
     ≡ (0 ∷ 1 ∷ []) ∷ (1 ∷ 1 ∷ []) ∷ (0 ∷ 0 ∷ []) ∷ (1 ∷ 1 ∷ []) ∷ []
@@ -80,7 +81,7 @@ years-moved = refl
 
 -- after the first crash the return and the resyncs, carried, make every process backed again: Recovery's theorem says something
 pub years-repaired : Repairs (decodeTable warehouse) (finished (decodeTable warehouse) first) (take 6 second)
-unfolding run guard syncReport syncNumber arriveNumber countNumber fit decodeTable
+unfolding run guard syncReport syncNumber arriveNumber countNumber fit decodeTable runFrom
 years-repaired = record { no-crash = refl; each = both }
   where
     both : (p : ℕ) → p < 2 → protected (processAt (finished (decodeTable warehouse) first) p)
@@ -108,15 +109,15 @@ unfolding referenceRun referenceStart decodeTable
 years-plain = refl
 
 -- the feeds that answered 4, the bus order with the origins, and the end, which is quiet
-pub years-fed : fedOf years yearAnswers ≡ mail 0 5 ∷ mail 0 7 ∷ mail 0 9 ∷ []
-unfolding fedOf run guard syncReport syncNumber arriveNumber countNumber fit
+pub years-fed : fedIn years yearAnswers (originsIn (runOf warehouse years)) ≡ mail 0 5 ∷ mail 0 7 ∷ mail 0 9 ∷ []
+unfolding fedOf standing run guard syncReport syncNumber arriveNumber countNumber fit
 years-fed = refl
 
-pub years-compared : busOf yearAnswers (originsIn (runOf warehouse years)) ≡ plainYears .trace
-unfolding busOf run guard syncReport syncNumber arriveNumber countNumber fit
+pub years-compared : busOrder years yearAnswers (originsIn (runOf warehouse years)) ≡ plainYears .trace
+unfolding busOf standing run guard syncReport syncNumber arriveNumber countNumber fit
 years-compared = refl
 
-pub years-end : machinesOf (finished (decodeTable warehouse) years) ≡ plainYears .machines
+pub years-end : machinesOf (ended (decodeTable warehouse) years) ≡ plainYears .machines
 unfolding run guard syncReport syncNumber arriveNumber countNumber fit
 years-end = refl
 

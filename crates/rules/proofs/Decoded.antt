@@ -10,7 +10,7 @@ use Rattle.rules.specs.Table.{Instruction, SET, ADD, TAKE, FIRST, SEND, 
 use Rattle.rules.specs.Format.{instruction}
 use Rattle.rules.specs.Cabinet.{Process, exhausted}
 use Rattle.rules.specs.Reasons.{refusalCause}
-use Rattle.rules.specs.Moves.{Move, stepMove, issueMove, transmitMove, injectMove, crashMove, rejoinMove, rebackupMove, unknown, moveOf, Refusal, unknownMove, strayWord, noProcess, noBoard, noChannel, transmitDead, crashDead, isHalted, noWordToTake, noWordForFirst, eventsFull, instructionsFull, sendBlocked, syncBlocked, rebackupBlocked, sendHeld, injectHeld, noBackup, syncWaits, rebackupWaits, outboxEmpty, notOutside, notBacked, boardLive, unready, hasBackup, refusalNumber, missing, owedFor}
+use Rattle.rules.specs.Moves.{Move, stepMove, issueMove, transmitMove, injectMove, crashMove, rejoinMove, rebackupMove, unknown, moveOf, Refusal, unknownMove, strayWord, noProcess, noBoard, noChannel, transmitDead, crashDead, isHalted, noWordToTake, noWordForFirst, eventsFull, instructionsFull, sendBlocked, syncBlocked, rebackupBlocked, sendHeld, injectHeld, noBackup, syncWaits, rebackupWaits, outboxEmpty, notOutside, notBacked, boardLive, unready, hasBackup, noneKept, refusalNumber, missing, owedFor}
 
 -- ---- moves
 
@@ -61,10 +61,10 @@ instruction-none (suc (suc (suc (suc (suc (suc (suc n))))))) a operand h1 h2 h3 
 
 -- ---- refusals
 
--- "Refusals [..] are checked in the order written below": 32 to 44; W-210: "New numbers: 48 [..]; 49 [..]; 50"
+-- "Refusals [..] are checked in the order written below": 32 to 44; W-210: "New numbers: 48 [..]; 49 [..]; 50"; W-214: 53
 pub record InList (n : ℕ) : Type 0 where
   pub low : 32 ≤ n
-  pub high : n ≤ 50
+  pub high : n ≤ 53
 
 pub refusalNumber-listed : (why : Refusal) → InList (refusalNumber why)
 unfolding refusalNumber
@@ -94,6 +94,7 @@ refusalNumber-listed notBacked = record { low = omega arith; high = omega arith 
 refusalNumber-listed boardLive = record { low = omega arith; high = omega arith }
 refusalNumber-listed unready = record { low = omega arith; high = omega arith }
 refusalNumber-listed hasBackup = record { low = omega arith; high = omega arith }
+refusalNumber-listed noneKept = record { low = omega arith; high = omega arith }
 
 -- no refusal is a 4
 pub refusalNumber-not-4 : (why : Refusal) → eqb (refusalNumber why) 4 ≡ false

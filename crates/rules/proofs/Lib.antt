@@ -51,6 +51,10 @@ pub mod Totals
 pub mod Homes
 -- W-211: backed again, and nothing again.
 pub mod Recovery
+-- W-214: a session by records, the records that stand in it, and what is taken back.
+pub mod Undo
+pub mod Standing
+pub mod Undoes
 -- W-213: the three counts together, what the runs of a sweep share, and that the crash put in is never refused.
 pub mod Sweep
 pub mod PutIn
@@ -72,6 +76,7 @@ pub mod LongCases
 pub mod LimitCases
 pub mod RejoinCases
 pub mod SweepCases
+pub mod UndoCases
 pub mod ReasonCases
 pub mod FormatCases
 pub mod PageCases

@@ -2,15 +2,15 @@
 use mathlib.Core.Path.{_≡_, refl}
 use Prim.Native.Nat.{ℕ, _+_, _*_, _≤_, _<_}
 use native.Mathlib.Omega.{arith}
-use Rattle.rules.specs.Moves.{Refusal, unknownMove, strayWord, noProcess, noBoard, noChannel, transmitDead, crashDead, isHalted, noWordToTake, noWordForFirst, eventsFull, instructionsFull, sendBlocked, syncBlocked, rebackupBlocked, sendHeld, injectHeld, noBackup, syncWaits, rebackupWaits, outboxEmpty, notOutside, notBacked, boardLive, unready, hasBackup, refusalNumber, Answer, stepDone, issueDone, crashDone, rejoinDone, rebackupDone, received, queued, suppressed, transmitted, injected, syncKept, syncLost, transferKept, refused, numbers}
+use Rattle.rules.specs.Moves.{Refusal, unknownMove, strayWord, noProcess, noBoard, noChannel, transmitDead, crashDead, isHalted, noWordToTake, noWordForFirst, eventsFull, instructionsFull, sendBlocked, syncBlocked, rebackupBlocked, sendHeld, injectHeld, noBackup, syncWaits, rebackupWaits, outboxEmpty, notOutside, notBacked, boardLive, unready, hasBackup, noneKept, refusalNumber, Answer, stepDone, issueDone, crashDone, rejoinDone, rebackupDone, undoDone, received, queued, suppressed, transmitted, injected, syncKept, syncLost, transferKept, refused, numbers}
 use Rattle.rules.specs.Reasons.{refusalCause, causeOf, reasonOf}
 
--- no code is above 50, and no cause above 3
+-- no code is above 53, and no cause above 3
 pub record Small (code cause : ℕ) : Type 0 where
-  pub code-small : code ≤ 50
+  pub code-small : code ≤ 53
   pub cause-small : cause < 4
 
-small : {code cause : ℕ} → code ≤ 50 → cause < 4 → Small code cause
+small : {code cause : ℕ} → code ≤ 53 → cause < 4 → Small code cause
 small a b = record { code-small = a; cause-small = b }
 
 refusal-small : (why : Refusal) → Small (refusalNumber why) (refusalCause why)
@@ -41,6 +41,7 @@ refusal-small notBacked = small (omega arith) (omega arith)
 refusal-small boardLive = small (omega arith) (omega arith)
 refusal-small unready = small (omega arith) (omega arith)
 refusal-small hasBackup = small (omega arith) (omega arith)
+refusal-small noneKept = small (omega arith) (omega arith)
 
 pub answer-small : (x : Answer) → Small (numbers x .code) (causeOf x)
 unfolding numbers causeOf
@@ -49,6 +50,7 @@ answer-small issueDone = small (omega arith) (omega arith)
 answer-small crashDone = small (omega arith) (omega arith)
 answer-small rejoinDone = small (omega arith) (omega arith)
 answer-small rebackupDone = small (omega arith) (omega arith)
+answer-small undoDone = small (omega arith) (omega arith)
 answer-small (received x) = small (omega arith) (omega arith)
 answer-small (queued x) = small (omega arith) (omega arith)
 answer-small (suppressed x) = small (omega arith) (omega arith)

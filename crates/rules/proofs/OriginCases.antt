@@ -12,7 +12,8 @@ use Rattle.rules.specs.Table.{TAKE, SEND, JUMP}
 use Rattle.rules.specs.Machine.{Mail, BusWord, sentFrom, fromOutside}
 use Rattle.rules.specs.Reference.{Action, inject, referenceStart, referenceRun}
 use Rattle.rules.specs.Moves.{guard, Command}
-use Rattle.rules.specs.Transparent.{traceOf, busOf}
+use Rattle.rules.specs.Undo.{standing}
+use Rattle.rules.specs.Transparent.{traceOf, busOf, busOrder, wordOrder}
 use Rattle.rules.specs.Format.{decodeTable}
 use Rattle.rules.specs.Run.{run}
 use Rattle.rules.specs.Transparency.{answersIn, originsIn}
@@ -54,28 +55,28 @@ jump-hidden = refl
 
 -- the bus order of channels and words
 abbrev words : ℕ → List Mail
-words place = traceOf (answersIn (runOf (jumpingTo place) crashing))
+words place = let r = runOf (jumpingTo place) crashing in wordOrder crashing (answersIn r) (originsIn r)
 
 abbrev wordsBoth : List Mail
 wordsBoth = mail 0 7 ∷ mail 1 7 ∷ mail 0 9 ∷ mail 1 9 ∷ []
 
 pub words-agree : words 2 ∷ words 4 ∷ [] ≡ wordsBoth ∷ wordsBoth ∷ []
-unfolding traceOf run guard fit arriveNumber countNumber
+unfolding traceOf standing run guard fit arriveNumber countNumber
 words-agree = refl
 
 -- and what is compared now
 abbrev bus : ℕ → List BusWord
-bus place = let r = runOf (jumpingTo place) crashing in busOf (answersIn r) (originsIn r)
+bus place = let r = runOf (jumpingTo place) crashing in busOrder crashing (answersIn r) (originsIn r)
 
 abbrev busFrom : ℕ → List BusWord
 busFrom place = fromOutside (mail 0 7) ∷ sentFrom 0 place (mail 1 7) ∷ fromOutside (mail 0 9) ∷ sentFrom 0 place (mail 1 9) ∷ []
 
 pub jumped-to-2 : bus 2 ≡ busFrom 2
-unfolding busOf run guard fit arriveNumber countNumber
+unfolding busOf standing run guard fit arriveNumber countNumber
 jumped-to-2 = refl
 
 pub jumped-to-4 : bus 4 ≡ busFrom 4
-unfolding busOf run guard fit arriveNumber countNumber
+unfolding busOf standing run guard fit arriveNumber countNumber
 jumped-to-4 = refl
 
 -- the place of the second word

@@ -13,6 +13,7 @@ use Rattle.facts.specs.Indexing.{getD-map, getD-replicate-any}
 use Rattle.rules.specs.Table.{Table, placementAt}
 use Rattle.rules.specs.Cabinet.{Cabinet, placed, started, nobody, processAt, deadAt, protected}
 use Rattle.rules.specs.Moves.{Command, Move, stepMove, issueMove, transmitMove, injectMove, crashMove, rejoinMove, rebackupMove, unknown, moveOf, Answer, crashDone, syncKept, syncLost, guard, withProcess, withOutbox, keeps, deliver, perform, turn, runFrom}
+use Rattle.rules.specs.Undo.{isUndo}
 use Rattle.rules.specs.Judge.{Accepted}
 use Rattle.rules.specs.Transparent.{finished}
 use Rattle.rules.specs.Recovery.{isCrash, anyCrash}
@@ -87,7 +88,7 @@ run-unhurt : (t : Table) (c : Cabinet) (commands : List Command) → anyBarred c
 unfolding runFrom
 run-unhurt t c [] h live = (refl, live)
 run-unhurt t c (r ∷ rs) h live =
-    let one = or-left (isBarred r) (anyBarred rs) h in
+    let one = or-left (eqb (r .move) 5) (isUndo r) (or-left (isBarred r) (anyBarred rs) h) in
     let now = turn-unhurt t c r one in
     let rest = run-unhurt t (turn t c r .cabinet) rs (or-right (isBarred r) (anyBarred rs) h) (now .1 live) in
     (rw (now .0) (rest .0), rest .1)

@@ -6,10 +6,11 @@ use mathlib.Core.List.{List, [], _∷_, _++_, map}
 use Prim.Native.Nat.{ℕ}
 use lib.ListN.{replicate}
 use Rattle.backup.specs.Replica.{fit, arriveNumber, countNumber}
-use Rattle.rules.specs.Machine.{Mail, sentFrom, fromOutside}
+use Rattle.rules.specs.Machine.{Mail, Origin, sentFrom, fromOutside}
 use Rattle.rules.specs.Reference.{Reference, Action, inject, step, referenceStart, referenceRun}
 use Rattle.rules.specs.Moves.{guard, Numbers}
-use Rattle.rules.specs.Transparent.{busOf, fedOf, machinesOf, finished}
+use Rattle.rules.specs.Undo.{standing}
+use Rattle.rules.specs.Transparent.{busOf, fedOf, busOrder, fedIn, machinesOf, ended}
 use Rattle.rules.specs.Format.{decodeTable}
 use Rattle.rules.specs.Run.{run}
 use Rattle.rules.specs.Transparency.{answersIn, originsIn}
@@ -44,17 +45,20 @@ plain-page = refl
 abbrev pageAnswers : List Numbers
 pageAnswers = answersIn (runOf sample samplePage)
 
+abbrev pageOrigins : List Origin
+pageOrigins = originsIn (runOf sample samplePage)
+
 -- "its feeds are, in order, the feeds of our list that answered 4"
-pub page-fed : fedOf samplePage pageAnswers ≡ mail 0 5 ∷ mail 0 7 ∷ []
-unfolding fedOf run guard fit arriveNumber countNumber
+pub page-fed : fedIn samplePage pageAnswers pageOrigins ≡ mail 0 5 ∷ mail 0 7 ∷ []
+unfolding fedOf standing run guard fit arriveNumber countNumber
 page-fed = refl
 
 -- "the answers 4, each as its channel and word", with sender and place: its one SEND stands at place 2
-pub page-compared : busOf pageAnswers (originsIn (runOf sample samplePage)) ≡ plainEnd .trace
-unfolding busOf run guard fit arriveNumber countNumber
+pub page-compared : busOrder samplePage pageAnswers pageOrigins ≡ plainEnd .trace
+unfolding busOf standing run guard fit arriveNumber countNumber
 page-compared = refl
 
 -- "At a quiet end its places, registers and inboxes": those after our last record
-pub page-end : machinesOf (finished (decodeTable sample) samplePage) ≡ plainEnd .machines
+pub page-end : machinesOf (ended (decodeTable sample) samplePage) ≡ plainEnd .machines
 unfolding run guard fit arriveNumber countNumber
 page-end = refl

@@ -51,7 +51,7 @@ firstWord = feed 0 5 ∷ step 0 ∷ step 0 ∷ step 0 ∷ carry 0 ∷ []
 abbrev pub refusals : List Case
 refusals =
     -- "Neither move is unknown any more under 32, and both take 33." "48, a return of a live board, after 33"
-    case (codesOf sample (command 6 2 5 ∷ command 7 1 5 ∷ rejoin 2 ∷ rebackup 1 ∷ command 8 0 0 ∷ rejoin 0 ∷ [])) ((32 ∷ 32 ∷ 33 ∷ 33 ∷ 32 ∷ 48 ∷ []) ∷ [])
+    case (codesOf sample (command 6 2 5 ∷ command 7 1 5 ∷ rejoin 2 ∷ rebackup 1 ∷ command 9 0 0 ∷ rejoin 0 ∷ [])) ((32 ∷ 32 ∷ 33 ∷ 33 ∷ 32 ∷ 48 ∷ []) ∷ [])
     -- 50 before 49: the other board is dead, and a word is held back; then 49 until it has been held back
     ∷ case (codesOf sample (firstWord ++ (crash 0 ∷ rebackup 0 ∷ rejoin 0 ∷ rebackup 0 ∷ step 0 ∷ step 0 ∷ rebackup 0 ∷ step 0 ∷ rebackup 0 ∷ carry 1 ∷ [])))
     ((4 ∷ 1 ∷ 0 ∷ 2 ∷ 4 ∷ 0 ∷ 50 ∷ 0 ∷ 49 ∷ 1 ∷ 0 ∷ 49 ∷ 3 ∷ 0 ∷ 5 ∷ []) ∷ [])
@@ -150,5 +150,5 @@ causes =
     ∷ []
 
 pub causes-hold : given causes ≡ said causes
-unfolding run guard syncNumber arriveNumber countNumber fit decodeTable
+unfolding run guard syncNumber arriveNumber countNumber fit decodeTable runFrom
 causes-hold = refl

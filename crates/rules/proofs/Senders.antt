@@ -1,9 +1,9 @@
 -- W-212: what an origin says. The word was fed, or at that place of that process stands a SEND to its channel: of every plain run, and so of
--- the bytes of every accepted run.
-use mathlib.Core.Path.{_≡_, refl, ap, subst}
+-- every word that an accepted run shows, also those of records that were taken back (W-214).
+use mathlib.Core.Path.{_≡_, refl, ap, sym, _∙_, subst}
 use mathlib.Core.Bool.{Bool, true, false, cond}
 use mathlib.Core.Option.{Option, none, some}
-use mathlib.Core.List.{List, [], _∷_, _++_}
+use mathlib.Core.List.{List, [], _∷_, _++_, map, append-assoc, reverse}
 use Prim.Native.Nat.{ℕ}
 use lib.Dec.{eqb, ltb}
 use lib.ListN.{length, getD}
@@ -14,17 +14,27 @@ use Rattle.rules.specs.Machine.{Mail, BusWord, sentFrom, fromOutside, Ma
 use Rattle.rules.specs.Machine.{Outcome, halted, noMail, moved, Pull, nothing, found, pull, bit, take1, first1, execute, localStep}
 use Rattle.rules.specs.Reference.{Reference, Action, inject, step, posted, withMachine, stepped, act, andThen}
 use Rattle.rules.specs.Reference.{referenceStart, referenceRun}
+use Rattle.rules.specs.Cabinet.{Cabinet, started}
+use Rattle.rules.specs.Moves.{Command, strayWord, noneKept, Answer, refused, numbers, originOf, turn, runFrom}
+use Rattle.rules.specs.Undo.{Session, opened, isUndo, isBare, undone, undo, stride, playFrom, Noted, standsAfter, commandsOf}
+use Rattle.rules.specs.Judge.{Accepted}
 use Rattle.rules.specs.Origins.{SendsAt, Genuine, was-fed, was-sent, AllGenuine, none-shown, one-shown}
 use Rattle.rules.specs.Format.{decodeTable}
+use Rattle.rules.specs.Schedule.{decodeSchedule}
 use Rattle.rules.specs.Run.{Buffers, run, accepted}
 use Rattle.rules.specs.Transparent.{busOf}
 use Rattle.rules.specs.Transparency.{answersIn, originsIn}
 use Rattle.rules.proofs.Steps.{Steps, executes}
-use Rattle.rules.proofs.Theorem.{failure-transparency}
+use Rattle.rules.proofs.Turn.{onBus, refused-bus, bus-cons}
+use Rattle.rules.proofs.Undo.{one-answer-more, forward-answers}
+use Rattle.rules.proofs.Standing.{Stands, note, stands-more, stands-none}
+use Rattle.rules.proofs.Transparency.{moves-transparent}
+use Rattle.rules.proofs.Valid.{decoded-accepted}
+use Rattle.rules.proofs.AcceptedRun.{table-valid, answers-read, origins-read}
 
-one-more : {t : Table} {w : BusWord} {l : List BusWord} → AllGenuine t l → Genuine t w → AllGenuine t (l ++ (w ∷ []))
-one-more none-shown g = one-shown g none-shown
-one-more (one-shown h r) g = one-shown h (one-more r g)
+both-genuine : {t : Table} {l m : List BusWord} → AllGenuine t l → AllGenuine t m → AllGenuine t (l ++ m)
+both-genuine none-shown h = h
+both-genuine (one-shown g r) h = one-shown g (both-genuine r h)
 
 -- ---- an instruction that sends is a SEND
 
@@ -69,7 +79,7 @@ module _ (t : Table) where
   step-genuine s p (moved m (took x)) h g e k = at-end (withMachine p m s) e (cc) g
   step-genuine s p (moved m (sent x)) h g e k =
       at-end (posted t (sentFrom p (getD (s .machines) p booted .pc) x) (withMachine p m s)) e (cc)
-      (one-more g (was-sent (sends-at t p (record { is = h }))))
+      (both-genuine g (one-shown (was-sent (sends-at t p (record { is = h }))) none-shown))
 
   act-genuine : (s : Reference) (a : Action) → AllGenuine t (s .trace) → (e : Reference) → act t s a ≡ some e → AllGenuine t (e .trace)
   unfolding act posted
@@ -77,7 +87,7 @@ module _ (t : Table) where
     where
       go : (a b : Bool) → eqb (channelAt t (x .channel) .sender) environment ≡ b
           → cond a (cond b (some (posted t (fromOutside x) s)) none) none ≡ some e → AllGenuine t (e .trace)
-      go true true h f = at-end (posted t (fromOutside x) s) e (cc) (one-more g (was-fed (eqb-true _ _ h)))
+      go true true h f = at-end (posted t (fromOutside x) s) e (cc) (both-genuine g (one-shown (was-fed (eqb-true _ _ h)) none-shown))
       go true false h f = absurd (no-way (cc))
       go false b h f = absurd (no-way (cc))
   act-genuine s (step p) g e k = go (ltb p (length (s .machines))) k
@@ -103,10 +113,66 @@ module _ (t : Table) where
   unfolding referenceStart
   plain-genuine l e k = run-genuine l (referenceStart t) none-shown e k
 
+-- ---- of every list of commands: each word that a record puts on the bus, taken back later (W-214) or not
+
+rest-genuine : {t : Table} (l : List BusWord) {m : List BusWord} → AllGenuine t (l ++ m) → AllGenuine t m
+rest-genuine [] h = h
+rest-genuine (x ∷ l) (one-shown g r) = rest-genuine l r
+
+abbrev busBy : List Answer → List BusWord
+busBy l = busOf (map numbers l) (map originOf l)
+
+bus-parts : (l m : List Answer) → busBy (l ++ m) ≡ busBy l ++ busBy m
+unfolding busOf
+bus-parts [] m = refl
+bus-parts (a ∷ l) m =
+    rw (← bus-cons (numbers a) (originOf a) (map numbers (l ++ m)) (map originOf (l ++ m)), bus-parts l m)
+    (sym (append-assoc (onBus a) (busBy l) (busBy m))
+    ∙ ap (λ (x : List BusWord). x ++ busBy m) (bus-cons (numbers a) (originOf a) (map numbers l) (map originOf l)))
+
+undo-silent : (s : Session) (r : Command) (bare : Bool) (kept : List Cabinet)
+    → onBus (cond bare (undone s r kept) (record { session = s; answer = refused strayWord (r .a) }) .answer) ≡ []
+unfolding undone busOf numbers
+undo-silent s r true [] = refused-bus noneKept (r .a)
+undo-silent s r true (c ∷ older) = refl
+undo-silent s r false kept = refused-bus strayWord (r .a)
+
+module _ (t : Table) (ok : Accepted t) where
+  moves-genuine : (commands : List Command) → AllGenuine t (busBy (runFrom t (started t) commands .answers))
+  moves-genuine commands =
+      let x = moves-transparent t ok commands in
+      subst (AllGenuine t) (x .same-trace) (plain-genuine t (x .actions) (x .end) (x .ran))
+
+  answer-genuine : (s : Session) (l : List Noted) → Stands t s l → (r : Command) → AllGenuine t (onBus (stride t s r .answer))
+  unfolding stride undo
+  answer-genuine s l h r = go (isUndo r) refl
+    where
+      records : List Command
+      records = commandsOf (reverse l)
+
+      go : (b : Bool) → isUndo r ≡ b → AllGenuine t (onBus (stride t s r .answer))
+      go true e = rw (e, undo-silent s r (isBare r) (s .kept)) none-shown
+      go false e =
+          let now : Answer = turn t (runFrom t (started t) records .cabinet) r .answer in
+          let more : busBy (runFrom t (started t) (records ++ (r ∷ [])) .answers) ≡ busBy (runFrom t (started t) records .answers) ++ onBus now =
+          ap busBy (one-answer-more t (started t) records r) ∙ bus-parts (runFrom t (started t) records .answers) (now ∷ []) in
+          rw (forward-answers t (started t) s records (h .keeps) r e)
+          (rest-genuine (busBy (runFrom t (started t) records .answers)) (subst (AllGenuine t) more (moves-genuine (records ++ (r ∷ [])))))
+
+  list-genuine : (s : Session) (l : List Noted) → Stands t s l → (commands : List Command) → AllGenuine t (busBy (playFrom t s commands .answers))
+  unfolding playFrom busOf
+  list-genuine s l h [] = none-shown
+  list-genuine s l h (r ∷ rs) =
+      let now : Answer = stride t s r .answer in
+      let rest : List Answer = playFrom t (stride t s r .session) rs .answers in
+      subst (AllGenuine t) (bus-cons (numbers now) (originOf now) (map numbers rest) (map originOf rest))
+      (both-genuine (answer-genuine s l h r) (list-genuine (stride t s r .session) (standsAfter l (note t s r)) (stands-more t s l h r) rs))
+
 -- ---- of what an accepted run leaves in its buffers
 
 pub bus-genuine : (table schedule : List ℕ) (buffers : Buffers) → accepted table schedule buffers ≡ true
     → (let r = run table schedule buffers in AllGenuine (decodeTable table) (busOf (answersIn r) (originsIn r)))
 bus-genuine table schedule buffers h =
-    let x = failure-transparency table schedule buffers h in
-    subst (AllGenuine (decodeTable table)) (x .same-trace) (plain-genuine (decodeTable table) (x .actions) (x .end) (x .ran))
+    let t = decodeTable table in
+    rw (answers-read table schedule buffers h, origins-read table schedule buffers h)
+    (list-genuine t (decoded-accepted table (table-valid table schedule buffers h)) (opened t) [] (stands-none t) (decodeSchedule schedule))

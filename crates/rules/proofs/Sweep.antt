@@ -1,7 +1,7 @@
 -- W-213: the three counts of a sweep together, and what its runs share.
-use mathlib.Core.Path.{_≡_, refl, ap}
+use mathlib.Core.Path.{_≡_, refl, ap, _∙_}
 use mathlib.Core.Bool.{Bool, true, false, cond}
-use mathlib.Core.List.{List, _∷_}
+use mathlib.Core.List.{List, [], _∷_}
 use Prim.Native.Nat.{ℕ, zero, suc, _+_, _*_, _<_}
 use native.Mathlib.Omega.{arith}
 use native.Mathlib.Nat.{suc-mul}
@@ -9,17 +9,21 @@ use lib.Dec.{eqb}
 use lib.ListN.{length, getD, take, drop}
 use lib.Seq.{take-suc}
 use borrow.Author.Tests.{eqb-true}
+use Rattle.facts.specs.Tests.{or-left, or-right}
 use Rattle.facts.specs.Counts.{cond-more}
 use Rattle.facts.specs.Bits.{countBelow}
 use Rattle.facts.specs.Sums.{sumBelow}
 use Rattle.rules.specs.Table.{Table}
 use Rattle.rules.specs.Cabinet.{started}
 use Rattle.rules.specs.Moves.{Command, turn, Outcomes, runFrom}
+use Rattle.rules.specs.Undo.{isUndo, anyUndo}
 use Rattle.rules.specs.Transparent.{finished}
-use Rattle.rules.specs.Sweep.{crashOf, Ending, quietEnd, heldEnd, freeEnd, endingOf, endingAt, isQuiet, isHeld, isFree, countOf, Swept, sweptOf, validateSweep, sweep}
+use Rattle.rules.specs.Sweep.{crashOf, pulledAt, Ending, quietEnd, heldEnd, freeEnd, endingOf, endingAt, isQuiet, isHeld, isFree}
+use Rattle.rules.specs.Sweep.{countOf, Swept, sweptOf, isBarred, anyBarred, validateSweep, sweep}
 use Rattle.rules.specs.Format.{decodeTable}
 use Rattle.rules.specs.Schedule.{decodeSchedule}
 use Rattle.rules.proofs.Recovery.{run-parts, one-more}
+use Rattle.rules.proofs.Standing.{ended-forward}
 
 -- ---- "the three together make (n + 1) × B"
 
@@ -57,12 +61,26 @@ three-together t commands =
 
 -- ---- what the runs share
 
+no-undo : (commands : List Command) → anyBarred commands ≡ false → anyUndo commands ≡ false
+no-undo [] h = refl
+no-undo (r ∷ rs) h =
+    let one = or-left (isBarred r) (anyBarred rs) h in
+    rw (or-right (eqb (r .move) 5) (isUndo r) one) (no-undo rs (or-right (isBarred r) (anyBarred rs) h))
+
+pulled-forward : (commands : List Command) (place b : ℕ) → anyUndo commands ≡ false → anyUndo (pulledAt commands place b) ≡ false
+pulled-forward commands zero b h = h
+pulled-forward [] (suc place) b h = refl
+pulled-forward (r ∷ rs) (suc place) b h =
+    rw (or-left (isUndo r) (anyUndo rs) h) (pulled-forward rs place b (or-right (isUndo r) (anyUndo rs) h))
+
 -- the run with the crash at one place goes on from the cabinet that the records before it leave, which is the same for all boards
-pub pulled-ends : (t : Table) (commands : List Command) (place b : ℕ)
+pub pulled-ends : (t : Table) (commands : List Command) (place b : ℕ) → anyBarred commands ≡ false
     → endingAt t commands place b ≡ endingOf t (runFrom t (turn t (finished t (take place commands)) (crashOf b) .cabinet) (drop place commands) .cabinet)
 unfolding endingAt runFrom
-pulled-ends t commands place b =
-    ap (λ (x : Outcomes). endingOf t (x .cabinet)) (run-parts t (started t) (take place commands) (crashOf b ∷ drop place commands))
+pulled-ends t commands place b h =
+    ap (endingOf t)
+    (ended-forward t (pulledAt commands place b) (pulled-forward commands place b (no-undo commands h))
+    ∙ ap (λ (x : Outcomes). x .cabinet) (run-parts t (started t) (take place commands) (crashOf b ∷ drop place commands)))
 
 -- and those records are one more at each place
 pub next-place : (t : Table) (commands : List Command) (place : ℕ) (d : Command) → place < length commands

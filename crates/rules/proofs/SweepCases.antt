@@ -42,6 +42,8 @@ sweeps =
     ∷ case (numbersOf (sweep second (scheduleBytes (unharmed 1)))) ((0 ∷ 13 ∷ 4 ∷ 9 ∷ []) ∷ [])
     -- "a record of move 5, whatever its a and word"
     ∷ case (numbersOf (sweep sample (scheduleBytes (step 0 ∷ command 5 9 9 ∷ [])))) ((52 ∷ 0 ∷ 0 ∷ 0 ∷ []) ∷ [])
+    -- a move 8 (W-214), also one that would be refused
+    ∷ case (numbersOf (sweep sample (scheduleBytes (command 8 0 1 ∷ [])))) ((52 ∷ 0 ∷ 0 ∷ 0 ∷ []) ∷ [])
     -- "after 10"
     ∷ case (numbersOf (sweep sample (set (scheduleBytes (crash 0 ∷ [])) 2 2))) ((10 ∷ 0 ∷ 0 ∷ 0 ∷ []) ∷ [])
     ∷ []

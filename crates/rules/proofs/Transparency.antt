@@ -11,16 +11,23 @@ use Rattle.rules.specs.Reference.{referenceStart, injections}
 use Rattle.rules.specs.Cabinet.{quiescent}
 use Rattle.rules.specs.Moves.{Command}
 use Rattle.rules.specs.Judge.{Accepted}
-use Rattle.rules.specs.Transparent.{ListTransparent, busOf, fedOf, answered, originated, finished}
+use Rattle.rules.specs.Transparent.{Transparent, ListTransparent, busOf, fedOf, machinesOf, answered, originated, finished}
 use Rattle.rules.proofs.References.{run-append, injections-append}
 use Rattle.rules.proofs.Follow.{Follows}
 use Rattle.rules.proofs.Start.{reached}
 use Rattle.rules.proofs.Quiet.{all-caught-up, same-machines, no-more}
+use Rattle.rules.proofs.Standing.{standingIn, ended-is, answers-are, origins-are}
+
+-- demand 3 of the cabinet's own moves, which take nothing back
+abbrev pub MovesTransparent : Table → List Command → Type 0
+MovesTransparent t commands =
+    Transparent t (fedOf commands (answered t commands)) (busOf (answered t commands) (originated t commands))
+    (quiescent t (finished t commands)) (machinesOf (finished t commands))
 
 -- at a quiet end the reference machine goes on to the running machines
 finish : (t : Table) (commands : List Command)
     → Follows t (finished t commands) (referenceStart t) (busOf (answered t commands) (originated t commands)) (fedOf commands (answered t commands))
-    → (quiet : Bool) → quiescent t (finished t commands) ≡ quiet → ListTransparent t commands
+    → (quiet : Bool) → quiescent t (finished t commands) ≡ quiet → MovesTransparent t commands
 unfolding referenceStart
 finish t commands f false q =
     record {
@@ -47,5 +54,9 @@ finish t commands f true q =
       no-step = λ _. no-more (f .invariant) q r;
     }
 
+pub moves-transparent : (t : Table) → Accepted t → (commands : List Command) → MovesTransparent t commands
+moves-transparent t ok commands = finish t commands (reached t ok commands .follows) (quiescent t (finished t commands)) refl
+
+-- of any list, with records taken back or without: that of the records which stand
 pub transparent : (t : Table) → Accepted t → (commands : List Command) → ListTransparent t commands
-transparent t ok commands = finish t commands (reached t ok commands .follows) (quiescent t (finished t commands)) refl
+transparent t ok commands = rw (answers-are t commands, origins-are t commands, ended-is t commands) (moves-transparent t ok (standingIn t commands))

@@ -27,7 +27,7 @@ use Rattle.rules.proofs.KeepRoom.{turn-room}
 -- ---- one command
 
 -- the word that an answer puts on the bus, with its origin
-abbrev onBus : Answer → List BusWord
+abbrev pub onBus : Answer → List BusWord
 onBus a = busOf (numbers a ∷ []) (originOf a ∷ [])
 
 -- the feed that a command of a move is, if it was accepted
@@ -38,7 +38,7 @@ pub refused-trace : (why : Refusal) (a : ℕ) → busWords (refused why a) ≡ [
 unfolding traceOf numbers
 refused-trace why a = rw (refusalNumber-not-4 why)
 
-refused-bus : (why : Refusal) (a : ℕ) → onBus (refused why a) ≡ []
+pub refused-bus : (why : Refusal) (a : ℕ) → onBus (refused why a) ≡ []
 unfolding busOf numbers
 refused-bus why a = rw (refusalNumber-not-4 why)
 
@@ -97,7 +97,7 @@ pub trace-cons : (n : Numbers) (l : List Numbers) → traceOf (n ∷ []) ++ trac
 unfolding traceOf
 trace-cons n l = cons-by (eqb (n .code) 4) (record { channel = n .a; word = n .word }) (traceOf l)
 
-bus-cons : (n : Numbers) (o : Origin) (l : List Numbers) (origins : List Origin)
+pub bus-cons : (n : Numbers) (o : Origin) (l : List Numbers) (origins : List Origin)
     → busOf (n ∷ []) (o ∷ []) ++ busOf l origins ≡ busOf (n ∷ l) (o ∷ origins)
 unfolding busOf
 bus-cons n o l origins =

@@ -11,7 +11,7 @@ pub record Command : Type 0 where
 
 -- why a record is refused, with what told it apart: several have one number
 pub data Refusal : Type 0 where
-  -- "an unknown move or a word that should be 0"
+  -- "an unknown move or a word that should be 0"; of a move 8 the a should be 0, too (W-214)
   unknownMove strayWord : Refusal
   -- "a is no process, board or channel of this table"
   noProcess noBoard noChannel : Refusal
@@ -28,7 +28,7 @@ pub data Refusal : Type 0 where
   sendHeld injectHeld : Refusal
   -- of a sync, and of a resync
   syncWaits rebackupWaits : Refusal
-  noBackup outboxEmpty notOutside notBacked boardLive unready hasBackup : Refusal
+  noBackup outboxEmpty notOutside notBacked boardLive unready hasBackup noneKept : Refusal
 
 unfoldable pub refusalNumber : Refusal → ℕ
 refusalNumber unknownMove = 32
@@ -57,10 +57,13 @@ refusalNumber notBacked = 44
 refusalNumber boardLive = 48
 refusalNumber unready = 49
 refusalNumber hasBackup = 50
+refusalNumber noneKept = 53
 
 pub data Answer : Type 0 where
   -- a step, a sync, a crash, a return and a resync that are done
   stepDone issueDone crashDone rejoinDone rebackupDone : Answer
+  -- a record was taken back (W-214)
+  undoDone : Answer
   received queued suppressed : Mail → Answer
   -- on the bus: a word that was carried, and one that was fed
   transmitted : BusWord → Answer
@@ -83,7 +86,7 @@ numbered code a word = record { code = code; a = a; word = word }
 
 -- "0 done (0, 0). 1 took, 2 queued, 3 held back, 4 word on the bus (channel, word); a feed answers 4. 5 sync carried, 6 sync with no
 -- backup left (process, 0). Refusals repeat a with word 0". W-202: "A carried sync then answers 5 with the total dropped as its word".
--- W-210: "Move 7 done, like move 6 done, answers 0." "Its carry answers 5 with word 0".
+-- W-210: "Move 7 done, like move 6 done, answers 0." "Its carry answers 5 with word 0". W-214: "answers 7 with 0 and 0".
 unfoldable pub numbers : Answer → Numbers
 unfolding refusalNumber
 numbers stepDone = numbered 0 0 0
@@ -91,6 +94,7 @@ numbers issueDone = numbered 0 0 0
 numbers crashDone = numbered 0 0 0
 numbers rejoinDone = numbered 0 0 0
 numbers rebackupDone = numbered 0 0 0
+numbers undoDone = numbered 7 0 0
 numbers (received x) = numbered 1 (x .channel) (x .word)
 numbers (queued x) = numbered 2 (x .channel) (x .word)
 numbers (suppressed x) = numbered 3 (x .channel) (x .word)
@@ -115,6 +119,7 @@ originOf issueDone = noOrigin
 originOf crashDone = noOrigin
 originOf rejoinDone = noOrigin
 originOf rebackupDone = noOrigin
+originOf undoDone = noOrigin
 originOf (received x) = noOrigin
 originOf (queued x) = noOrigin
 originOf (suppressed x) = noOrigin

@@ -7,6 +7,7 @@ pub mod Reference
 pub mod Cabinet
 pub mod Answers
 pub mod Moves
+pub mod Undo
 pub mod Reasons
 pub mod Judge
 pub mod Bounds

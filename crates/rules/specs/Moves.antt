@@ -17,9 +17,9 @@ use Rattle.rules.specs.Cabinet.{exhausted, overrun, owing, full, crowded
 pub use Rattle.rules.specs.Answers.{Command, Refusal, unknownMove, strayWord, noProcess, noBoard, noChannel, transmitDead, crashDead}
 pub use Rattle.rules.specs.Answers.{isHalted, noWordToTake, noWordForFirst, eventsFull, instructionsFull, sendBlocked, syncBlocked}
 pub use Rattle.rules.specs.Answers.{rebackupBlocked, sendHeld, injectHeld, syncWaits, rebackupWaits, noBackup, outboxEmpty}
-pub use Rattle.rules.specs.Answers.{notOutside, notBacked, boardLive, unready, hasBackup}
+pub use Rattle.rules.specs.Answers.{notOutside, notBacked, boardLive, unready, hasBackup, noneKept}
 pub use Rattle.rules.specs.Answers.{Answer, stepDone, issueDone, crashDone, rejoinDone, rebackupDone, received, queued, suppressed}
-pub use Rattle.rules.specs.Answers.{transmitted, injected, syncKept, syncLost, transferKept, refused, Numbers, numbered, noOrigin}
+pub use Rattle.rules.specs.Answers.{transmitted, injected, syncKept, syncLost, transferKept, undoDone, refused, Numbers, numbered, noOrigin}
 unfoldable pub use Rattle.rules.specs.Answers.{refusalNumber, numbers, originOf}
 
 -- what a move comes to: a refusal, or the cabinet afterwards and the answer
@@ -317,7 +317,7 @@ pub data Move : Type 0 where
   stepMove issueMove transmitMove injectMove crashMove rejoinMove rebackupMove unknown : Move
 
 -- "1 step process a", "2 sync process a", "3 carry board a", "4 feed outside channel a", "5 crash board a". W-210: "Move 6 returns board a",
--- "Move 7 resyncs process a". "Neither move is unknown any more under 32, and both take 33."
+-- "Move 7 resyncs process a". "Neither move is unknown any more under 32, and both take 33." (Move 8 of W-214 is no move of a cabinet: `Undo`.)
 abbrev pub moveOf : ℕ → Move
 moveOf zero = unknown
 moveOf (suc zero) = stepMove

@@ -4,12 +4,13 @@ use Prim.Native.Nat.{ℕ, _+_, _*_}
 use Rattle.rules.specs.Moves.{Refusal, unknownMove, strayWord, noProcess, noBoard, noChannel, transmitDead, crashDead, isHalted}
 use Rattle.rules.specs.Moves.{noWordToTake, noWordForFirst, eventsFull, instructionsFull, sendBlocked, syncBlocked, rebackupBlocked}
 use Rattle.rules.specs.Moves.{sendHeld, injectHeld, noBackup, syncWaits, rebackupWaits, outboxEmpty, notOutside, notBacked, boardLive}
-use Rattle.rules.specs.Moves.{unready, hasBackup, Answer, stepDone, issueDone, crashDone, rejoinDone, rebackupDone, received, queued}
-use Rattle.rules.specs.Moves.{suppressed, transmitted, injected, syncKept, syncLost, transferKept, refused, numbers}
+use Rattle.rules.specs.Moves.{unready, hasBackup, noneKept, Answer, stepDone, issueDone, crashDone, rejoinDone, rebackupDone, received, queued}
+use Rattle.rules.specs.Moves.{suppressed, transmitted, injected, syncKept, syncLost, transferKept, undoDone, refused, numbers}
 
 -- "The cause is 0 except here."
 unfoldable pub refusalCause : Refusal → ℕ
 -- "Code 32: 1 when the move is known and the word is at fault."
+-- W-214: "Move 8, with a and word 0 (else 32, cause 1)"
 refusalCause unknownMove = 0
 refusalCause strayWord = 1
 -- "Code 33: 1 for a board, 2 for a channel." W-210: "under 33, move 6 has cause 1 and move 7 cause 0"
@@ -42,6 +43,7 @@ refusalCause notBacked = 0
 refusalCause boardLive = 0
 refusalCause unready = 0
 refusalCause hasBackup = 0
+refusalCause noneKept = 0
 
 unfoldable pub causeOf : Answer → ℕ
 unfolding refusalCause
@@ -51,6 +53,7 @@ causeOf issueDone = 1
 causeOf crashDone = 2
 causeOf rejoinDone = 3
 causeOf rebackupDone = 3
+causeOf undoDone = 0
 causeOf (received x) = 0
 causeOf (queued x) = 0
 causeOf (suppressed x) = 0

@@ -12,7 +12,7 @@ use Rattle.rules.specs.Table.{Table, placementAt, channelAt, portOf}
 use Rattle.rules.specs.Machine.{Mail, Machine}
 use Rattle.rules.specs.Cabinet.{Standby, Process, Item, Cabinet, noTakes, processAt, otherBoard, isCheckpointOf, occupancy}
 use Rattle.rules.specs.Moves.{Answer, stepDone, issueDone, crashDone, rejoinDone, rebackupDone, received, queued, suppressed}
-use Rattle.rules.specs.Moves.{transmitted, injected, syncKept, syncLost, transferKept, refused, numbers, copied}
+use Rattle.rules.specs.Moves.{transmitted, injected, syncKept, syncLost, transferKept, undoDone, refused, numbers, copied}
 use Rattle.rules.specs.Transparent.{traceOf}
 
 -- ---- where the halves of a process are
@@ -85,6 +85,7 @@ completesFor p issueDone = false
 completesFor p crashDone = false
 completesFor p rejoinDone = false
 completesFor p rebackupDone = false
+completesFor p undoDone = false
 completesFor p (received x) = false
 completesFor p (queued x) = false
 completesFor p (suppressed x) = false

@@ -10,7 +10,7 @@ use Rattle.rules.specs.Table.{Table}
 use Rattle.rules.specs.Reference.{Reference, Action, referenceStart, referenceRun, injections}
 use Rattle.rules.specs.Cabinet.{Cabinet, processAt, protected}
 use Rattle.rules.specs.Moves.{Command, Answer, stepDone, issueDone, crashDone, rejoinDone, rebackupDone, received, queued, suppressed}
-use Rattle.rules.specs.Moves.{transmitted, injected, syncKept, syncLost, transferKept, refused, numbers, originOf, runFrom}
+use Rattle.rules.specs.Moves.{transmitted, injected, syncKept, syncLost, transferKept, undoDone, refused, numbers, originOf, runFrom}
 use Rattle.rules.specs.Transparent.{busOf, fedOf, answered, originated, finished}
 use Rattle.rules.specs.Rebackup.{anyCompletes}
 
@@ -22,6 +22,7 @@ isCrash stepDone = false
 isCrash issueDone = false
 isCrash rejoinDone = false
 isCrash rebackupDone = false
+isCrash undoDone = false
 isCrash (received x) = false
 isCrash (queued x) = false
 isCrash (suppressed x) = false

@@ -7,8 +7,9 @@ use lib.Dec.{eqb, leb}
 use lib.ListN.{length}
 use Rattle.rules.specs.Table.{Table}
 use Rattle.rules.specs.Machine.{Origin, register}
-use Rattle.rules.specs.Cabinet.{Process, started, quiescent}
-use Rattle.rules.specs.Moves.{Command, Numbers, numbers, originOf, runFrom}
+use Rattle.rules.specs.Cabinet.{Process, quiescent}
+use Rattle.rules.specs.Moves.{Command, Numbers, numbers, originOf}
+use Rattle.rules.specs.Undo.{opened, playFrom}
 use Rattle.rules.specs.Reasons.{reasonOf}
 use Rattle.rules.specs.Bytes.{wordBytes, allBytes, written}
 use Rattle.rules.specs.Format.{processesIn, orNumber, decodeTable, validateTable}
@@ -91,17 +92,17 @@ validateRun table schedule lengths =
 
 -- the run of a table and a list of commands: "It starts from the cabinet that the table gives"
 unfoldable pub ranFrom : Table → List Command → Buffers → Ran
-unfolding started runFrom numbers reasonOf originOf quiescent
+unfolding opened playFrom numbers reasonOf originOf quiescent
 ranFrom t commands buffers =
-    let end = runFrom t (started t) commands in
+    let end = playFrom t (opened t) commands in
     record {
       number = 0;
       records = length commands;
-      quiet = quiescent t (end .cabinet);
+      quiet = quiescent t (end .session .cabinet);
       buffers = record {
         answers = written (allBytes answerBytes (map numbers (end .answers))) (buffers .answers);
         reasons = written (map reasonOf (end .answers)) (buffers .reasons);
-        report = written (allBytes reportBytes (end .cabinet .processes)) (buffers .report);
+        report = written (allBytes reportBytes (end .session .cabinet .processes)) (buffers .report);
         origins = written (allBytes originBytes (map originOf (end .answers))) (buffers .origins);
       };
     }

@@ -53,6 +53,10 @@ commandsMost = 10000
 abbrev pub sweepMost : ℕ
 sweepMost = 500
 
+-- W-214: "Of the others 64 are kept to go back to"
+abbrev pub keptMost : ℕ
+keptMost = 64
+
 -- ---- the cabinet
 
 -- "each board has one queue, at most 32 entries"

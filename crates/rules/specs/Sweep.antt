@@ -9,9 +9,10 @@ use Rattle.facts.specs.Bits.{countBelow}
 use Rattle.facts.specs.Sums.{sumBelow}
 use Rattle.rules.specs.Sizes.{sweepMost}
 use Rattle.rules.specs.Table.{Table}
-use Rattle.rules.specs.Cabinet.{Cabinet, nobody, processAt, started, quiescent}
-use Rattle.rules.specs.Moves.{Command, runFrom}
-use Rattle.rules.specs.Transparent.{finished}
+use Rattle.rules.specs.Cabinet.{Cabinet, nobody, processAt, quiescent}
+use Rattle.rules.specs.Moves.{Command}
+use Rattle.rules.specs.Undo.{isUndo, playFrom, opened}
+use Rattle.rules.specs.Transparent.{ended}
 use Rattle.rules.specs.Format.{orNumber, decodeTable, validateTable}
 use Rattle.rules.specs.Schedule.{commandsIn, decodeSchedule, validateSchedule}
 
@@ -39,8 +40,8 @@ endingOf t c = cond (quiescent t c) quietEnd (cond (someHeld c) heldEnd freeEnd)
 
 -- how one of these runs ends, by the rules of any run
 unfoldable pub endingAt : Table → List Command → ℕ → ℕ → Ending
-unfolding endingOf runFrom started
-endingAt t commands place b = endingOf t (finished t (pulledAt commands place b))
+unfolding endingOf playFrom opened
+endingAt t commands place b = endingOf t (ended t (pulledAt commands place b))
 
 -- ---- the counts
 
@@ -76,9 +77,9 @@ pub record Swept : Type 0 where
 abbrev pub sweptOf : ℕ → ℕ → ℕ → ℕ → Swept
 sweptOf number quiet held free = record { number = number; quiet = quiet; held = held; free = free }
 
--- "the schedule has a record of move 5, whatever its a and word"
+-- "the schedule has a record of move 5, whatever its a and word"; W-214: "refuses schedules with move 8 by 52"
 abbrev pub isBarred : Command → Bool
-isBarred r = eqb (r .move) 5
+isBarred r = eqb (r .move) 5 || isUndo r
 
 abbrev pub anyBarred : List Command → Bool
 anyBarred [] = false

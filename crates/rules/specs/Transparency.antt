@@ -4,7 +4,7 @@ use Prim.Native.Nat.{ℕ}
 use lib.ListN.{take}
 use Rattle.rules.specs.Machine.{Origin}
 use Rattle.rules.specs.Moves.{Numbers, numbered}
-use Rattle.rules.specs.Transparent.{Transparent, busOf, fedOf, machinesOf, finished}
+use Rattle.rules.specs.Transparent.{Transparent, fedIn, busOrder, machinesOf, ended}
 use Rattle.rules.specs.Bytes.{sixes, twos}
 use Rattle.rules.specs.Format.{decodeTable}
 use Rattle.rules.specs.Schedule.{decodeSchedule}
@@ -34,5 +34,6 @@ originsIn r = readOrigins (r .records) (r .buffers .origins)
 -- the rules' own.
 abbrev pub FailureTransparency : List ℕ → List ℕ → Ran → Type 0
 FailureTransparency table schedule r =
-    Transparent (decodeTable table) (fedOf (decodeSchedule schedule) (answersIn r)) (busOf (answersIn r) (originsIn r)) (r .quiet)
-    (machinesOf (finished (decodeTable table) (decodeSchedule schedule)))
+    let commands = decodeSchedule schedule in
+    Transparent (decodeTable table) (fedIn commands (answersIn r) (originsIn r)) (busOrder commands (answersIn r) (originsIn r)) (r .quiet)
+    (machinesOf (ended (decodeTable table) commands))

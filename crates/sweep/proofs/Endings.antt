@@ -17,12 +17,12 @@ use Rattle.rules.specs.Bytes.{byteAt, allBytes, written}
 use Rattle.rules.specs.Format.{processesIn, decodeTable, validateTable}
 use Rattle.rules.specs.Schedule.{commandsIn, decodeSchedule, validateSchedule}
 use Rattle.rules.specs.Run.{Buffers, buffersOf, Ran, reportBytes, validateRun, ranFrom, run, accepted}
-use Rattle.rules.specs.Transparent.{finished}
+use Rattle.rules.specs.Transparent.{ended}
 use Rattle.rules.specs.Sweep.{Ending, quietEnd, heldEnd, freeEnd, someHeld, endingOf, endingAt}
 use Rattle.rules.proofs.Valid.{processes-counted, decoded-accepted}
 use Rattle.rules.proofs.AcceptedRun.{run-is, quiet-is}
 use Rattle.rules.proofs.Scheduled.{scheduled}
-use Rattle.rules.proofs.Buffers.{processes-stay}
+use Rattle.rules.proofs.Buffers.{processes-end}
 use Rattle.cabinet.specs.Runs.{Runs}
 use Rattle.cabinet.specs.declared.run.Verdict.{Verdict}
 use Rattle.plan.specs.declared.Counts.{Counts}
@@ -91,7 +91,7 @@ module _ (table schedule : List ℕ) (before : Buffers) (fit : 6 * suc sweepMost
 
   module _ (r : Verdict) (after : Buffers) (runs : Runs table schedule before r after) where
     abbrev end : Cabinet
-    end = finished (decodeTable table) (decodeSchedule schedule)
+    end = ended (decodeTable table) (decodeSchedule schedule)
 
     ends-quiet : r .quiet ≡ quiescent (decodeTable table) end
     ends-quiet = ap (λ (x : Ran). x .quiet) (runs .ran) ∙ quiet-is table schedule before runs-through
@@ -104,7 +104,7 @@ module _ (table schedule : List ℕ) (before : Buffers) (fit : 6 * suc sweepMost
         → endingOf (decodeTable table) end ≡ cond (r .quiet) quietEnd (cond (heldIn (after .report) processes) heldEnd freeEnd)
     unfolding endingOf
     ended-so processes e =
-        let many : processes ≡ length (end .processes) = e ∙ sym (processes-stay (decodeTable table) (decodeSchedule schedule)) in
+        let many : processes ≡ length (end .processes) = e ∙ sym (processes-end (decodeTable table) (decodeSchedule schedule)) in
         rw (ends-quiet, reported, held-report end (before .report) processes many)
 
 -- ---- the ending, counted: with the buffers of a sweep

@@ -1,4 +1,4 @@
--- A sweep judged: a record of move 5 looked for, and the numbers in their order.
+-- A sweep judged: a record of move 5 or 8 looked for, and the numbers in their order.
 use mathlib.Core.Path.{_≡_, refl, ap, sym, _∙_}
 use mathlib.Core.Bool.{Bool, true, false, cond, _||_}
 use mathlib.Core.List.{List, [], _∷_}
@@ -20,7 +20,7 @@ use Rattle.records.specs.declared.schedule.Command.{Command}
 use Rattle.records.specs.declared.schedule.Judged.{Judged}
 use Rattle.sweep.specs.Judged.{judgedSweep}
 
--- ---- a record of move 5
+-- ---- a record of move 5 or 8
 
 barred-at : (l : List rules.Command) (i : ℕ) (d : rules.Command) → i < length l → isBarred (getD l i d) ≡ true → anyBarred l ≡ true
 barred-at [] i d h e = absurd (not-suc-le-zero h)
@@ -35,20 +35,30 @@ none-barred : (l : List rules.Command) (d : rules.Command) → ((k : ℕ) → k 
 none-barred [] d h = refl
 none-barred (r ∷ l) d h = rw (h zero (omega arith)) (none-barred l d (λ k j. h (suc k) (omega arith)))
 
+pub crash-barred : (c : Command) → c .mv ≡ 5 → isBarred (commandOf c) ≡ true
+crash-barred c five = rw (eq-eqb (c .mv) 5 five)
+
+pub undo-barred : (c : Command) → c .mv ≡ 8 → isBarred (commandOf c) ≡ true
+undo-barred c eight = rw (eq-eqb (c .mv) 8 eight) (go (eqb (c .mv) 5))
+  where
+    go : (b : Bool) → b || true ≡ true
+    go true = refl
+    go false = refl
+
 module _ (schedule : List ℕ) (n : ℕ) where
   -- none of the first i is one
   abbrev pub NoneBefore : ℕ → Type 0
   NoneBefore i = (k : ℕ) → k < i → isBarred (getD (decodeSchedule schedule) k (command 0 0 0)) ≡ false
 
-  pub barred-found : (i : ℕ) (c : Command) → i < n → commandOf c ≡ getD (decodeSchedule schedule) i (command 0 0 0) → c .mv ≡ 5
-      → n ≡ commandsIn schedule → true ≡ anyBarred (decodeSchedule schedule)
-  barred-found i c h e five many =
+  pub barred-found : (i : ℕ) (c : Command) → i < n → commandOf c ≡ getD (decodeSchedule schedule) i (command 0 0 0)
+      → isBarred (commandOf c) ≡ true → n ≡ commandsIn schedule → true ≡ anyBarred (decodeSchedule schedule)
+  barred-found i c h e barred many =
       let l = commands-counted schedule in
-      sym (barred-at (decodeSchedule schedule) i (command 0 0 0) (omega arith) (sym (ap isBarred e) ∙ eq-eqb (c .mv) 5 five))
+      sym (barred-at (decodeSchedule schedule) i (command 0 0 0) (omega arith) (sym (ap isBarred e) ∙ barred))
 
-  pub not-barred : (i : ℕ) (c : Command) → commandOf c ≡ getD (decodeSchedule schedule) i (command 0 0 0) → (c .mv ≡ 5 → ⊥)
+  pub not-barred : (i : ℕ) (c : Command) → commandOf c ≡ getD (decodeSchedule schedule) i (command 0 0 0) → (c .mv ≡ 5 → ⊥) → (c .mv ≡ 8 → ⊥)
       → isBarred (getD (decodeSchedule schedule) i (command 0 0 0)) ≡ false
-  not-barred i c e other = sym (ap isBarred e) ∙ ne-eqb (c .mv) 5 other
+  not-barred i c e other another = sym (ap isBarred e) ∙ rw (ne-eqb (c .mv) 5 other, ne-eqb (c .mv) 8 another)
 
   pub none-found : (i : ℕ) → NoneBefore i → n ≤ i → n ≡ commandsIn schedule → false ≡ anyBarred (decodeSchedule schedule)
   none-found i h end many =

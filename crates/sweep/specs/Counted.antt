@@ -15,7 +15,7 @@ use Rattle.rules.specs.Format.{decodeTable, validateTable}
 use Rattle.rules.specs.Schedule.{commandsIn, decodeSchedule, validateSchedule}
 use Rattle.rules.specs.Sizes.{sweepMost}
 use Rattle.rules.specs.Sweep.{Ending, endingOf, endingAt, isQuiet, isHeld, isFree, validateSweep}
-use Rattle.rules.specs.Transparent.{finished}
+use Rattle.rules.specs.Transparent.{ended}
 use Rattle.plan.specs.declared.Counts.{Counts}
 use Rattle.sweep.specs.declared.tally.Tally.{Tally}
 
@@ -45,7 +45,7 @@ heldIn report processes = anyBelow (λ p. not (eqb (byteAt report (20 * p + 3)) 
 pub record Ends (table schedule : List ℕ) (processes : ℕ) (r : Tally) : Type 0 where
   pub ends : validateTable table ≡ 0 → validateSchedule schedule ≡ 0 → commandsIn schedule ≤ suc sweepMost
       → processes ≡ length (decodeTable table .processes)
-      → Counted (countOne (endingOf (decodeTable table) (finished (decodeTable table) (decodeSchedule schedule)))) r
+      → Counted (countOne (endingOf (decodeTable table) (ended (decodeTable table) (decodeSchedule schedule)))) r
 
 -- a table and a schedule that are swept, and the table's counts
 pub record Admitted (table schedule : List ℕ) (counts : Counts) : Type 0 where

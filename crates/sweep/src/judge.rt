@@ -1,10 +1,11 @@
 // The number of a sweep: those of the table and of the schedule, then "52, the schedule has a record of move 5, whatever its a and word, or over
-// 500 records".
+// 500 records"; W-214: "refuses schedules with move 8 by 52".
 ghost use mathlib.Core.Path.{_≡_};
 ghost use Rattle.rules.specs.Schedule.{commandsIn, decodeSchedule};
 ghost use Rattle.rules.specs.Sweep.{anyBarred};
 ghost use Rattle.sweep.specs.Judged.{judgedSweep};
 use records::schedule::Judged;
+use records::schedule::UNDO;
 use records::schedule::command_at;
 
 // Records that a swept schedule has at most.
@@ -13,7 +14,7 @@ pub const SWEEP_MOST: usize = 500;
 // The crash's move.
 pub const CRASH: u8 = 5;
 
-// Whether one of a schedule's records may not be swept: one of move 5.
+// Whether one of a schedule's records may not be swept: one of move 5 or 8.
 fn any_barred(schedule: &[u8], records: usize) -> bool
     ensures { λ r. ⌜ (records ≡ commandsIn (now (schedule .entry)) → r ≡ anyBarred (decodeSchedule (now (schedule .entry)))) ⌝ }
 {
@@ -21,6 +22,9 @@ fn any_barred(schedule: &[u8], records: usize) -> bool
     while i < records {
         let c = command_at(schedule, i);
         if c.mv == CRASH {
+            return true;
+        }
+        if c.mv == UNDO {
             return true;
         }
         i += 1;

@@ -8,10 +8,12 @@ const USAGE: &str = "./explain [--from N] [--to N] [--pull BOARD@N] [--hex | --b
 
 Prints the run of a table and a schedule, as ./run takes them, in words: a line for each record with its number, what it is, its answer and why
 (docs/NUMBERS.md has every answer and what to do about it), and for a word on the bus the process and the place of its SEND; then where each
-process runs, its next instruction, what is unread and what it still holds back; and whether the cabinet ended quiet.
+process runs, its next instruction, what is unread and what it still holds back; and whether the cabinet ended quiet. A back says which record it
+takes back, and that record's number has a ~ behind it.
   --from N, --to N  only the lines of records N to N; all of them are run
   --pull BOARD@N    pulls a board: puts its crash before record N of the schedule, from 1; one past the last puts it at the end. Its line
-                    is numbered 'pull', and the records keep their numbers
+                    is numbered 'pull', and the records keep their numbers. It is a record as any other: a back behind it may take it back,
+                    and then takes back another record than it does without it
   --hex, --bytes    FILE is hex text, or bytes, whatever it looks like
 What is refused prints `refused` and the number (docs/NUMBERS.md), says why on standard error, and ends with 3.";
 

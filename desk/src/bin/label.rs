@@ -7,8 +7,9 @@ use std::process::ExitCode;
 const USAGE: &str = "./label FIRST [SCHEDULE]
 
 Runs the label line from the serial FIRST (0 to 4294957295) on and prints each label that comes out, its carton's code and its serial, a '-'
-where that is still to come; then 'to come' and how many of the cartons fed are without their label. SCHEDULE is a file of bytes or hex text,
-'-' standard input; with none, samples/label/pulled.hex is run: three cartons, and a crash in the middle.";
+where that is still to come; then 'to come' and how many of the cartons fed are without their label. Records that are taken back count neither as
+cartons nor as labels. SCHEDULE is a file of bytes or hex text, '-' standard input; with none, samples/label/pulled.hex is run: three cartons, and
+a crash in the middle.";
 
 /// What is run where no schedule is named, and what is said of it first.
 const DEMONSTRATION: &[u8] = include_bytes!("../../../samples/label/pulled.hex");
@@ -34,7 +35,7 @@ fn printed(first: u32, schedule: &[u8]) -> Result<String, Failure> {
     let mut buffers = Buffers::for_label_run(schedule);
     let run = label_run(first, schedule, &mut buffers).map_err(|refusal| Failure::Refused(refusal.number()))?;
     let fed = run.bus().filter(|on_the_bus| on_the_bus.sender == End::Outside).count();
-    let labels = labels(run.answers());
+    let labels = labels(&run);
     let complete = labels.iter().filter(|label| label.serial.is_some()).count();
     Ok(labels.iter().map(line).chain([format!("to come {}\n", fed - complete)]).collect())
 }

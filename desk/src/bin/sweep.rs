@@ -13,7 +13,7 @@ const USAGE: &str = "./sweep [--map [--width N] | --list ENDING] [--require-quie
 
 Puts the crash of each board at each place of a schedule, before its first record, between any two and behind its last, runs all these
 schedules, and prints how many of the runs end quiet, unquiet with some hold-back left, and unquiet with none. FILE has a table and a schedule,
-as ./run takes them; the schedule has at most 500 records, and no crash.
+as ./run takes them; the schedule has at most 500 records, and no crash and no back.
   --map            also a line for each board with a sign for each place: '.' quiet, 'h' hold-back left, 'o' neither; the numbers above are those
                    of the records that the crash is put before
   --width N        folds the map to N columns (else to the terminal's, or to 80)

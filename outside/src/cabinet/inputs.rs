@@ -103,8 +103,8 @@ pub fn garbage(comparison: &mut Comparison, random: &mut Random) {
     let records: Vec<Record> = (0..length)
         .map(|_| match random.below(3) {
             0 => Record { kind: random.below(256) as u8, a: random.below(256) as u8, word: random.word() },
-            1 => Record { kind: random.below(9) as u8, a: random.below(34) as u8, word: any_word(random) },
-            _ => Record { kind: 1 + random.below(7) as u8, a: random.below(16) as u8, word: 0 },
+            1 => Record { kind: random.below(10) as u8, a: random.below(34) as u8, word: any_word(random) },
+            _ => Record { kind: 1 + random.below(8) as u8, a: random.below(16) as u8, word: 0 },
         })
         .collect();
     compare(comparison, random, "garbage", &encode_table(&table), &records);

@@ -1,8 +1,10 @@
 //! The proved run of a schedule against the simulator, on generated tables and schedules: `cabinet [--runs N] [--seed N]`.
 //!
 //! First the service desk's cases, with lines written by hand, and cases with reasons and origins written by hand; then these and document
-//! 01's sample, the desk's cut after each record and with each board pulled at each place; then saved lists as long as each limit lets them get; then random runs of every kind of input, until
-//! there are N runs, N with a return or a resync that was done, and a sixth of N with three crashes or more.
+//! 01's sample, the desk's cut after each record and with each board pulled at each place; then saved lists as long as each limit lets them get;
+//! then random runs of every kind of input, until there are N runs, N with a return or a resync that was done, and a sixth of N each with three
+//! crashes or more and with records taken back.
+mod back_seen;
 mod by_hand;
 mod call;
 mod compare;
@@ -11,6 +13,7 @@ mod inputs;
 mod repairs;
 mod returned;
 mod seen;
+mod taken_back;
 
 use compare::Comparison;
 use outside::random::Random;
@@ -19,6 +22,7 @@ use outside::rules::lent::Lent;
 use outside::rules::limits;
 use outside::rules::reader::Record;
 use outside::rules::sample::{crash, sample_schedule, SAMPLE};
+use seen::Seen;
 
 const SEED: u64 = 0xA076_1D64_78BD_642F;
 const RUNS: u64 = 60_000;
@@ -68,6 +72,17 @@ fn round(comparison: &mut Comparison, random: &mut Random) {
     if random.once_in(2) {
         repairs::often(comparison, random, 400, 7_000);
     }
+    (0..30).for_each(|_| taken_back::going(comparison, random));
+    (0..30).for_each(|_| taken_back::mended(comparison, random, 800));
+    if random.once_in(4) {
+        taken_back::mended(comparison, random, 10_000);
+        taken_back::in_pairs(comparison, random);
+    }
+}
+
+/// Whether there are as many runs as asked for, of each kind that counts.
+fn enough(seen: &Seen, runs: u64) -> bool {
+    seen.runs >= runs && seen.returned >= runs && seen.thrice >= runs / 6 && seen.back.runs >= runs / 6
 }
 
 /// The value of an option, if it is given.
@@ -89,7 +104,7 @@ fn main() {
     }
     by_hand::compare(&mut comparison);
     (1..=16).for_each(|limit| fullest(&mut comparison, limit));
-    while comparison.seen.runs < runs || comparison.seen.returned < runs || comparison.seen.thrice < runs / 6 {
+    while !enough(&comparison.seen, runs) {
         round(&mut comparison, &mut random);
     }
     let met = comparison.seen.report();

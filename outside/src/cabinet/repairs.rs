@@ -8,7 +8,7 @@ use outside::rules::plain::transparent;
 use outside::rules::reader::{Record, Table};
 use outside::rules::repairs::{bare, crash_after_crash, mended, row};
 use outside::rules::sample::{crash, give_back, resync};
-use outside::rules::simulator::Cabinet;
+use outside::rules::session::Session;
 
 /// The kinds of input here.
 pub const RETURNED: &str = "back at every place";
@@ -16,7 +16,7 @@ pub const AGAIN: &str = "pulled again anywhere";
 pub const OFTEN: &str = "crash after crash";
 
 /// A sound table; most often a small one, in which a crash leaves few without a backup.
-fn small_table(random: &mut Random) -> Table {
+pub fn small_table(random: &mut Random) -> Table {
     match random.below(8) {
         0 => some_table(random),
         1 => loops(random),
@@ -25,11 +25,11 @@ fn small_table(random: &mut Random) -> Table {
 }
 
 /// The bus order of a run, which was compared already, is that of a plain run, and so is a quiet end; whether it is one.
-fn demand_3(table: &Table, records: &[Record]) -> bool {
-    let mut cabinet = Cabinet::new(table);
-    let run: Vec<_> = records.iter().map(|&record| (record, cabinet.answer(record))).collect();
-    transparent(table, &run, &cabinet).unwrap_or_else(|fault| panic!("{fault}: {table:?} {run:?}"));
-    cabinet.quiet()
+pub fn demand_3(table: &Table, records: &[Record]) -> bool {
+    let mut session = Session::of(table, records.iter().map(|record| record.kind));
+    let run: Vec<_> = records.iter().map(|&record| (record, session.answer(record))).collect();
+    transparent(table, &run, &session.cabinet).unwrap_or_else(|fault| panic!("{fault}: {table:?} {run:?}"));
+    session.cabinet.quiet()
 }
 
 /// The cabinet goes on from there with other records, which suit it.

@@ -1,5 +1,6 @@
 //! What the runs met: answers with their causes, origins, refusals, kinds of input, and traits of the tables. Everything listed must have been
 //! met.
+use crate::back_seen::BackSeen;
 use outside::rules::reader::{judge_table, Instruction, Process, Table, OUTSIDE};
 use outside::rules::reasons::{reasons, CAUSES};
 use outside::rules::run::Run;
@@ -89,6 +90,7 @@ pub struct Seen {
     most_records: usize,
     most_unread: u8,
     most_hold_back: u8,
+    pub back: BackSeen,
 }
 
 impl Seen {
@@ -120,7 +122,7 @@ impl Seen {
         for (answer, record) in run.lent.answers.chunks_exact(6).zip(schedule[3..].chunks_exact(6)) {
             kind.accepted += (answer[0] < 32) as u64;
             crashes += (record[0] == 5 && answer[0] == 0) as u64;
-            returns += (record[0] >= 6 && answer[0] == 0) as u64;
+            returns += ((6..=7).contains(&record[0]) && answer[0] == 0) as u64;
             self.ran_long += (answer[0] == 37 && self.silent[record[1] as usize]) as u64;
         }
         kind.crashed += (crashes > 0) as u64;
@@ -135,6 +137,7 @@ impl Seen {
         self.most_unread = self.most_unread.max(lines.clone().map(|line| line[2]).max().unwrap_or(0));
         self.most_hold_back = self.most_hold_back.max(lines.map(|line| line[3]).max().unwrap_or(0));
         self.count_origins(run);
+        self.back.count(schedule, &run.lent.answers);
     }
 
     /// Counts from where the words on the bus of an accepted run came: each was fed, or a SEND to its channel stands there.
@@ -206,6 +209,7 @@ impl Seen {
             missing.push("11 for the list of reasons alone".to_string());
         }
         missing.extend(self.report_origins());
+        missing.extend(self.back.report());
         missing.iter().for_each(|what| println!("never met: {what}"));
         missing.is_empty()
     }

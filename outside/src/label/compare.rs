@@ -4,11 +4,11 @@ use crate::call::ks_label_run;
 use outside::rules::answer::Answer;
 use outside::rules::generate::{encode_schedule, encode_table};
 use outside::rules::lent::Lent;
-use outside::rules::line::{fault, seen, table, SERIAL_MOST};
+use outside::rules::line::{fault, seen, table, OUTLET, SCANNER, SERIAL_MOST};
 use outside::rules::progress::{standing, Standing, Wanted};
 use outside::rules::reader::{record, Record};
 use outside::rules::run::{run, Outcome};
-use outside::rules::simulator::Cabinet;
+use outside::rules::session::Session;
 
 /// What lies in buffers before a run.
 const FILLER: u8 = 0xEE;
@@ -26,6 +26,10 @@ pub struct Counts {
     /// The most cartons and labels of one run.
     pub cartons: usize,
     pub labels: usize,
+    /// Runs with records taken back; cartons fed and words at the outlet that were.
+    pub back: u64,
+    pub unfed: usize,
+    pub unprinted: usize,
 }
 
 fn answer(bytes: &[u8]) -> Answer {
@@ -67,6 +71,10 @@ fn wrong(counts: &mut Counts, first: u32, records: &[Record], buffers: Lent<usiz
     counts.crashes = counts.crashes.max(crashes);
     counts.cartons = counts.cartons.max(cartons.len());
     counts.labels = counts.labels.max(outlet.len() / 2);
+    counts.back += answers.iter().any(|answer| answer.code == 7) as u64;
+    let on_the_bus = |channel| answers.iter().filter(|answer| (answer.code, answer.a) == (4, channel)).count();
+    counts.unfed += on_the_bus(SCANNER) - cartons.len();
+    counts.unprinted += on_the_bus(OUTLET) - outlet.len();
     fault(first, &cartons, &outlet, wanted.outcome.quiet).or_else(|| match wanted.outcome.number {
         0 => stuck(counts, first, records),
         _ => None,
@@ -76,11 +84,11 @@ fn wrong(counts: &mut Counts, first: u32, records: &[Record], buffers: Lent<usiz
 /// What is wrong with the end of an accepted run, if it is neither quiet nor goes on: a standstill, or something that can be done and isn't.
 fn stuck(counts: &mut Counts, first: u32, records: &[Record]) -> Option<&'static str> {
     let table = table(first);
-    let mut cabinet = Cabinet::new(&table);
+    let mut session = Session::of(&table, records.iter().map(|record| record.kind));
     records.iter().for_each(|&record| {
-        cabinet.answer(record);
+        session.answer(record);
     });
-    let next = match standing(&table, &cabinet) {
+    let next = match standing(&table, &session.cabinet) {
         Standing::Quiet => return None,
         Standing::Standstill => return Some("a standstill"),
         Standing::GoesOn(next) => next.records(),

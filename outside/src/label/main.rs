@@ -1,7 +1,8 @@
 //! The proved label line against the simulator on a table written from document 02: `label [--seed N]`.
 //!
 //! The table of first serials at both ends; schedules of several kinds, each with a crash of either board at each of its places and then
-//! led on until it is quiet; buffers that are too short; schedules of 10,000 records; and crash after crash. Every end is quiet or goes on.
+//! led on until it is quiet; buffers that are too short; schedules of 10,000 records; crash after crash; and records taken back. Every end is
+//! quiet or goes on.
 mod call;
 mod compare;
 
@@ -9,6 +10,7 @@ use call::ks_label_table;
 use compare::{compare, Counts};
 use outside::random::Random;
 use outside::rules::generate::{continued, encode_table};
+use outside::rules::going_back::going_back;
 use outside::rules::lent::Lent;
 use outside::rules::line::{table, SCANNER, SERIAL_MOST};
 use outside::rules::reader::{judge_table, Record, Table};
@@ -129,6 +131,16 @@ fn often(counts: &mut Counts, random: &mut Random, first: u32, table: &Table) {
     }
 }
 
+/// Records taken back (W-214), across crashes, returns and resyncs, with cartons and labels among them.
+fn taken_back(counts: &mut Counts, random: &mut Random, first: u32, table: &Table) {
+    for i in 0..200 {
+        let (crashes, records, most) = if i % 50 == 0 { (20, 2_000, 10_000) } else { (2 + random.below(5) as usize, 400, 2_000) };
+        let records = crash_after_crash(random, table, crashes, records);
+        let records = going_back(random, table, records, most);
+        compare(counts, first, &records, enough());
+    }
+}
+
 /// As many cartons as 10,000 records can feed and print, with a crash somewhere among them.
 fn long(counts: &mut Counts, first: u32, table: &Table, place: usize, board: u8) {
     let mut led = Led::new(table, &[]);
@@ -165,15 +177,18 @@ fn main() {
             long(&mut counts, first, &table, place, (place % 2) as u8);
         }
         often(&mut counts, &mut random, first, &table);
+        taken_back(&mut counts, &mut random, first, &table);
     }
     for first in REFUSED {
         compare(&mut counts, first, &[feed(SCANNER, 7), step(0)], enough());
         compare(&mut counts, first, &[], Lent::all(0));
     }
-    let Counts { runs, quiet, went_on, crashed, thrice, crashes, cartons, labels } = counts;
+    let Counts { runs, quiet, went_on, crashed, thrice, crashes, cartons, labels, back, unfed, unprinted } = counts;
     assert!(quiet > runs / 3 && went_on > runs / 10 && crashed > runs / 2 && labels > 500, "too little was met");
     assert!(thrice >= 1_900 && crashes >= 200, "too few crashes: {thrice} runs with three or more, {crashes} at most");
     println!("label: ok, {runs} runs, {crashed} with a crash, {quiet} quiet, up to {cartons} cartons and {labels} labels in one");
     println!("label: {thrice} runs with three crashes or more, up to {crashes} in one");
     println!("label: no end is a standstill; of the unquiet ones {went_on} were led on, each by what could be done next");
+    assert!(back >= 800 && unfed > 5_000 && unprinted > 2_000, "too little was taken back: {back}, {unfed}, {unprinted}");
+    println!("label: {back} runs with records taken back, {unfed} cartons and {unprinted} words at the outlet among them");
 }

@@ -10,7 +10,7 @@ pub struct Comparison {
     /// How often each refusal, and at 0 accepted runs.
     numbers: [u32; 48],
     /// How often each answer's code.
-    codes: [u32; 51],
+    codes: [u32; 54],
     quiet: [u32; 2],
     longest: usize,
 }
@@ -18,9 +18,12 @@ pub struct Comparison {
 /// The numbers by which the program can refuse: its own buffers are long enough.
 const NUMBERS: [usize; 12] = [0, 1, 2, 3, 4, 5, 6, 7, 8, 47, 9, 10];
 
+/// The codes of answers: those of what is done, and of refusals.
+const CODES: [std::ops::Range<usize>; 4] = [0..8, 32..45, 48..51, 53..54];
+
 impl Comparison {
     pub fn new(program: PathBuf) -> Comparison {
-        Comparison { program, runs: 0, numbers: [0; 48], codes: [0; 51], quiet: [0; 2], longest: 0 }
+        Comparison { program, runs: 0, numbers: [0; 48], codes: [0; 54], quiet: [0; 2], longest: 0 }
     }
 
     pub fn program(&self) -> &Path {
@@ -68,11 +71,11 @@ impl Comparison {
     pub fn report(&self) -> bool {
         println!("program: {} runs; accepted {}, quiet {}", self.runs, self.numbers[0], self.quiet[1]);
         println!("  refused 1 to 10: {:?}, 47: {}", &self.numbers[1..=10], self.numbers[47]);
-        let refused = (&self.codes[32..45], &self.codes[48..]);
-        println!("  answers 0 to 6: {:?}, 32 to 44: {:?}, 48 to 50: {:?}", &self.codes[..7], refused.0, refused.1);
+        let [done, refused, mended] = [0..8, 32..45, 48..51].map(|codes| &self.codes[codes]);
+        println!("  answers 0 to 7: {done:?}, 32 to 44: {refused:?}, 48 to 50: {mended:?}, 53: {}", self.codes[53]);
         println!("  the longest page has {} bytes", self.longest);
         let met = NUMBERS.into_iter().all(|number| self.numbers[number] > 0);
-        met && self.quiet.iter().all(|&n| n > 0) && (0..7).chain(32..45).chain(48..51).all(|code| self.codes[code] > 0)
+        met && self.quiet.iter().all(|&n| n > 0) && CODES.into_iter().flatten().all(|code| self.codes[code] > 0)
     }
 }
 

@@ -3,12 +3,13 @@ use outside::random::Random;
 use outside::rules::busy::busy;
 use outside::rules::damage::{damage_schedule, damage_table, Damage, DAMAGES};
 use outside::rules::generate::{encode_schedule, encode_table, largest, schedule, table, with_length};
+use outside::rules::going_back::going_back;
 use outside::rules::reader::{Record, Table};
 use outside::rules::sample::{sample_schedule, SAMPLE};
 
 /// The kinds of input; every kind has its share of the runs.
-pub const KINDS: [&str; 8] =
-    ["sound", "long", "damaged table", "damaged schedule", "both damaged", "cut short", "any records", "any bytes"];
+pub const KINDS: [&str; 9] =
+    ["sound", "long", "going back", "damaged table", "damaged schedule", "both damaged", "cut short", "any records", "any bytes"];
 
 fn joined(table: &[u8], schedule: &[u8]) -> Vec<u8> {
     [table, schedule].concat()
@@ -48,8 +49,8 @@ fn any_records(random: &mut Random) -> Vec<Record> {
     let length = random.below(60);
     let record = |random: &mut Random| match random.below(3) {
         0 => Record { kind: random.below(256) as u8, a: random.below(256) as u8, word: random.word() },
-        1 => Record { kind: random.below(9) as u8, a: random.below(34) as u8, word: random.pick(&[0, 1, u32::MAX]) },
-        _ => Record { kind: 1 + random.below(7) as u8, a: random.below(16) as u8, word: 0 },
+        1 => Record { kind: random.below(10) as u8, a: random.below(34) as u8, word: random.pick(&[0, 1, u32::MAX]) },
+        _ => Record { kind: 1 + random.below(8) as u8, a: random.below(16) as u8, word: 0 },
     };
     (0..length).map(|_| record(random)).collect()
 }
@@ -72,6 +73,12 @@ pub fn input(random: &mut Random, kind: usize) -> Vec<u8> {
             }
             let table = if random.once_in(6) { damage_table(random, table, Damage::Limits) } else { table };
             joined(&table, &schedule)
+        }
+        "going back" => {
+            let table = some_table(random);
+            let (length, most) = random.pick(&[(5, 20), (60, 200), (200, 600), (2_000, 10_000)]);
+            let records = schedule(random, &table, length);
+            joined(&encode_table(&table), &encode_schedule(&going_back(random, &table, records, most)))
         }
         "damaged table" => {
             let (table, schedule) = sound(random, &short);

@@ -33,7 +33,7 @@ fn sample(comparison: &mut Comparison, text: &Path, wanted: &[u8]) {
     assert!(ran.page == wanted && ran.status.success(), "{name}: ./run prints another page");
 }
 
-/// Every sample with its page; the nine that README.md names are there.
+/// Every sample with its page; the ten that README.md names are there.
 pub fn samples(comparison: &mut Comparison) {
     let mut names: Vec<PathBuf> = std::fs::read_dir(root().join("samples"))
         .expect("samples/")
@@ -44,6 +44,6 @@ pub fn samples(comparison: &mut Comparison) {
     for text in &names {
         sample(comparison, text, &read(text.with_extension("page")).expect("a page beside its sample"));
     }
-    assert!(names.len() >= 9, "only {} samples", names.len());
+    assert!(names.len() >= 10, "only {} samples", names.len());
     println!("program: {} samples, by the program, the simulator and ./run", names.len());
 }

@@ -237,12 +237,12 @@ fn likely(random: &mut Random, table: &Table, cabinet: &Cabinet, habits: &Habits
     }
 }
 
-/// A record that makes no sense, most often; a crash is not among them.
+/// A record that makes no sense, most often; a crash is not among them, and a move 8 only where it is refused: `going_back` has the others.
 fn garbage(random: &mut Random) -> Record {
     let kind = random.pick(&[0, 1, 2, 3, 4, 6, 7, 8, 9, 255]);
     let a = random.pick(&[0, 1, 15, 16, 31, 32, 255]);
     let word = random.pick(&[0, 0, 1, u32::MAX]);
-    Record { kind, a, word }
+    Record { kind, a, word: if (kind, a) == (8, 0) { 1 } else { word } }
 }
 
 /// A crash of a board that some process uses, most often.

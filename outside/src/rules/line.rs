@@ -2,11 +2,12 @@
 use super::answer::Answer;
 use super::reader::Instruction::{Add, Jump, Send, Set, Take};
 use super::reader::{Channel, Process, Record, Table, OUTSIDE};
+use super::session::standing;
 
 /// "The channels are 0 from the scanner, 1 to the printer program and 2, the outlet."
 pub const SCANNER: u8 = 0;
 const PRINTER: u8 = 1;
-const OUTLET: u8 = 2;
+pub const OUTLET: u8 = 2;
 
 /// "46, a first serial above 4,294,957,295"
 pub const SERIAL_MOST: u32 = 4_294_957_295;
@@ -35,11 +36,12 @@ pub fn sequence(first: u32, cartons: &[u32]) -> Vec<u32> {
     cartons.iter().zip(0..).flat_map(|(&code, i)| [code, first.checked_add(i).expect("a serial over 32 bits")]).collect()
 }
 
-/// What a run shows: the codes of the cartons that it was fed, and the words at its outlet.
+/// What a run shows by the records that stand (W-214): the codes of the cartons that it was fed, and the words at its outlet.
 pub fn seen(records: &[Record], answers: &[Answer]) -> (Vec<u32>, Vec<u32>) {
-    let on_the_bus = |channel: u8| answers.iter().enumerate().filter(move |(_, answer)| (answer.code, answer.a) == (4, channel));
-    let cartons = on_the_bus(SCANNER).filter(|&(i, _)| records[i].kind == 4).map(|(i, _)| records[i].word).collect();
-    (cartons, on_the_bus(OUTLET).map(|(_, answer)| answer.word).collect())
+    let standing = standing(records.iter().zip(answers).map(|(record, answer)| (record.kind, answer.code)));
+    let on_the_bus = |channel: u8| standing.iter().filter(move |&&i| (answers[i].code, answers[i].a) == (4, channel));
+    let cartons = on_the_bus(SCANNER).filter(|&&i| records[i].kind == 4).map(|&i| records[i].word).collect();
+    (cartons, on_the_bus(OUTLET).map(|&i| answers[i].word).collect())
 }
 
 /// Why these words at the outlet are not what these cartons call for, if they aren't.

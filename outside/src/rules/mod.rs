@@ -6,6 +6,7 @@ pub mod backup;
 pub mod busy;
 pub mod damage;
 pub mod generate;
+pub mod going_back;
 pub mod lent;
 pub mod limits;
 pub mod line;
@@ -19,6 +20,7 @@ pub mod reasons;
 pub mod repairs;
 pub mod run;
 pub mod sample;
+pub mod session;
 pub mod simulator;
 pub mod sweep;
 pub mod tables;
@@ -29,3 +31,5 @@ mod marked;
 mod returns;
 #[cfg(test)]
 mod runs;
+#[cfg(test)]
+mod taken_back;

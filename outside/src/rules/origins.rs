@@ -2,7 +2,7 @@
 use super::reader::Instruction::{Jump, Send, Set, Take};
 use super::reader::{Channel, Instruction, Process, Record, Table, OUTSIDE};
 use super::reasons::one;
-use super::sample::{carry, crash, feed, give_back, resync, step, sync};
+use super::sample::{back, carry, crash, feed, give_back, resync, step, sync};
 
 /// Some records on a table, and of the last of them code, sender and place, written by hand.
 pub struct ByHand {
@@ -105,6 +105,10 @@ pub fn by_hand() -> Vec<ByHand> {
         let last = [&round(2)[..], &[shown, none(0), none(0)], &round(3), &round(2), &[shown]].concat();
         case(name, table, &records, &last);
     }
+    // W-214: a move 8 shows nothing, and "the bytes written for such records stay".
+    let records = [feed(0, 9), back(), step(0), carry(0), back(), back(), back(), step(0), carry(0), Record { a: 1, ..back() }];
+    let last = [(4, 255, 0), none(7), none(2), (4, 0, 0), none(7), none(7), none(53), none(2), (4, 0, 0), none(32)];
+    case("taken back", one(&[SEND]), &records, &last);
     cases
 }
 
@@ -115,16 +119,16 @@ mod tests {
     use crate::rules::lent::Lent;
     use crate::rules::plain::transparent;
     use crate::rules::run::run;
-    use crate::rules::simulator::Cabinet;
+    use crate::rules::session::Session;
 
     #[test]
     fn as_by_hand() {
         for case in by_hand() {
-            let mut cabinet = Cabinet::new(&case.table);
-            let run: Vec<_> = case.records.iter().map(|&record| (record, cabinet.answer(record))).collect();
+            let mut session = Session::new(&case.table);
+            let run: Vec<_> = case.records.iter().map(|&record| (record, session.answer(record))).collect();
             let shown: Vec<_> = run.iter().map(|(_, answer)| (answer.code, answer.origin.sender, answer.origin.place)).collect();
             assert_eq!(shown[shown.len() - case.last.len()..], case.last, "{}", case.name);
-            transparent(&case.table, &run, &cabinet).unwrap_or_else(|fault| panic!("{}: {fault}", case.name));
+            transparent(&case.table, &run, &session.cabinet).unwrap_or_else(|fault| panic!("{}: {fault}", case.name));
         }
     }
 
@@ -132,8 +136,8 @@ mod tests {
     #[test]
     fn from_elsewhere() {
         let case = by_hand().into_iter().find(|case| case.name.starts_with("sent before")).expect("a case");
-        let mut cabinet = Cabinet::new(&case.table);
-        let run: Vec<_> = case.records.iter().map(|&record| (record, cabinet.answer(record))).collect();
+        let mut session = Session::new(&case.table);
+        let run: Vec<_> = case.records.iter().map(|&record| (record, session.answer(record))).collect();
         let at = run.iter().position(|(_, answer)| answer.code == 4).expect("a word on the bus");
         for field in 0..4 {
             let mut other = run.clone();
@@ -144,7 +148,7 @@ mod tests {
                 2 => answer.origin.sender ^= 1,
                 _ => answer.origin.place ^= 1,
             }
-            assert!(transparent(&case.table, &other, &cabinet).is_err(), "field {field}");
+            assert!(transparent(&case.table, &other, &session.cabinet).is_err(), "field {field}");
         }
     }
 

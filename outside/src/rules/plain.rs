@@ -5,6 +5,7 @@
 //! plain run has a given bus order, then this one has: feeds as they come, each process stepped only when a word of it is due.
 use super::answer::{Answer, Origin};
 use super::reader::{Instruction, Record, Table, OUTSIDE};
+use super::session::standing_of;
 use super::simulator::Cabinet;
 use std::collections::VecDeque;
 
@@ -112,10 +113,12 @@ impl<'t> Plain<'t> {
     }
 }
 
-/// Demand 3 for one run: its records with their answers, and the cabinet after the last of them.
+/// Demand 3 for one run: its records with their answers, and the cabinet after the last of them. What counts are the records that stand (W-214):
+/// where nothing is taken back, all of them.
 pub fn transparent(table: &Table, run: &[(Record, Answer)], end: &Cabinet) -> Result<(), String> {
     let mut plain = Plain::new(table);
-    for (i, (record, answer)) in run.iter().enumerate().filter(|(_, (_, answer))| answer.code == 4) {
+    let standing = standing_of(run).into_iter().map(|i| (i, run[i]));
+    for (i, (record, answer)) in standing.filter(|(_, (_, answer))| answer.code == 4) {
         let fault = |what: &str| Err(format!("record {}: {what}", i + 1));
         if record.kind == 4 {
             if !plain.feed(record.a, record.word) {
@@ -127,7 +130,7 @@ pub fn transparent(table: &Table, run: &[(Record, Answer)], end: &Cabinet) -> Re
                 return fault("the plain cabinet sends no word");
             }
         }
-        if plain.bus.last() != Some(&BusWord::shown(answer)) {
+        if plain.bus.last() != Some(&BusWord::shown(&answer)) {
             return fault("another word, or one from elsewhere, is on the plain cabinet's bus");
         }
     }

@@ -1,10 +1,10 @@
 //! The list of reasons: document 02, W-206. Which bytes can be in it, and records for each of them, by hand.
 use super::reader::Instruction::{Add, First, Jump, Send, Set, Take};
 use super::reader::{Channel, Instruction, Process, Record, Table, OUTSIDE};
-use super::sample::{carry, crash, feed, give_back, resync, step, sync};
+use super::sample::{back, carry, crash, feed, give_back, resync, step, sync};
 
 /// Every code, and its causes: "The cause is 0 except here."
-pub const CAUSES: [(u8, &[u8]); 23] = [
+pub const CAUSES: [(u8, &[u8]); 25] = [
     (0, &[0, 1, 2, 3]), // "1 for a sync, 2 for a crash"; W-210: "cause 3 under code 0 means a return or a resync"
     (1, &[0]),
     (2, &[0]),
@@ -12,7 +12,8 @@ pub const CAUSES: [(u8, &[u8]); 23] = [
     (4, &[0, 1]), // "1 for a feed"
     (5, &[0, 3]), // W-210: "under 5, 38 and 41 a resync"
     (6, &[0]),
-    (32, &[0, 1]),    // "1 when the move is known and the word is at fault"
+    (7, &[0]),        // W-214: "answers 7 with 0 and 0"
+    (32, &[0, 1]),    // "1 when the move is known and the word is at fault"; W-214: "else 32, cause 1"
     (33, &[0, 1, 2]), // "1 for a board, 2 for a channel"
     (34, &[0, 1]),    // "1 for a crash"
     (35, &[0]),
@@ -28,6 +29,7 @@ pub const CAUSES: [(u8, &[u8]); 23] = [
     (48, &[0]),
     (49, &[0]),
     (50, &[0]),
+    (53, &[0]), // W-214: "no record is kept to go back to"
 ];
 
 /// Every byte that can be in the list.
@@ -77,7 +79,7 @@ pub fn by_hand() -> Vec<ByHand> {
         cases.push(ByHand { name, table, records: records.to_vec(), last: last.to_vec() });
     };
     let any = |kind, a, word| Record { kind, a, word };
-    let records = [any(0, 0, 0), any(8, 0, 1), any(255, 255, 1), any(1, 0, 1), any(5, 255, 1)];
+    let records = [any(0, 0, 0), any(9, 0, 1), any(255, 255, 1), any(1, 0, 1), any(5, 255, 1)];
     case(
         "an unknown move has cause 0, with or without a word",
         one(&[]),
@@ -131,27 +133,34 @@ pub fn by_hand() -> Vec<ByHand> {
     let records = [&records[..32], &[crash(1), give_back(1), resync(4), sync(4)]].concat();
     case("queue full, for a resync", table, &records, &[(0, 2), (0, 3), (38, 3), (40, 0)]);
     case("eight acts don't stop a SET", one(&round(0, take, 3)), &fed_steps(23), &[(0, 0)]);
+    // W-214: move 8.
+    let records = [back(), any(8, 0, 1), any(8, 1, 0), any(8, 255, u32::MAX), feed(0, 9), any(8, 1, 0), back(), back()];
+    let last = [(53, 0), (32, 1), (32, 1), (32, 1), (4, 1), (32, 1), (7, 0), (53, 0)];
+    case("nothing to go back to; a fault in a or in the word", one(&[]), &records, &last);
+    let records = [step(0), any(9, 7, 7), crash(9), crash(1), sync(0), back(), back(), back(), back(), back(), back()];
+    let last = [(35, 0), (32, 0), (33, 1), (0, 2), (40, 0), (7, 0), (7, 0), (7, 0), (7, 0), (7, 0), (53, 0)];
+    case("refused records and unknown moves are taken back", one(&[]), &records, &last);
     cases
 }
 
 #[cfg(test)]
 mod tests {
     use super::{by_hand, reasons};
-    use crate::rules::simulator::Cabinet;
+    use crate::rules::session::Session;
 
     #[test]
     fn each_byte_is_another() {
         let all: Vec<u8> = reasons().collect();
-        assert_eq!(all.len(), 38);
-        assert!(all.windows(2).all(|pair| pair[0] < pair[1]) && all.iter().all(|&byte| byte <= 4 * 50 + 3));
+        assert_eq!(all.len(), 40);
+        assert!(all.windows(2).all(|pair| pair[0] < pair[1]) && all.iter().all(|&byte| byte <= 4 * 53 + 3));
     }
 
     #[test]
     fn as_by_hand() {
         let mut met: Vec<u8> = Vec::new();
         for case in by_hand() {
-            let mut cabinet = Cabinet::new(&case.table);
-            let answers: Vec<_> = case.records.iter().map(|&record| cabinet.answer(record)).collect();
+            let mut session = Session::new(&case.table);
+            let answers: Vec<_> = case.records.iter().map(|&record| session.answer(record)).collect();
             let last: Vec<_> = answers.iter().map(|answer| (answer.code, answer.cause)).collect();
             assert_eq!(last[last.len() - case.last.len()..], case.last, "{}", case.name);
             answers.iter().for_each(|answer| assert_eq!(answer.reason(), 4 * answer.code + answer.cause));

@@ -1,7 +1,7 @@
 //! A whole run, from bytes to bytes: document 01, the end of "What each move replies".
 use super::lent::Lent;
 use super::reader::{judge_run, record};
-use super::simulator::Cabinet;
+use super::session::Session;
 
 /// "An accepted run returns 0, its number of records, and whether it ended quiet. A refused one [..] returns the number alone, no
 /// records, not quiet".
@@ -19,17 +19,17 @@ pub fn run_into(table: &[u8], schedule: &[u8], lent: Lent<&mut [u8]>) -> Outcome
         Ok(judged) => judged,
         Err(number) => return Outcome { number, records: 0, quiet: false },
     };
-    let mut cabinet = Cabinet::new(&table);
+    let mut session = Session::of(&table, records.chunks_exact(6).map(|bytes| bytes[0]));
     let told = lent.reasons.iter_mut().zip(lent.origins.chunks_exact_mut(2));
     for ((bytes, answer), (reason, origin)) in records.chunks_exact(6).zip(lent.answers.chunks_exact_mut(6)).zip(told) {
-        let given = cabinet.answer(record(bytes));
+        let given = session.answer(record(bytes));
         answer.copy_from_slice(&given.bytes());
         *reason = given.reason();
         // W-212: "two bytes a record: sender and place"
         origin.copy_from_slice(&[given.origin.sender, given.origin.place]);
     }
-    cabinet.report(lent.report);
-    Outcome { number: 0, records: records.len() / 6, quiet: cabinet.quiet() }
+    session.cabinet.report(lent.report);
+    Outcome { number: 0, records: records.len() / 6, quiet: session.cabinet.quiet() }
 }
 
 /// A run, and what it wrote.

@@ -37,6 +37,11 @@ pub fn resync(a: u8) -> Record {
     Record { kind: 7, a, word: 0 }
 }
 
+/// W-214: "Move 8, with a and word 0".
+pub fn back() -> Record {
+    Record { kind: 8, a: 0, word: 0 }
+}
+
 /// "feed 0 with 5, then 7; step 0 three times; carry 0; step four times; crash 0; step seven times; carry 1; step"
 pub fn sample_schedule() -> Vec<Record> {
     let mut records = vec![feed(0, 5), feed(0, 7)];

@@ -149,14 +149,14 @@ impl<'t> Process<'t> {
 }
 
 /// A channel's ends, and its slot at its reader.
-#[derive(Clone, Copy, Debug)]
+#[derive(Clone, Copy, Debug, PartialEq, Eq)]
 struct Wire {
     sender: u8,
     reader: u8,
     slot: u8,
 }
 
-#[derive(Clone, Debug)]
+#[derive(Clone, Debug, PartialEq, Eq)]
 pub struct Cabinet<'t> {
     wires: Vec<Wire>,
     pub processes: Vec<Process<'t>>,

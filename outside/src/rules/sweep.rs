@@ -38,8 +38,9 @@ pub fn sweep(table: &[u8], schedule: &[u8]) -> Swept {
         Err(number) => return Swept { number, ..Swept::default() },
     };
     let records: Vec<_> = records.chunks_exact(6).map(record).collect();
-    // "52, the schedule has a record of move 5, whatever its a and word, or over 500 records, after 10"
-    if records.len() > 500 || records.iter().any(|record| record.kind == 5) {
+    // "52, the schedule has a record of move 5, whatever its a and word, or over 500 records, after 10"; W-214: "The sweep of W-213 refuses
+    // schedules with move 8 by 52."
+    if records.len() > 500 || records.iter().any(|record| [5, 8].contains(&record.kind)) {
         return Swept { number: 52, ..Swept::default() };
     }
     let mut swept = Swept::default();

@@ -1,6 +1,7 @@
 //! How long the proved run of a schedule takes, beside a plain one in Rust, and beside a loop that only decodes records and writes answers:
 //! `speed [--repetitions N] [--seed N] [--mix TEXT]`. What it prints is Markdown, as docs/SPEED.md has it. With `--mix`, only mixes with this
 //! text in their name.
+mod back;
 mod baseline;
 #[path = "../cabinet/call.rs"]
 mod call;
@@ -32,11 +33,16 @@ const RUNS: usize = 8;
 /// The mixes of which it is shown that time grows as records do.
 const GROWTH: [&str; 3] = ["steps mostly", "feeds, full inboxes", "the even mix"];
 
+/// The mix whose records are taken back.
+const BACK: &str = "the even mix";
+
 /// The plain run is a right one: on generated runs it equals the simulator's.
 fn check_plain(random: &mut Random) {
     for i in 0..2_000 {
         let table = if i % 2 == 0 { row(random) } else { table(random) };
-        let records = if i % 4 == 0 { crash_after_crash(random, &table, 3, 150) } else { schedule(random, &table, 200) };
+        let mut records = if i % 4 == 0 { crash_after_crash(random, &table, 3, 150) } else { schedule(random, &table, 200) };
+        // "it need not follow later requests": it has no move 8.
+        records.retain(|record| record.kind != 8);
         let lengths = Lent::needed(records.len(), table.processes.len());
         let (table, schedule) = (encode_table(&table), encode_schedule(&records));
         let wanted = outside::rules::run::run(&table, &schedule, lengths);
@@ -113,6 +119,13 @@ impl Asked {
     }
 }
 
+impl Asked {
+    /// Runs in which records are taken back, of one mix.
+    fn print_back(&self, among: Vec<Mix>) {
+        self.mixes(among).filter(|mix| mix.name == BACK).for_each(|mix| back::print(&mix, self.seed, self.repetitions));
+    }
+}
+
 fn main() {
     let asked = Asked {
         repetitions: number("--repetitions").unwrap_or(REPETITIONS).max(1),
@@ -131,6 +144,8 @@ fn main() {
     asked.print_mixes(others());
     println!("\nWhole calls, the quickest, in microseconds, and nanoseconds a record above a call with none:\n");
     asked.print_growth(claimed());
+    println!("\nRecords taken back, whole calls, the quickest, in microseconds:\n");
+    asked.print_back(claimed());
     println!("\nEvery run's number, answers, reasons, report and origins were those of the plain run. On 16 processes, with {least:.1}% or more of");
     println!("the records not refused, the largest ratio is {:.2}, of medians {:.2}.", worst[0], worst[1]);
 }

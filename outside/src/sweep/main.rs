@@ -9,7 +9,7 @@ use outside::random::Random;
 use outside::rules::damage::{damage_schedule, damage_table, DAMAGES};
 use outside::rules::generate::{continued, encode_schedule, encode_table};
 use outside::rules::reader::{Channel, Process, Record, Table, OUTSIDE};
-use outside::rules::sample::{crash, give_back, resync, sample_schedule, step, SAMPLE};
+use outside::rules::sample::{back, crash, give_back, resync, sample_schedule, step, SAMPLE};
 use outside::rules::simulator::Cabinet;
 use outside::rules::sweep::{sweep, Swept};
 use outside::rules::tables::of_any_kind;
@@ -66,11 +66,14 @@ fn named(seen: &mut Seen) {
     assert_eq!((whole.number, whole.quiet + whole.held + whole.open), (0, 2 * (unharmed.len() as u64 + 1)));
     // Boards that nothing uses count.
     assert_eq!(swept(&spare(16), &[step(0)]), Swept { quiet: 32, ..Swept::default() });
-    // A record of move 5, whatever its a and word; of other moves any may stand there, also one that there isn't.
-    for record in [crash(0), crash(255), Record { word: 1, ..crash(0) }, Record { a: 16, word: u32::MAX, ..crash(0) }] {
+    // A record of move 5, whatever its a and word, or, W-214, of move 8; of other moves any may stand there, also one that there isn't.
+    let barred = [crash(0), back()].map(|record| {
+        [record, Record { a: 255, ..record }, Record { word: 1, ..record }, Record { a: 16, word: u32::MAX, ..record }]
+    });
+    for record in barred.into_iter().flatten() {
         assert_eq!(swept(&SAMPLE, &[step(0), record, step(0)]), refused(52), "{record:?}");
     }
-    let others = [give_back(0), resync(0), Record { kind: 8, a: 0, word: 0 }, Record { kind: 0, a: 5, word: 5 }];
+    let others = [give_back(0), resync(0), Record { kind: 9, a: 0, word: 0 }, Record { kind: 0, a: 5, word: 5 }];
     assert_eq!(swept(&SAMPLE, &others).number, 0);
     // 500 and 501 records, 10,000 and 10,001.
     for (records, number) in [(500, 0), (501, 52), (10_000, 52), (10_001, 9)] {
@@ -91,6 +94,10 @@ fn random_sweep(seen: &mut Seen, random: &mut Random) {
     let made = of_any_kind(random);
     let length = random.pick(&[0, 1, 5, 20, 40, 80]);
     let mut records = continued(random, &made, Cabinet::new(&made), length);
+    // A move 8 would refuse the sweep: one in some may.
+    if !random.once_in(10) {
+        records.retain(|record| record.kind != 8);
+    }
     for _ in 0..random.below(6) {
         // The board that was pulled comes back, and its processes get a backup.
         let at = random.below(records.len() as u32 + 1) as usize;

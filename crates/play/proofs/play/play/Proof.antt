@@ -11,7 +11,7 @@ use Rattle.backup.specs.declared.place.Checkpoint.{Checkpoint}
 use Rattle.bus.proofs.Originating.{carried-told}
 use Rattle.play.specs.Plays.{sheetsOf, RoomAt}
 use Rattle.play.proofs.Sheets.{has-room}
-use Rattle.play.proofs.Playing.{Playing, at-first, Round, on-refused, on-made, on-unknown, at-last, none-joined, one-joined, default-free}
+use Rattle.play.proofs.Playing.{Playing, at-first, Round, on-refused, on-made, on-unknown, at-last, at-undo, none-joined, one-joined, default-free}
 use borrow.Author.Needs.{needs}
 use native.Mathlib.Omega.{arith}
 use Rattle.play.proofs.play.play.Statement.{statement}
@@ -108,6 +108,19 @@ byte-word-requires c κs = search needs
 judge-requires : tie.Need-judge-requires Inv-loop μ-loop
 judge-requires c κs = search needs
 
+same-length : tie.Need-same-length Inv-loop μ-loop
+same-length c = c .before .before .before .before .before .before .loop .inv .long .answers-long
+
+same-length-2 : tie.Need-same-length-2 Inv-loop μ-loop
+same-length-2 c = c .before .before .before .before .before .before .loop .inv .long .reasons-long
+
+same-length-3 : tie.Need-same-length-3 Inv-loop μ-loop
+same-length-3 c = c .before .before .before .before .before .before .loop .inv .long .origins-long
+
+returns : tie.Need-returns Inv-loop μ-loop
+returns c =
+    at-undo (c .before .before .before .before .before .before .before .before .least .ensures ∙ ap (min (first (c .before .before) .args .stretch .to)) (c .before .before .before .before .before .before .before .before .before .count .ensures)) (round (c .before .before)) (c .if2 .taken)
+
 cause-requires : tie.Need-cause-requires Inv-loop μ-loop
 cause-requires c κs = search needs
 
@@ -115,14 +128,14 @@ refusal-requires : tie.Need-refusal-requires Inv-loop μ-loop
 refusal-requires c κs = search needs
 
 write-requires : tie.Need-write-requires Inv-loop μ-loop
-write-requires c κs = room (c .before .before .before .before .before .before)
+write-requires c κs = room (c .before .before .before .before .before .before .before)
 
 loop-less : tie.Need-loop-less Inv-loop μ-loop
-loop-less c = less (c .before .before .before .before .before .before .before .before .before .before .before .before .before)
+loop-less c = less (c .before .before .before .before .before .before .before .before .before .before .before .before .before .before)
 
 loop-again : tie.Need-loop-again Inv-loop μ-loop
 loop-again c =
-    on-refused (round (c .before .before .before .before .before .before .before .before .before .before .before .before .before)) (c .before .before .before .before .before .before .before .before .before .before .before .before .if1 .taken) (c .before .before .before .before .before .before .before .before .cause .ensures) (c .before .before .before .before .before .before .before .refusal .ensures) (c .before .before .before .before .before .before .write .ensures)
+    on-refused (round (c .before .before .before .before .before .before .before .before .before .before .before .before .before .before)) (c .before .before .before .before .before .before .before .before .before .before .before .before .before .if1 .taken) (c .before .before .before .before .before .before .before .before .before .before .before .before .if2 .left) (c .before .before .before .before .before .before .before .before .cause .ensures) (c .before .before .before .before .before .before .before .refusal .ensures) (c .before .before .before .before .before .before .write .ensures)
 
 index16-requires : tie.Need-index16-requires Inv-loop μ-loop
 index16-requires c κs = search needs
@@ -158,12 +171,12 @@ loop-again-2 : tie.Need-loop-again-2 Inv-loop μ-loop
 loop-again-2 c =
     let g = c .before .before .before .before .before .before .before .before .before .before .before .before .before .before .before .before .before .before .before .before .before .before in
     let q = head g .loop in
-    on-made (round g) (c .before .before .before .before .before .before .before .before .before .before .before .before .before .before .before .before .before .before .before .before .before .if1 .left) 1 (c .before .before .before .before .before .before .before .before .before .before .before .before .before .before .before .before .before .before .before .before .match .keys1) (c .before .before .before .before .before .before .before .write2 .ensures) (c .before .before .before .before .before .before .before .before .before .before .before .before .step .ensures (first g .args .counts) (q .logs) (q .heads))
+    on-made (round g) (c .before .before .before .before .before .before .before .before .before .before .before .before .before .before .before .before .before .before .before .before .before .if1 .left) 1 refl (c .before .before .before .before .before .before .before .before .before .before .before .before .before .before .before .before .before .before .before .before .match .keys1) (c .before .before .before .before .before .before .before .write2 .ensures) (c .before .before .before .before .before .before .before .before .before .before .before .before .step .ensures (first g .args .counts) (q .logs) (q .heads))
     (λ t now ok holds b. (
       b,
       ap (λ (n : ℕ). set (q .entries) (c .before .before .before .before .before .before .before .before .before .before .before .before .step .result .at) (record { item = Word (c .before .before .before .before .before .before .before .before .before .before .before .before .step .result .answer .a) (c .before .before .before .before .before .before .before .before .before .before .before .before .step .result .answer .word) n }))
           (c .before .before .before .before .before .before .before .before .before .before .before .before .before .before .before .before .before .low-byte .ensures ∙ ap (λ (p : ℕ). pcIn (getD (q .rows) p []) % 256) (c .before .before .before .before .before .before .before .before .before .before .before .before .before .before .before .before .before .before .before .index16 .ensures .1 (let y = ok .processes-high in omega arith)))
-          ∙ one-joined (q .entries) (c .before .before .before .before .before .before .before .before .before .before .before .before .step .result .at) _ (c .if2 .taken),
+          ∙ one-joined (q .entries) (c .before .before .before .before .before .before .before .before .before .before .before .before .step .result .at) _ (c .if3 .taken),
     ))
     (λ t now u b asked w. refl)
 
@@ -174,8 +187,8 @@ loop-again-3 : tie.Need-loop-again-3 Inv-loop μ-loop
 loop-again-3 c =
     let g = c .before .before .before .before .before .before .before .before .before .before .before .before .before .before .before .before .before .before .before .before .before .before in
     let q = head g .loop in
-    on-made (round g) (c .before .before .before .before .before .before .before .before .before .before .before .before .before .before .before .before .before .before .before .before .before .if1 .left) 1 (c .before .before .before .before .before .before .before .before .before .before .before .before .before .before .before .before .before .before .before .before .match .keys1) (c .before .before .before .before .before .before .before .write2 .ensures) (c .before .before .before .before .before .before .before .before .before .before .before .before .step .ensures (first g .args .counts) (q .logs) (q .heads))
-    (λ t now ok holds b. (b, none-joined (q .entries) (c .before .before .before .before .before .before .before .before .before .before .before .before .step .result .at) _ (c .if2 .left)))
+    on-made (round g) (c .before .before .before .before .before .before .before .before .before .before .before .before .before .before .before .before .before .before .before .before .before .if1 .left) 1 refl (c .before .before .before .before .before .before .before .before .before .before .before .before .before .before .before .before .before .before .before .before .match .keys1) (c .before .before .before .before .before .before .before .write2 .ensures) (c .before .before .before .before .before .before .before .before .before .before .before .before .step .ensures (first g .args .counts) (q .logs) (q .heads))
+    (λ t now ok holds b. (b, none-joined (q .entries) (c .before .before .before .before .before .before .before .before .before .before .before .before .step .result .at) _ (c .if3 .left)))
     (λ t now u b asked w. refl)
 
 index16-requires-2 : tie.Need-index16-requires-2 Inv-loop μ-loop
@@ -209,12 +222,12 @@ loop-again-4 : tie.Need-loop-again-4 Inv-loop μ-loop
 loop-again-4 c =
     let g = c .before .before .before .before .before .before .before .before .before .before .before .before .before .before .before .before .before .before .before .before in
     let q = head g .loop in
-    on-made (round g) (c .before .before .before .before .before .before .before .before .before .before .before .before .before .before .before .before .before .before .before .if1 .left) 2 (c .before .before .before .before .before .before .before .before .before .before .before .before .before .before .before .before .before .before .match .keys2) (c .before .before .before .before .before .before .before .write3 .ensures) (c .before .before .before .before .before .before .before .before .before .before .before .before .issue .ensures _ (q .mails) (q .logs) (q .heads) (q .totals))
+    on-made (round g) (c .before .before .before .before .before .before .before .before .before .before .before .before .before .before .before .before .before .before .before .if1 .left) 2 refl (c .before .before .before .before .before .before .before .before .before .before .before .before .before .before .before .before .before .before .match .keys2) (c .before .before .before .before .before .before .before .write3 .ensures) (c .before .before .before .before .before .before .before .before .before .before .before .before .issue .ensures _ (q .mails) (q .logs) (q .heads) (q .totals))
     (λ t now ok holds b. (
       b,
       ap (λ (k : Checkpoint). set (q .entries) (c .before .before .before .before .before .before .before .before .before .before .before .before .issue .result .at) (record { item = Sync (g .before .byte-word .result) k }))
           (c .before .before .before .before .before .before .before .before .before .before .before .before .before .before .before .snapshot .ensures ∙ ap (λ (p : ℕ). checkpointIn (getD (q .rows) p [])) (c .before .before .before .before .before .before .before .before .before .before .before .before .before .before .before .before .before .index162 .ensures .1 (let y = ok .processes-high in omega arith)))
-          ∙ one-joined (q .entries) (c .before .before .before .before .before .before .before .before .before .before .before .before .issue .result .at) _ (c .if3 .taken),
+          ∙ one-joined (q .entries) (c .before .before .before .before .before .before .before .before .before .before .before .before .issue .result .at) _ (c .if4 .taken),
     ))
     (λ t now u b asked w. refl)
 
@@ -225,8 +238,8 @@ loop-again-5 : tie.Need-loop-again-5 Inv-loop μ-loop
 loop-again-5 c =
     let g = c .before .before .before .before .before .before .before .before .before .before .before .before .before .before .before .before .before .before .before .before in
     let q = head g .loop in
-    on-made (round g) (c .before .before .before .before .before .before .before .before .before .before .before .before .before .before .before .before .before .before .before .if1 .left) 2 (c .before .before .before .before .before .before .before .before .before .before .before .before .before .before .before .before .before .before .match .keys2) (c .before .before .before .before .before .before .before .write3 .ensures) (c .before .before .before .before .before .before .before .before .before .before .before .before .issue .ensures _ (q .mails) (q .logs) (q .heads) (q .totals))
-    (λ t now ok holds b. (b, none-joined (q .entries) (c .before .before .before .before .before .before .before .before .before .before .before .before .issue .result .at) _ (c .if3 .left)))
+    on-made (round g) (c .before .before .before .before .before .before .before .before .before .before .before .before .before .before .before .before .before .before .before .if1 .left) 2 refl (c .before .before .before .before .before .before .before .before .before .before .before .before .before .before .before .before .before .before .match .keys2) (c .before .before .before .before .before .before .before .write3 .ensures) (c .before .before .before .before .before .before .before .before .before .before .before .before .issue .ensures _ (q .mails) (q .logs) (q .heads) (q .totals))
+    (λ t now ok holds b. (b, none-joined (q .entries) (c .before .before .before .before .before .before .before .before .before .before .before .before .issue .result .at) _ (c .if4 .left)))
     (λ t now u b asked w. refl)
 
 index16-requires-3 : tie.Need-index16-requires-3 Inv-loop μ-loop
@@ -263,7 +276,7 @@ loop-again-6 : tie.Need-loop-again-6 Inv-loop μ-loop
 loop-again-6 c =
     let g = c .before .before .before .before .before .before .before .before .before .before .before .before .before .before .before .before .before .before .before .before .before .before .before .before in
     let q = head g .loop in
-    on-made (round g) (c .before .before .before .before .before .before .before .before .before .before .before .before .before .before .before .before .before .before .before .before .before .before .before .if1 .left) 3 (c .before .before .before .before .before .before .before .before .before .before .before .before .before .before .before .before .before .before .before .before .before .before .match .keys3) (c .before .before .before .before .before .before .write-from .ensures) (c .before .before .before .before .before .before .before .before .before .before .before .transmit .ensures (first g .args .table .now) (first g .args .counts) (first g .args .programs .now))
+    on-made (round g) (c .before .before .before .before .before .before .before .before .before .before .before .before .before .before .before .before .before .before .before .before .before .before .before .if1 .left) 3 refl (c .before .before .before .before .before .before .before .before .before .before .before .before .before .before .before .before .before .before .before .before .before .before .match .keys3) (c .before .before .before .before .before .before .write-from .ensures) (c .before .before .before .before .before .before .before .before .before .before .before .transmit .ensures (first g .args .table .now) (first g .args .counts) (first g .args .programs .now))
     (λ t now ok holds b. (
       record {
         board-there = b;
@@ -292,7 +305,7 @@ loop-again-7 : tie.Need-loop-again-7 Inv-loop μ-loop
 loop-again-7 c =
     let g = c .before .before .before .before .before .before .before .before .before .before .before .before .before .before .before .before .before .before .before in
     let q = head g .loop in
-    on-made (round g) (c .before .before .before .before .before .before .before .before .before .before .before .before .before .before .before .before .before .before .if1 .left) 4 (c .before .before .before .before .before .before .before .before .before .before .before .before .before .before .before .before .before .match .keys4) (c .before .before .before .before .before .before .write-from2 .ensures) (c .before .before .before .before .before .before .before .before .before .before .before .inject .ensures (first g .args .table .now) (first g .args .counts) (first g .args .programs .now) (q .queues))
+    on-made (round g) (c .before .before .before .before .before .before .before .before .before .before .before .before .before .before .before .before .before .before .if1 .left) 4 refl (c .before .before .before .before .before .before .before .before .before .before .before .before .before .before .before .before .before .match .keys4) (c .before .before .before .before .before .before .write-from2 .ensures) (c .before .before .before .before .before .before .before .before .before .before .before .inject .ensures (first g .args .table .now) (first g .args .counts) (first g .args .programs .now) (q .queues))
     (λ t now ok holds b. (b, refl))
     (λ t now u b asked w. sym (c .before .before .before .before .before .before .before .fed .ensures))
 
@@ -309,7 +322,7 @@ loop-again-8 : tie.Need-loop-again-8 Inv-loop μ-loop
 loop-again-8 c =
     let g = c .before .before .before .before .before .before .before .before .before .before .before .before .before .before .before .before .before .before .before in
     let q = head g .loop in
-    on-made (round g) (c .before .before .before .before .before .before .before .before .before .before .before .before .before .before .before .before .before .before .if1 .left) 5 (c .before .before .before .before .before .before .before .before .before .before .before .before .before .before .before .before .before .match .keys5) (c .before .before .before .before .before .before .write4 .ensures) (c .before .before .before .before .before .before .before .before .before .before .crash .ensures (first g .args .table .now))
+    on-made (round g) (c .before .before .before .before .before .before .before .before .before .before .before .before .before .before .before .before .before .before .if1 .left) 5 refl (c .before .before .before .before .before .before .before .before .before .before .before .before .before .before .before .before .before .match .keys5) (c .before .before .before .before .before .before .write4 .ensures) (c .before .before .before .before .before .before .before .before .before .before .crash .ensures (first g .args .table .now))
     (λ t now ok holds b. (b, refl))
     (λ t now u b asked w. refl)
 
@@ -326,7 +339,7 @@ loop-again-9 : tie.Need-loop-again-9 Inv-loop μ-loop
 loop-again-9 c =
     let g = c .before .before .before .before .before .before .before .before .before .before .before .before .before .before in
     let q = head g .loop in
-    on-made (round g) (c .before .before .before .before .before .before .before .before .before .before .before .before .before .if1 .left) 6 (c .before .before .before .before .before .before .before .before .before .before .before .before .match .keys6) (c .before .before .before .before .before .before .write5 .ensures) (c .before .before .before .before .before .before .before .before .before .before .rejoin .ensures _ (q .rows) (q .mails) (q .logs) (q .heads) (q .totals))
+    on-made (round g) (c .before .before .before .before .before .before .before .before .before .before .before .before .before .if1 .left) 6 refl (c .before .before .before .before .before .before .before .before .before .before .before .before .match .keys6) (c .before .before .before .before .before .before .write5 .ensures) (c .before .before .before .before .before .before .before .before .before .before .rejoin .ensures _ (q .rows) (q .mails) (q .logs) (q .heads) (q .totals))
     (λ t now ok holds b. (b, refl))
     (λ t now u b asked w. refl)
 
@@ -349,8 +362,8 @@ loop-again-10 : tie.Need-loop-again-10 Inv-loop μ-loop
 loop-again-10 c =
     let g = c .before .before .before .before .before .before .before .before .before .before .before .before .before .before .before .before .before .before .before .before .before in
     let q = head g .loop in
-    on-made (round g) (c .before .before .before .before .before .before .before .before .before .before .before .before .before .before .before .before .before .before .before .before .if1 .left) 7 (c .before .before .before .before .before .before .before .before .before .before .before .before .before .before .before .before .before .before .before .match .keys7) (c .before .before .before .before .before .before .before .write6 .ensures) (c .before .before .before .before .before .before .before .before .before .before .before .before .rebackup .ensures (first g .args .table .now) (first g .args .counts))
-    (λ t now ok holds b. (b, one-joined (q .entries) (c .before .before .before .before .before .before .before .before .before .before .before .before .rebackup .result .at) _ (c .if4 .taken)))
+    on-made (round g) (c .before .before .before .before .before .before .before .before .before .before .before .before .before .before .before .before .before .before .before .before .if1 .left) 7 refl (c .before .before .before .before .before .before .before .before .before .before .before .before .before .before .before .before .before .before .before .match .keys7) (c .before .before .before .before .before .before .before .write6 .ensures) (c .before .before .before .before .before .before .before .before .before .before .before .before .rebackup .ensures (first g .args .table .now) (first g .args .counts))
+    (λ t now ok holds b. (b, one-joined (q .entries) (c .before .before .before .before .before .before .before .before .before .before .before .before .rebackup .result .at) _ (c .if5 .taken)))
     (λ t now u b asked w. refl)
 
 loop-less-11 : tie.Need-loop-less-11 Inv-loop μ-loop
@@ -360,8 +373,8 @@ loop-again-11 : tie.Need-loop-again-11 Inv-loop μ-loop
 loop-again-11 c =
     let g = c .before .before .before .before .before .before .before .before .before .before .before .before .before .before .before .before .before .before .before .before .before in
     let q = head g .loop in
-    on-made (round g) (c .before .before .before .before .before .before .before .before .before .before .before .before .before .before .before .before .before .before .before .before .if1 .left) 7 (c .before .before .before .before .before .before .before .before .before .before .before .before .before .before .before .before .before .before .before .match .keys7) (c .before .before .before .before .before .before .before .write6 .ensures) (c .before .before .before .before .before .before .before .before .before .before .before .before .rebackup .ensures (first g .args .table .now) (first g .args .counts))
-    (λ t now ok holds b. (b, none-joined (q .entries) (c .before .before .before .before .before .before .before .before .before .before .before .before .rebackup .result .at) _ (c .if4 .left)))
+    on-made (round g) (c .before .before .before .before .before .before .before .before .before .before .before .before .before .before .before .before .before .before .before .before .if1 .left) 7 refl (c .before .before .before .before .before .before .before .before .before .before .before .before .before .before .before .before .before .before .before .match .keys7) (c .before .before .before .before .before .before .before .write6 .ensures) (c .before .before .before .before .before .before .before .before .before .before .before .before .rebackup .ensures (first g .args .table .now) (first g .args .counts))
+    (λ t now ok holds b. (b, none-joined (q .entries) (c .before .before .before .before .before .before .before .before .before .before .before .before .rebackup .result .at) _ (c .if5 .left)))
     (λ t now u b asked w. refl)
 
 refusal-requires-2 : tie.Need-refusal-requires-2 Inv-loop μ-loop
@@ -379,17 +392,17 @@ loop-again-12 c =
     on-unknown (round (c .before .before .before .before .before .before .before .before .before .before .before .before .before)) (c .before .before .before .before .before .before .before .before .before .before .before .before .if1 .left) (m .0 .0 .0 .0 .0 .0 .1) (m .0 .0 .0 .0 .0 .1) (m .0 .0 .0 .0 .1) (m .0 .0 .0 .1) (m .0 .0 .1) (m .0 .1) (m .1)
     (c .before .before .before .before .before .before .write7 .ensures)
 
-same-length : tie.Need-same-length Inv-loop μ-loop
-same-length c = c .before .loop .inv .long .answers-long
+same-length-4 : tie.Need-same-length-4 Inv-loop μ-loop
+same-length-4 c = c .before .loop .inv .long .answers-long
 
-same-length-2 : tie.Need-same-length-2 Inv-loop μ-loop
-same-length-2 c = c .before .loop .inv .long .reasons-long
+same-length-5 : tie.Need-same-length-5 Inv-loop μ-loop
+same-length-5 c = c .before .loop .inv .long .reasons-long
 
-same-length-3 : tie.Need-same-length-3 Inv-loop μ-loop
-same-length-3 c = c .before .loop .inv .long .origins-long
+same-length-6 : tie.Need-same-length-6 Inv-loop μ-loop
+same-length-6 c = c .before .loop .inv .long .origins-long
 
-returns : tie.Need-returns Inv-loop μ-loop
-returns c =
+returns-2 : tie.Need-returns-2 Inv-loop μ-loop
+returns-2 c =
     at-last (c .before .before .before .least .ensures ∙ ap (min (c .before .before .before .before .before .before .before .before .before .before .args .stretch .to)) (c .before .before .before .before .count .ensures)) (c .before .loop .inv)
     (λ h. let a = c .loop-test .left in omega arith)
 
@@ -406,6 +419,10 @@ play-spec =
     command-at-requires
     byte-word-requires
     judge-requires
+    same-length
+    same-length-2
+    same-length-3
+    returns
     cause-requires
     refusal-requires
     write-requires
@@ -472,7 +489,7 @@ play-spec =
     write-requires-7
     loop-less-12
     loop-again-12
-    same-length
-    same-length-2
-    same-length-3
-    returns)
+    same-length-4
+    same-length-5
+    same-length-6
+    returns-2)
