@@ -68,16 +68,11 @@ enum ks_refusal {
     KS_SCHEDULE_VERSION = 10,
     KS_ANSWERS_SHORT = 11,    /* answer buffer under six bytes a record, or buffer of reasons under one */
     KS_REPORT_SHORT = 12,     /* report buffer under 20 bytes a process */
+    KS_NO_ROOM = 45,          /* of a table written or taken apart: the buffer is shorter than the table, or a list than the table's */
     KS_FIRST_SERIAL = 46,     /* of the label line: a first serial above 4,294,957,295 */
     KS_LIMIT = 47,            /* a process's limit outside 1 to 16 */
     KS_ORIGINS_SHORT = 51,    /* buffer of origins under two bytes a record */
     KS_UNSWEPT = 52           /* of a sweep: a record of move 5 or 8, whatever its a and word, or over 500 records */
-};
-
-/* ---- why a table is not written or not taken apart, beside 1 to 8 and KS_LIMIT of ks_refusal, and after those */
-
-enum ks_table_refusal {
-    KS_NO_ROOM = 45           /* the buffer is shorter than the table, or a list shorter than the table's */
 };
 
 /* ---- the answer to a record */

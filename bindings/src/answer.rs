@@ -61,7 +61,7 @@ impl Code {
 
 worded! {
     /// Why an answer is what it is. The number is the byte in the list of reasons: the answer's code times 4, plus its cause.
-    Cause {
+    Reason {
         Calculated = 0 => "done: calculated",
         SyncIssued = 1 => "done: sync issued",
         BoardCrashed = 2 => "done: board crashed",
@@ -105,10 +105,15 @@ worded! {
     }
 }
 
-impl Cause {
-    /// The code of an answer with this cause.
+impl Reason {
+    /// The code of an answer with this reason.
     pub fn code(self) -> Code {
-        Code::of(self.number() / 4).expect("a cause is of some code")
+        Code::try_from(self.number() / 4).expect("a reason is of some code")
+    }
+
+    /// What tells it from the other reasons for this code: 0 to 3.
+    pub fn cause(self) -> u8 {
+        self.number() % 4
     }
 }
 
@@ -123,24 +128,24 @@ pub struct BusWord {
     pub place: u8,
 }
 
-/// "One six-byte answer a record: code, a, word", its cause from the list of reasons, and the word that the record put on the bus, if it did.
+/// "One six-byte answer a record: code, a, word", why it is that one from the list of reasons, and the word that the record put on the bus, if it did.
 #[derive(Clone, Copy, Debug, PartialEq, Eq, Hash)]
 pub struct Answer {
     pub code: Code,
     pub a: u8,
     pub word: u32,
-    pub cause: Cause,
+    pub reason: Reason,
     pub bus: Option<BusWord>,
 }
 
 impl Answer {
     /// The answer that six bytes stand for, one byte of reasons and two of origins.
     pub(crate) fn of(bytes: &[u8], reason: u8, origin: &[u8]) -> Answer {
-        let code = Code::of(bytes[0]).expect("a run writes document 01's codes alone");
-        let cause = Cause::of(reason).expect("a run writes document 02's reasons alone");
+        let code = Code::try_from(bytes[0]).expect("a run writes document 01's codes alone");
+        let reason = Reason::try_from(reason).expect("a run writes document 02's reasons alone");
         let (a, word) = (bytes[1], word(&bytes[2..6]));
-        let on_the_bus = || BusWord { channel: a, word, sender: End::of(origin[0].into()), place: origin[1] };
-        Answer { code, a, word, cause, bus: (code == Code::OnTheBus).then(on_the_bus) }
+        let on_the_bus = || BusWord { channel: a, word, sender: End::from(origin[0]), place: origin[1] };
+        Answer { code, a, word, reason, bus: (code == Code::OnTheBus).then(on_the_bus) }
     }
 }
 

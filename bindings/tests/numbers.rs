@@ -1,8 +1,8 @@
 //! The enums have document 01's numbers, all of them and no others, here and in include/kunzeastylus.h; docs/NUMBERS.md explains each; and
 //! the calls hand them on.
 use kunzeastylus::{
-    check_abi, judge, take_apart, write_table, Backup, BackupRefusal, Cause, Code, End, Instruction, Lengths, Move, Operation,
-    Record, Refusal, Snapshot, Synced, Table, TableRefusal, ABI, STATE,
+    check_abi, judge, take_apart, write_table, Backup, BackupRefusal, Code, End, Instruction, Lengths, Lists, Move, Operation,
+    Reason, Record, Refusal, Snapshot, Synced, Table, ABI, STATE,
 };
 
 const HEADER: &str = include_str!("../../include/kunzeastylus.h");
@@ -36,7 +36,7 @@ macro_rules! numbered {
         let wanted: Vec<u8> = $wanted.collect();
         assert_eq!($name::ALL.iter().map(|case| case.number()).collect::<Vec<_>>(), wanted);
         for number in 0..=255 {
-            assert_eq!($name::of(number).map($name::number), wanted.contains(&number).then_some(number));
+            assert_eq!($name::try_from(number).ok().map($name::number), wanted.contains(&number).then_some(number));
         }
         assert_eq!(header($header).into_iter().filter(|&number| number != 0 || wanted.contains(&0)).collect::<Vec<_>>(), wanted);
     };
@@ -44,14 +44,14 @@ macro_rules! numbered {
 
 #[test]
 fn numbers() {
-    numbered!(Refusal, "ks_refusal", (1..=12).chain([46, 47, 51, 52]));
+    numbered!(Refusal, "ks_refusal", (1..=12).chain([45, 46, 47, 51, 52]));
     numbered!(Code, "ks_answer", (0..=7).chain(32..=44).chain(48..=50).chain([53]));
-    numbered!(Cause, "ks_cause", REASONS.into_iter());
+    numbered!(Reason, "ks_cause", REASONS.into_iter());
     numbered!(BackupRefusal, "ks_backup_reply", 20..=26);
     numbered!(Move, "ks_move", 1..=8);
     numbered!(Instruction, "ks_instruction", 1..=6);
     assert!(Code::ALL.iter().all(|code| code.refused() == (code.number() >= 32)));
-    assert!(Cause::ALL.iter().all(|cause| cause.code().number() == cause.number() / 4));
+    assert!(Reason::ALL.iter().all(|cause| cause.code().number() == cause.number() / 4));
 }
 
 /// Each has its line in docs/NUMBERS.md, in the section of its kind.
@@ -61,11 +61,8 @@ fn explained() {
     let has_line = |title: &str, number: u8| {
         assert!(section(title).lines().any(|line| line.starts_with(&format!("| {number} |"))), "{title}: no line for {number}");
     };
-    Refusal::ALL.iter().for_each(|refusal| has_line("Of a run", refusal.number()));
     Code::ALL.iter().for_each(|code| has_line("Of a record: its answer", code.number()));
     BackupRefusal::ALL.iter().for_each(|refusal| has_line("Of the backup record", refusal.number()));
-    let of_lists = [TableRefusal::Version, TableRefusal::NoRoom, TableRefusal::Limit];
-    of_lists.iter().for_each(|refusal| has_line("Of the writer of tables", refusal.number()));
 }
 
 /// The words are those of docs/NUMBERS.md, for every byte of reasons and for every refused run, and no line there is without them.
@@ -75,16 +72,16 @@ fn in_words() {
         let section = NUMBERS.split("\n## ").find(|section| section.starts_with(title)).expect("a section");
         section.lines().filter(|line| line.starts_with("| ") && line.as_bytes()[2].is_ascii_digit()).collect()
     };
-    let cause = |cause: &Cause| {
+    let cause = |cause: &Reason| {
         let (byte, code) = (cause.number(), cause.code().number());
         format!("| {byte} | {code} | {} | {} |", byte - 4 * code, cause.words())
     };
-    assert_eq!(lines("Of a record: why"), Cause::ALL.iter().map(cause).collect::<Vec<_>>());
-    let commented = |cause: &Cause| {
+    assert_eq!(lines("Of a record: why"), Reason::ALL.iter().map(cause).collect::<Vec<_>>());
+    let commented = |cause: &Reason| {
         let (number, words) = (format!("= {}", cause.number()), format!("/* {} */", cause.words()));
         HEADER.lines().any(|line| line.contains("KS_CAUSE_") && line.contains(&number) && line.ends_with(&words))
     };
-    Cause::ALL.iter().for_each(|cause| assert!(commented(cause), "the header doesn't say {}", cause.words()));
+    Reason::ALL.iter().for_each(|cause| assert!(commented(cause), "the header doesn't say {}", cause.words()));
     let refused: Vec<&str> = lines("Of a run").into_iter().filter(|line| !line.starts_with("| 0 |")).collect();
     let begins = |refusal: &Refusal| format!("| {} | {} |", refusal.number(), refusal.words());
     assert_eq!(refused.len(), Refusal::ALL.len());
@@ -154,17 +151,25 @@ fn tables() {
     assert_eq!(judge(&bytes, &[0, 1, 1], Lengths::needed(0, 1)), Ok(()));
     let lists = table.lists();
     let mut short = [0xEE; 30];
-    assert_eq!(write_table(&lists, &mut short), Err(TableRefusal::NoRoom));
+    assert_eq!(write_table(&lists, &mut short), Err(Refusal::NoRoom));
     let mut few = [7; 8];
-    assert_eq!(take_apart(&bytes, &mut [0; 4], &mut [0; 3], &mut [], &mut few), Err(TableRefusal::NoRoom));
+    assert_eq!(take_apart(&bytes, &mut [0; 4], &mut [0; 3], &mut [], &mut few), Err(Refusal::NoRoom));
     assert!(short.iter().all(|&byte| byte == 0xEE) && few.iter().all(|&n| n == 7));
-    table.processes[0].backup = 256;
-    assert_eq!(table.bytes(), Err(TableRefusal::Boards));
-    table.processes[0].program[0] = Operation::Take { register: 256, channel: 0 };
+    table.processes[0].backup = 2;
+    assert_eq!(table.bytes(), Err(Refusal::Boards));
+    table.processes[0].program[0] = Operation::Take { register: 4, channel: 0 };
     table.processes[0].backup = 1;
-    assert_eq!(table.bytes(), Err(TableRefusal::Instruction));
-    assert_eq!(Table::of(&bytes[1..]), Err(TableRefusal::Length));
-    let numbers: Vec<u8> = TableRefusal::ALL.iter().map(|refusal| refusal.number()).collect();
-    assert_eq!(numbers, (1..=8).chain([45, 47]).collect::<Vec<_>>());
-    assert_eq!(header("ks_table_refusal"), [45]);
+    assert_eq!(table.bytes(), Err(Refusal::Instruction));
+    // Lists may have numbers that fit no byte.
+    let changed = |change: fn(&mut Lists)| {
+        let mut lists = lists.clone();
+        change(&mut lists);
+        lists.table()
+    };
+    assert_eq!(changed(|lists| lists.placements[1] = 257), Err(Refusal::Boards));
+    assert_eq!(changed(|lists| lists.instructions[1] = 256), Err(Refusal::Instruction));
+    // So many channels that a number fits no byte are too many anyway.
+    (0..300).for_each(|_| assert!(table.channel(End::Outside, End::Process(0)) > 1));
+    assert_eq!(table.bytes(), Err(Refusal::TableCounts));
+    assert_eq!(Table::of(&bytes[1..]), Err(Refusal::TableLength));
 }

@@ -13,7 +13,7 @@ const INSTRUCTIONS: usize = 4;
 
 /// The mnemonic of each code.
 pub fn mnemonic(code: u32) -> Option<&'static str> {
-    let code = u8::try_from(code).ok().and_then(Instruction::of)?;
+    let code = Instruction::try_from(u8::try_from(code).ok()?).ok()?;
     Some(["SET", "ADD", "TAKE", "FIRST", "SEND", "JUMP"][code.number() as usize - 1])
 }
 

@@ -77,7 +77,7 @@ pub fn sweep(input: &Input, file: &str) -> Result<Sweep, Failure> {
 /// Why a sound schedule isn't swept.
 fn unswept(input: &Input) -> String {
     let records = input.schedule.len() / 6;
-    let first = |kind| input.schedule[3..].chunks_exact(6).position(|record| Move::of(record[0]) == Some(kind));
+    let first = |kind| input.schedule[3..].chunks_exact(6).position(|record| Move::try_from(record[0]).ok() == Some(kind));
     let crash = first(Move::Crash)
         .map(|i| format!("record {} is a crash; a sweep puts its own at every place, so leave out all of them", i + 1));
     let back = first(Move::Back).map(|i| {
@@ -117,7 +117,7 @@ impl Map {
             pulled.pull(Pull { board, before });
             runs += 1;
             made(runs);
-            pulled.run(places, |run| Ending::of(&run)).expect("a run of an accepted sweep")
+            Ending::of(&pulled.run(places).expect("a run of an accepted sweep"))
         };
         let boards = (0..input.table[3]).map(|board| (1..=places).map(|before| ending(board, before)).collect()).collect();
         let map = Map { boards };

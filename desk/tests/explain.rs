@@ -177,8 +177,8 @@ fn origin(table: &Table, bus: Option<BusWord>) -> [u8; 2] {
     match bus {
         Some(BusWord { channel, sender: End::Process(p), place, .. }) => {
             let stands = table.processes[p as usize].program[usize::from(place)];
-            assert!(matches!(stands, Operation::Send { channel: to, .. } if to == channel.into()), "{stands:?} at {place}");
-            [p as u8, place]
+            assert!(matches!(stands, Operation::Send { channel: to, .. } if to == channel), "{stands:?} at {place}");
+            [p, place]
         }
         Some(on_the_bus) => [255, on_the_bus.place],
         None => [255, 255],
@@ -200,10 +200,10 @@ fn follows(table: &[u8], schedule: &[u8]) {
     let mut buffers = Buffers::for_run(table, schedule);
     let whole = run(table, schedule, &mut buffers).expect("a sound run");
     let simulated = outside::rules::run::run(table, schedule, Lent::needed(records, 16)).lent;
-    assert_eq!(whole.answers().map(|answer| answer.cause.number()).collect::<Vec<_>>(), simulated.reasons);
+    assert_eq!(whole.answers().map(|answer| answer.reason.number()).collect::<Vec<_>>(), simulated.reasons);
     assert_eq!(whole.answers().flat_map(|answer| origin(&decoded, answer.bus)).collect::<Vec<_>>(), simulated.origins);
     for (i, (record, answer)) in schedule[3..].chunks_exact(6).zip(whole.answers()).enumerate() {
-        followed.record(Move::of(record[0]), record[1], answer, || report(i + 1));
+        followed.record(Move::try_from(record[0]).ok(), record[1], answer, || report(i + 1));
         assert_eq!(followed.spots(), report(i + 1), "after record {}: {table:02X?} {schedule:02X?}", i + 1);
     }
     // The same in words, with each board pulled somewhere.

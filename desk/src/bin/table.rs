@@ -1,7 +1,7 @@
 //! `./table`: lists of numbers as text become a table, and a table such text.
 use desk::front::{self, Failure};
 use desk::{input, lists};
-use kunzeastylus::{Lists, TableRefusal};
+use kunzeastylus::{Lists, Refusal};
 use std::process::ExitCode;
 
 const USAGE: &str = "./table [--bytes | --apart] FILE, where FILE - is standard input
@@ -41,19 +41,7 @@ fn apart(file: &str) -> Result<Vec<u8>, Failure> {
     }
 }
 
-fn refused(refusal: TableRefusal, place: String) -> Failure {
-    let meaning = match refusal {
-        TableRefusal::Length => "under 6 bytes, or a length field over 6,276 or not the true one",
-        TableRefusal::Version => "a version other than 1 or 2",
-        TableRefusal::Counts => "boards, processes or channels",
-        TableRefusal::Extent => "n over 64, or a list not as long as its counts say",
-        TableRefusal::ChannelEnds => "channel ends",
-        TableRefusal::ChannelsRead => "more than four channels read",
-        TableRefusal::Boards => "a board not below B, or primary equal to backup",
-        TableRefusal::Instruction => "an instruction",
-        TableRefusal::NoRoom => "no room for the table",
-        TableRefusal::Limit => "a limit outside 1 to 16",
-    };
-    let why = if place.is_empty() { meaning.to_string() } else { format!("{meaning}: {place}") };
-    Failure::Explained(refusal.number(), why)
+/// What a refusal means, by where it is, if that is known.
+fn refused(refusal: Refusal, place: String) -> Failure {
+    Failure::Explained(refusal.number(), if place.is_empty() { refusal.words().to_string() } else { place })
 }

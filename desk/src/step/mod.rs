@@ -133,9 +133,9 @@ impl Stepper {
                 return Ok(Went { records: to, anew: true });
             }
             Command::Go(to) => self.on(to)?,
-            Command::Crash => self.on_to("crash", |record| Move::of(record[0]) == Some(Move::Crash))?,
+            Command::Crash => self.on_to("crash", |record| Move::try_from(record[0]).ok() == Some(Move::Crash))?,
             Command::Process(process) => self.on_to(&format!("record of process {process}"), |record| {
-                let of_a_process = matches!(Move::of(record[0]), Some(Move::Step | Move::Sync | Move::Resync));
+                let of_a_process = matches!(Move::try_from(record[0]).ok(), Some(Move::Step | Move::Sync | Move::Resync));
                 of_a_process && record[1] == process
             })?,
             Command::Answer(kind) => self.on_to_answer(kind)?,

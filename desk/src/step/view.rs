@@ -1,6 +1,6 @@
 //! What there is to see of a run so far, as data: all of it is what the proved call wrote. How it is drawn is `draw`'s.
 use super::Bytes;
-use kunzeastylus::{Answer, Buffers, BusWord, Fate, Operation, ProcessEnd, Table};
+use kunzeastylus::{Answer, BusWord, Cabinet, Fate, Operation, ProcessEnd, Table};
 
 /// What a run wrote, kept.
 pub(super) struct Played {
@@ -14,8 +14,7 @@ pub(super) struct Played {
 impl Played {
     /// The run of a schedule that is no longer than allowed, on the table of an accepted run.
     pub fn of(table: &[u8], schedule: &[u8]) -> Played {
-        let mut buffers = Buffers::for_run(table, schedule);
-        let run = kunzeastylus::run(table, schedule, &mut buffers).expect("a run of records on an accepted table");
+        let run = Cabinet::new(table).and_then(|cabinet| cabinet.run(schedule)).expect("a run of records on an accepted table");
         Played {
             answers: run.answers().collect(),
             fates: run.fates(),
