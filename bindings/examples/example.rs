@@ -81,7 +81,7 @@ fn driver_bench() -> Result<(), Refusal> {
     print!("driver bench\njudged");
     judged.iter().for_each(|judged| print!(" {}", judged.map_or_else(Refusal::number, |()| 0)));
     println!();
-    println!("refused {}", run(&other, &schedule, &mut buffers).unwrap_err().number());
+    println!("{}", run(&other, &schedule, &mut buffers).unwrap_err());
     let run = run(&TABLE, &schedule, &mut buffers)?;
     println!("records {}", run.records());
     for (i, answer) in run.answers().enumerate() {
@@ -118,7 +118,7 @@ fn service_desk() -> Result<(), Refusal> {
     }
     print!("\nreasons");
     run.answers().for_each(|answer| print!(" {}", answer.reason.number()));
-    println!();
+    println!(", the last of them {}", run.answers().last().unwrap().reason.words());
     for (p, end) in run.processes().enumerate() {
         let (board, place, unread, hold_back) = (end.board, end.place, end.unread, end.hold_back);
         println!(

@@ -2,7 +2,7 @@
 //! the calls hand them on.
 use kunzeastylus::{
     check_abi, judge, take_apart, write_table, Backup, BackupRefusal, Code, End, Instruction, Lengths, Lists, Move, Operation,
-    Reason, Record, Refusal, Snapshot, Synced, Table, ABI, STATE,
+    Reason, Record, Refusal, Snapshot, Synced, Table, ABI, STATE, VERSION,
 };
 
 const HEADER: &str = include_str!("../../include/kunzeastylus.h");
@@ -17,15 +17,18 @@ const REASONS: [u8; 40] = [
     157, 160, 164, 167, 168, 172, 176, 192, 196, 200, 212,
 ];
 
-/// The numbers of an enum of the header, ascending.
-fn header(name: &str) -> Vec<u8> {
+/// The constants of an enum of the header.
+fn constants(name: &str) -> impl Iterator<Item = (&'static str, u8)> {
     let start = HEADER.find(&format!("enum {name} {{")).expect("an enum of the header");
     let body = HEADER[start..].split('{').nth(1).unwrap().split('}').next().unwrap();
-    let mut numbers: Vec<u8> = body
-        .split('=')
-        .skip(1)
-        .map(|rest| rest.trim_start().chars().take_while(char::is_ascii_digit).collect::<String>().parse().unwrap())
-        .collect();
+    let constant = |piece: &'static str| piece.rsplit([' ', '\n']).next().unwrap();
+    let number = |piece: &str| piece.chars().take_while(char::is_ascii_digit).collect::<String>().parse().unwrap();
+    body.match_indices(" = ").map(move |(at, _)| (constant(&body[..at]), number(&body[at + 3..])))
+}
+
+/// The numbers of an enum of the header, ascending.
+fn header(name: &str) -> Vec<u8> {
+    let mut numbers: Vec<u8> = constants(name).map(|(_, number)| number).collect();
     numbers.sort();
     numbers
 }
@@ -46,7 +49,7 @@ macro_rules! numbered {
 fn numbers() {
     numbered!(Refusal, "ks_refusal", (1..=12).chain([45, 46, 47, 51, 52]));
     numbered!(Code, "ks_answer", (0..=7).chain(32..=44).chain(48..=50).chain([53]));
-    numbered!(Reason, "ks_cause", REASONS.into_iter());
+    numbered!(Reason, "ks_reason", REASONS.into_iter());
     numbered!(BackupRefusal, "ks_backup_reply", 20..=26);
     numbered!(Move, "ks_move", 1..=8);
     numbered!(Instruction, "ks_instruction", 1..=6);
@@ -54,38 +57,49 @@ fn numbers() {
     assert!(Reason::ALL.iter().all(|cause| cause.code().number() == cause.number() / 4));
 }
 
-/// Each has its line in docs/NUMBERS.md, in the section of its kind.
-#[test]
-fn explained() {
-    let section = |title: &str| NUMBERS.split("\n## ").find(|section| section.starts_with(title)).expect("a section");
-    let has_line = |title: &str, number: u8| {
-        assert!(section(title).lines().any(|line| line.starts_with(&format!("| {number} |"))), "{title}: no line for {number}");
-    };
-    Code::ALL.iter().for_each(|code| has_line("Of a record: its answer", code.number()));
-    BackupRefusal::ALL.iter().for_each(|refusal| has_line("Of the backup record", refusal.number()));
+/// The lines of a section of docs/NUMBERS.md: a number, and the other columns, without backticks.
+fn lines(title: &str) -> Vec<(u8, Vec<String>)> {
+    let section = NUMBERS.split("\n## ").find(|section| section.starts_with(title)).expect("a section");
+    let cells = |line: &str| -> Vec<String> { line.split('|').map(|cell| cell.trim().replace('`', "")).collect() };
+    let line = |cells: Vec<String>| Some((cells.get(1)?.parse().ok()?, cells[2..].to_vec()));
+    section.lines().map(cells).filter_map(line).collect()
 }
 
-/// The words are those of docs/NUMBERS.md, for every byte of reasons and for every refused run, and no line there is without them.
+/// What a text of the header says for each number, as C reads it.
+fn texts(function: &str, name: &str) -> Vec<(u8, String)> {
+    let start = HEADER.find(&format!("{function}(enum {name} number)")).expect("a text of the header");
+    let body = HEADER[start..].split("\n}").next().unwrap();
+    let constants: Vec<(&str, u8)> = constants(name).collect();
+    let case = |case: &str| {
+        let (constant, rest) = case.split_once(':').expect("a case");
+        let number = constants.iter().find(|(other, _)| *other == constant).expect("a constant of the enum").1;
+        let literals = rest.split("\";").next().unwrap().split('"').skip(1).step_by(2);
+        (number, literals.collect::<String>())
+    };
+    body.split("case ").skip(1).map(case).collect()
+}
+
+/// The words of the bindings and of the header are those of docs/NUMBERS.md, in a column of a section; no line there is without them.
+macro_rules! in_words {
+    ($name:ident, $title:literal, $column:literal, $function:literal, $header:literal) => {
+        let said: Vec<(u8, String)> = lines($title).into_iter().map(|(number, cells)| (number, cells[$column].clone())).collect();
+        let ours: Vec<(u8, String)> = $name::ALL.iter().map(|case| (case.number(), case.words().to_string())).collect();
+        let refusals = ours[0].0 != 0;
+        assert_eq!(said.iter().filter(|(number, _)| !refusals || *number != 0).cloned().collect::<Vec<_>>(), ours);
+        assert_eq!(texts($function, $header), said);
+    };
+}
+
 #[test]
-fn in_words() {
-    let lines = |title: &str| -> Vec<&str> {
-        let section = NUMBERS.split("\n## ").find(|section| section.starts_with(title)).expect("a section");
-        section.lines().filter(|line| line.starts_with("| ") && line.as_bytes()[2].is_ascii_digit()).collect()
-    };
-    let cause = |cause: &Reason| {
-        let (byte, code) = (cause.number(), cause.code().number());
-        format!("| {byte} | {code} | {} | {} |", byte - 4 * code, cause.words())
-    };
-    assert_eq!(lines("Of a record: why"), Reason::ALL.iter().map(cause).collect::<Vec<_>>());
-    let commented = |cause: &Reason| {
-        let (number, words) = (format!("= {}", cause.number()), format!("/* {} */", cause.words()));
-        HEADER.lines().any(|line| line.contains("KS_CAUSE_") && line.contains(&number) && line.ends_with(&words))
-    };
-    Reason::ALL.iter().for_each(|cause| assert!(commented(cause), "the header doesn't say {}", cause.words()));
-    let refused: Vec<&str> = lines("Of a run").into_iter().filter(|line| !line.starts_with("| 0 |")).collect();
-    let begins = |refusal: &Refusal| format!("| {} | {} |", refusal.number(), refusal.words());
-    assert_eq!(refused.len(), Refusal::ALL.len());
-    refused.iter().zip(Refusal::ALL).for_each(|(line, refusal)| assert!(line.starts_with(&begins(refusal)), "{line}"));
+fn words() {
+    in_words!(Refusal, "Of a run", 0, "ks_refusal_text", "ks_refusal");
+    in_words!(Code, "Of a record: its answer", 0, "ks_answer_text", "ks_answer");
+    in_words!(Reason, "Of a record: why", 2, "ks_reason_text", "ks_reason");
+    in_words!(BackupRefusal, "Of the backup record", 1, "ks_backup_text", "ks_backup_reply");
+    for (byte, cells) in lines("Of a record: why") {
+        let reason = Reason::try_from(byte).expect("a reason");
+        assert_eq!((cells[0].parse(), cells[1].parse()), (Ok(reason.code().number()), Ok(reason.cause())), "{byte}");
+    }
 }
 
 #[test]
@@ -103,11 +117,12 @@ fn records_as_bytes() {
     }
 }
 
-/// The library, the header and the bindings are of one number.
+/// The library, the header and the bindings are of one number, and of one release.
 #[test]
 fn one_abi() {
-    let said = HEADER.lines().find_map(|line| line.strip_prefix("#define KS_ABI ")).expect("KS_ABI in the header");
-    assert_eq!((said.parse(), check_abi()), (Ok(ABI), Ok(())));
+    let defined = |name: &str| HEADER.lines().find_map(|line| line.strip_prefix("#define ")?.strip_prefix(name)).expect(name);
+    assert_eq!((defined("KS_ABI ").parse(), check_abi()), (Ok(ABI), Ok(())));
+    assert_eq!(defined("KS_VERSION "), format!("{VERSION:?}"));
 }
 
 #[test]
