@@ -49,7 +49,7 @@ extern "C" {
 #define KS_STACK_RUN 77824          /* ks_run, ks_label_run */
 #define KS_STACK_SWEEP 83968        /* ks_sweep */
 #define KS_STACK_TABLE_WRITE 12288  /* ks_table_write */
-#define KS_STACK_OTHER 5120         /* every other call */
+#define KS_STACK_OTHER 6144         /* every other call */
 
 /* ---- a table's instructions and a schedule's moves */
 
