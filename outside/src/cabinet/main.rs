@@ -15,6 +15,7 @@ mod seen;
 mod taken_back;
 
 use compare::Comparison;
+use outside::options::number;
 use outside::random::Random;
 use outside::rules::generate::{encode_schedule, encode_table};
 use outside::rules::lent::Lent;
@@ -84,15 +85,9 @@ fn enough(seen: &Seen, runs: u64) -> bool {
     seen.runs >= runs && seen.returned >= runs && seen.thrice >= runs / 6 && seen.back.runs >= runs / 6
 }
 
-/// The value of an option, if it is given.
-fn option(name: &str) -> Option<u64> {
-    let mut arguments = std::env::args().skip_while(|argument| argument != name).skip(1);
-    arguments.next().map(|value| value.parse().unwrap_or_else(|_| panic!("{name} takes a number")))
-}
-
 fn main() {
-    let runs = option("--runs").unwrap_or(RUNS);
-    let seed = option("--seed").unwrap_or(SEED);
+    let runs = number("--runs").unwrap_or(RUNS);
+    let seed = number("--seed").unwrap_or(SEED);
     let mut comparison = Comparison::new(seed);
     let desk = by_hand::check() & desk::check();
     println!("cabinet: {runs} runs or more, seed {seed}");

@@ -11,22 +11,14 @@ mod samples;
 
 use compare::Comparison;
 use inputs::{around_the_sample, input, KINDS};
+use outside::options::{number, option};
 use outside::random::Random;
 
 const SEED: u64 = 0x8EBC_6AF0_9C88_C6E3;
 const INPUTS: u64 = 3_000;
 
-/// The value of an option, if it is given.
-fn option(name: &str) -> Option<String> {
-    std::env::args().skip_while(|argument| argument != name).nth(1)
-}
-
-fn number(name: &str, standard: u64) -> u64 {
-    option(name).map_or(standard, |value| value.parse().unwrap_or_else(|_| panic!("{name} takes a number")))
-}
-
 fn main() {
-    let (inputs, seed) = (number("--inputs", INPUTS), number("--seed", SEED));
+    let (inputs, seed) = (number("--inputs").unwrap_or(INPUTS), number("--seed").unwrap_or(SEED));
     let program = option("--program").map_or_else(|| samples::root().join("target/bin/bench"), Into::into);
     println!("program: {inputs} generated inputs, seed {seed}");
     let mut comparison = Comparison::new(program);

@@ -8,6 +8,7 @@ mod by_hand;
 mod led;
 
 use led::Led;
+use outside::options::number;
 use outside::random::Random;
 use outside::rules::generate::{continued, schedule};
 use outside::rules::progress::{halted_reader, pressed, upward, Standing, STEPS_MOST};
@@ -170,15 +171,9 @@ fn halting(seen: &mut Seen, random: &mut Random) {
     seen.run(random, &table, &records);
 }
 
-/// The value of an option, if it is given.
-fn option(name: &str) -> Option<u64> {
-    let mut arguments = std::env::args().skip_while(|argument| argument != name).skip(1);
-    arguments.next().map(|value| value.parse().unwrap_or_else(|_| panic!("{name} takes a number")))
-}
-
 fn main() {
-    let runs = option("--runs").unwrap_or(RUNS);
-    let seed = option("--seed").unwrap_or(SEED);
+    let runs = number("--runs").unwrap_or(RUNS);
+    let seed = number("--seed").unwrap_or(SEED);
     println!("progress: {runs} runs or more, seed {seed}");
     by_hand::check();
     let (mut seen, mut random) = (Seen::default(), Random::new(seed));

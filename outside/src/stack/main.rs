@@ -4,6 +4,7 @@ mod painted;
 
 use kunzeastylus::{calls, Backup, Lists, Snapshot, TABLE_MOST};
 use outside::call::{ks_judge, ks_label_run, ks_run};
+use outside::options::number;
 use outside::random::Random;
 use outside::rules::damage::{damage_schedule, damage_table, DAMAGES};
 use outside::rules::generate::{encode_schedule, encode_table, schedule};
@@ -111,15 +112,9 @@ fn limit(name: &str) -> usize {
     HEADER.lines().find_map(words).expect("a limit of the header").parse().expect("a number")
 }
 
-/// The value of an option, if it is given.
-fn option(name: &str) -> Option<u64> {
-    let mut arguments = std::env::args().skip_while(|argument| argument != name).skip(1);
-    arguments.next().map(|value| value.parse().unwrap_or_else(|_| panic!("{name} takes a number")))
-}
-
 fn main() {
-    let rounds = option("--rounds").unwrap_or(ROUNDS);
-    let seed = option("--seed").unwrap_or(SEED);
+    let rounds = number("--rounds").unwrap_or(ROUNDS);
+    let seed = number("--seed").unwrap_or(SEED);
     println!("stack: {rounds} rounds, seed {seed}");
     let mut measured = Measured { painted: Painted::new(STACK), most: Vec::new() };
     painted::check(&mut measured.painted);
