@@ -1,4 +1,4 @@
-//! The built bench program against the simulator's page: `program [--inputs N] [--seed N] [--program PATH]`.
+//! The built bench program against the simulator's page: `program [--inputs N] [--seed N] [--all-met] [--program PATH]`.
 //!
 //! First the samples, the front door and the program's ends; then the sample, each of its beginnings and each of its bytes changed; then
 //! generated inputs, sound and damaged.
@@ -11,6 +11,7 @@ mod samples;
 
 use compare::Comparison;
 use inputs::{around_the_sample, input, KINDS};
+use outside::met::all_met;
 use outside::options::{number, option};
 use outside::random::Random;
 
@@ -35,9 +36,6 @@ fn main() {
         let kind = i as usize % KINDS.len();
         comparison.compare(KINDS[kind], &input(&mut random, kind));
     }
-    if !comparison.report() {
-        println!("program: FAILED, not everything was met");
-        std::process::exit(1);
-    }
+    all_met("program", comparison.report());
     println!("program: ok, {} runs, every page as by the simulator", comparison.runs);
 }

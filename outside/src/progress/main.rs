@@ -1,4 +1,4 @@
-//! That a cabinet goes on, by the proved run and by the simulator: `progress [--runs N] [--seed N]`.
+//! That a cabinet goes on, by the proved run and by the simulator: `progress [--runs N] [--seed N] [--all-met]`.
 //!
 //! First the cases by hand. Then generated runs: after each crash that is done, and at the end, each process with hold-back is stepped until it has
 //! none; and the end is led on by carries, steps, and syncs that are owed, until the cabinet is quiet or stands still, or for a number of rounds: a
@@ -8,6 +8,7 @@ mod by_hand;
 mod led;
 
 use led::Led;
+use outside::met::all_met;
 use outside::options::number;
 use outside::random::Random;
 use outside::rules::generate::{continued, schedule};
@@ -183,9 +184,6 @@ fn main() {
             (0..6).for_each(|_| kind(&mut seen, &mut random));
         }
     }
-    if !seen.report() {
-        println!("progress: FAILED, not everything was met");
-        std::process::exit(1);
-    }
+    all_met("progress", seen.report());
     println!("progress: ok, {} runs, and the proved run answers as they say", seen.runs);
 }

@@ -1,9 +1,10 @@
-//! The proved judging of tables, schedules and buffers against the reader: `table [--runs N] [--seed N]`.
+//! The proved judging of tables, schedules and buffers against the reader: `table [--runs N] [--seed N] [--all-met]`.
 //!
 //! Document 01's sample, in either version, with every length field, every change of one byte and every shorter length; then random tables and schedules,
 //! sound and damaged, with buffers of lengths around what is enough, and with each set of them one byte under it.
 
 use outside::call::ks_judge;
+use outside::met::all_met;
 use outside::options::number;
 use outside::random::Random;
 use outside::rules::damage::{damage_schedule, damage_table, Damage, DAMAGES};
@@ -144,9 +145,6 @@ fn main() {
     sample(&mut seen);
     let each = 6 + (1 << BUFFERS) + 3 * (DAMAGES.len() as u32 - 1);
     (0..runs.div_ceil(each)).for_each(|_| round(&mut random, &mut seen));
-    if !seen.report() {
-        println!("table: FAILED, not everything was seen");
-        std::process::exit(1);
-    }
+    all_met("table", seen.report());
     println!("table: ok, every number as by the reader");
 }
