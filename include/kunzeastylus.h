@@ -46,8 +46,8 @@ extern "C" {
 
 /* ---- stack that a call takes at most, in bytes; it is measured for many inputs whenever the library is tested */
 
-#define KS_STACK_RUN 77824          /* ks_run, ks_label_run */
-#define KS_STACK_SWEEP 83968        /* ks_sweep */
+#define KS_STACK_RUN 278528         /* ks_run, ks_label_run */
+#define KS_STACK_SWEEP 286720       /* ks_sweep */
 #define KS_STACK_TABLE_WRITE 12288  /* ks_table_write */
 #define KS_STACK_OTHER 6144         /* every other call */
 

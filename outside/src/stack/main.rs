@@ -21,7 +21,7 @@ const ROUNDS: u64 = 1_000;
 const HEADER: &str = include_str!("../../../include/kunzeastylus.h");
 
 /// More than any call takes.
-const STACK: usize = 256 << 10;
+const STACK: usize = 1 << 20;
 
 /// The most that a call took, and the limit of the header that it is under.
 struct Most {
