@@ -21,7 +21,7 @@ mod table;
 
 pub use abi::{check_abi, OtherLibrary, ABI};
 pub use answer::{Answer, BusWord, Cause, Code};
-pub use backup::{Backup, BackupRefusal, Snapshot, Synced, STATE};
+pub use backup::{Backup, BackupRefusal, Snapshot, Synced, HEAD, SAVED};
 pub use buffers::{Buffers, Lengths};
 pub use label::{label_run, label_table, labels, Label, LABEL_TABLE, OUTLET, SCANNER};
 pub use record::{Instruction, Move, Record, OUTSIDE};
