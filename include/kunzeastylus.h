@@ -47,7 +47,7 @@ extern "C" {
 #define KS_SYNC_REPORT 8        /* what a sync of it reports, in numbers of 32 bits: for each slot the words dropped, then for each those that remain */
 #define KS_SCHEDULE_BYTES(records) (3 + KS_RECORD * (records)) /* a schedule of so many records */
 
-/* ---- stack that a call takes at most, in bytes; it is measured for many inputs whenever the library is tested */
+/* ---- stack that a call takes at most, in bytes, as it is measured for many inputs whenever the library is tested. A thread may have less by default */
 
 #define KS_STACK_RUN 278528         /* ks_run, ks_label_run */
 #define KS_STACK_SWEEP 286720       /* ks_sweep */
@@ -188,9 +188,9 @@ uint32_t ks_abi(void);
 
 /* The run of a schedule on a table. The result is number + 256 * quiet + 2^32 * records, unpacked by ks_number, ks_quiet and ks_records. An accepted
  * run writes six bytes a record to answers, one byte a record to reasons, 20 bytes a process to report and two bytes a record to origins, and nothing
- * beyond those; a refused one writes nothing at all. The two bytes of origins are the sender and the place of its SEND for a word that the record carried, KS_OUTSIDE and
- * 0 for a word that it fed, and 255 and 255 where no word was on the bus. What is written for a record stays where KS_BACK takes the record back,
- * but its word counts in the bus order no longer, and its feed not as fed: ks_standing says which records stand. */
+ * beyond those; a refused one writes nothing at all. The two bytes of origins are the sender and the place of its SEND for a word that the record
+ * carried, KS_OUTSIDE and 0 for a word that it fed, and 255 and 255 where no word was on the bus. What is written for a record stays where KS_BACK
+ * takes the record back, but its word counts in the bus order no longer, and its feed not as fed: ks_standing says which records stand. */
 uint64_t ks_run(const uint8_t *table, size_t table_len, const uint8_t *schedule, size_t schedule_len, uint8_t *answers, size_t answers_len,
                 uint8_t *reasons, size_t reasons_len, uint8_t *report, size_t report_len, uint8_t *origins, size_t origins_len);
 

@@ -1,4 +1,4 @@
-//! The proved backup record against the model, on random calls: `backup [CALLS [SEED]]`.
+//! The proved backup record against the model, on random calls: `backup_tests [CALLS [SEED]]`.
 //!
 //! Records are carried on from call to call, the library's in two lent arrays and the model's by itself. After each call the number,
 //! the record, every lent number that may not change, the report and what is handed over are compared.
