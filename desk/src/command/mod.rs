@@ -1,11 +1,16 @@
 //! The commands of `ks`: one module and one line each. A command's help is desk/help/NAME.txt, and desk/help/ks.txt lists its line too.
 use crate::ks::Command;
 
+mod check;
+mod compare;
 mod explain;
+mod hex;
 mod label;
+mod run;
 mod step;
 mod sweep;
 mod table;
+mod words;
 
 /// A command whose module has its name.
 macro_rules! command {
@@ -16,6 +21,11 @@ macro_rules! command {
 
 /// All of them, in the order in which `ks --help` lists them.
 pub const COMMANDS: &[Command] = &[
+    command!(run, "the page of a run, or its answers as JSON, or its bus order"),
+    command!(check, "the expectations of files: how a release passes"),
+    command!(compare, "two runs side by side, and the first difference"),
+    command!(hex, "a cabinet and a schedule as hex text, or as bytes"),
+    command!(words, "a cabinet and a schedule in words"),
     command!(explain, "a run in words: each record, its answer and why, and each end"),
     command!(step, "a run record by record, forward and back"),
     command!(sweep, "every place to pull a board, and how these runs end"),
