@@ -90,7 +90,7 @@ fn outcome(source: Source, strict: bool) -> Result<String, (Failure, String)> {
     let about = format!("{}, {}", many(checks, "expectation", "expectations"), many(ran.answers.len(), "record", "records"));
     match unmet.len() {
         0 => Ok(about),
-        n => Err((Failure::unmet(unmet), format!("{n} failed of {about}"))),
+        n => Err((Failure::unmet(unmet), format!("{n} failed; {about}"))),
     }
 }
 

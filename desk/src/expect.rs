@@ -6,7 +6,7 @@ use crate::form::syntax::{Expected, Fact, Ref};
 use crate::proved::{run_records, Ran};
 use crate::records::Bytes;
 use crate::words::{self, many};
-use kunzeastylus::{Answer, ProcessEnd, Table};
+use kunzeastylus::{Answer, Cause, ProcessEnd, Table};
 
 /// Something that is expected, with its line.
 #[derive(Clone, Debug, PartialEq, Eq)]
@@ -46,10 +46,10 @@ pub fn unmet(table: &[u8], names: &Names, records: &[Bytes], ran: &Ran, checks: 
                     let ran = run_records(table, &records[..*after]).expect("a beginning of an accepted run");
                     beginning = Some((*after, ran));
                 }
-                beginning.as_ref().map_or(Vec::new(), |(_, ran)| cabinet(&decoded, names, ran, want))
+                beginning.as_ref().and_then(|(_, ran)| cabinet(&decoded, names, ran, want))
             }
         };
-        unmet.extend(what.into_iter().map(|what| Unmet { line: check.line(), what }));
+        unmet.extend(what.map(|what| Unmet { line: check.line(), what }));
     }
     unmet
 }
@@ -62,28 +62,17 @@ fn told(answer: Answer) -> String {
     }
 }
 
-fn answer(record: usize, expected: Expected, found: Answer) -> Vec<String> {
+fn answer(record: usize, expected: Expected, found: Answer) -> Option<String> {
     let found_is = format!("record {} answered {}", record + 1, told(found));
     if !expected.outcome.is(found) {
-        return vec![format!("expected {}; {found_is}", outcome(expected.outcome))];
+        return Some(format!("expected {}; {found_is}", outcome(expected.outcome)));
     }
     if let Some(word) = expected.word.filter(|word| *word != found.word) {
-        return vec![format!("expected {} {word}; {found_is}", outcome(expected.outcome))];
+        return Some(format!("expected {} {word}; {found_is}", outcome(expected.outcome)));
     }
-    match expected.why.filter(|why| why.cause != found.cause) {
-        Some(why) => {
-            let (wanted, found) = (why.cause, found.cause);
-            vec![format!(
-                "expected reason {}, {}; record {} has reason {}, {}",
-                wanted.number(),
-                wanted.words(),
-                record + 1,
-                found.number(),
-                found.words()
-            )]
-        }
-        None => Vec::new(),
-    }
+    let why = expected.why.filter(|why| why.cause != found.cause)?;
+    let told = |cause: Cause| format!("reason {}, {}", cause.number(), cause.words());
+    Some(format!("expected {}; record {} has {}", told(why.cause), record + 1, told(found.cause)))
 }
 
 fn outcome(outcome: Outcome) -> String {
@@ -94,23 +83,27 @@ fn outcome(outcome: Outcome) -> String {
 }
 
 /// What of the cabinet is not as it is wanted.
-fn cabinet(table: &Table, names: &Names, ran: &Ran, want: &Want) -> Vec<String> {
+fn cabinet(table: &Table, names: &Names, ran: &Ran, want: &Want) -> Option<String> {
     match want {
-        Want::Quiet(quiet) if ran.quiet == *quiet => Vec::new(),
-        Want::Quiet(true) => vec![format!("expected quiet; found {}", words::quiet(false))],
-        Want::Quiet(false) => vec![format!("expected not quiet; found {}", words::quiet(true))],
+        Want::Quiet(quiet) if ran.quiet == *quiet => None,
+        Want::Quiet(true) => Some(format!("expected quiet; found {}", words::quiet(false))),
+        Want::Quiet(false) => Some(format!("expected not quiet; found {}", words::quiet(true))),
         Want::Program(p, facts) => {
             let halt = table.processes[*p].program.len();
-            facts.iter().filter_map(|fact| program(names, *p, halt, ran.ends[*p], fact)).collect()
+            let unmet = facts.iter().filter_map(|fact| program(names, *p, halt, ran.ends[*p], fact));
+            let (wanted, found): (Vec<String>, Vec<String>) = unmet.unzip();
+            let name = &names.programs[*p];
+            (!wanted.is_empty()).then(|| format!("expected {name} {}; found {}", wanted.join(", "), found.join(", ")))
         }
         Want::Channel(channel, wanted) => {
             let found: Vec<u32> = ran.bus.iter().filter(|word| word.channel == *channel).map(|word| word.word).collect();
-            channel_words(&names.channel_name((*channel).into()), wanted, &found).into_iter().collect()
+            channel_words(&names.channel_name((*channel).into()), wanted, &found)
         }
     }
 }
 
-fn program(names: &Names, p: usize, halt: usize, end: ProcessEnd, fact: &Fact) -> Option<String> {
+/// What was wanted and what was found instead, if it was.
+fn program(names: &Names, p: usize, halt: usize, end: ProcessEnd, fact: &Fact) -> Option<(String, String)> {
     let place = |place: u32| match place as usize == halt {
         true => format!("halted at place {place}"),
         false => match names.place_name(p, place) {
@@ -134,7 +127,7 @@ fn program(names: &Names, p: usize, halt: usize, end: ProcessEnd, fact: &Fact) -
             (found == *word, format!("r{register} {word}"), format!("r{register} {found}"))
         }
     };
-    (!met).then(|| format!("expected {} {wanted}; found {found}", names.programs[p]))
+    (!met).then_some((wanted, found))
 }
 
 /// How many words are shown on either side of the first that differs.

@@ -31,17 +31,18 @@ pub fn work(arguments: &[String], outputs: &mut Outputs) -> Result<(), Failure> 
     if let Some(file) = said.value("--junit") {
         std::fs::write(file, junit(&all)).map_err(|error| Failure::fault(format!("{file}: can't be written: {error}")))?;
     }
-    ended(&all)
+    ended(&all, as_tap)
 }
 
-/// With the code of the worst file; what is wrong with each is said.
-fn ended(all: &[Checked]) -> Result<(), Failure> {
+/// With the code of the worst file; what is wrong with each is said, unless TAP has it already.
+fn ended(all: &[Checked], as_tap: bool) -> Result<(), Failure> {
     let Some(exit) = worst(all) else { return Ok(()) };
     let failure = |said| match exit {
         Exit::Unmet => Failure::unmet(said),
         Exit::Refused => Failure::refused(0, said).showing(String::new()),
         Exit::Unasked => Failure::all_unread(said),
-        Exit::Fault => Failure::fault(said.join("; ")),
+        Exit::Fault => Failure { said, ..Failure::fault("") },
     };
-    Err(failure(all.iter().flat_map(|checked| checked.said.clone()).collect()))
+    let said = all.iter().filter(|_| !as_tap).flat_map(|checked| checked.said.clone());
+    Err(failure(said.collect()))
 }

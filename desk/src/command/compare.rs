@@ -11,7 +11,7 @@ pub fn work(arguments: &[String], outputs: &mut Outputs) -> Result<(), Failure> 
     let said = args::read(arguments, &[TABLE, input::AS])?;
     let sources = Source::each(&said)?;
     let [a, b] = sources[..] else {
-        return Err(Failure::usage(format!("two files are wanted, and {} are named", sources.len())));
+        return Err(Failure::usage(format!("two files are wanted, A and B; named: {}", sources.len())));
     };
     let ((a, left), (b, right)) = (ran(a)?, ran(b)?);
     let width = outputs.out_style.width;

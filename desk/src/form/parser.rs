@@ -10,7 +10,7 @@ enum Below {
     Nothing,
     Program,
     Schedule,
-    /// A heading that is wrong: what stands below it can't be told from it.
+    /// Something that is wrong already: what stands below it is not said too.
     Unknown,
 }
 
@@ -48,30 +48,35 @@ impl Parser {
                     schedule.it.push(At { line: line.number, it });
                     Ok(())
                 }
-                Below::Nothing => Err(cursor.expected(&format!("a heading: {}", or(&HEADINGS)))),
+                Below::Nothing => {
+                    self.below = Below::Unknown;
+                    let hint = if cursor.word() == Some("counts") { "; lists of numbers are for `ks table`" } else { "" };
+                    Err(cursor.expected(&format!("a heading: {}{hint}", or(&HEADINGS))))
+                }
                 Below::Unknown => Ok(()),
             },
         }
     }
 
     fn heading(&mut self, word: &str, line: usize, cursor: &mut Cursor) -> Result<(), Wrong> {
-        self.below = match word {
-            "program" => Below::Unknown,
-            _ => Below::Nothing,
-        };
+        self.below = if word == "program" { Below::Unknown } else { Below::Nothing };
         match word {
             "cabinet" => once(&mut self.text.cabinet, line, "cabinet", cursor.new_name("a name")?)?,
             "boards" => once(&mut self.text.boards, line, "boards", cursor.number("how many boards there are")?)?,
             "channel" => {
-                let it = channel(cursor)?;
-                cursor.end()?;
+                let name = cursor.reference("the channel's name")?;
+                let it = Channel { name, sender: End::Outside, reader: End::Outside };
                 self.text.channels.push(At { line, it });
+                let channel = &mut self.text.channels.last_mut().expect("it was put there").it;
+                ends(channel, cursor)?;
             }
             "program" => {
-                let it = program(cursor)?;
-                cursor.end()?;
+                let name = cursor.reference("the program's name")?;
+                let it = Program { name, primary: 0, backup: 0, limit: None, labels: Vec::new(), instructions: Vec::new() };
                 self.text.programs.push(At { line, it });
                 self.below = Below::Program;
+                let program = &mut self.text.programs.last_mut().expect("it was put there").it;
+                placement(program, cursor)?;
             }
             _ => {
                 self.below = Below::Schedule;
@@ -109,11 +114,12 @@ fn once<T>(place: &mut Option<At<T>>, line: usize, what: &str, it: T) -> Result<
     }
 }
 
-fn channel(cursor: &mut Cursor) -> Result<Channel, Wrong> {
-    let name = cursor.reference("the channel's name")?;
-    let sender = end(cursor)?;
+/// A channel that is wrong has its name all the same: what names it is not wrong too.
+fn ends(channel: &mut Channel, cursor: &mut Cursor) -> Result<(), Wrong> {
+    channel.sender = end(cursor)?;
     cursor.arrow()?;
-    Ok(Channel { name, sender, reader: end(cursor)? })
+    channel.reader = end(cursor)?;
+    Ok(())
 }
 
 fn end(cursor: &mut Cursor) -> Result<End, Wrong> {
@@ -123,17 +129,16 @@ fn end(cursor: &mut Cursor) -> Result<End, Wrong> {
     cursor.reference("a program or `outside`").map(End::Program)
 }
 
-fn program(cursor: &mut Cursor) -> Result<Program, Wrong> {
-    let name = cursor.reference("the program's name")?;
+fn placement(program: &mut Program, cursor: &mut Cursor) -> Result<(), Wrong> {
     cursor.keyword("on")?;
-    let primary = cursor.number("its board")?;
+    program.primary = cursor.number("its board")?;
     cursor.keyword("backup")?;
-    let backup = cursor.number("its backup's board")?;
-    let limit = cursor.accept("limit").then(|| cursor.number("its limit, how many acts ask for a sync")).transpose()?;
-    if limit.is_none() && !cursor.ended() {
+    program.backup = cursor.number("its backup's board")?;
+    program.limit = cursor.accept("limit").then(|| cursor.number("its limit, how many acts ask for a sync")).transpose()?;
+    if program.limit.is_none() && !cursor.ended() {
         return Err(cursor.expected("`limit` or the end of the line"));
     }
-    Ok(Program { name, primary, backup, limit, labels: Vec::new(), instructions: Vec::new() })
+    Ok(())
 }
 
 fn instruction(cursor: &mut Cursor) -> Result<Instruction, Wrong> {
