@@ -31,6 +31,13 @@ pub fn run_records(table: &[u8], records: &[Bytes]) -> Result<Ran, u8> {
     run(table, &schedule(records))
 }
 
+/// The answers of a run from a record on; none where it is refused.
+pub fn answers_from(table: &[u8], records: &[Bytes], from: usize) -> Vec<Answer> {
+    let schedule = schedule(records);
+    let mut buffers = Buffers::for_run(table, &schedule);
+    kunzeastylus::run(table, &schedule, &mut buffers).map_or(Vec::new(), |run| run.answers().skip(from).collect())
+}
+
 /// The number by which a run of these is refused, whatever is lent.
 pub fn judge(table: &[u8], schedule: &[u8]) -> Result<(), u8> {
     kunzeastylus::judge(table, schedule, Lengths::ENOUGH).map_err(|refusal| refusal.number())

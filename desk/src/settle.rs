@@ -7,7 +7,7 @@ use crate::expect::Check;
 use crate::form::answers::Outcome;
 use crate::form::assemble::{Step, Want};
 use crate::form::syntax::At;
-use crate::proved::{run_records, Ran};
+use crate::proved::{answers_from, run_records};
 use crate::records::{bytes, Bytes, RECORDS_MOST};
 use kunzeastylus::{Answer, Code, Move};
 
@@ -76,11 +76,7 @@ impl Unfolded {
 
     /// The answers to some records behind those that there are; none where that is no run, which is said later.
     fn tried(&self, table: &[u8], more: &[Bytes]) -> Vec<Answer> {
-        self.ran(table, more).map_or(Vec::new(), |ran| ran.answers[self.records.len()..].to_vec())
-    }
-
-    fn ran(&self, table: &[u8], more: &[Bytes]) -> Option<Ran> {
-        run_records(table, &[&self.records, more].concat()).ok()
+        answers_from(table, &[&self.records, more].concat(), self.records.len())
     }
 
     /// The same record again and again until its answer is this; where that is a refusal, the refused record is left out.
@@ -129,7 +125,7 @@ impl Unfolded {
             owed = outcome.owed;
         }
         let records = self.records.len() - begun;
-        if let Some(ran) = self.ran(table, &[]).filter(|ran| !ran.quiet) {
+        if let Some(ran) = run_records(table, &self.records).ok().filter(|ran| !ran.quiet) {
             let (still, steps) = self.probed(table);
             let programs = ran.ends.iter().map(|end| end.place).zip(steps).collect();
             self.stuck.push(At { line, it: Stuck::Unquiet { records, still, programs } });
