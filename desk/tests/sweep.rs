@@ -4,8 +4,8 @@ mod common;
 
 use common::sample;
 use desk::explain::{explain, Asked, Input, Pull};
-use desk::sweep::{sweep, Ending, Map};
 use desk::hex;
+use desk::sweep::{sweep, Ending, Map};
 use kunzeastylus::{Record, Sweep};
 
 const SWEPT: &str = "samples/swept.hex";
