@@ -5,10 +5,12 @@ use std::io::Write;
 use std::path::PathBuf;
 use std::process::{Command, Stdio};
 
-/// Where `rt check bench` puts the program, below the repository's root; or KS_BENCH.
+/// KS_BENCH; or `ks-bench` beside this program, where both are installed; or where `rt check bench` puts it, below the repository's root.
 fn program() -> PathBuf {
-    let built = concat!(env!("CARGO_MANIFEST_DIR"), "/../target/bin/bench");
-    std::env::var_os("KS_BENCH").map_or(PathBuf::from(built), PathBuf::from)
+    let named = std::env::var_os("KS_BENCH").map(PathBuf::from);
+    let beside = || Some(std::env::current_exe().ok()?.parent()?.join("ks-bench")).filter(|path| path.is_file());
+    let built = || concat!(env!("CARGO_MANIFEST_DIR"), "/../target/bin/bench").into();
+    named.or_else(beside).unwrap_or_else(built)
 }
 
 /// The page of a table and a schedule.
