@@ -52,10 +52,17 @@ fn columns() -> Option<usize> {
     String::from_utf8(asked.stdout).ok()?.split_whitespace().nth(1)?.parse().ok().filter(|&columns| columns > 0)
 }
 
+/// How wide a text is on a terminal: colours take no room.
+fn wide(text: &str) -> usize {
+    let mut pieces = text.split("\x1b[");
+    let first = pieces.next().map_or(0, |piece| piece.chars().count());
+    first + pieces.map(|piece| piece.split_once('m').map_or(0, |(_, rest)| rest.chars().count())).sum::<usize>()
+}
+
 /// A line in lines that are no wider, further in from the second on. A word that is wider stays whole; so do the spaces before a word.
 fn fold_line(line: &str, width: usize) -> String {
     let (line, end) = line.strip_suffix('\n').map_or((line, ""), |line| (line, "\n"));
-    if line.chars().count() <= width {
+    if wide(line) <= width {
         return format!("{line}{end}");
     }
     let inner = line.len() - line.trim_start_matches(' ').len();
@@ -63,8 +70,7 @@ fn fold_line(line: &str, width: usize) -> String {
     let mut folded = String::new();
     let mut row = String::new();
     for piece in line.split_inclusive(' ') {
-        let wide = row.chars().count() + piece.trim_end_matches(' ').chars().count() > width;
-        if wide && !row.trim().is_empty() {
+        if wide(&row) + wide(piece.trim_end_matches(' ')) > width && !row.trim().is_empty() {
             folded += row.trim_end_matches(' ');
             folded.push('\n');
             row.clone_from(&hanging);
@@ -103,6 +109,11 @@ impl Outputs<'_> {
         self.out.write_all(bytes)
     }
 
+    /// The same for who writes piece by piece.
+    pub fn folding(&mut self) -> Folding<'_> {
+        Folding { out: &mut *self.out, style: self.out_style, line: Vec::new() }
+    }
+
     /// A message. Where it can't be said there is nobody to tell.
     pub fn say(&mut self, message: &str) {
         let message = self.err_style.fold(&format!("{}\n", message.trim_end()));
@@ -110,9 +121,36 @@ impl Outputs<'_> {
     }
 }
 
+/// Text for people, in pieces: a line is folded when it is whole, and what is no whole line is written when it is flushed.
+pub struct Folding<'o> {
+    out: &'o mut dyn Write,
+    style: Style,
+    line: Vec<u8>,
+}
+
+impl Write for Folding<'_> {
+    fn write(&mut self, bytes: &[u8]) -> io::Result<usize> {
+        for piece in bytes.split_inclusive(|byte| *byte == b'\n') {
+            self.line.extend(piece);
+            if piece.ends_with(b"\n") {
+                let line = String::from_utf8_lossy(&self.line);
+                self.out.write_all(self.style.fold(&line).as_bytes())?;
+                self.line.clear();
+            }
+        }
+        Ok(bytes.len())
+    }
+
+    fn flush(&mut self) -> io::Result<()> {
+        self.out.write_all(&self.line)?;
+        self.line.clear();
+        self.out.flush()
+    }
+}
+
 #[cfg(test)]
 mod tests {
-    use super::{Style, PLAIN};
+    use super::{wide, Colour, Style, PLAIN};
 
     #[test]
     fn folded() {
@@ -122,6 +160,8 @@ mod tests {
         assert_eq!(style(12).fold("  one two three four\n"), "  one two\n      three\n      four\n");
         assert_eq!(style(10).fold("a_word_that_is_wider stays\nx"), "a_word_that_is_wider\n    stays\nx");
         assert_eq!(style(12).fold("one    two   three"), "one    two\n    three");
+        let green = style(8).paint(Colour::Green, "ok");
+        assert_eq!((green.as_str(), wide("\x1b[32mok\x1b[0m fine")), ("ok", 7));
         let line = "word ".repeat(40);
         assert!(PLAIN.fold(&line).lines().all(|line| line.len() <= 100));
     }
