@@ -298,6 +298,7 @@ static inline size_t ks_schedule_end(struct ks_schedule *schedule) {
     return schedule->len;
 }
 
+/* Four bytes as a word, the highest first. */
 static inline uint32_t ks_word(const uint8_t *bytes) {
     return (uint32_t)bytes[0] << 24 | (uint32_t)bytes[1] << 16 | (uint32_t)bytes[2] << 8 | (uint32_t)bytes[3];
 }
