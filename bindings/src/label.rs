@@ -27,9 +27,8 @@ pub fn label_table(first: u32) -> Result<[u8; LABEL_TABLE], Refusal> {
 
 /// Runs a schedule on the table of a first serial, as [`run`](crate::run) does on any; [`Buffers::for_label_run`] makes what it is lent.
 pub fn label_run<'b, B: AsMut<[u8]>>(first: u32, schedule: &'b [u8], buffers: &'b mut Buffers<B>) -> Result<Run<'b>, Refusal> {
-    let mut lent = buffers.lend();
-    let result = calls::ks_label_run(first, schedule, &mut lent);
-    Run::of(result, || 2, schedule, lent)
+    let result = calls::ks_label_run(first, schedule, buffers.lend());
+    Run::of(result, || 2, schedule, buffers.lend())
 }
 
 /// The labels at the outlet, in order, of the records that stand.

@@ -10,14 +10,14 @@ mod abi;
 mod answer;
 mod backup;
 mod buffers;
-#[allow(unsafe_code)]
-mod calls;
+pub mod calls;
 mod fate;
 mod label;
 mod numbers;
 mod record;
 mod run;
 mod sweep;
+pub mod sys;
 mod table;
 
 pub use abi::{check_abi, OtherLibrary, ABI};

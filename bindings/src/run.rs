@@ -116,9 +116,8 @@ pub(crate) fn refusal(number: u32) -> Option<Refusal> {
 /// Runs a schedule on a table, in lent buffers ([`Buffers::for_run`] makes them): bytes beyond what the run writes are untouched, and a refused
 /// run touches none.
 pub fn run<'b, B: AsMut<[u8]>>(table: &[u8], schedule: &'b [u8], buffers: &'b mut Buffers<B>) -> Result<Run<'b>, Refusal> {
-    let mut lent = buffers.lend();
-    let result = calls::ks_run(table, schedule, &mut lent);
-    Run::of(result, || table[4], schedule, lent)
+    let result = calls::ks_run(table, schedule, buffers.lend());
+    Run::of(result, || table[4], schedule, buffers.lend())
 }
 
 /// Whether a run of these with buffers of these lengths would be accepted. Nothing is run.

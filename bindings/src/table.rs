@@ -76,7 +76,9 @@ pub struct Apart {
 
 /// Writes the table to the front of `out` and returns its length; bytes behind it are untouched. Refused, `out` is untouched.
 pub fn write_table(lists: &Lists, out: &mut [u8]) -> Result<usize, TableRefusal> {
-    let result = calls::ks_table_write(lists, out);
+    let Lists { version, counts: Counts { boards, processes, channels }, ends, placements, limits, instructions } = lists;
+    let counts = [*boards, *processes, *channels];
+    let result = calls::ks_table_write(*version, counts, [ends, placements, limits, instructions], out);
     refusal(result & 255).map_or(Ok((result >> 32) as usize), Err)
 }
 
@@ -89,7 +91,7 @@ pub fn take_apart(
     limits: &mut [u32],
     instructions: &mut [u32],
 ) -> Result<Apart, TableRefusal> {
-    let result = calls::ks_table_apart(table, ends, placements, limits, instructions);
+    let result = calls::ks_table_apart(table, [ends, placements, limits, instructions]);
     let byte = |at: u32| (result >> at & 255) as u32;
     let counts = Counts { boards: byte(8), processes: byte(16), channels: byte(24) };
     let apart = Apart { version: byte(48), counts, instructions: (result >> 32 & 0xFFFF) as usize };

@@ -6,7 +6,6 @@
 //! crashes or more and with records taken back.
 mod back_seen;
 mod by_hand;
-mod call;
 mod compare;
 mod desk;
 mod inputs;

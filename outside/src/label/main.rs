@@ -3,11 +3,10 @@
 //! The table of first serials at both ends; schedules of several kinds, each with a crash of either board at each of its places and then
 //! led on until it is quiet; buffers that are too short; schedules of 10,000 records; crash after crash; and records taken back. Every end is
 //! quiet or goes on.
-mod call;
 mod compare;
 
-use call::ks_label_table;
 use compare::{compare, Counts};
+use outside::call::ks_label_table;
 use outside::random::Random;
 use outside::rules::generate::{continued, encode_table};
 use outside::rules::going_back::going_back;

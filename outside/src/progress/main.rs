@@ -5,8 +5,6 @@
 //! program may go round for ever. In every round it is quiet, or something can be done, or it is a standstill, and never two of these; and the proved run
 //! answers what was given so: what can be done is done, and in a standstill no step and no carry is.
 mod by_hand;
-#[path = "../cabinet/call.rs"]
-mod call;
 mod led;
 
 use led::Led;

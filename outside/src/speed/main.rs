@@ -3,8 +3,6 @@
 //! text in their name.
 mod back;
 mod baseline;
-#[path = "../cabinet/call.rs"]
-mod call;
 mod floor;
 mod mixes;
 mod tables;

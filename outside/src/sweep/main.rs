@@ -2,9 +2,9 @@
 //!
 //! First the cases that document 02 names, at and over each limit; then random tables and schedules, with returns and resyncs in them, sound and
 //! damaged, until there are N sweeps, and each ending was met at least as often as there are sweeps.
-mod call;
 mod time;
 
+use outside::call::ks_sweep;
 use outside::random::Random;
 use outside::rules::damage::{damage_schedule, damage_table, DAMAGES};
 use outside::rules::generate::{continued, encode_schedule, encode_table};
@@ -30,7 +30,7 @@ struct Seen {
 /// One sweep by both, which must be the same.
 fn compare(seen: &mut Seen, kind: &str, table: &[u8], schedule: &[u8]) -> Swept {
     let wanted = sweep(table, schedule);
-    let given = call::ks_sweep(table, schedule);
+    let given = ks_sweep(table, schedule);
     assert_eq!(
         given,
         wanted.returned(),

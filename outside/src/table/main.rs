@@ -2,9 +2,8 @@
 //!
 //! Document 01's sample, in either version, with every length field, every change of one byte and every shorter length; then random tables and schedules,
 //! sound and damaged, with buffers of lengths around what is enough, and with each set of them one byte under it.
-mod call;
 
-use call::ks_judge;
+use outside::call::ks_judge;
 use outside::random::Random;
 use outside::rules::damage::{damage_schedule, damage_table, Damage, DAMAGES};
 use outside::rules::generate::{encode_schedule, encode_table, largest, schedule, table};
