@@ -19,6 +19,7 @@ mod run;
 mod sweep;
 pub mod sys;
 mod table;
+mod view;
 
 pub use abi::{check_abi, OtherLibrary, ABI};
 pub use answer::{Answer, BusWord, Cause, Code};
@@ -30,3 +31,6 @@ pub use record::{Instruction, Move, Record, OUTSIDE};
 pub use run::{judge, run, ProcessEnd, Refusal, Run};
 pub use sweep::{sweep, Sweep};
 pub use table::{take_apart, write_table, Apart, Counts, End, Lists, Operation, Process, Table, TableRefusal, LIMIT, TABLE_MOST};
+pub use view::{
+    BackupState, BackupView, BoardView, Entry, EntryView, ProcessView, SavedWord, UnreadWord, View, QUEUE_MOST, VIEW, WORDS_MOST,
+};
