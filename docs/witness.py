@@ -224,7 +224,8 @@ def main(files):
     except (OSError, ValueError, KeyError, IndexError, TypeError) as error:
         print(f"witness.py: {files[0]}: can't be read: {error}", file=sys.stderr)
         return 2
-    print(f"{count - faults} of {count} runs are as demand 3 says")
+    if count > 1:
+        print(f"{count - faults} of {count} runs are as demand 3 says")
     return 1 if faults else 0
 
 

@@ -14,7 +14,11 @@ pub enum Fault {
     NeverSends(usize),
     /// A process could go on where the run is quiet.
     GoesOn(u8),
-    Refused { at: usize, plain: PlainMove, why: Refused },
+    Refused {
+        at: usize,
+        plain: PlainMove,
+        why: Refused,
+    },
     /// Which of the feeds is another, or is missing or too many.
     Feeds(usize),
     /// Which word of the bus order is another, or is missing or too many.

@@ -10,6 +10,7 @@ use crate::told::Told;
 pub use cabinet::{Did, Machine, Plain, PlainMove, Refused};
 pub use check::{check, Fault, Held};
 use kunzeastylus::Refusal;
+pub use show::json;
 pub use witness::{find, Beside};
 
 /// How the plain run is wanted.

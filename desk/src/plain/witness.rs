@@ -30,12 +30,12 @@ pub fn find(told: &Told) -> Result<Vec<Beside>, Fault> {
                 let plain = PlainMove::Feed { channel: told.records[i][1], word: word(&told.records[i]) };
                 search.make(Some(i), plain)?;
             }
-            (_, End::Process(sender)) => search.to_the_send(i, sender as u8)?,
+            (_, End::Process(sender)) => search.until_sent(i, sender as u8)?,
             (_, End::Outside) => return Err(Fault::NoSender(i)),
         }
     }
     if told.quiet {
-        (0..told.ends.len()).try_for_each(|process| search.to_rest(process as u8))?;
+        (0..told.ends.len()).try_for_each(|process| search.until_refused(process as u8))?;
     }
     Ok(search.found)
 }
@@ -48,7 +48,7 @@ impl Search<'_> {
     }
 
     /// Steps a process until a word of it is on the bus.
-    fn to_the_send(&mut self, record: usize, process: u8) -> Result<(), Fault> {
+    fn until_sent(&mut self, record: usize, process: u8) -> Result<(), Fault> {
         for _ in 0..self.most {
             if let Did::Put(_) = self.make(Some(record), PlainMove::Step { process })? {
                 return Ok(());
@@ -58,7 +58,7 @@ impl Search<'_> {
     }
 
     /// Steps a process until a step is refused.
-    fn to_rest(&mut self, process: u8) -> Result<(), Fault> {
+    fn until_refused(&mut self, process: u8) -> Result<(), Fault> {
         for _ in 0..=self.most {
             if self.make(None, PlainMove::Step { process }).is_err() {
                 return Ok(());
