@@ -45,7 +45,7 @@ fn another_list_of_moves() {
     let refused = |at, process, why| Err(Fault::Refused { at, plain: PlainMove::Step { process }, why });
     assert_eq!(check(&told, &without(9)), Err(Fault::End(0)));
     assert_eq!(check(&told, &without(0)), refused(5, 0, Refused::NoWord));
-    assert_eq!(check(&told, &without(8)), Err(Fault::Bus(3)));
+    assert_eq!(check(&told, &moves[..8]), Err(Fault::Bus(3)));
     assert_eq!(check(&told, &[&moves[..], &[PlainMove::Step { process: 0 }]].concat()), refused(10, 0, Refused::NoWord));
     assert_eq!(check(&told, &[PlainMove::Step { process: 1 }]), refused(0, 1, Refused::NoSuchProcess));
     assert_eq!(check(&told, &[&[PlainMove::Feed { channel: 0, word: 9 }], &moves[1..]].concat()), Err(Fault::Feeds(0)));
