@@ -8,6 +8,7 @@ pub mod front;
 pub mod hex;
 pub mod input;
 pub mod lists;
+pub mod picture;
 pub mod plain;
 pub mod progress;
 pub mod step;

@@ -1,0 +1,150 @@
+//! The words of the picture: of a row, of a word and its life, of an entry, of a process and of a board.
+use super::scene::{Board, Entry, Seat, WordId};
+use super::story::{Event, Stage, Story};
+use crate::told::Bytes;
+use crate::words;
+use kunzeastylus::{End, Fate, Operation};
+
+/// The instruction at a seat's place; none where it has halted.
+pub fn instruction(story: &Story, process: u8, seat: &Seat) -> Option<Operation> {
+    story.told.table.processes[usize::from(process)].program.get(usize::from(seat.end.place)).copied()
+}
+
+/// A record in words, with its steps named by their instruction.
+fn named(story: &Story, record: usize) -> String {
+    let bytes: &Bytes = &story.told.records[record];
+    let does = |process: u8| {
+        let seat = story.before(record).seats.get(usize::from(process))?;
+        Some(words::next(instruction(story, process, seat)))
+    };
+    words::record(bytes, does)
+}
+
+/// A record and its answer in full.
+pub fn record(story: &Story, record: usize) -> [String; 2] {
+    let taken = match story.told.fates[record] {
+        Fate::TookBack(taken) => Some((taken + 1).to_string()),
+        _ => None,
+    };
+    [named(story, record), words::answer(story.told.answers[record], taken.as_deref())]
+}
+
+pub fn word(story: &Story, word: WordId) -> String {
+    let life = &story.lives[word];
+    format!("{} on channel {}", life.word, life.channel)
+}
+
+pub fn entry(story: &Story, entry: &Entry) -> String {
+    match entry {
+        Entry::Word(id) => word(story, *id),
+        Entry::Sync { process, .. } => format!("sync of process {process}"),
+        Entry::Resync { process } => format!("resync of process {process}"),
+    }
+}
+
+/// An entry in as few characters as there are: channel and word, or S or R and the process.
+pub fn short_entry(story: &Story, entry: &Entry) -> String {
+    match entry {
+        Entry::Word(id) => format!("{}:{}", story.lives[*id].channel, story.lives[*id].word),
+        Entry::Sync { process, .. } => format!("S p{process}"),
+        Entry::Resync { process } => format!("R p{process}"),
+    }
+}
+
+/// A list in words, or `none`.
+pub fn list(items: impl IntoIterator<Item = String>, none: &str) -> String {
+    let items: Vec<String> = items.into_iter().collect();
+    if items.is_empty() {
+        return none.to_string();
+    }
+    items.join(", ")
+}
+
+/// The words of a row of records `from` to `to`.
+pub fn row(story: &Story, from: usize, to: usize) -> String {
+    let on = |id: &WordId| word(story, *id);
+    match &story.moments[from].event {
+        Event::Fed(id) => format!("{} is fed", on(id)),
+        Event::Took { process, word } => format!("process {process} takes {}", on(word)),
+        Event::Queued { process, word } => format!("process {process} sends {}", on(word)),
+        Event::HeldBack { process, word } => format!("process {process} holds back {}", on(word)),
+        Event::Calculated { process } => {
+            let next = instruction(story, *process, &story.before(from).seats[usize::from(*process)]);
+            format!("process {process}: {}", words::next(next))
+        }
+        Event::SyncIssued { process } => format!("a sync of process {process} joins the queue"),
+        Event::ResyncIssued { process } => format!("a resync of process {process} joins the queue"),
+        Event::Carried { word, .. } => match story.told.table.channels[usize::from(story.lives[*word].channel)].1 {
+            End::Outside => format!("{} is carried to the outside", on(word)),
+            End::Process(reader) => format!("{} is carried to process {reader}", on(word)),
+        },
+        Event::SyncCarried { process, dropped, .. } => {
+            let dropped = words::many(*dropped as usize, "saved word", "saved words");
+            format!("the sync of process {process} lands, {dropped} dropped")
+        }
+        Event::SyncUnbacked { process, .. } => format!("the sync of process {process} finds no backup"),
+        Event::ResyncCarried { process, .. } => format!("the resync of process {process} lands: a new backup"),
+        Event::Crashed { board, lost, moved } => {
+            let moved =
+                list(moved.iter().map(|p| format!("process {p} goes on at {}", place(story, from, *p))), "no process ran there");
+            let lost = list(lost.iter().map(|lost| entry(story, lost)), "nothing");
+            format!("board {board} crashes; {moved}; lost: {lost}")
+        }
+        Event::Returned { board } => format!("board {board} returns"),
+        Event::TookBack(taken) => format!("back: record {} is taken back", taken + 1),
+        Event::Refused => refused(story, from, to),
+    }
+}
+
+/// Where a process goes on after a record.
+fn place(story: &Story, record: usize, process: u8) -> String {
+    let end = &story.moments[record].scene.seats[usize::from(process)].end;
+    format!("board {}, place {}, holding back {}", end.board, end.place, end.hold_back)
+}
+
+fn refused(story: &Story, from: usize, to: usize) -> String {
+    let times = if from == to { String::new() } else { format!(", {} times", to - from + 1) };
+    let answer = story.told.answers[from];
+    let record = words::record(&story.told.records[from], |_| None);
+    format!("{record}: refused {}, {}{times}", answer.code.number(), answer.cause.words())
+}
+
+/// What became of a word at a record.
+pub fn stage(stage: Stage) -> &'static str {
+    match stage {
+        Stage::Fed => "fed",
+        Stage::Queued => "sent: joins the queue",
+        Stage::QueuedAgain => "sent again",
+        Stage::Carried => "carried: on the bus",
+        Stage::Printed => "carried to the outside: printed",
+        Stage::Taken => "taken",
+        Stage::TakenAgain => "taken again",
+        Stage::HeldBack => "held back: it was on the bus before the crash",
+        Stage::Lost => "lost with its board",
+    }
+}
+
+/// A process after a record: where it runs and stands.
+pub fn process(story: &Story, p: u8, seat: &Seat) -> String {
+    words::process(p.into(), seat.end, instruction(story, p, seat))
+}
+
+/// The backup of a process, its saved words told by `list`.
+pub fn backup(seat: &Seat, list: impl Fn(&[WordId]) -> String) -> String {
+    match (&seat.backup, &seat.making) {
+        (Some(backup), _) => {
+            let counted = words::many(backup.counted.len(), "word", "words");
+            format!("backup on board {}, {counted} of it counted; saved: {}", backup.board, list(&backup.saved))
+        }
+        (None, Some(making)) => format!("a backup on board {} is being made; saved: {}", making.board, list(&making.saved)),
+        (None, None) => "no backup".to_string(),
+    }
+}
+
+/// A board after a record.
+pub fn board(story: &Story, number: usize, board: &Board) -> String {
+    match board.dead {
+        true => format!("board {number} is dead"),
+        false => format!("board {number}, queue: {}", list(board.queue.iter().map(|e| short_entry(story, e)), "empty")),
+    }
+}
