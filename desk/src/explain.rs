@@ -1,6 +1,6 @@
 //! A run in words: a line for each record, then each process, and whether the cabinet ended quiet.
+use crate::failure::Failure;
 use crate::follow::{Followed, Spot};
-use crate::front::Failure;
 use crate::{input, words};
 use kunzeastylus::{Buffers, Fate, Lengths, Move, Refusal, Run, Table};
 use std::fmt::Write;
@@ -80,7 +80,7 @@ pub fn refused(input: &Input, file: &str, refusal: Refusal, with: &str) -> Failu
         1..=8 | 47 => format!("the table, its first {table} bytes"),
         _ => format!("the schedule, {schedule} bytes behind the table's {table}{with}"),
     };
-    Failure::Explained(refusal.number(), format!("{}: {bytes}: {}", input::name(file), refusal.words()))
+    Failure::refused(refusal.number(), vec![format!("{}: {bytes}: {}", input::name(file), refusal.words())])
 }
 
 /// The two length bytes of a schedule of so many bytes. A length that fits no field is of a schedule that is refused.

@@ -1,5 +1,6 @@
 //! What a front is given: a file, or standard input, as bytes or as hex text.
-use crate::front::Failure;
+use crate::args::{self, Said};
+use crate::failure::Failure;
 use crate::hex;
 use std::fs::File;
 use std::io::Read;
@@ -17,7 +18,7 @@ pub fn name(file: &str) -> &str {
 
 /// The first `MOST` bytes and one more, of a file or, for `-`, of standard input.
 pub fn read(file: &str) -> Result<Vec<u8>, Failure> {
-    let unasked = |what: &str| Failure::Unasked(format!("{}: {what}", name(file)));
+    let unasked = |what: &str| Failure::unread(format!("{}: {what}", name(file)));
     let reason = |error: std::io::Error| match error.kind() {
         std::io::ErrorKind::NotFound => unasked("no such file"),
         std::io::ErrorKind::IsADirectory => unasked("is a folder"),
@@ -36,7 +37,7 @@ pub fn read(file: &str) -> Result<Vec<u8>, Failure> {
 pub fn text(file: &str) -> Result<String, Failure> {
     let bytes = read(file)?;
     short(file, &bytes)?;
-    String::from_utf8(bytes).map_err(|_| Failure::Unasked(format!("{}: is no UTF-8 text", name(file))))
+    String::from_utf8(bytes).map_err(|_| Failure::unread(format!("{}: is no UTF-8 text", name(file))))
 }
 
 /// How a file is to be taken.
@@ -59,13 +60,34 @@ pub fn bytes_as(kind: Kind, file: &str) -> Result<Vec<u8>, Failure> {
         return Ok(bytes);
     }
     short(file, &bytes)?;
-    hex::bytes(&bytes)
-        .map_err(|bad| Failure::Unasked(format!("{}: line {} is no hex text: {}", name(file), bad.line, bad.begins)))
+    hex::bytes(&bytes).map_err(|bad| Failure::unread(format!("{}: line {} is no hex text: {}", name(file), bad.line, bad.begins)))
 }
 
 fn short(file: &str, bytes: &[u8]) -> Result<(), Failure> {
     match bytes.len() <= MOST {
         true => Ok(()),
-        false => Err(Failure::Unasked(format!("{}: over {MOST} bytes of text", name(file)))),
+        false => Err(Failure::unread(format!("{}: over {MOST} bytes of text", name(file)))),
+    }
+}
+
+/// The option by which a file is taken for what it doesn't look like.
+pub const AS: args::Known = args::value("--as", "hex|bytes");
+
+/// How the option says that files are to be taken.
+pub fn kind(said: &Said) -> Result<Kind, Failure> {
+    match said.value("--as") {
+        None => Ok(Kind::AsItLooks),
+        Some("hex") => Ok(Kind::Hex),
+        Some("bytes") => Ok(Kind::Bytes),
+        Some(other) => Err(Failure::usage(format!("--as {other}: hex or bytes is wanted"))),
+    }
+}
+
+/// The only file that is named.
+pub fn one_file<'a>(said: &Said<'a>) -> Result<&'a str, Failure> {
+    match said.files[..] {
+        [file] => Ok(file),
+        [] => Err(Failure::usage("a file is wanted, or - for standard input")),
+        _ => Err(Failure::usage(format!("one file is wanted, and {} are named", said.files.len()))),
     }
 }

@@ -1,9 +1,9 @@
 //! Every place to pull a board: the three counts of the proved sweep in words, and the ending at each place as a map or as a list.
 //!
-//! A place is called BOARD@N, as `./explain --pull` takes it: the crash of a board before record N, from 1; one past the last puts it at the
+//! A place is called BOARD@N, as `ks explain --pull` takes it: the crash of a board before record N, from 1; one past the last puts it at the
 //! end.
 use crate::explain::{refused, Input, Pull};
-use crate::front::Failure;
+use crate::failure::Failure;
 use crate::words::{heading, many};
 use kunzeastylus::{Move, Refusal, Run, Sweep, Table};
 use std::fmt::Write;
@@ -69,7 +69,7 @@ impl Ending {
 /// The sweep's counts, or why it is refused: what is wrong, where, and what to do about it.
 pub fn sweep(input: &Input, file: &str) -> Result<Sweep, Failure> {
     kunzeastylus::sweep(&input.table, &input.schedule).map_err(|refusal| match refusal {
-        Refusal::Unswept => Failure::Explained(refusal.number(), format!("{}: {}", crate::input::name(file), unswept(input))),
+        Refusal::Unswept => Failure::refused(refusal.number(), vec![format!("{}: {}", crate::input::name(file), unswept(input))]),
         _ => refused(input, file, refusal, ""),
     })
 }

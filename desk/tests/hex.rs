@@ -1,5 +1,5 @@
 //! `desk::input` reads what `tools/hex` reads: the same bytes, or the same complaint.
-use desk::front::Failure;
+use desk::failure::Failure;
 use desk::input;
 use std::path::PathBuf;
 use std::process::Command;
@@ -13,7 +13,7 @@ fn converted(file: &str) -> Result<Vec<u8>, Failure> {
     }
     assert_eq!((output.status.code(), output.stdout.len()), (Some(2), 0), "{file}");
     let said = String::from_utf8(output.stderr).expect("a message");
-    Err(Failure::Unasked(said.strip_prefix("hex: ").expect("its name").trim_end_matches('\n').to_string()))
+    Err(Failure::unread(said.strip_prefix("hex: ").expect("its name").trim_end_matches('\n').to_string()))
 }
 
 fn agrees(file: &str) -> Result<Vec<u8>, Failure> {
@@ -74,13 +74,4 @@ fn samples() {
         }
     }
     assert!(many >= 5);
-}
-
-#[test]
-fn endings() {
-    let usage = "./front FILE\n";
-    assert_eq!((Failure::Usage.exit_code(), Failure::Usage.message(usage)), (2, "usage: ./front FILE".to_string()));
-    let unasked = Failure::Unasked("x: no such file".to_string());
-    assert_eq!((unasked.exit_code(), unasked.message(usage)), (2, "x: no such file".to_string()));
-    assert_eq!((Failure::Refused(45).exit_code(), Failure::Refused(45).message(usage)), (3, "refused 45".to_string()));
 }

@@ -1,4 +1,4 @@
-//! `./table`: the samples' tables, from their text and back; what is refused, and where it is; and text that is none.
+//! `ks table`: the samples' tables, from their text and back; what is refused, and where it is; and text that is none.
 use desk::{hex, lists};
 use kunzeastylus::Lists;
 

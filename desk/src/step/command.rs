@@ -92,7 +92,7 @@ fn answer(text: &str) -> Result<Code, String> {
     Code::of(code).ok_or_else(|| format!("{text}: no answer has this code (docs/NUMBERS.md)"))
 }
 
-/// A move in words, as `./explain` prints them, or shorter: `feed channel 0, word 5`, `feed 0 5`. Whether there is such a board is the library's
+/// A move in words, as `ks explain` prints them, or shorter: `feed channel 0, word 5`, `feed 0 5`. Whether there is such a board is the library's
 /// to say.
 fn typed(first: &str, rest: &[&str]) -> Result<Bytes, String> {
     let nouns = ["process", "board", "channel", "a", "word"];

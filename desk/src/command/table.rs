@@ -1,28 +1,27 @@
-//! `./table`: lists of numbers as text become a table, and a table such text.
-use desk::front::{self, Failure};
-use desk::{input, lists};
+//! `ks table`: lists of numbers as text become a table, and a table such text.
+use crate::args::{self, flag};
+use crate::failure::Failure;
+use crate::output::Outputs;
+use crate::{input, lists};
 use kunzeastylus::{Lists, TableRefusal};
-use std::process::ExitCode;
 
-const USAGE: &str = "./table [--bytes | --apart] FILE, where FILE - is standard input
-  FILE          lists as text: decimal numbers under the headings counts, ends, placements and instructions, and for a table of version 2
-                limits. Prints the table as hex text
-  --bytes FILE  the same, and prints the table's bytes
-  --apart FILE  a table, bytes or hex text; a schedule behind it, as ./run takes them, is left out. Prints its lists as such text
-What is refused prints `refused` and the number (docs/NUMBERS.md), says why on standard error, and ends with 3.";
-
-fn main() -> ExitCode {
-    front::main("table", USAGE, |arguments| match arguments {
-        [option, file] if option == "--bytes" => written(file).map(|(table, _)| table),
-        [option, file] if option == "--apart" => apart(file),
-        [file] if !file.starts_with("--") => written(file).map(|(table, lists)| lists::hex(&table, &lists).into_bytes()),
-        _ => Err(Failure::Usage),
+pub fn work(arguments: &[String], outputs: &mut Outputs) -> Result<(), Failure> {
+    let said = args::read(arguments, &[flag("--bytes"), flag("--apart")])?;
+    let file = input::one_file(&said)?;
+    Ok(match (said.flag("--bytes"), said.flag("--apart")) {
+        (true, true) => return Err(Failure::usage("--bytes and --apart: one of them is wanted")),
+        (true, false) => outputs.bytes(&written(file)?.0)?,
+        (false, true) => outputs.bytes(&apart(file)?)?,
+        (false, false) => {
+            let (table, lists) = written(file)?;
+            outputs.bytes(lists::hex(&table, &lists).as_bytes())?
+        }
     })
 }
 
 /// The table of a file of text.
 fn written(file: &str) -> Result<(Vec<u8>, Lists), Failure> {
-    let text = lists::parse(&input::text(file)?).map_err(|why| Failure::Unasked(format!("{}: {why}", input::name(file))))?;
+    let text = lists::parse(&input::text(file)?).map_err(|why| Failure::unread(format!("{}: {why}", input::name(file))))?;
     match text.lists.table() {
         Ok(table) => Ok((table, text.lists)),
         Err(refusal) => Err(refused(refusal, lists::explain(&text, refusal.number()))),
@@ -55,5 +54,5 @@ fn refused(refusal: TableRefusal, place: String) -> Failure {
         TableRefusal::Limit => "a limit outside 1 to 16",
     };
     let why = if place.is_empty() { meaning.to_string() } else { format!("{meaning}: {place}") };
-    Failure::Explained(refusal.number(), why)
+    Failure::refused(refusal.number(), vec![why])
 }
