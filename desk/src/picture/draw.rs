@@ -122,8 +122,7 @@ impl<'s> Drawing<'s> {
             };
             for Stretch { key, from, to } in self.stretches(rows, bottom, |scene| backup(scene).map(|(whole, _)| whole)) {
                 if let Some(whole) = key {
-                    let class = format!("{} {}", if whole { "backup" } else { "making" }, colour(p));
-                    pen.rect(&class, x - BAR / 2, from, BAR, to - from);
+                    self.hollow(if whole { "backup" } else { "making" }, p, x, (from, to), pen);
                 }
             }
             for Stretch { key, from, to } in self.stretches(rows, bottom, backup) {
@@ -136,6 +135,13 @@ impl<'s> Drawing<'s> {
         }
     }
 
+    /// A bar that is only its two sides, so that it goes on from part to part.
+    fn hollow(&self, class: &str, p: u8, x: i32, (from, to): (i32, i32), pen: &mut Pen) {
+        pen.rect("slip", x - BAR / 2, from, BAR, to - from);
+        let class = format!("{class} {}", colour(p));
+        pen.path(&class, format_args!("M{0} {from}V{to}M{1} {from}V{to}", x - BAR / 2, x + BAR / 2));
+    }
+
     /// The processes, where they run; hollow while they hold back.
     fn bars(&self, rows: &[Row], bottom: i32, pen: &mut Pen) {
         for (board, p, x) in self.lanes.all() {
@@ -144,9 +150,10 @@ impl<'s> Drawing<'s> {
                 (end.board == board).then_some(end.hold_back > 0)
             };
             for Stretch { key, from, to } in self.stretches(rows, bottom, runs) {
-                if let Some(holds) = key {
-                    let class = format!("{} {}", if holds { "bar holds" } else { "bar" }, colour(p));
-                    pen.rect(&class, x - BAR / 2, from, BAR, to - from);
+                match key {
+                    Some(true) => self.hollow("holds", p, x, (from, to), pen),
+                    Some(false) => pen.rect(&format!("bar {}", colour(p)), x - BAR / 2, from, BAR, to - from),
+                    None => (),
                 }
             }
         }
@@ -174,7 +181,7 @@ impl<'s> Drawing<'s> {
         for (p, (was, is)) in (0..).zip(before.seats.iter().zip(&after.seats)) {
             if (was.end.board, was.end.place) != (is.end.board, is.end.place) {
                 let below = if row.crash { row.height - 6 } else { 13 };
-                let holds = if is.end.hold_back > 0 { "place holds" } else { "place" };
+                let holds = if is.end.hold_back > 0 { "place rolls" } else { "place" };
                 pen.words(&format!("{holds} {}", colour(p)), self.lanes.lane(is.end.board, p), row.y + below, is.end.place);
             }
         }

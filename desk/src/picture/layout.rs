@@ -12,8 +12,8 @@ const QUEUE: i32 = 44;
 const PAD: i32 = 6;
 const GAP: i32 = 10;
 /// How wide the words are, and how many characters fit.
-const WORDS: i32 = 330;
-const CHARACTERS: usize = 54;
+const WORDS: i32 = 372;
+const CHARACTERS: usize = 62;
 /// How high a row is, a line of words, and the cross of a crash.
 pub const ROW: i32 = 18;
 pub const LINE: i32 = 13;

@@ -94,7 +94,7 @@
   });
   document.addEventListener("keydown", event => {
     const index = data.rows.indexOf(rowOf(shown || data.open));
-    const crashes = [...document.querySelectorAll(".cross")].map(cross => Number(cross.closest("[data-r]").dataset.r));
+    const crashes = [...document.querySelectorAll(".row .cross")].map(cross => Number(cross.closest("[data-r]").dataset.r));
     const next = {
       ArrowDown: () => data.rows[Math.min(index + 1, data.rows.length - 1)][0],
       ArrowUp: () => data.rows[Math.max(index - 1, 0)][0],

@@ -99,7 +99,11 @@ pub fn row(story: &Story, from: usize, to: usize) -> String {
 /// Where a process goes on after a record.
 fn place(story: &Story, record: usize, process: u8) -> String {
     let end = &story.moments[record].scene.seats[usize::from(process)].end;
-    format!("board {}, place {}, holding back {}", end.board, end.place, end.hold_back)
+    let held = match end.hold_back {
+        0 => String::new(),
+        n => format!(", holding back {}", words::many(n.into(), "send", "sends")),
+    };
+    format!("board {}, place {}{held}", end.board, end.place)
 }
 
 fn refused(story: &Story, from: usize, to: usize) -> String {
@@ -133,8 +137,8 @@ pub fn process(story: &Story, p: u8, seat: &Seat) -> String {
 pub fn backup(seat: &Seat, list: impl Fn(&[WordId]) -> String) -> String {
     match (&seat.backup, &seat.making) {
         (Some(backup), _) => {
-            let counted = words::many(backup.counted.len(), "word", "words");
-            format!("backup on board {}, {counted} of it counted; saved: {}", backup.board, list(&backup.saved))
+            let carried = words::many(backup.counted.len(), "word", "words");
+            format!("backup on board {}; saved: {}; since its state {carried} carried", backup.board, list(&backup.saved))
         }
         (None, Some(making)) => format!("a backup on board {} is being made; saved: {}", making.board, list(&making.saved)),
         (None, None) => "no backup".to_string(),

@@ -87,15 +87,15 @@ type Sign = (fn(&mut Pen), &'static str);
 
 const LEGEND: &[Sign] = &[
     (|pen| pen.rect("bar p0", 2, 0, BAR, 16), "a process runs; its place"),
-    (|pen| pen.rect("bar holds p0", 2, 0, BAR, 16), "it holds back sends"),
+    (|pen| pen.path("holds p0", "M2 0V16M26 0V16"), "it holds back sends"),
     (
         |pen| {
-            pen.rect("backup p0", 2, 0, BAR, 16);
             pen.rect("saved p0", 2, 0, 10, 16);
+            pen.path("backup p0", "M2 0V16M26 0V16");
         },
         "its backup; saved words",
     ),
-    (|pen| pen.rect("making p0", 2, 0, BAR, 16), "a backup is being made"),
+    (|pen| pen.path("making p0", "M2 0V16M26 0V16"), "a backup is being made"),
     (|pen| pen.rect("queue", 4, 0, 20, 16), "a queue; its entries"),
     (|pen| pen.path("word", "M8 4l7 4l-7 4Z"), "a word is taken"),
     (|pen| pen.square("word", 14, 8), "a word is sent: queued"),
