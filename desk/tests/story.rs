@@ -29,9 +29,10 @@ fn same(story: &Story, scene: &Scene, cabinet: &Cabinet, at: &str) {
         let inbox: Vec<(u8, u32)> = process.inbox.iter().map(|message| (message.channel, message.word)).collect();
         assert_eq!(words(story, &seat.unread), inbox, "process {p} {at}");
         let ours = seat.backup.as_ref().map(|b| (b.board, words(story, &b.saved), b.counted.len()));
-        let theirs = process.backup.as_ref().map(|b| {
-            (b.board, b.saved.iter().map(|message| (message.channel, message.word)).collect(), usize::from(b.count))
-        });
+        let theirs = process
+            .backup
+            .as_ref()
+            .map(|b| (b.board, b.saved.iter().map(|message| (message.channel, message.word)).collect(), usize::from(b.count)));
         assert_eq!(ours, theirs, "the backup of process {p} {at}");
         assert_eq!(seat.making.is_some(), process.resyncs(), "process {p} {at}");
     }
@@ -55,7 +56,8 @@ fn lives_fit(story: &Story) {
     for life in &story.lives {
         // What counts of a word is on the bus once at most.
         let stands = |record: usize| told.fates[record] == Fate::Stands;
-        let on_the_bus = life.stages.iter().filter(|(r, s)| stands(*r) && matches!(s, Stage::Fed | Stage::Carried | Stage::Printed));
+        let on_the_bus =
+            life.stages.iter().filter(|(r, s)| stands(*r) && matches!(s, Stage::Fed | Stage::Carried | Stage::Printed));
         assert!(on_the_bus.count() <= 1, "{life:?}");
     }
 }

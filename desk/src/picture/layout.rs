@@ -5,8 +5,8 @@ use kunzeastylus::{Fate, Table};
 use std::ops::Range;
 
 pub const NUMBER: i32 = 42;
-const OUTSIDE: i32 = 74;
-const FIRST_COLUMN: i32 = 106;
+const OUTSIDE: i32 = 118;
+const FIRST_COLUMN: i32 = 142;
 const LANE: i32 = 36;
 const QUEUE: i32 = 44;
 const PAD: i32 = 6;

@@ -1,9 +1,10 @@
 //! The cabinet at one moment of a run, as it is drawn: where each process runs and stands, which words are unread, saved and in queues. Words are
 //! named by their number, so that one can be followed from queue to inbox.
 //!
-//! Board, place, registers, hold-back and how much is unread are those of the report of the run up to there. Which word is where follows from the
-//! answers alone, and is held against the report after every record: a word on the bus joins its reader's inbox and backup, a take removes the
-//! oldest of its channel, a carried sync drops what was taken before it was issued, and a crash makes the saved words the inbox.
+//! All of it follows from the answers, and is held against the report of the run up to there at every crash and at the end, where each process must
+//! be as the report says: a word on the bus joins its reader's inbox and backup, a take removes the oldest of its channel, a step moves the place as
+//! its instruction says, a carried sync drops what was taken before it was issued, and a crash makes the saved words the inbox and the counted ones
+//! those to be held back. Where a process goes on after a crash, the report says.
 use kunzeastylus::{End, ProcessEnd, Table};
 
 /// A word by its number: its place in `Story::lives`.
@@ -33,7 +34,7 @@ pub struct Standby {
 
 #[derive(Clone, Debug, PartialEq, Eq)]
 pub struct Seat {
-    /// Its line of the report.
+    /// Its line of a report.
     pub end: ProcessEnd,
     pub unread: Vec<WordId>,
     pub backup: Option<Standby>,
@@ -71,6 +72,23 @@ impl Scene {
             lost: Vec::new(),
         };
         Scene { seats: table.processes.iter().map(seat).collect(), boards: vec![Board::default(); table.boards as usize] }
+    }
+
+    /// How much is unread and held back, as a report would say it.
+    pub fn settle(&mut self) {
+        for seat in &mut self.seats {
+            (seat.end.unread, seat.end.hold_back) = (seat.unread.len() as u8, seat.held.len() as u8);
+        }
+    }
+
+    /// The report after a crash, or at the end: where each process runs and stands. What was followed must fit it.
+    pub fn reported(&mut self, report: &[ProcessEnd], crash: bool) {
+        for (seat, &end) in self.seats.iter_mut().zip(report) {
+            if crash {
+                (seat.end.board, seat.end.place, seat.end.registers) = (end.board, end.place, end.registers);
+            }
+            assert_eq!(seat.end, end, "a fault of this program: it followed the run elsewhere");
+        }
     }
 
     /// A word is on the bus: to its reader's inbox and backup.

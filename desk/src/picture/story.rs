@@ -1,7 +1,8 @@
 //! A run as a story: what each record did to whom, the cabinet after it, and the life of every word. It is made of what the proved run told, its
-//! answers and the reports of its beginnings; how it is drawn is none of its business.
+//! answers and the reports of its beginnings up to each crash; how it is drawn is none of its business.
 use super::scene::{Entry, Scene, Standby, WordId};
 use crate::explain::Input;
+use crate::follow::Spot;
 use crate::told::{word, Told};
 use kunzeastylus::{Answer, Cause, Code, End, Fate, Move, ProcessEnd, Refusal};
 
@@ -114,10 +115,14 @@ impl Story {
                 }
                 _ => telling.event(told.answers[at]),
             };
-            let report: Vec<ProcessEnd> = input.run(at + 1, |run| run.processes().collect())?;
-            telling.settle(&report);
+            telling.scene.settle();
+            if let Event::Crashed { .. } = event {
+                let report: Vec<ProcessEnd> = input.run(at + 1, |run| run.processes().collect())?;
+                telling.scene.reported(&report, true);
+            }
             moments.push(Moment { event, scene: telling.scene.clone() });
         }
+        telling.scene.reported(&told.ends, false);
         let lives = telling.lives;
         Ok(Story { start, moments, lives, told })
     }
@@ -183,6 +188,7 @@ impl Telling<'_> {
     }
 
     fn stepped(&mut self, process: u8, answer: Answer) -> Event {
+        self.moved(process, answer);
         let (channel, word) = (answer.a, answer.word);
         let lives = &self.lives;
         let is = |&id: &WordId| (lives[id].channel, lives[id].word) == (channel, word);
@@ -213,6 +219,14 @@ impl Telling<'_> {
             }
             _ => Event::Calculated { process },
         }
+    }
+
+    /// The instruction at its place is done.
+    fn moved(&mut self, process: u8, answer: Answer) {
+        let end = &mut self.scene.seats[usize::from(process)].end;
+        let mut spot = Spot::from(*end);
+        spot.step(self.told.table.processes[usize::from(process)].program[spot.place], answer);
+        (end.place, end.registers) = (spot.place as u8, spot.registers);
     }
 
     fn resync(&mut self, process: u8) -> Event {
@@ -264,15 +278,5 @@ impl Telling<'_> {
             }
         }
         Event::Crashed { board, lost, moved }
-    }
-
-    /// The report after the record: where each process runs and stands. What was followed must fit it.
-    fn settle(&mut self, report: &[ProcessEnd]) {
-        for (seat, &end) in self.scene.seats.iter_mut().zip(report) {
-            seat.end = end;
-            let followed = (seat.unread.len(), seat.held.len());
-            let reported = (usize::from(end.unread), usize::from(end.hold_back));
-            assert_eq!(followed, reported, "a fault of this program: it followed the words elsewhere");
-        }
     }
 }
