@@ -132,9 +132,10 @@ impl Story {
         record.checked_sub(1).map_or(&self.start, |before| &self.moments[before].scene)
     }
 
-    /// The first record that crashed a board and stands, if there is one.
+    /// The first record that crashed a board, if there is one, of those that stand before all others.
     pub fn first_crash(&self) -> Option<usize> {
-        self.told.standing().find(|&i| matches!(self.moments[i].event, Event::Crashed { .. }))
+        let crashed = |&i: &usize| matches!(self.moments[i].event, Event::Crashed { .. });
+        self.told.standing().find(crashed).or_else(|| (0..self.moments.len()).find(crashed))
     }
 }
 

@@ -118,6 +118,8 @@ const LEGEND: &[Sign] = &[
     (|pen| pen.rect("dead", 2, 0, BAR, 16), "a dead board"),
     (|pen| pen.line("returns", (2, 8), (26, 8)), "a board returns"),
     (|pen| pen.path("tick", "M11 5l6 6m0 -6l-6 6"), "refused: nothing changes"),
+    (|pen| pen.path("back", "M10 12c12 0 12 -9 0 -9l4 -3m-4 3l4 3"), "a record is taken back"),
+    (|pen| pen.group("class=\"gone\"", |pen| pen.square("word", 14, 8)), "grey: taken back later"),
 ];
 
 /// Every sign and what it stands for, in so many columns.
