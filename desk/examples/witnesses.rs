@@ -2,7 +2,7 @@
 //! of each run is changed, so that no plain run explains it, or of the plain run, so that it doesn't.
 use desk::explain::Input;
 use desk::plain::{check, find, json, PlainMove};
-use desk::told::Told;
+use desk::played::Played;
 use kunzeastylus::{Answer, End};
 use outside::random::Random;
 use outside::rules::generate::{encode_schedule, encode_table, schedule, table};
@@ -27,24 +27,24 @@ fn some_run(random: &mut Random, i: usize) -> Input {
 }
 
 /// Changes one thing that a plain run decides; false where the run has no such thing.
-fn damage(random: &mut Random, told: &mut Told, moves: &mut Vec<PlainMove>) -> bool {
-    let on_the_bus: Vec<usize> = told.standing().filter(|&i| told.answers[i].bus.is_some()).collect();
+fn damage(random: &mut Random, played: &mut Played, moves: &mut Vec<PlainMove>) -> bool {
+    let on_the_bus: Vec<usize> = played.standing().filter(|&i| played.ran.answers[i].bus.is_some()).collect();
     let steps: Vec<usize> = (0..moves.len()).filter(|&i| matches!(moves[i], PlainMove::Step { .. })).collect();
     match random.below(4) {
-        0 if told.quiet => {
-            let p = random.below(told.ends.len() as u32) as usize;
-            told.ends[p].registers[3] ^= 1;
+        0 if played.ran.quiet => {
+            let p = random.below(played.ran.ends.len() as u32) as usize;
+            played.ran.ends[p].registers[3] ^= 1;
         }
         1 if !steps.is_empty() => {
             moves.remove(random.pick(&steps));
         }
         _ if on_the_bus.is_empty() => return false,
         2 => {
-            let Answer { word, bus: Some(bus), .. } = &mut told.answers[random.pick(&on_the_bus)] else { return false };
+            let Answer { word, bus: Some(bus), .. } = &mut played.ran.answers[random.pick(&on_the_bus)] else { return false };
             (*word, bus.word) = (*word ^ 1, bus.word ^ 1);
         }
         _ => {
-            let Answer { bus: Some(bus), .. } = &mut told.answers[random.pick(&on_the_bus)] else { return false };
+            let Answer { bus: Some(bus), .. } = &mut played.ran.answers[random.pick(&on_the_bus)] else { return false };
             match bus.sender {
                 End::Process(_) => bus.place ^= 1,
                 End::Outside => bus.sender = End::Process(0),
@@ -61,14 +61,14 @@ fn main() {
     let mut random = Random::new(number(1));
     for i in 0..number(0) as usize {
         let input = some_run(&mut random, i);
-        let mut told = Told::of(&input).expect("a sound run");
-        let mut moves: Vec<PlainMove> = find(&told).expect("a plain run").iter().map(|beside| beside.plain).collect();
-        check(&told, &moves).unwrap_or_else(|fault| panic!("run {i}: {fault}"));
+        let mut played = Played::of(input).expect("a sound run");
+        let mut moves: Vec<PlainMove> = find(&played).expect("a plain run").iter().map(|beside| beside.plain).collect();
+        check(&played, &moves).unwrap_or_else(|fault| panic!("run {i}: {fault}"));
         if !damaged {
-            print!("{}", json(&input, &told, &moves));
-        } else if damage(&mut random, &mut told, &mut moves) {
-            assert!(check(&told, &moves).is_err(), "run {i}: what was changed is not seen");
-            print!("{}", json(&input, &told, &moves));
+            print!("{}", json(&played, &moves));
+        } else if damage(&mut random, &mut played, &mut moves) {
+            assert!(check(&played, &moves).is_err(), "run {i}: what was changed is not seen");
+            print!("{}", json(&played, &moves));
         }
     }
 }

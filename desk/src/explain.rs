@@ -1,11 +1,12 @@
 //! A run in words: a line for each record, then each process, and whether the cabinet ended quiet.
-use crate::failure::Failure;
 use crate::follow::{Followed, Spot};
-use crate::{input, words};
+use crate::records::schedule_length;
+use crate::words;
 use kunzeastylus::{Buffers, Fate, Lengths, Move, Refusal, Run, Table};
 use std::fmt::Write;
 
 /// A table and a schedule, as `./run` takes them one behind the other.
+#[derive(Clone, Debug, PartialEq, Eq)]
 pub struct Input {
     pub table: Vec<u8>,
     pub schedule: Vec<u8>,
@@ -71,21 +72,6 @@ impl Input {
         }
         kunzeastylus::run(&self.table, &schedule, &mut Buffers::for_run(&self.table, &schedule)).map(use_of)
     }
-}
-
-/// What a refusal means, and of which bytes of a file; `with` says what was done to its schedule.
-pub fn refused(input: &Input, file: &str, refusal: Refusal, with: &str) -> Failure {
-    let (table, schedule) = (input.table.len(), input.schedule.len());
-    let bytes = match refusal.number() {
-        1..=8 | 47 => format!("the table, its first {table} bytes"),
-        _ => format!("the schedule, {schedule} bytes behind the table's {table}{with}"),
-    };
-    Failure::refused(refusal.number(), vec![format!("{}: {bytes}: {}", input::name(file), refusal.words())])
-}
-
-/// The two length bytes of a schedule of so many bytes. A length that fits no field is of a schedule that is refused.
-pub(crate) fn schedule_length(bytes: usize) -> [u8; 2] {
-    ((bytes - 2).min(65_535) as u16).to_be_bytes()
 }
 
 /// The run in words, or why it is refused.

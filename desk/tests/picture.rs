@@ -3,6 +3,7 @@
 use desk::explain::Input;
 use desk::hex;
 use desk::picture::{opening, page, picture, Story};
+use desk::played::Played;
 use outside::random::Random;
 use outside::rules::busy::busy;
 use outside::rules::generate::{encode_schedule, encode_table, schedule, table};
@@ -20,7 +21,7 @@ const SAMPLES: [&str; 10] =
     ["back", "first", "held", "limits", "lost_queue", "repaired", "roll_forward", "sample", "swept", "year"];
 
 fn story(name: &str) -> Story {
-    Story::of(&Input::of(hex::bytes(sample(&format!("{name}.hex")).as_bytes()).expect("hex text"))).expect("an accepted run")
+    Story::of(Played::of(Input::of(hex::bytes(sample(&format!("{name}.hex")).as_bytes()).expect("hex text"))).expect("an accepted run"))
 }
 
 /// Nothing but a name space is named that isn't in the file itself.
@@ -76,7 +77,7 @@ fn generated_runs() {
         let records = schedule(&mut random, &table, most);
         let records = going_back(&mut random, &table, records, 400);
         let input = Input { table: encode_table(&table), schedule: encode_schedule(&records) };
-        sound(&Story::of(&input).expect("a sound run"));
+        sound(&Story::of(Played::of(input).expect("a sound run")));
     }
 }
 
@@ -98,7 +99,7 @@ fn a_long_run() {
     let more = schedule(&mut random, &table, 10_000 - records.len());
     records.extend(more);
     let input = Input { table: encode_table(&table), schedule: encode_schedule(&records) };
-    let story = Story::of(&input).expect("a sound run");
+    let story = Story::of(Played::of(input).expect("a sound run"));
     let page = page(&story);
     assert!(page.len() < 16 << 20, "{} bytes", page.len());
     assert_eq!(pictures(&page).count(), page.matches("class=\"part\"").count() + 3);

@@ -4,6 +4,7 @@ use desk::explain::Input;
 use desk::picture::scene::{Scene, WordId};
 use desk::picture::story::Stage;
 use desk::picture::Story;
+use desk::played::Played;
 use kunzeastylus::{Code, Fate, Move};
 use outside::random::Random;
 use outside::rules::busy::busy;
@@ -43,10 +44,10 @@ fn same(story: &Story, scene: &Scene, cabinet: &Cabinet, at: &str) {
 
 /// As many words were fed, queued, carried, taken and held back as answers say.
 fn lives_fit(story: &Story) {
-    let told = &story.told;
+    let played = &story.played;
     let staged = |wanted: &[Stage]| story.lives.iter().flat_map(|life| &life.stages).filter(|(_, s)| wanted.contains(s)).count();
     let answered = |code: Code, feed: bool| {
-        (0..told.records.len()).filter(|&i| told.answers[i].code == code && (told.kind(i) == Some(Move::Feed)) == feed).count()
+        (0..played.records.len()).filter(|&i| played.ran.answers[i].code == code && (played.kind(i) == Some(Move::Feed)) == feed).count()
     };
     assert_eq!(staged(&[Stage::Fed]), answered(Code::OnTheBus, true));
     assert_eq!(staged(&[Stage::Carried, Stage::Printed]), answered(Code::OnTheBus, false));
@@ -55,7 +56,7 @@ fn lives_fit(story: &Story) {
     assert_eq!(staged(&[Stage::HeldBack]), answered(Code::HeldBack, false));
     for life in &story.lives {
         // What counts of a word is on the bus once at most.
-        let stands = |record: usize| told.fates[record] == Fate::Stands;
+        let stands = |record: usize| played.ran.fates[record] == Fate::Stands;
         let on_the_bus =
             life.stages.iter().filter(|(r, s)| stands(*r) && matches!(s, Stage::Fed | Stage::Carried | Stage::Printed));
         assert!(on_the_bus.count() <= 1, "{life:?}");
@@ -64,12 +65,12 @@ fn lives_fit(story: &Story) {
 
 fn tells(table: &Table, records: &[Record]) {
     let input = Input { table: encode_table(table), schedule: encode_schedule(records) };
-    let story = Story::of(&input).expect("a sound run");
+    let story = Story::of(Played::of(input).expect("a sound run"));
     let mut session = Session::new(table);
     same(&story, &story.start, &session.cabinet, "at the start");
     for (i, &record) in records.iter().enumerate() {
         let answer = session.answer(record);
-        assert_eq!(answer.code, story.told.answers[i].code.number(), "record {}", i + 1);
+        assert_eq!(answer.code, story.played.ran.answers[i].code.number(), "record {}", i + 1);
         same(&story, &story.moments[i].scene, &session.cabinet, &format!("after record {}", i + 1));
     }
     lives_fit(&story);

@@ -1,28 +1,30 @@
 //! `ks explain`: a run in words, for the service desk.
 use crate::args::{self, decimal, value, Said};
-use crate::explain::{explain, refused, Asked, Input, Pull};
+use crate::case::{load, Source, TABLE};
+use crate::explain::{explain, Asked, Pull};
 use crate::failure::Failure;
-use crate::input;
 use crate::output::Outputs;
+use crate::{input, told};
 
-const OPTIONS: [args::Known; 4] = [value("--from", "N"), value("--to", "N"), value("--pull", "BOARD@N"), input::AS];
+const OPTIONS: [args::Known; 5] = [value("--from", "N"), value("--to", "N"), value("--pull", "BOARD@N"), TABLE, input::AS];
 
 pub fn work(arguments: &[String], outputs: &mut Outputs) -> Result<(), Failure> {
     let said = args::read(arguments, &OPTIONS)?;
     let asked = asked(&said)?;
-    let file = input::one_file(&said)?;
-    let mut input = Input::of(input::bytes_as(input::kind(&said)?, file)?);
-    let records = input.records().map_err(|refusal| refused(&input, file, refusal, ""))?;
+    let mut case = load(Source::only(&said)?)?;
+    let mut input = case.input();
     if let Some(pull) = asked.pull {
+        let records = case.records().len();
         if pull.before > records + 1 {
             let wrong = format!("--pull {}@{}: the schedule has {records} records", pull.board, pull.before);
             return Err(Failure::usage(format!("{wrong}, so N is 1 to {}", records + 1)));
         }
         input.pull(pull);
+        case.schedule = Some(input.schedule.clone());
     }
-    let with = if asked.pull.is_some() { ", with the crash that --pull puts in" } else { "" };
-    let text = explain(&input, asked).map_err(|refusal| refused(&input, file, refusal, with))?;
-    Ok(outputs.text(&text)?)
+    let text = explain(&input, asked).map_err(|refusal| case.refused(refusal.number()))?;
+    outputs.text(&text)?;
+    told::all_reached(&case)
 }
 
 /// Which lines are wanted, and which board is pulled.

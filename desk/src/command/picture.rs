@@ -1,13 +1,14 @@
 //! `ks picture`: a run to look at.
 use crate::args::{self, flag, value};
-use crate::explain::{refused, Input};
+use crate::case::{load, Source, TABLE};
 use crate::failure::Failure;
-use crate::input;
 use crate::output::Outputs;
 use crate::picture::{opening, page, picture, Story};
+use crate::played::Played;
+use crate::{input, told};
 use std::ops::Range;
 
-const OPTIONS: [args::Known; 4] = [flag("--svg"), value("--from", "N"), value("--to", "N"), input::AS];
+const OPTIONS: [args::Known; 5] = [flag("--svg"), value("--from", "N"), value("--to", "N"), TABLE, input::AS];
 
 pub fn work(arguments: &[String], outputs: &mut Outputs) -> Result<(), Failure> {
     let said = args::read(arguments, &OPTIONS)?;
@@ -15,14 +16,15 @@ pub fn work(arguments: &[String], outputs: &mut Outputs) -> Result<(), Failure> 
     if !said.flag("--svg") && (from.is_some() || to.is_some()) {
         return Err(Failure::usage("--from and --to are of --svg: a page has all records"));
     }
-    let file = input::one_file(&said)?;
-    let input = Input::of(input::bytes_as(input::kind(&said)?, file)?);
-    let story = Story::of(&input).map_err(|refusal| refused(&input, file, refusal, ""))?;
+    let case = load(Source::only(&said)?)?;
+    let played = Played::of(case.input()).map_err(|number| case.refused(number))?;
+    let story = Story::of(played).named(&case.names);
     let text = match said.flag("--svg") {
         true => picture(&story, records(&story, from, to)?),
         false => page(&story),
     };
-    Ok(outputs.bytes(text.as_bytes())?)
+    outputs.bytes(text.as_bytes())?;
+    told::all_reached(&case)
 }
 
 /// The records that are wanted, from 0: those around the first crash where nothing is said.

@@ -1,6 +1,6 @@
 //! `ks step`: a run record by record, for programmers.
 use crate::args;
-use crate::explain::{refused, Input};
+use crate::case::{load, Source, TABLE};
 use crate::failure::Failure;
 use crate::input;
 use crate::output::Outputs;
@@ -8,13 +8,11 @@ use crate::step::{session, Stepper};
 use std::io::{stdin, IsTerminal};
 
 pub fn work(arguments: &[String], outputs: &mut Outputs) -> Result<(), Failure> {
-    let said = args::read(arguments, &[input::AS])?;
-    let file = input::one_file(&said)?;
-    if file == "-" {
+    let said = args::read(arguments, &[TABLE, input::AS])?;
+    let source = Source::only(&said)?;
+    if source.file == "-" || source.table == Some("-") {
         return Err(Failure::usage("standard input is where the commands come from: name a file"));
     }
-    let input = Input::of(input::bytes_as(input::kind(&said)?, file)?);
-    input.records().map_err(|refusal| refused(&input, file, refusal, ""))?;
-    let mut stepper = Stepper::new(input).expect("an accepted run");
+    let mut stepper = Stepper::new(load(source)?.input()).expect("an accepted run");
     Ok(session(&mut stepper, stdin().lock(), &mut outputs.out, stdin().is_terminal())?)
 }

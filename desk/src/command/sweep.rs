@@ -1,5 +1,6 @@
 //! `ks sweep`: every place to pull a board, for the driver bench.
 use crate::args::{self, flag, value, Said};
+use crate::case::{load, Source, TABLE};
 use crate::explain::Input;
 use crate::failure::Failure;
 use crate::input;
@@ -8,15 +9,15 @@ use crate::progress::Progress;
 use crate::sweep::{counts, sweep, Ending, Map};
 use kunzeastylus::Sweep;
 
-const OPTIONS: [args::Known; 5] =
-    [flag("--map"), value("--width", "N"), value("--list", "ENDING"), flag("--require-quiet"), input::AS];
+const OPTIONS: [args::Known; 6] =
+    [flag("--map"), value("--width", "N"), value("--list", "ENDING"), flag("--require-quiet"), TABLE, input::AS];
 
 pub fn work(arguments: &[String], outputs: &mut Outputs) -> Result<(), Failure> {
     let said = args::read(arguments, &OPTIONS)?;
     let (ending, width) = wanted(&said)?;
-    let file = input::one_file(&said)?;
-    let input = Input::of(input::bytes_as(input::kind(&said)?, file)?);
-    let swept = sweep(&input, file)?;
+    let case = load(Source::only(&said)?)?;
+    let input = case.input();
+    let swept = sweep(&input).map_err(|refusal| case.refused(refusal.number()))?;
     match ending {
         Some(ending) => outputs.bytes(map(&input, swept).list(ending).as_bytes())?,
         None => outputs.text(&counts(&input, swept))?,
@@ -27,7 +28,7 @@ pub fn work(arguments: &[String], outputs: &mut Outputs) -> Result<(), Failure> 
     }
     let unquiet = swept.held + swept.open;
     match said.flag("--require-quiet") && unquiet > 0 {
-        true => Err(Failure::unmet(vec![format!("{file}: {unquiet} of {} runs end unquiet", swept.runs())])),
+        true => Err(Failure::unmet(vec![format!("{}: {unquiet} of {} runs end unquiet", case.schedule_from.file, swept.runs())])),
         false => Ok(()),
     }
 }

@@ -68,7 +68,7 @@ pub fn data(story: &Story, rows: &[Row], open: usize) -> String {
 /// A word, and what became of it at which records.
 fn life(story: &Story, id: WordId) -> String {
     let stages = story.lives[id].stages.iter().map(|(record, stage)| {
-        let gone = matches!(story.told.fates[*record], Fate::TakenBackBy(_));
+        let gone = matches!(story.played.ran.fates[*record], Fate::TakenBackBy(_));
         let said = format!("{}{}", say::stage(*stage), if gone { ", and taken back" } else { "" });
         format!("[{},{}]", record + 1, quoted(&said))
     });

@@ -51,7 +51,7 @@ struct Stretch<K> {
 
 impl<'s> Drawing<'s> {
     pub fn of(story: &'s Story) -> Drawing<'s> {
-        Drawing { story, lanes: Lanes::of(&story.told.table), scale: Scale::of(story) }
+        Drawing { story, lanes: Lanes::of(&story.played.table), scale: Scale::of(story) }
     }
 
     /// These rows, all of them.
@@ -161,7 +161,7 @@ impl<'s> Drawing<'s> {
 
     /// One row: its number, what happens, and its words; dim where it is taken back later.
     fn row(&self, row: &Row, pen: &mut Pen) {
-        let gone = matches!(self.story.told.fates[row.from], Fate::TakenBackBy(_));
+        let gone = matches!(self.story.played.ran.fates[row.from], Fate::TakenBackBy(_));
         let attributes =
             format!("class=\"{}\" id=\"r{}\" data-r=\"{}\"", if gone { "row gone" } else { "row" }, row.from + 1, row.from + 1);
         pen.group(attributes, |pen| {

@@ -110,7 +110,7 @@ impl Mark<'_> {
 
     fn to_the_reader(&self, word: WordId, x: i32, pen: &mut Pen) {
         let (story, lanes) = (self.drawing.story, &self.drawing.lanes);
-        match story.told.table.channels[usize::from(story.lives[word].channel)].1 {
+        match story.played.table.channels[usize::from(story.lives[word].channel)].1 {
             End::Outside => {
                 pen.arrow("reader", (x, self.y), (lanes.outside + 3, self.y - FAN));
                 pen.words("fed", lanes.outside - 4, self.y + 1, story.lives[word].word);
@@ -130,7 +130,7 @@ impl Mark<'_> {
         let story = self.drawing.story;
         let x = self.drawing.lanes.boards[usize::from(board)].queue;
         self.to_the_reader(word, x, pen);
-        if let End::Process(sender) = story.told.table.channels[usize::from(story.lives[word].channel)].0 {
+        if let End::Process(sender) = story.played.table.channels[usize::from(story.lives[word].channel)].0 {
             if let Some(to) = self.backup_of(sender as u8).filter(|_| self.counts(sender as u8)) {
                 pen.arrow("counts", (x, self.y), (Self::beside(to, x), self.y + FAN));
             }
@@ -186,8 +186,8 @@ impl Mark<'_> {
     /// A tick at whom the record was about.
     fn refused(&self, pen: &mut Pen) {
         let (story, lanes) = (self.drawing.story, &self.drawing.lanes);
-        let a = story.told.records[self.row.from][1];
-        let x = match story.told.kind(self.row.from) {
+        let a = story.played.records[self.row.from][1];
+        let x = match story.played.kind(self.row.from) {
             Some(Move::Step | Move::Sync | Move::Resync) if usize::from(a) < story.start.seats.len() => {
                 self.lane_of(a) - BAR / 2 - 3
             }

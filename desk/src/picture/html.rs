@@ -33,7 +33,7 @@ pub fn html(drawing: &Drawing) -> String {
          <script type=\"application/json\" id=\"data\">\n{}\n</script>\n<script>\n{SCRIPT}</script>\n</body>\n</html>\n",
         strip(drawing, &rows, height),
         head.text,
-        crate::words::quiet(story.told.quiet),
+        crate::words::quiet(story.played.ran.quiet),
         legend_svg(1),
         data(story, &rows, open)
     )

@@ -117,9 +117,9 @@ pub const LISTED: usize = 8;
 
 /// Whether a record and the next are the same refusal, and both stand.
 fn folds(story: &Story, record: usize) -> bool {
-    let told = &story.told;
-    let same = |i: usize| (told.records[i], told.answers[i], told.fates[i]);
-    told.answers[record].code.refused() && told.fates[record] == Fate::Stands && same(record) == same(record + 1)
+    let played = &story.played;
+    let same = |i: usize| (played.records[i], played.ran.answers[i], played.ran.fates[i]);
+    played.ran.answers[record].code.refused() && played.ran.fates[record] == Fate::Stands && same(record) == same(record + 1)
 }
 
 /// Lines of at most so many characters, parted at spaces.

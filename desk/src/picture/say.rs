@@ -1,18 +1,23 @@
 //! The words of the picture: of a row, of a word and its life, of an entry, of a process and of a board.
 use super::scene::{Board, Entry, Seat, WordId};
 use super::story::{Event, Stage, Story};
-use crate::told::Bytes;
+use crate::records::Bytes;
 use crate::words;
 use kunzeastylus::{End, Fate, Operation};
 
+/// What a process is called: by its name, or by its number.
+pub fn program(story: &Story, process: u8) -> String {
+    story.names.as_ref().map_or_else(|| format!("process {process}"), |names| names.program_name(process.into()))
+}
+
 /// The instruction at a seat's place; none where it has halted.
 pub fn instruction(story: &Story, process: u8, seat: &Seat) -> Option<Operation> {
-    story.told.table.processes[usize::from(process)].program.get(usize::from(seat.end.place)).copied()
+    story.played.table.processes[usize::from(process)].program.get(usize::from(seat.end.place)).copied()
 }
 
 /// A record in words, with its steps named by their instruction.
 fn named(story: &Story, record: usize) -> String {
-    let bytes: &Bytes = &story.told.records[record];
+    let bytes: &Bytes = &story.played.records[record];
     let does = |process: u8| {
         let seat = story.before(record).seats.get(usize::from(process))?;
         Some(words::next(instruction(story, process, seat)))
@@ -22,23 +27,24 @@ fn named(story: &Story, record: usize) -> String {
 
 /// A record and its answer in full.
 pub fn record(story: &Story, record: usize) -> [String; 2] {
-    let taken = match story.told.fates[record] {
+    let taken = match story.played.ran.fates[record] {
         Fate::TookBack(taken) => Some((taken + 1).to_string()),
         _ => None,
     };
-    [named(story, record), words::answer(story.told.answers[record], taken.as_deref())]
+    [named(story, record), words::answer(story.played.ran.answers[record], taken.as_deref())]
 }
 
 pub fn word(story: &Story, word: WordId) -> String {
     let life = &story.lives[word];
-    format!("{} on channel {}", life.word, life.channel)
+    let channel = story.names.as_ref().map(|names| names.channel_name(life.channel.into()));
+    format!("{} on {}", life.word, channel.unwrap_or_else(|| format!("channel {}", life.channel)))
 }
 
 pub fn entry(story: &Story, entry: &Entry) -> String {
     match entry {
         Entry::Word(id) => word(story, *id),
-        Entry::Sync { process, .. } => format!("sync of process {process}"),
-        Entry::Resync { process } => format!("resync of process {process}"),
+        Entry::Sync { process, .. } => format!("sync of {}", program(story, *process)),
+        Entry::Resync { process } => format!("resync of {}", program(story, *process)),
     }
 }
 
@@ -63,37 +69,41 @@ pub fn list(items: impl IntoIterator<Item = String>, none: &str) -> String {
 /// The words of a row of records `from` to `to`.
 pub fn row(story: &Story, from: usize, to: usize) -> String {
     let on = |id: &WordId| word(story, *id);
+    let who = |process: &u8| program(story, *process);
     match &story.moments[from].event {
         Event::Fed(id) => format!("{} is fed", on(id)),
-        Event::Took { process, word } => format!("process {process} takes {}", on(word)),
-        Event::Queued { process, word } => format!("process {process} sends {}", on(word)),
-        Event::HeldBack { process, word } => format!("process {process} holds back {}", on(word)),
+        Event::Took { process, word } => format!("{} takes {}", who(process), on(word)),
+        Event::Queued { process, word } => format!("{} sends {}", who(process), on(word)),
+        Event::HeldBack { process, word } => format!("{} holds back {}", who(process), on(word)),
         Event::Calculated { process } => {
             let next = instruction(story, *process, &story.before(from).seats[usize::from(*process)]);
-            format!("process {process}: {}", words::next(next))
+            format!("{}: {}", who(process), words::next(next))
         }
-        Event::SyncIssued { process } => format!("a sync of process {process} joins the queue"),
-        Event::ResyncIssued { process } => format!("a resync of process {process} joins the queue"),
-        Event::Carried { word, .. } => match story.told.table.channels[usize::from(story.lives[*word].channel)].1 {
+        Event::SyncIssued { process } => format!("a sync of {} joins the queue", who(process)),
+        Event::ResyncIssued { process } => format!("a resync of {} joins the queue", who(process)),
+        Event::Carried { word, .. } => match story.played.table.channels[usize::from(story.lives[*word].channel)].1 {
             End::Outside => format!("{} is carried to the outside", on(word)),
-            End::Process(reader) => format!("{} is carried to process {reader}", on(word)),
+            End::Process(reader) => format!("{} is carried to {}", on(word), who(&(reader as u8))),
         },
         Event::SyncCarried { process, dropped, .. } => {
             let dropped = words::many(*dropped as usize, "saved word", "saved words");
-            format!("the sync of process {process} lands, {dropped} dropped")
+            format!("the sync of {} lands, {dropped} dropped", who(process))
         }
-        Event::SyncUnbacked { process, .. } => format!("the sync of process {process} finds no backup"),
-        Event::ResyncCarried { process, .. } => format!("the resync of process {process} lands: a new backup"),
-        Event::Crashed { board, lost, moved } => {
-            let moved =
-                list(moved.iter().map(|p| format!("process {p} goes on at {}", place(story, from, *p))), "no process ran there");
-            let lost = list(lost.iter().map(|lost| entry(story, lost)), "nothing");
-            format!("board {board} crashes; {moved}; lost: {lost}")
-        }
+        Event::SyncUnbacked { process, .. } => format!("the sync of {} finds no backup", who(process)),
+        Event::ResyncCarried { process, .. } => format!("the resync of {} lands: a new backup", who(process)),
+        Event::Crashed { board, lost, moved } => crashed(story, from, *board, lost, moved),
         Event::Returned { board } => format!("board {board} returns"),
         Event::TookBack(taken) => format!("back: record {} is taken back", taken + 1),
         Event::Refused => refused(story, from, to),
     }
+}
+
+/// Who goes on where, and what was lost.
+fn crashed(story: &Story, record: usize, board: u8, lost: &[Entry], moved: &[u8]) -> String {
+    let goes_on = |p: &u8| format!("{} goes on at {}", program(story, *p), place(story, record, *p));
+    let moved = list(moved.iter().map(goes_on), "nothing ran there");
+    let lost = list(lost.iter().map(|lost| entry(story, lost)), "nothing");
+    format!("board {board} crashes; {moved}; lost: {lost}")
 }
 
 /// Where a process goes on after a record.
@@ -108,8 +118,8 @@ fn place(story: &Story, record: usize, process: u8) -> String {
 
 fn refused(story: &Story, from: usize, to: usize) -> String {
     let times = if from == to { String::new() } else { format!(", {} times", to - from + 1) };
-    let answer = story.told.answers[from];
-    let record = words::record(&story.told.records[from], |_| None);
+    let answer = story.played.ran.answers[from];
+    let record = words::record(&story.played.records[from], |_| None);
     format!("{record}: refused {}, {}{times}", answer.code.number(), answer.cause.words())
 }
 

@@ -1,10 +1,12 @@
 //! A run as a story: what each record did to whom, the cabinet after it, and the life of every word. It is made of what the proved run told, its
 //! answers and the reports of its beginnings up to each crash; how it is drawn is none of its business.
 use super::scene::{Entry, Scene, Standby, WordId};
-use crate::explain::Input;
 use crate::follow::Spot;
-use crate::told::{word, Told};
-use kunzeastylus::{Answer, Cause, Code, End, Fate, Move, ProcessEnd, Refusal};
+use crate::form::names::Names;
+use crate::played::Played;
+use crate::proved;
+use crate::records::word;
+use kunzeastylus::{Answer, Cause, Code, End, Fate, Move};
 
 /// What a record did.
 #[derive(Clone, Debug, PartialEq, Eq)]
@@ -93,38 +95,45 @@ pub struct Life {
 
 #[derive(Clone, Debug, PartialEq, Eq)]
 pub struct Story {
-    pub told: Told,
+    pub played: Played,
+    /// What programs and channels are called, where they have names of their own.
+    pub names: Option<Names>,
     pub start: Scene,
     pub moments: Vec<Moment>,
     pub lives: Vec<Life>,
 }
 
 impl Story {
-    /// The story of a run, or why it is refused.
-    pub fn of(input: &Input) -> Result<Story, Refusal> {
-        let told = Told::of(input)?;
-        let start = Scene::start(&told.table);
-        let mut telling = Telling { scene: start.clone(), told: &told, lives: Vec::new(), at: 0 };
+    /// The story of an accepted run.
+    pub fn of(played: Played) -> Story {
+        let start = Scene::start(&played.table);
+        let mut telling = Telling { scene: start.clone(), played: &played, lives: Vec::new(), at: 0 };
         let mut moments: Vec<Moment> = Vec::new();
-        for at in 0..told.records.len() {
+        for at in 0..played.records.len() {
             telling.at = at;
-            let event = match told.fates[at] {
+            let event = match played.ran.fates[at] {
                 Fate::TookBack(taken) => {
                     telling.scene = taken.checked_sub(1).map_or(&start, |before| &moments[before].scene).clone();
                     Event::TookBack(taken)
                 }
-                _ => telling.event(told.answers[at]),
+                _ => telling.event(played.ran.answers[at]),
             };
             telling.scene.settle();
             if let Event::Crashed { .. } = event {
-                let report: Vec<ProcessEnd> = input.run(at + 1, |run| run.processes().collect())?;
-                telling.scene.reported(&report, true);
+                let beginning = proved::run_records(&played.bytes.table, &played.records[..=at]);
+                telling.scene.reported(&beginning.expect("a beginning of an accepted run").ends, true);
             }
             moments.push(Moment { event, scene: telling.scene.clone() });
         }
-        telling.scene.reported(&told.ends, false);
+        telling.scene.reported(&played.ran.ends, false);
         let lives = telling.lives;
-        Ok(Story { start, moments, lives, told })
+        Story { names: None, start, moments, lives, played }
+    }
+
+    /// The same with these names, unless they are made up.
+    pub fn named(self, names: &Names) -> Story {
+        let own = *names != Names::made_up(&self.played.table);
+        Story { names: own.then(|| names.clone()), ..self }
     }
 
     /// The cabinet before a record, from 0.
@@ -135,13 +144,13 @@ impl Story {
     /// The first record that crashed a board, if there is one, of those that stand before all others.
     pub fn first_crash(&self) -> Option<usize> {
         let crashed = |&i: &usize| matches!(self.moments[i].event, Event::Crashed { .. });
-        self.told.standing().find(crashed).or_else(|| (0..self.moments.len()).find(crashed))
+        self.played.standing().find(crashed).or_else(|| (0..self.moments.len()).find(crashed))
     }
 }
 
 /// A story while it is told.
 struct Telling<'t> {
-    told: &'t Told,
+    played: &'t Played,
     scene: Scene,
     lives: Vec<Life>,
     at: usize,
@@ -150,9 +159,9 @@ struct Telling<'t> {
 impl Telling<'_> {
     /// What the record did, by its move and its answer; the words go where it put them.
     fn event(&mut self, answer: Answer) -> Event {
-        let record = self.told.records[self.at];
+        let record = self.played.records[self.at];
         let a = record[1];
-        match self.told.kind(self.at) {
+        match self.played.kind(self.at) {
             _ if answer.code.refused() => Event::Refused,
             Some(Move::Feed) => self.fed(a, word(&record)),
             Some(Move::Step) => self.stepped(a, answer),
@@ -174,7 +183,7 @@ impl Telling<'_> {
 
     fn fed(&mut self, channel: u8, word: u32) -> Event {
         let fed = self.born(channel, word, Stage::Fed);
-        self.scene.arrive(self.told.table.channels[usize::from(channel)].1, fed);
+        self.scene.arrive(self.played.table.channels[usize::from(channel)].1, fed);
         Event::Fed(fed)
     }
 
@@ -200,7 +209,7 @@ impl Telling<'_> {
                 let taken = seat.unread.remove(at);
                 seat.taken.push(channel);
                 let again =
-                    lives[taken].stages.iter().any(|(at, stage)| *stage == Stage::Taken && self.told.fates[*at] == Fate::Stands);
+                    lives[taken].stages.iter().any(|(at, stage)| *stage == Stage::Taken && self.played.ran.fates[*at] == Fate::Stands);
                 self.note(taken, if again { Stage::TakenAgain } else { Stage::Taken });
                 Event::Took { process, word: taken }
             }
@@ -226,12 +235,12 @@ impl Telling<'_> {
     fn moved(&mut self, process: u8, answer: Answer) {
         let end = &mut self.scene.seats[usize::from(process)].end;
         let mut spot = Spot::from(*end);
-        spot.step(self.told.table.processes[usize::from(process)].program[spot.place], answer);
+        spot.step(self.played.table.processes[usize::from(process)].program[spot.place], answer);
         (end.place, end.registers) = (spot.place as u8, spot.registers);
     }
 
     fn resync(&mut self, process: u8) -> Event {
-        let boards = &self.told.table.processes[usize::from(process)];
+        let boards = &self.played.table.processes[usize::from(process)];
         let seat = &mut self.scene.seats[usize::from(process)];
         let other = if u32::from(seat.end.board) == boards.primary { boards.backup } else { boards.primary };
         seat.making = Some(Standby { board: other as u8, saved: seat.unread.clone(), counted: Vec::new() });
@@ -243,7 +252,7 @@ impl Telling<'_> {
     fn carried(&mut self, board: u8, answer: Answer) -> Event {
         match self.scene.carry(board) {
             Entry::Word(word) => {
-                let (sender, reader) = self.told.table.channels[usize::from(self.lives[word].channel)];
+                let (sender, reader) = self.played.table.channels[usize::from(self.lives[word].channel)];
                 self.scene.arrive(reader, word);
                 if let End::Process(sender) = sender {
                     self.scene.seats[sender as usize].backup.iter_mut().for_each(|backup| backup.counted.push(word));
@@ -273,7 +282,7 @@ impl Telling<'_> {
         for entry in lost.iter().rev() {
             if let Entry::Word(word) = *entry {
                 self.note(word, Stage::Lost);
-                if let End::Process(sender) = self.told.table.channels[usize::from(self.lives[word].channel)].0 {
+                if let End::Process(sender) = self.played.table.channels[usize::from(self.lives[word].channel)].0 {
                     self.scene.seats[sender as usize].lost.insert(0, word);
                 }
             }

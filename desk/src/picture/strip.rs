@@ -32,7 +32,7 @@ fn parts(drawing: &Drawing, rows: &[Row], height: i32, is: fn(Code) -> bool) -> 
     let mut parts = vec![0; PARTS];
     for row in rows {
         let at = (row.y as usize * PARTS) / height.max(1) as usize;
-        parts[at.min(PARTS - 1)] += (row.from..=row.to).filter(|&i| is(drawing.story.told.answers[i].code)).count();
+        parts[at.min(PARTS - 1)] += (row.from..=row.to).filter(|&i| is(drawing.story.played.ran.answers[i].code)).count();
     }
     parts
 }

@@ -36,7 +36,7 @@ pub fn worded_rows(story: &Story, records: Range<usize>) -> Vec<Row> {
 
 /// What is run, in a line.
 pub fn title(story: &Story) -> String {
-    words::heading(story.told.records.len(), &story.told.table)
+    words::heading(story.played.records.len(), &story.played.table)
 }
 
 /// Some records as a file of its own.

@@ -1,7 +1,8 @@
 //! Whether a list of feeds and steps is a plain run that explains a run: demand 3 of one run, from nothing. Equal words on the bus means that
 //! channel, word, sender and place agree (W-212); what counts are the records that stand (W-214).
 use super::cabinet::{Machine, Plain, PlainMove, Refused};
-use crate::told::{word, Told};
+use crate::played::Played;
+use crate::records::word;
 use kunzeastylus::{BusWord, Code, Move, ProcessEnd};
 use std::fmt;
 
@@ -59,8 +60,8 @@ pub struct Held {
 }
 
 /// Makes the moves from the start, and compares feeds, bus order and, at a quiet end, each process, which can't step any further.
-pub fn check(told: &Told, moves: &[PlainMove]) -> Result<Held, Fault> {
-    let mut cabinet = Plain::new(&told.table);
+pub fn check(played: &Played, moves: &[PlainMove]) -> Result<Held, Fault> {
+    let mut cabinet = Plain::new(&played.table);
     for (at, &plain) in moves.iter().enumerate() {
         cabinet.make(plain).map_err(|why| Fault::Refused { at, plain, why })?;
     }
@@ -69,23 +70,23 @@ pub fn check(told: &Told, moves: &[PlainMove]) -> Result<Held, Fault> {
         PlainMove::Step { .. } => None,
     });
     let fed: Vec<(u8, u32)> = fed.collect();
-    differ(&fed, &fed_in(told)).map_or(Ok(()), |at| Err(Fault::Feeds(at)))?;
-    differ(&cabinet.bus, &bus_order(told)).map_or(Ok(()), |at| Err(Fault::Bus(at)))?;
-    if told.quiet {
-        (0..).zip(&told.ends).try_for_each(|(process, end)| ended(&mut cabinet, process, end))?;
+    differ(&fed, &fed_in(played)).map_or(Ok(()), |at| Err(Fault::Feeds(at)))?;
+    differ(&cabinet.bus, &bus_order(played)).map_or(Ok(()), |at| Err(Fault::Bus(at)))?;
+    if played.ran.quiet {
+        (0..).zip(&played.ran.ends).try_for_each(|(process, end)| ended(&mut cabinet, process, end))?;
     }
-    Ok(Held { feeds: fed.len(), steps: moves.len() - fed.len(), words: cabinet.bus.len(), quiet: told.quiet })
+    Ok(Held { feeds: fed.len(), steps: moves.len() - fed.len(), words: cabinet.bus.len(), quiet: played.ran.quiet })
 }
 
 /// "its feeds are, in order, the feeds of our list that answered 4"
-fn fed_in(told: &Told) -> Vec<(u8, u32)> {
-    let fed = told.standing().filter(|&i| told.kind(i) == Some(Move::Feed) && told.answers[i].code == Code::OnTheBus);
-    fed.map(|i| (told.records[i][1], word(&told.records[i]))).collect()
+fn fed_in(played: &Played) -> Vec<(u8, u32)> {
+    let fed = played.standing().filter(|&i| played.kind(i) == Some(Move::Feed) && played.ran.answers[i].code == Code::OnTheBus);
+    fed.map(|i| (played.records[i][1], word(&played.records[i]))).collect()
 }
 
 /// "The bus order is the answers 4", each with its origin.
-fn bus_order(told: &Told) -> Vec<BusWord> {
-    told.standing().filter_map(|i| told.answers[i].bus).collect()
+fn bus_order(played: &Played) -> Vec<BusWord> {
+    played.standing().filter_map(|i| played.ran.answers[i].bus).collect()
 }
 
 /// The first place at which two lists differ.

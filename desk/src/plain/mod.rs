@@ -5,11 +5,9 @@ mod check;
 mod show;
 mod witness;
 
-use crate::explain::Input;
-use crate::told::Told;
+use crate::played::Played;
 pub use cabinet::{Did, Machine, Plain, PlainMove, Refused};
 pub use check::{check, Fault, Held};
-use kunzeastylus::Refusal;
 pub use show::json;
 pub use witness::{find, Beside};
 
@@ -24,36 +22,14 @@ pub enum Form {
     Json,
 }
 
-/// Why there is nothing to show.
-#[derive(Clone, Copy, Debug, PartialEq, Eq)]
-pub enum NoWitness {
-    /// The run is refused.
-    Refused(Refusal),
-    /// What demand 3 says doesn't hold of this run: a fault of ours.
-    Fault(Fault),
-}
-
-impl From<Refusal> for NoWitness {
-    fn from(refusal: Refusal) -> NoWitness {
-        NoWitness::Refused(refusal)
-    }
-}
-
-impl From<Fault> for NoWitness {
-    fn from(fault: Fault) -> NoWitness {
-        NoWitness::Fault(fault)
-    }
-}
-
-/// The plain run of a table and a schedule.
-pub fn plain(input: &Input, form: Form) -> Result<String, NoWitness> {
-    let told = Told::of(input)?;
-    let found = find(&told)?;
+/// The plain run of an accepted run. A fault is one of ours: what demand 3 says would not hold.
+pub fn plain(played: &Played, form: Form) -> Result<String, Fault> {
+    let found = find(played)?;
     let moves: Vec<PlainMove> = found.iter().map(|beside| beside.plain).collect();
-    let held = check(&told, &moves)?;
+    let held = check(played, &moves)?;
     Ok(match form {
-        Form::Words => show::words(&told, &found, &held),
+        Form::Words => show::words(played, &found, &held),
         Form::Moves => show::moves(&moves),
-        Form::Json => show::json(input, &told, &moves),
+        Form::Json => json(played, &moves),
     })
 }

@@ -2,8 +2,7 @@
 use super::cabinet::{Did, Plain, PlainMove};
 use super::check::Held;
 use super::witness::Beside;
-use crate::explain::Input;
-use crate::told::Told;
+use crate::played::Played;
 use crate::words;
 use kunzeastylus::{Cause, Code, End, Fate, Move, Operation};
 use std::fmt::Write;
@@ -12,15 +11,15 @@ use std::fmt::Write;
 const OURS: usize = 41;
 
 /// Our records, each with the moves of the plain run that are made for it beside it; then the end, and what was compared.
-pub fn words(told: &Told, found: &[Beside], held: &Held) -> String {
-    let mut text = format!("{}\n", words::heading(told.records.len(), &told.table));
+pub fn words(played: &Played, found: &[Beside], held: &Held) -> String {
+    let mut text = format!("{}\n", words::heading(played.records.len(), &played.table));
     let count = |n, one, several| words::many(n, one, several);
     let moves = format!("{} and {}", count(held.feeds, "feed", "feeds"), count(held.steps, "step", "steps"));
     writeln!(text, "{:<OURS$}| the plain run: {moves}", "our records").unwrap();
-    let mut cabinet = Plain::new(&told.table);
+    let mut cabinet = Plain::new(&played.table);
     let mut moves = found.iter().zip(1..).peekable();
-    for i in (0..told.records.len()).map(Some).chain([None]) {
-        let mut ours = i.map_or(if told.quiet { "the end is quiet" } else { "" }.to_string(), |i| record(told, i));
+    for i in (0..played.records.len()).map(Some).chain([None]) {
+        let mut ours = i.map_or(if played.ran.quiet { "the end is quiet" } else { "" }.to_string(), |i| record(played, i));
         while let Some((beside, number)) = moves.next_if(|(beside, _)| beside.record == i) {
             writeln!(text, "{ours:<OURS$}| {number:>5}  {}", made(&mut cabinet, beside.plain)).unwrap();
             ours = String::new();
@@ -29,18 +28,18 @@ pub fn words(told: &Told, found: &[Beside], held: &Held) -> String {
             writeln!(text, "{ours:<OURS$}|").unwrap();
         }
     }
-    text + &ended(told, &cabinet) + &compared(held)
+    text + &ended(played, &cabinet) + &compared(held)
 }
 
 /// A record and its answer, in few words.
-fn record(told: &Told, i: usize) -> String {
-    let (bytes, answer) = (&told.records[i], told.answers[i]);
-    let mark = if matches!(told.fates[i], Fate::TakenBackBy(_)) { words::TAKEN_BACK } else { ' ' };
-    let record = match (told.kind(i), answer.code.refused()) {
+fn record(played: &Played, i: usize) -> String {
+    let (bytes, answer) = (&played.records[i], played.ran.answers[i]);
+    let mark = if matches!(played.ran.fates[i], Fate::TakenBackBy(_)) { words::TAKEN_BACK } else { ' ' };
+    let record = match (played.kind(i), answer.code.refused()) {
         (Some(Move::Feed), true) => format!("feed channel {}", bytes[1]),
         _ => words::record(bytes, |_| None),
     };
-    let what = match (answer.code, told.kind(i)) {
+    let what = match (answer.code, played.kind(i)) {
         (Code::Done, _) | (Code::OnTheBus, Some(Move::Feed)) => String::new(),
         (Code::Took, _) => ": took".to_string(),
         (Code::Queued, _) => ": queued".to_string(),
@@ -48,7 +47,7 @@ fn record(told: &Told, i: usize) -> String {
         (Code::OnTheBus, _) => ": on the bus".to_string(),
         (Code::SyncCarried, _) if answer.cause == Cause::ResyncCarried => format!(": resync of {}", answer.a),
         (Code::SyncCarried | Code::SyncUnbacked, _) => format!(": sync of {}", answer.a),
-        (Code::TakenBack, _) => match told.fates[i] {
+        (Code::TakenBack, _) => match played.ran.fates[i] {
             Fate::TookBack(taken) => format!(", takes back {}", taken + 1),
             _ => String::new(),
         },
@@ -81,9 +80,9 @@ fn made(cabinet: &mut Plain, plain: PlainMove) -> String {
 }
 
 /// Where the plain cabinet's processes are, at a quiet end.
-fn ended(told: &Told, cabinet: &Plain) -> String {
+fn ended(played: &Played, cabinet: &Plain) -> String {
     let mut text = String::new();
-    for (p, machine) in cabinet.machines.iter().enumerate().filter(|_| told.quiet) {
+    for (p, machine) in cabinet.machines.iter().enumerate().filter(|_| played.ran.quiet) {
         let [r0, r1, r2, r3] = machine.registers;
         let unread = words::many(machine.inbox.len(), "word", "words");
         writeln!(text, "process {p} ends at place {}; {unread} unread; registers {r0} {r1} {r2} {r3}", machine.place).unwrap();
@@ -111,17 +110,17 @@ pub fn moves(moves: &[PlainMove]) -> String {
 }
 
 /// All that `docs/witness.py` asks for, on one line.
-pub fn json(input: &Input, told: &Told, moves: &[PlainMove]) -> String {
+pub fn json(played: &Played, moves: &[PlainMove]) -> String {
     let hex = |bytes: &[u8]| bytes.iter().map(|byte| format!("{byte:02X}")).collect::<String>();
     let list = |items: Vec<String>| format!("[{}]", items.join(","));
-    let answers = told.answers.iter().map(|answer| {
+    let answers = played.ran.answers.iter().map(|answer| {
         let (sender, place) = answer.bus.map_or((255, 255), |word| match word.sender {
             End::Process(process) => (process, word.place),
             End::Outside => (255, word.place),
         });
         format!("[{},{},{},{sender},{place}]", answer.code.number(), answer.a, answer.word)
     });
-    let report = told.ends.iter().map(|end| {
+    let report = played.ran.ends.iter().map(|end| {
         let [r0, r1, r2, r3] = end.registers;
         format!("[{},{},{},{},{r0},{r1},{r2},{r3}]", end.board, end.place, end.unread, end.hold_back)
     });
@@ -131,11 +130,11 @@ pub fn json(input: &Input, told: &Told, moves: &[PlainMove]) -> String {
     });
     format!(
         "{{\"table\":\"{}\",\"schedule\":\"{}\",\"answers\":{},\"report\":{},\"quiet\":{},\"plain\":{}}}\n",
-        hex(&input.table),
-        hex(&input.schedule),
+        hex(&played.bytes.table),
+        hex(&played.bytes.schedule),
         list(answers.collect()),
         list(report.collect()),
-        told.quiet,
+        played.ran.quiet,
         list(moves.collect())
     )
 }

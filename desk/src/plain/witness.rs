@@ -3,7 +3,8 @@
 //! and not on when it is made. What is found here is held against the run by `check`, which knows nothing of how it was found.
 use super::cabinet::{Did, Plain, PlainMove};
 use super::check::Fault;
-use crate::told::{word, Told};
+use crate::played::Played;
+use crate::records::word;
 use kunzeastylus::{End, Move};
 
 /// A move of the plain run, and the record of our run that it is made for; none at a quiet end.
@@ -21,21 +22,21 @@ struct Search<'t> {
 }
 
 /// The plain run of a run, over the records that stand.
-pub fn find(told: &Told) -> Result<Vec<Beside>, Fault> {
-    let mut search = Search { cabinet: Plain::new(&told.table), most: told.records.len(), found: Vec::new() };
-    for i in told.standing() {
-        let Some(on_the_bus) = told.answers[i].bus else { continue };
-        match (told.kind(i), on_the_bus.sender) {
+pub fn find(played: &Played) -> Result<Vec<Beside>, Fault> {
+    let mut search = Search { cabinet: Plain::new(&played.table), most: played.records.len(), found: Vec::new() };
+    for i in played.standing() {
+        let Some(on_the_bus) = played.ran.answers[i].bus else { continue };
+        match (played.kind(i), on_the_bus.sender) {
             (Some(Move::Feed), _) => {
-                let plain = PlainMove::Feed { channel: told.records[i][1], word: word(&told.records[i]) };
+                let plain = PlainMove::Feed { channel: played.records[i][1], word: word(&played.records[i]) };
                 search.make(Some(i), plain)?;
             }
             (_, End::Process(sender)) => search.until_sent(i, sender as u8)?,
             (_, End::Outside) => return Err(Fault::NoSender(i)),
         }
     }
-    if told.quiet {
-        (0..told.ends.len()).try_for_each(|process| search.until_refused(process as u8))?;
+    if played.ran.quiet {
+        (0..played.ran.ends.len()).try_for_each(|process| search.until_refused(process as u8))?;
     }
     Ok(search.found)
 }

@@ -9,19 +9,15 @@ mod draw;
 mod session;
 mod view;
 
-use crate::explain::{schedule_length, Input};
+use crate::explain::Input;
+use crate::records::schedule_length;
+pub use crate::records::{Bytes, RECORDS_MOST};
 use command::{Command, Kind};
 pub use draw::{bus_so_far, draw};
 use kunzeastylus::{Fate, Move, Record, Refusal, Table};
 pub use session::{session, HELP};
 use view::Played;
 pub use view::{Last, Seat, View};
-
-/// A record of a schedule: move, a, word.
-pub type Bytes = [u8; 6];
-
-/// The most records of a schedule.
-const RECORDS_MOST: usize = 10_000;
 
 /// From where a record came: of the file by its number, from 1; typed, by how many were; or a key that goes back.
 #[derive(Clone, Copy, Debug, PartialEq, Eq)]
