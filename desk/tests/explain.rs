@@ -124,23 +124,23 @@ fn complaints() {
     }
     complains(&["--pull", "0@22", sample], &[], 2, "", "--pull 0@22: the schedule has 20 records, so N is 1 to 21");
     complains(&["missing"], &[], 2, "", "missing: no such file");
-    complains(&["-"], b"00 0", 2, "", "standard input: line 1");
-    complains(&["-"], &[], 3, "refused 1\n", "standard input: the table, its first 0 bytes: the table has under 6 bytes");
-    complains(&["--as", "bytes", sample], &[], 3, "refused 1\n", "the table");
-    complains(&["-"], b"00 09 01 02 01 01 FF 00 00 01 00", 3, "refused 9\n", "the schedule, 0 bytes behind the table's 11");
+    complains(&["-"], b"00 0", 2, "", "ks explain: standard input:1: found `00 0`, expected pairs of hex digits");
+    complains(&["-"], &[], 3, "refused 1\n", "standard input:1: the table has 0 bytes, and at least 6 are wanted");
+    complains(&["--as", "bytes", sample], &[], 3, "refused 1\n", "samples/sample.hex: byte 0: the length field says 8992");
+    complains(&["-"], b"00 09 01 02 01 01 FF 00 00 01 00", 3, "refused 9\n", "standard input:1: there is no schedule, and at least 3 bytes are wanted");
     let limited = b"00 0A 02 02 01 01 FF 00 00 01 11 00";
     complains(
         &["-"],
         limited,
         3,
         "refused 47\n",
-        "the table, its first 12 bytes: a table of version 2: a process's limit is outside",
+        "standard input:1: process 0: its limit is 17, and 1 to 16 are wanted",
     );
     // 10,000 records have no room for a crash.
     let most =
         [&[0, 9, 1, 2, 1, 1, 255, 0, 0, 1, 0][..], &kunzeastylus::Record::schedule(&[kunzeastylus::Record::step(0); 10_000])]
             .concat();
-    complains(&["--pull", "0@1", "-"], &most, 3, "refused 9\n", "with the crash that --pull puts in: the schedule has");
+    complains(&["--pull", "0@1", "-"], &most, 3, "refused 9\n", "the schedule has 10001 records, and 10000 are the most");
     assert_eq!(common::printed_wide(&["explain", "-"], &most).lines().count(), 10_003);
 }
 

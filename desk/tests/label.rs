@@ -71,13 +71,13 @@ fn year() {
 
 #[test]
 fn complaints() {
-    let serial = "a first serial above 4,294,957,295";
+    let serial = "and 4294957295 is the last one";
     complains(&["4294957296"], &[], 3, "refused 46\n", serial);
     complains(&["99999999999999999999"], &[], 3, "refused 46\n", serial);
     complains(&["4294957296", "-"], &[], 3, "refused 46\n", serial);
-    complains(&["1", "-"], &[], 3, "refused 9\n", "the schedule has under 3 bytes");
-    complains(&["1", "-"], &[0, 1, 2], 3, "refused 10\n", "the schedule's version");
-    complains(&["1", "-"], b"00 0", 2, "", "standard input: line 1");
+    complains(&["1", "-"], &[], 3, "refused 9\n", "standard input:1: there is no schedule");
+    complains(&["1", "-"], &[0, 1, 2], 3, "refused 10\n", "standard input: byte 2: the schedule's version is 2, and there is 1");
+    complains(&["1", "-"], b"00 0", 2, "", "standard input:1: found `00 0`");
     complains(&["1", "missing"], &[], 2, "", "missing: no such file");
     complains(&["x"], &[], 2, "", "ks label: x: FIRST is a decimal number");
     complains(&["-1"], &[], 2, "", "ks label: no option -1");

@@ -238,7 +238,7 @@ fn complaints() {
     complains(&["--what", sample], 2, "", "ks step: no option --what");
     complains(&["-"], 2, "", "standard input is where the commands come from");
     complains(&["missing"], 2, "", "missing: no such file");
-    complains(&["--as=bytes", sample], 3, "refused 1\n", "the table");
+    complains(&["--as=bytes", sample], 3, "refused 1\n", "byte 0: the length field says 8992");
     // The end of the input is an end, and so is q.
     for lines in ["", "n", "q\nn\n"] {
         assert_eq!(called(&[sample], lines.as_bytes()).status.code(), Some(0), "{lines:?}");

@@ -26,7 +26,7 @@ fn input(name: &str) -> Input {
 }
 
 fn map(input: &Input) -> Map {
-    Map::of(input, sweep(input, "a sample").expect("a sweep"), |_| ())
+    Map::of(input, sweep(input).expect("a sweep"), |_| ())
 }
 
 /// An idle table with this schedule behind it.
@@ -123,7 +123,7 @@ fn required() {
 fn complaints() {
     for (arguments, about) in [
         (&[][..], "a file is wanted"),
-        (&[SWEPT, SWEPT], "one file is wanted, and 2 are named"),
+        (&[SWEPT, SWEPT, SWEPT], "a file, or a table and a schedule, are wanted, and 3 files are named"),
         (&["--what", SWEPT], "no option --what"),
         (&["--map", "--list", "open", SWEPT], "--map and --list: one of them is wanted"),
         (&["--list"], "--list wants a value: --list=ENDING"),
@@ -134,19 +134,19 @@ fn complaints() {
     complains(&["--map", "--width", "19", SWEPT], &[], 2, "", "--width 19: a number from 20 on is wanted");
     complains(&["--width", "99", SWEPT], &[], 2, "", "--width is of --map");
     complains(&["missing"], &[], 2, "", "missing: no such file");
-    complains(&["-"], &[], 3, "refused 1\n", "standard input: the table, its first 0 bytes: the table has under 6 bytes");
-    complains(&["-"], &IDLE, 3, "refused 9\n", "the schedule, 0 bytes behind the table's 11");
+    complains(&["-"], &[], 3, "refused 1\n", "standard input:1: the table has 0 bytes, and at least 6 are wanted");
+    complains(&["-"], &IDLE, 3, "refused 9\n", "standard input: byte 11: there is no schedule, and at least 3 bytes are wanted");
     // 52: where, and what to do.
     let crash = "record 11 is a crash; a sweep puts its own at every place, so leave out all of them";
-    complains(&["samples/sample.hex"], &[], 3, "refused 52\n", &format!("samples/sample.hex: {crash}"));
+    complains(&["samples/sample.hex"], &[], 3, "refused 52\n", &format!("samples/sample.hex:26: {crash}"));
     let back = "record 2 is a back, which could take back the crash; leave out all of them and what they take back";
     complains(&["-"], &idle(&[Record::step(0), Record::back()]), 3, "refused 52\n", back);
     let both = idle(&[Record::crash(0), Record { a: 1, ..Record::back() }]);
-    complains(&["-"], &both, 3, "refused 52\n", &format!("so leave out all of them; {back}"));
+    complains(&["-"], &both, 3, "refused 52\n", back);
     let long = idle(&[Record::step(0); 501]);
     let parts = "the schedule has 501 records and a sweep takes at most 500, so sweep parts of it";
     complains(&["-"], &long, 3, "refused 52\n", parts);
-    complains(&["-"], &idle(&[Record::crash(0); 501]), 3, "refused 52\n", &format!("leave out all of them; {parts}"));
+    complains(&["-"], &idle(&[Record::crash(0); 501]), 3, "refused 52\n", parts);
     assert!(printed(&["-"], &idle(&[Record::step(0); 500])).contains("1503 runs"));
     // Each ending is explained.
     let help = printed(&["--help"], &[]);
@@ -163,10 +163,9 @@ fn complaints() {
 fn nothing_to_run() {
     let bytes = idle(&[]);
     let input = Input::of(bytes.clone());
-    assert_eq!(sweep(&input, "idle"), Ok(Sweep { quiet: 3, held: 0, open: 0 }));
+    assert_eq!(sweep(&input), Ok(Sweep { quiet: 3, held: 0, open: 0 }));
     assert_eq!(map(&input).places(Ending::Quiet).next(), Some(Pull { board: 0, before: 1 }));
     assert!(printed(&["--map", "-"], &bytes).ends_with("before    1\nboard 0   .\nboard 1   .\nboard 2   .\n"));
-    assert_eq!(sweep(&Input::of(IDLE.to_vec()), "idle").map_err(|failure| failure.shown), Err("refused 9\n".to_string()));
-    let crash = sweep(&Input::of(idle(&[Record::crash(9)])), "idle");
-    assert_eq!(crash.map_err(|failure| failure.shown), Err("refused 52\n".to_string()));
+    assert_eq!(sweep(&Input::of(IDLE.to_vec())).map_err(|refusal| refusal.number()), Err(9));
+    assert_eq!(sweep(&Input::of(idle(&[Record::crash(9)]))).map_err(|refusal| refusal.number()), Err(52));
 }
