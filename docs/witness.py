@@ -1,7 +1,8 @@
 #!/usr/bin/env python3
 """Holds a run of a cabinet against document 01's plain cabinet, without this repository's proofs and without its code.
 
-    python3 docs/witness.py CABINET PAGE          a table and a schedule (hex text or bytes) and the page that `./run` printed of them
+    python3 docs/witness.py CABINET PAGE          a table and a schedule (hex text or bytes; `ks hex` makes it of words) and the page of
+                                                  their run, as `./run` or `ks run` prints it, or what `ks run --json` prints
     python3 docs/witness.py CABINET PAGE MOVES    the same, and a plain run, as `ks plain --moves` prints it
     python3 docs/witness.py RUN.json              what `ks plain --json` printed: one run a line, with answers, origins and a plain run
 
@@ -174,20 +175,34 @@ def from_json(text):
     return Run(*data, [tuple(answer) for answer in told["answers"]], told["report"], told["quiet"]), told.get("plain")
 
 
-def from_page(cabinet, page):
-    """A table with a schedule behind it, and the page of their run."""
-    lines = [line.split() for line in open(page, encoding="utf-8")]
+def page_told(text, senders):
+    """Answers, report and quiet of a page. It has no places of SENDs; a channel's sender is the table's."""
+    lines = [line.split() for line in text.splitlines()]
     if not lines or lines[0][0] == "refused":
         raise ValueError("the run was refused, so there is nothing to hold against the plain cabinet")
-    data = open(cabinet, "rb").read()
+    answers = [tuple(map(int, line[1:])) for line in lines if line[0].isdigit()]
+    answers = [(code, a, word, senders[a] if code == ON_THE_BUS else None, None) for code, a, word in answers]
+    return answers, [tuple(map(int, line[2:])) for line in lines if line[0] == "process"], lines[-1] == ["quiet", "1"]
+
+
+def json_told(text):
+    """The same of what `ks run --json` prints, with the places of SENDs."""
+    told = json.loads(text)
+    answers = [(record["code"], record["a"], record["word"], record["sender"], record["place"]) for record in told["records"]]
+    return answers, [(end["board"], end["place"], end["unread"], end["holdback"], *end["registers"]) for end in told["report"]], told["quiet"]
+
+
+def from_page(cabinet, page):
+    """A table with a schedule behind it, and what their run told."""
+    with open(cabinet, "rb") as file:
+        data = file.read()
     if all(byte >= 32 or byte in b"\t\n\r" for byte in data):
         data = bytes.fromhex("".join(line.split("#")[0] for line in data.decode().splitlines()))
     table = data[:2 + number(data[:2])]                 # the rest is the schedule
-    answers = [tuple(map(int, line[1:])) for line in lines if line[0].isdigit()]
-    senders = [pair[0] for pair in Table(table).channels]
-    answers = [(code, a, word, senders[a] if code == ON_THE_BUS else None, None) for code, a, word in answers]
-    report = [tuple(map(int, line[2:])) for line in lines if line[0] == "process"]
-    return Run(table, data[len(table):], answers, report, lines[-1] == ["quiet", "1"])
+    with open(page, encoding="utf-8") as file:
+        text = file.read()
+    told = json_told(text) if text.startswith("{") else page_told(text, [pair[0] for pair in Table(table).channels])
+    return Run(table, data[len(table):], *told)
 
 
 def from_moves(file):

@@ -13,7 +13,7 @@ use outside::rules::repairs::crash_after_crash;
 mod common;
 #[path = "common/xml.rs"]
 mod xml;
-use common::{complains, printed, sample};
+use common::{complains, printed, read, sample};
 use xml::well_formed;
 
 const SEED: u64 = 0x9E6C_63D0_876A_9A69;
@@ -21,7 +21,9 @@ const SAMPLES: [&str; 10] =
     ["back", "first", "held", "limits", "lost_queue", "repaired", "roll_forward", "sample", "swept", "year"];
 
 fn story(name: &str) -> Story {
-    Story::of(Played::of(Input::of(hex::bytes(sample(&format!("{name}.hex")).as_bytes()).expect("hex text"))).expect("an accepted run"))
+    Story::of(
+        Played::of(Input::of(hex::bytes(sample(&format!("{name}.hex")).as_bytes()).expect("hex text"))).expect("an accepted run"),
+    )
 }
 
 /// Nothing but a name space is named that isn't in the file itself.
@@ -57,6 +59,9 @@ fn samples() {
         let file = format!("samples/{name}.hex");
         assert_eq!(printed(&["picture", "--svg", &file], &[]), sample(&format!("{name}.svg")), "{name}");
     }
+    // README.md's picture.
+    let some = ["picture", "--svg", "--from=18", "--to=53", "samples/year.cabinet"];
+    assert_eq!(printed(&some, &[]), read("docs/picture.svg"));
     for name in SAMPLES {
         let story = story(name);
         sound(&story);
@@ -112,8 +117,8 @@ fn complaints() {
     complains(&["picture", "--from", "2", file], &[], 2, "", "--from and --to are of --svg");
     complains(&["picture", "--svg", "--from", "21", file], &[], 2, "", "the run has 20 records");
     complains(&["picture", "--svg", "--from", "9", "--to", "8", file], &[], 2, "", "--from 9 and --to 8");
-    complains(&["picture", "-"], b"00 09 01 02 01 01 FF 00 00 01 00", 3, "refused 9\n", "the schedule, 0 bytes");
-    complains(&["plain", "-"], b"00 09 01 02 01 01 FF 00 00 01 00", 3, "refused 9\n", "the schedule, 0 bytes");
+    complains(&["picture", "-"], b"00 09 01 02 01 01 FF 00 00 01 00", 3, "refused 9\n", "there is no schedule");
+    complains(&["plain", "-"], b"00 09 01 02 01 01 FF 00 00 01 00", 3, "refused 9\n", "there is no schedule");
     complains(&["plain", "--moves", "--json", file], &[], 2, "", "one of them is wanted");
     let some = printed(&["picture", "--svg", "--from", "11", "--to", "14", file], &[]);
     assert!(some.contains("records 11 to 14") && some.matches("data-r=").count() == 4);

@@ -47,7 +47,9 @@ fn lives_fit(story: &Story) {
     let played = &story.played;
     let staged = |wanted: &[Stage]| story.lives.iter().flat_map(|life| &life.stages).filter(|(_, s)| wanted.contains(s)).count();
     let answered = |code: Code, feed: bool| {
-        (0..played.records.len()).filter(|&i| played.ran.answers[i].code == code && (played.kind(i) == Some(Move::Feed)) == feed).count()
+        (0..played.records.len())
+            .filter(|&i| played.ran.answers[i].code == code && (played.kind(i) == Some(Move::Feed)) == feed)
+            .count()
     };
     assert_eq!(staged(&[Stage::Fed]), answered(Code::OnTheBus, true));
     assert_eq!(staged(&[Stage::Carried, Stage::Printed]), answered(Code::OnTheBus, false));

@@ -14,7 +14,8 @@ pub fn work(arguments: &[String], outputs: &mut Outputs) -> Result<(), Failure> 
     let form = form(&said)?;
     let case = load(Source::only(&said)?)?;
     let played = Played::of(case.input()).map_err(|number| case.refused(number))?;
-    let fault = |fault| Failure::fault(format!("{}: no plain run explains it, by a fault of ours: {fault}", case.schedule_from.file));
+    let fault =
+        |fault| Failure::fault(format!("{}: no plain run explains it, by a fault of ours: {fault}", case.schedule_from.file));
     let text = plain(&played, form).map_err(fault)?;
     match form {
         Form::Words => outputs.text(&text)?,

@@ -4,6 +4,7 @@ use super::data::data;
 use super::draw::Drawing;
 use super::layout::Row;
 use super::pen::{escaped, Pen};
+use super::say;
 use super::strip::strip;
 use super::svg::{heads, legend_svg, title, worded_rows, CSS, DEFS, HEAD};
 
@@ -18,6 +19,7 @@ pub fn html(drawing: &Drawing) -> String {
     let height = rows.last().map_or(0, |row| row.y + row.height);
     let open = story.first_crash().unwrap_or(0) + 1;
     let title = escaped(&title(story));
+    let called = say::called(story).map_or(String::new(), |called| format!("<p>{}</p>\n", escaped(&called)));
     let width = drawing.lanes.width;
     let mut head = Pen::default();
     head.put(format_args!("<svg viewBox=\"0 0 {width} {HEAD}\" width=\"{width}\" height=\"{HEAD}\">{DEFS}\n"));
@@ -28,7 +30,7 @@ pub fn html(drawing: &Drawing) -> String {
         "<!DOCTYPE html>\n<html lang=\"en\">\n<head>\n<meta charset=\"utf-8\">\n<meta name=\"viewport\" content=\"width=device-width\">\n\
          <meta name=\"color-scheme\" content=\"light dark\">\n<title>{title}</title>\n<style>\n{CSS}{PAGE_CSS}</style>\n</head>\n<body>\n\
          <nav title=\"the whole run\">\n{}</nav>\n<main tabindex=\"0\">\n<table>\n<thead><tr><td>{}</td></tr></thead>\n<tbody id=\"rows\">\n{parts}</tbody>\n</table>\n</main>\n\
-         <aside>\n<h1>{title}</h1>\n<p>{}</p>\n{HINT}<div id=\"life\"></div>\n<div id=\"state\"></div>\n\
+         <aside>\n<h1>{title}</h1>\n{called}<p>{}</p>\n{HINT}<div id=\"life\"></div>\n<div id=\"state\"></div>\n\
          <details open>\n<summary>What the signs stand for</summary>\n{}</details>\n</aside>\n\
          <script type=\"application/json\" id=\"data\">\n{}\n</script>\n<script>\n{SCRIPT}</script>\n</body>\n</html>\n",
         strip(drawing, &rows, height),

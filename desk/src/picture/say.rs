@@ -10,6 +10,14 @@ pub fn program(story: &Story, process: u8) -> String {
     story.names.as_ref().map_or_else(|| format!("process {process}"), |names| names.program_name(process.into()))
 }
 
+/// Which name stands for which number, where there are names.
+pub fn called(story: &Story) -> Option<String> {
+    let names = story.names.as_ref()?;
+    let programs = names.programs.iter().enumerate().map(|(p, name)| format!("p{p} {name}"));
+    let channels = names.channels.iter().enumerate().map(|(k, name)| format!("{k} {name}"));
+    Some(format!("{}; channels {}", list(programs, "no programs"), list(channels, "none")))
+}
+
 /// The instruction at a seat's place; none where it has halted.
 pub fn instruction(story: &Story, process: u8, seat: &Seat) -> Option<Operation> {
     story.played.table.processes[usize::from(process)].program.get(usize::from(seat.end.place)).copied()

@@ -208,8 +208,10 @@ impl Telling<'_> {
                 let at = seat.unread.iter().position(|&id| lives[id].channel == channel).expect("a word that is taken is unread");
                 let taken = seat.unread.remove(at);
                 seat.taken.push(channel);
-                let again =
-                    lives[taken].stages.iter().any(|(at, stage)| *stage == Stage::Taken && self.played.ran.fates[*at] == Fate::Stands);
+                let again = lives[taken]
+                    .stages
+                    .iter()
+                    .any(|(at, stage)| *stage == Stage::Taken && self.played.ran.fates[*at] == Fate::Stands);
                 self.note(taken, if again { Stage::TakenAgain } else { Stage::Taken });
                 Event::Took { process, word: taken }
             }

@@ -36,7 +36,9 @@ pub fn worded_rows(story: &Story, records: Range<usize>) -> Vec<Row> {
 
 /// What is run, in a line.
 pub fn title(story: &Story) -> String {
-    words::heading(story.played.records.len(), &story.played.table)
+    let heading = words::heading(story.played.records.len(), &story.played.table);
+    let cabinet = story.names.as_ref().and_then(|names| names.cabinet.as_ref());
+    cabinet.map_or(heading.clone(), |name| format!("{name}: {heading}"))
 }
 
 /// Some records as a file of its own.
@@ -44,7 +46,9 @@ pub fn svg(drawing: &Drawing, records: Range<usize>) -> String {
     let story = drawing.story;
     let shown = worded_rows(story, records.clone());
     let bottom = shown.last().map_or(0, |row| row.y + row.height);
-    let body = TITLE + HEAD;
+    let called = say::called(story);
+    let top = if called.is_some() { TITLE + 16 } else { TITLE };
+    let body = top + HEAD;
     let legend = body + bottom + 12;
     let width = drawing.lanes.width.max(560);
     let columns = (width / SIGN).max(1) as usize;
@@ -61,7 +65,10 @@ pub fn svg(drawing: &Drawing, records: Range<usize>) -> String {
     ));
     pen.rect("paper", 0, 0, width, height);
     pen.words("title", 8, 17, &name);
-    pen.group(format_args!("transform=\"translate(0 {TITLE})\""), |pen| heads(drawing, pen));
+    if let Some(called) = called {
+        pen.words("called", 8, 33, called);
+    }
+    pen.group(format_args!("transform=\"translate(0 {top})\""), |pen| heads(drawing, pen));
     pen.group(format_args!("transform=\"translate(0 {body})\""), |pen| drawing.rows(&shown, pen));
     pen.group(format_args!("transform=\"translate(8 {legend})\""), |pen| self::legend(columns, pen));
     pen.put("</svg>\n");
