@@ -1,27 +1,20 @@
 //! The backup record: document 01, "The backup record".
 use crate::calls;
-use crate::numbers::numbers;
+use crate::numbers::refusals;
 
 /// How many numbers a record is laid out in: how many words are saved, count, place, four registers, then 64 pairs of slot and word.
 pub const STATE: usize = 135;
 
-numbers! {
-    /// Why a call of the record is refused. The record is then as it was.
+refusals! {
+    /// Why a call of the record is refused. The record is then as it was. 25 and 26 are of `ks_backup_call` alone, and never met here.
     BackupRefusal {
-        /// Unfit on entry: over 64 words, slot over 3, count over 32, place over 64.
-        Unfit = 20,
-        /// An arrival's slot over 3, or a sync's place over 64.
-        Bad = 21,
-        /// 64 words are saved.
-        Full = 22,
-        /// More taken on a slot than saved.
-        Taken = 23,
-        /// The count is 32.
-        Count = 24,
-        /// Of `ks_backup_call` alone: a lent slice has another length than it should. Never met here.
-        Missized = 25,
-        /// Of `ks_backup_call` alone: no such call. Never met here.
-        Unknown = 26,
+        Unfit = 20 => "the record was unfit before the call: over 64 words, a slot over 3, a count over 32, a place over 64",
+        Bad = 21 => "arrive: slot over 3; sync: place over 64",
+        Full = 22 => "64 words are saved",
+        Taken = 23 => "more taken on a slot than there are saved words on it",
+        Count = 24 => "the count is 32",
+        Missized = 25 => "a lent length is not 135, 10, 135",
+        Unknown = 26 => "there is no such call",
     }
 }
 
@@ -115,7 +108,7 @@ impl Backup {
     fn call(&mut self, call: [u32; 10], reply: &mut [u32; STATE]) -> Result<(), BackupRefusal> {
         match calls::ks_backup_call(&mut self.numbers, &call, reply) {
             0 => Ok(()),
-            number => Err(u8::try_from(number).ok().and_then(BackupRefusal::of).expect("the record's numbers are 20 to 26")),
+            number => Err(BackupRefusal::try_from(number as u8).expect("the record's numbers are 20 to 26")),
         }
     }
 }

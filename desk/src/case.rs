@@ -1,6 +1,6 @@
 //! A cabinet and a schedule as a command gets them, whatever they were written in: the bytes that the proved calls take, the lines that they
 //! come from, the names, and what is expected.
-use crate::args::{self, Said};
+use crate::args;
 use crate::explain::Input;
 use crate::failure::Failure;
 use crate::form::assemble::{self, Step, TableLines};
@@ -10,9 +10,8 @@ use crate::form::syntax::{At, Text};
 use crate::input::{self, content, Content, Kind};
 use crate::place::{self, Called, Fault, Lines, Origin};
 use crate::proved;
-use crate::records::{schedule, Bytes};
 use crate::settle::{unfold, Unfolded};
-use kunzeastylus::{Lists, Table};
+use kunzeastylus::{Lists, Record, Table};
 
 /// The option that names a file for the table, where the schedule is in another.
 pub const TABLE: args::Known = args::value("--table", "FILE");
@@ -27,18 +26,21 @@ pub struct Source<'f> {
 
 impl<'f> Source<'f> {
     /// The only input that is named: one file, or a table and a schedule.
-    pub fn only(said: &Said<'f>) -> Result<Source<'f>, Failure> {
+    pub fn only(said: &args::Said<'f>) -> Result<Source<'f>, Failure> {
         let kind = input::kind(said)?;
         match (said.value("--table"), &said.files[..]) {
             (table, [file]) => Ok(Source { table, file, kind }),
             (None, [table, file]) => Ok(Source { table: Some(table), file, kind }),
             (_, []) => Err(Failure::usage("a file is wanted, or - for standard input")),
-            _ => Err(Failure::usage(format!("a file, or a table and a schedule, are wanted, and {} files are named", said.files.len()))),
+            _ => Err(Failure::usage(format!(
+                "a file, or a table and a schedule, are wanted, and {} files are named",
+                said.files.len()
+            ))),
         }
     }
 
     /// Each file that is named, with the table of `--table` where that is given.
-    pub fn each(said: &Said<'f>) -> Result<Vec<Source<'f>>, Failure> {
+    pub fn each(said: &args::Said<'f>) -> Result<Vec<Source<'f>>, Failure> {
         let (kind, table) = (input::kind(said)?, said.value("--table"));
         Ok(said.files.iter().map(|file| Source { table, file, kind }).collect())
     }
@@ -57,12 +59,6 @@ pub struct Case {
     pub unfolded: Unfolded,
 }
 
-/// A table that was read: in words, or as bytes with a rest behind it.
-enum Part {
-    Words { lists: Lists, lines: TableLines, names: Names },
-    Bytes(Vec<u8>),
-}
-
 /// Reads what a command is given, and has it judged: what is refused has its place.
 pub fn load(source: Source) -> Result<Case, Failure> {
     let case = load_table(source)?;
@@ -78,7 +74,7 @@ pub fn load(source: Source) -> Result<Case, Failure> {
 /// The same, where a table alone will do.
 pub fn load_any(source: Source) -> Result<Case, Failure> {
     let case = load_table(source)?;
-    let nothing = schedule(&[]);
+    let nothing = Record::schedule(&[]);
     case.judged(case.schedule.as_ref().unwrap_or(&nothing))?;
     Ok(case)
 }
@@ -97,25 +93,53 @@ fn load_table(source: Source) -> Result<Case, Failure> {
 
 /// The table of a file, without the schedule that may be there.
 pub fn table_of(file: &str) -> Result<Case, Failure> {
-    let (part, origin) = match content(Kind::AsItLooks, file)? {
-        Content::Words(text, wrong) => table_in_words(file, &text, wrong)?,
+    match content(Kind::AsItLooks, file)? {
+        Content::Words(text, wrong) => {
+            let (said, wrong) = Said::of(&text, wrong);
+            all_right(file, wrong)?;
+            said.written(file)
+        }
         Content::Hex(bytes, lines) => table_in_bytes(file, bytes, Some(lines)),
         Content::Bytes(bytes) => table_in_bytes(file, bytes, None),
-    };
-    let (table, names) = written(part, &origin)?;
-    Ok(Case::of_table(table, names, origin))
+    }
+}
+
+/// A table as a text says it.
+struct Said {
+    lists: Lists,
+    lines: TableLines,
+    names: Names,
+}
+
+impl Said {
+    /// What a text says, and all that is wrong with it.
+    fn of(text: &Text, mut wrong: Vec<Wrong>) -> (Said, Vec<Wrong>) {
+        let (names, more) = Names::of(text);
+        wrong.extend(more);
+        let (lists, lines) = assemble::table(text, &names, &mut wrong);
+        (Said { lists, lines, names }, wrong)
+    }
+
+    /// The table's bytes, by the proved writer.
+    fn written(self, file: &str) -> Result<Case, Failure> {
+        let Said { lists, lines, names } = self;
+        let origin = Origin { file: input::name(file).to_string(), lines: Lines::Table(lines) };
+        match proved::write(&lists) {
+            Ok(table) => Ok(Case::of_table(table, names, origin)),
+            Err(number) => {
+                let faults = place::table::of_lists(&lists, number, Called { names: Some(&names) });
+                Err(refused(number, faults, |spot| origin.at(&[], spot)))
+            }
+        }
+    }
 }
 
 /// Everything in one file of words.
 fn in_words(file: &str, text: &Text, wrong: Vec<Wrong>) -> Result<Case, Failure> {
-    let (names, more) = Names::of(text);
-    let mut wrong: Vec<Wrong> = wrong.into_iter().chain(more).collect();
-    let (lists, lines) = assemble::table(text, &names, &mut wrong);
-    let plan = text.schedule.as_ref().map(|at| (at.line, assemble::plan(&at.it, &names, &mut wrong)));
+    let (said, mut wrong) = Said::of(text, wrong);
+    let plan = text.schedule.as_ref().map(|at| (at.line, assemble::plan(&at.it, &said.names, &mut wrong)));
     all_right(file, wrong)?;
-    let origin = Origin { file: input::name(file).to_string(), lines: Lines::Table(lines.clone()) };
-    let (table, names) = written(Part::Words { lists, lines, names }, &origin)?;
-    let case = Case::of_table(table, names, origin);
+    let case = said.written(file)?;
     Ok(match plan {
         Some((heading, plan)) => case.planned(file, heading, &plan),
         None => case,
@@ -139,44 +163,17 @@ fn in_bytes(file: &str, bytes: Vec<u8>, lines: Option<Vec<usize>>) -> Case {
     Case { table, schedule: Some(schedule), names, table_from, schedule_from, unfolded: Unfolded::default() }
 }
 
-fn table_in_words(file: &str, text: &Text, wrong: Vec<Wrong>) -> Result<(Part, Origin), Failure> {
-    let (names, more) = Names::of(text);
-    let mut wrong: Vec<Wrong> = wrong.into_iter().chain(more).collect();
-    let (lists, lines) = assemble::table(text, &names, &mut wrong);
-    all_right(file, wrong)?;
-    let origin = Origin { file: input::name(file).to_string(), lines: Lines::Table(lines.clone()) };
-    Ok((Part::Words { lists, lines, names }, origin))
-}
-
 /// A schedule behind the table is left out.
-fn table_in_bytes(file: &str, bytes: Vec<u8>, lines: Option<Vec<usize>>) -> (Part, Origin) {
+fn table_in_bytes(file: &str, bytes: Vec<u8>, lines: Option<Vec<usize>>) -> Result<Case, Failure> {
     let table = Input::of(bytes).table;
     let lines = lines.map_or(Lines::Bytes { from: 0 }, |lines| Lines::Hex(lines[..table.len()].to_vec()));
-    (Part::Bytes(table), Origin { file: input::name(file).to_string(), lines })
-}
-
-/// The table's bytes, by the proved writer, and its names.
-fn written(part: Part, origin: &Origin) -> Result<(Vec<u8>, Names), Failure> {
-    match part {
-        Part::Words { lists, lines, names } => match proved::write(&lists) {
-            Ok(table) => Ok((table, names)),
-            Err(number) => {
-                let faults = place::table::of_lists(&lists, number, Called { names: Some(&names) });
-                let origin = Origin { lines: Lines::Table(lines), ..origin.clone() };
-                Err(refused(number, faults, |spot| origin.at(&[], spot)))
-            }
-        },
-        Part::Bytes(table) => match Table::of(&table) {
-            Ok(decoded) => {
-                let names = Names::made_up(&decoded);
-                Ok((table, names))
-            }
-            Err(refusal) => {
-                let number = refusal.number();
-                let faults = place::table::of_bytes(&table, number, Called::default());
-                Err(refused(number, faults, |spot| origin.at(&table, spot)))
-            }
-        },
+    let origin = Origin { file: input::name(file).to_string(), lines };
+    match Table::of(&table) {
+        Ok(decoded) => Ok(Case::of_table(table, Names::made_up(&decoded), origin)),
+        Err(refusal) => {
+            let faults = place::table::of_bytes(&table, refusal.number(), Called::default());
+            Err(refused(refusal.number(), faults, |spot| origin.at(&table, spot)))
+        }
     }
 }
 
@@ -245,7 +242,7 @@ impl Case {
         let unfolded = unfold(&self.table, plan);
         let lines = Lines::Schedule { heading, records: unfolded.lines.clone() };
         let schedule_from = Origin { file: input::name(file).to_string(), lines };
-        Case { schedule: Some(schedule(&unfolded.records)), schedule_from, unfolded, ..self }
+        Case { schedule: Some(Record::schedule(&unfolded.records)), schedule_from, unfolded, ..self }
     }
 
     /// Whether a run of the schedule would be accepted.
@@ -273,8 +270,8 @@ impl Case {
         Input { table: self.table.clone(), schedule: self.schedule.clone().unwrap_or_default() }
     }
 
-    pub fn records(&self) -> Vec<Bytes> {
-        let schedule = self.schedule.as_deref().unwrap_or(&[0; 3]);
-        schedule[3..].chunks_exact(6).map(|record| record.try_into().expect("six bytes")).collect()
+    /// The records of a schedule that was accepted.
+    pub fn records(&self) -> Vec<Record> {
+        self.schedule.as_deref().map_or(Vec::new(), |schedule| Record::read(schedule).expect("an accepted schedule"))
     }
 }

@@ -123,7 +123,8 @@ pub fn junit(all: &[Checked]) -> String {
     let errors = all.iter().filter(|checked| checked.exit.is_some()).count() - failures;
     let took: Duration = all.iter().map(|checked| checked.took).sum();
     let mut text = "<?xml version=\"1.0\" encoding=\"UTF-8\"?>\n".to_string();
-    let counts = format!("tests=\"{}\" failures=\"{failures}\" errors=\"{errors}\" time=\"{:.3}\"", all.len(), took.as_secs_f64());
+    let counts =
+        format!("tests=\"{}\" failures=\"{failures}\" errors=\"{errors}\" time=\"{:.3}\"", all.len(), took.as_secs_f64());
     writeln!(text, "<testsuites {counts}>\n<testsuite name=\"ks check\" {counts}>").unwrap();
     for checked in all {
         let (file, short) = (xml(&checked.file), xml(&checked.short));

@@ -53,7 +53,9 @@ fn bus(a: &Side, b: &Side, width: usize, text: &mut String) -> bool {
         writeln!(text, "  {} before", many(from, "equal word", "equal words")).unwrap();
     }
     for i in from..to {
-        let shown = |words: &[BusWord], names: &Names| words.get(i).map_or("-".to_string(), |word| format!("{:>5} {}", i + 1, on_the_bus(*word, names)));
+        let shown = |words: &[BusWord], names: &Names| {
+            words.get(i).map_or("-".to_string(), |word| format!("{:>5} {}", i + 1, on_the_bus(*word, names)))
+        };
         columns(text, &shown(left, &a.case.names), left.get(i) == right.get(i), &shown(right, &b.case.names), width);
     }
     let left_out = left.len().max(right.len()) - to;
@@ -65,7 +67,7 @@ fn bus(a: &Side, b: &Side, width: usize, text: &mut String) -> bool {
 
 fn on_the_bus(word: BusWord, names: &Names) -> String {
     let BusWord { channel, word, sender, place } = word;
-    let channel = names.channel_name(channel.into());
+    let channel = names.channel_name(channel);
     match sender {
         End::Outside => format!("{channel} {word} fed"),
         End::Process(p) => format!("{channel} {word} from {} {place}", names.program_name(p)),

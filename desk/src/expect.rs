@@ -4,9 +4,8 @@ use crate::form::assemble::Want;
 use crate::form::names::Names;
 use crate::form::syntax::{Expected, Fact, Ref};
 use crate::proved::{run_records, Ran};
-use crate::records::Bytes;
 use crate::words::{self, many};
-use kunzeastylus::{Answer, Cause, ProcessEnd, Table};
+use kunzeastylus::{Answer, ProcessEnd, Reason, Record, Table};
 
 /// Something that is expected, with its line.
 #[derive(Clone, Debug, PartialEq, Eq)]
@@ -33,7 +32,7 @@ pub struct Unmet {
 }
 
 /// The expectations that fail, in their order. The run is that of all records.
-pub fn unmet(table: &[u8], names: &Names, records: &[Bytes], ran: &Ran, checks: &[Check]) -> Vec<Unmet> {
+pub fn unmet(table: &[u8], names: &Names, records: &[Record], ran: &Ran, checks: &[Check]) -> Vec<Unmet> {
     let decoded = Table::of(table).expect("the table of an accepted run");
     let mut unmet = Vec::new();
     let mut beginning: Option<(usize, Ran)> = None;
@@ -70,9 +69,9 @@ fn answer(record: usize, expected: Expected, found: Answer) -> Option<String> {
     if let Some(word) = expected.word.filter(|word| *word != found.word) {
         return Some(format!("expected {} {word}; {found_is}", outcome(expected.outcome)));
     }
-    let why = expected.why.filter(|why| why.cause != found.cause)?;
-    let told = |cause: Cause| format!("reason {}, {}", cause.number(), cause.words());
-    Some(format!("expected {}; record {} has {}", told(why.cause), record + 1, told(found.cause)))
+    let why = expected.why.filter(|why| why.reason != found.reason)?;
+    let told = |reason: Reason| format!("reason {}, {}", reason.number(), reason.words());
+    Some(format!("expected {}; record {} has {}", told(why.reason), record + 1, told(found.reason)))
 }
 
 fn outcome(outcome: Outcome) -> String {
@@ -97,7 +96,7 @@ fn cabinet(table: &Table, names: &Names, ran: &Ran, want: &Want) -> Option<Strin
         }
         Want::Channel(channel, wanted) => {
             let found: Vec<u32> = ran.bus.iter().filter(|word| word.channel == *channel).map(|word| word.word).collect();
-            channel_words(&names.channel_name((*channel).into()), wanted, &found)
+            channel_words(&names.channel_name(*channel), wanted, &found)
         }
     }
 }
@@ -116,9 +115,7 @@ fn program(names: &Names, p: usize, halt: usize, end: ProcessEnd, fact: &Fact) -
         Fact::At(Ref::Number(at)) => (u32::from(end.place) == *at, place(*at), place(end.place.into())),
         Fact::At(Ref::Name(name)) => (false, format!("at {name}"), place(end.place.into())),
         Fact::Halted => (usize::from(end.place) == halt, "halted".to_string(), place(end.place.into())),
-        Fact::Unread(unread) => {
-            (u32::from(end.unread) == *unread, format!("unread {unread}"), format!("unread {}", end.unread))
-        }
+        Fact::Unread(unread) => (u32::from(end.unread) == *unread, format!("unread {unread}"), format!("unread {}", end.unread)),
         Fact::HoldBack(held) => {
             (u32::from(end.hold_back) == *held, format!("held-back {held}"), format!("held-back {}", end.hold_back))
         }
@@ -143,8 +140,17 @@ fn channel_words(name: &str, wanted: &[u32], found: &[u32]) -> Option<String> {
         let to = words.len().min(from + SHOWN);
         let inner: Vec<String> = words[from.min(to)..to].iter().map(u32::to_string).collect();
         let (before, after) = (if from > 0 { ".. " } else { "" }, if to < words.len() { " .." } else { "" });
-        if words.is_empty() { "nothing".to_string() } else { format!("{before}{}{after}", inner.join(" ")) }
+        if words.is_empty() {
+            "nothing".to_string()
+        } else {
+            format!("{before}{}{after}", inner.join(" "))
+        }
     };
     let counts = format!("{} and {}", many(wanted.len(), "word", "words"), found.len());
-    Some(format!("expected {name} {}; found {} ({counts}, the first difference is word {})", shown(wanted), shown(found), first + 1))
+    Some(format!(
+        "expected {name} {}; found {} ({counts}, the first difference is word {})",
+        shown(wanted),
+        shown(found),
+        first + 1
+    ))
 }

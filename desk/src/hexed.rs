@@ -1,8 +1,7 @@
 //! A table and a schedule as hex text, with a comment for each part, by the names that they have.
 use crate::form::names::Names;
 use crate::form::print;
-use crate::records::Bytes;
-use kunzeastylus::{End, Process, Table};
+use kunzeastylus::{End, Process, Record, Table};
 use std::fmt::Write;
 
 /// Bytes in a line, in pairs, and what they are. A word's four bytes stand together.
@@ -27,7 +26,10 @@ pub fn table(bytes: &[u8], table: &Table, names: &Names) -> String {
     put(2, "the length of what follows");
     put(4, "version, boards, processes, channels");
     for (k, (sender, reader)) in table.channels.iter().enumerate() {
-        put(2, &format!("channel {k}, {}: from {} to {}", names.channel_name(k as u32), end(*sender, names), end(*reader, names)));
+        put(
+            2,
+            &format!("channel {k}, {}: from {} to {}", names.channel_name(k as u32), end(*sender, names), end(*reader, names)),
+        );
     }
     for (p, process) in table.processes.iter().enumerate() {
         put(3 + usize::from(process.limit.is_some()), &about(p, process, names));
@@ -48,16 +50,20 @@ fn end(end: End, names: &Names) -> String {
 fn about(p: usize, process: &Process, names: &Names) -> String {
     let limit = process.limit.map_or(String::new(), |limit| format!("limit {limit}, "));
     let Process { primary, backup, program, .. } = process;
-    format!("process {p}, {}: board {primary}, backup board {backup}, {limit}{} instructions", names.program_name(p as u32), program.len())
+    format!(
+        "process {p}, {}: board {primary}, backup board {backup}, {limit}{} instructions",
+        names.program_name(p as u32),
+        program.len()
+    )
 }
 
 /// The schedule.
-pub fn schedule(bytes: &[u8], records: &[Bytes], names: &Names) -> String {
+pub fn schedule(bytes: &[u8], records: &[Record], names: &Names) -> String {
     let mut text = String::new();
     line(&mut text, &bytes[..2], "the length of what follows");
     line(&mut text, &bytes[2..3], &format!("version; {}", crate::words::many(records.len(), "record", "records")));
     for (record, number) in records.iter().zip(1..) {
-        line(&mut text, record, &format!("{number:>5} {}", print::record(record, names)));
+        line(&mut text, &record.bytes(), &format!("{number:>5} {}", print::record(*record, names)));
     }
     text
 }

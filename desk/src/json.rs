@@ -8,7 +8,7 @@ pub fn ran(ran: &Ran) -> String {
     let mut text = String::with_capacity(96 * ran.answers.len() + 256);
     text += "{\"number\":0,\"records\":[";
     for (i, answer) in ran.answers.iter().enumerate() {
-        let (code, a, word, reason) = (answer.code.number(), answer.a, answer.word, answer.cause.number());
+        let (code, a, word, reason) = (answer.code.number(), answer.a, answer.word, answer.reason.number());
         let comma = if i == 0 { "" } else { "," };
         write!(text, "{comma}\n{{\"code\":{code},\"a\":{a},\"word\":{word},\"reason\":{reason},").unwrap();
         match answer.bus {
@@ -27,10 +27,10 @@ pub fn ran(ran: &Ran) -> String {
     text
 }
 
-fn number(sender: End) -> u32 {
+fn number(sender: End) -> u8 {
     match sender {
         End::Process(p) => p,
-        End::Outside => OUTSIDE.into(),
+        End::Outside => OUTSIDE,
     }
 }
 

@@ -16,7 +16,7 @@ const INSTRUCTIONS: usize = 4;
 
 /// The mnemonic of each code.
 pub fn mnemonic(code: u32) -> Option<&'static str> {
-    let code = u8::try_from(code).ok().and_then(Instruction::of)?;
+    let code = Instruction::try_from(u8::try_from(code).ok()?).ok()?;
     Some(["SET", "ADD", "TAKE", "FIRST", "SEND", "JUMP"][code.number() as usize - 1])
 }
 
@@ -33,9 +33,10 @@ pub fn parse(text: &str) -> (Text, Vec<Wrong>) {
     let mut lines: [Vec<usize>; 5] = Default::default();
     let mut wrong = Vec::new();
     let mut now = None;
-    let words = text.lines().zip(1..).flat_map(|(line, i)| {
-        line.split('#').next().unwrap_or("").split_whitespace().map(move |word| (word, i))
-    });
+    let words = text
+        .lines()
+        .zip(1..)
+        .flat_map(|(line, i)| line.split('#').next().unwrap_or("").split_whitespace().map(move |word| (word, i)));
     for (word, line) in words {
         if let Some(heading) = HEADINGS.iter().position(|&heading| heading == word) {
             if found[heading].replace(Vec::new()).is_some() {
@@ -92,7 +93,8 @@ fn lists(found: [Option<Vec<u32>>; 5], lines: &[Vec<usize>; 5], last: usize, wro
 impl Text {
     /// The line of a part of the table.
     pub fn line(&self, spot: Spot) -> usize {
-        let before = |p: usize| self.lists.placements.chunks_exact(3).take(p).map(|placement| placement[2] as usize).sum::<usize>();
+        let before =
+            |p: usize| self.lists.placements.chunks_exact(3).take(p).map(|placement| placement[2] as usize).sum::<usize>();
         let (heading, at) = match spot {
             Spot::Processes => (COUNTS, 1),
             Spot::Channels => (COUNTS, 2),
@@ -180,9 +182,21 @@ fn lengths(lists: &Lists) -> Vec<(Spot, String)> {
     let each = |count: usize, what: &str| format!("for each of {count} {what}");
     let found = [
         wants(Spot::Channel(channels), ENDS, lists.ends.len(), 2 * channels, format!("two {}", each(channels, "channels"))),
-        wants(Spot::Process(processes), PLACEMENTS, lists.placements.len(), 3 * processes, format!("three {}", each(processes, "processes"))),
+        wants(
+            Spot::Process(processes),
+            PLACEMENTS,
+            lists.placements.len(),
+            3 * processes,
+            format!("three {}", each(processes, "processes")),
+        ),
         wants(Spot::Limit(processes), LIMITS, lists.limits.len(), limits, format!("one {}", each(processes, "processes"))),
-        wants(Spot::Instruction(0, total), INSTRUCTIONS, lists.instructions.len(), 3 * total, format!("three {}", each(total, "instructions"))),
+        wants(
+            Spot::Instruction(0, total),
+            INSTRUCTIONS,
+            lists.instructions.len(),
+            3 * total,
+            format!("three {}", each(total, "instructions")),
+        ),
     ];
     found.into_iter().flatten().collect()
 }

@@ -1,15 +1,14 @@
 //! A run with what it was given: the table, the records, and what the proved call wrote. The plain run and the picture are made of it.
 use crate::explain::Input;
 use crate::proved::{self, Ran};
-use crate::records::Bytes;
-use kunzeastylus::{Fate, Move, Table};
+use kunzeastylus::{Fate, Move, Record, Table};
 
 /// An accepted run.
 #[derive(Clone, Debug, PartialEq, Eq)]
 pub struct Played {
     pub bytes: Input,
     pub table: Table,
-    pub records: Vec<Bytes>,
+    pub records: Vec<Record>,
     pub ran: Ran,
 }
 
@@ -18,13 +17,13 @@ impl Played {
     pub fn of(input: Input) -> Result<Played, u8> {
         let ran = proved::run(&input.table, &input.schedule)?;
         let table = Table::of(&input.table).expect("the table of an accepted run");
-        let records = input.schedule[3..].chunks_exact(6).map(|record| record.try_into().expect("six bytes")).collect();
+        let records = Record::read(&input.schedule).expect("the schedule of an accepted run");
         Ok(Played { bytes: input, table, records, ran })
     }
 
     /// The move of a record, if it is one.
     pub fn kind(&self, record: usize) -> Option<Move> {
-        Move::of(self.records[record][0])
+        self.records[record].kind()
     }
 
     /// The records that stand, by their places in the schedule: all but the backs and what those took back.

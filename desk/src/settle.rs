@@ -7,9 +7,9 @@ use crate::expect::Check;
 use crate::form::answers::Outcome;
 use crate::form::assemble::{Step, Want};
 use crate::form::syntax::At;
-use crate::proved::{run_records, Ran};
-use crate::records::{bytes, Bytes, RECORDS_MOST};
-use kunzeastylus::{Answer, Code, Move};
+use crate::proved::{answers_from, run_records};
+use crate::records::RECORDS_MOST;
+use kunzeastylus::{Answer, Code, Record};
 
 /// How many records `settle` makes at most where nothing else is said.
 pub const SETTLE_MOST: usize = 2_000;
@@ -32,7 +32,7 @@ pub enum Stuck {
 /// The records of a schedule, with the line of each, what is to be looked at, and what did not get where it should.
 #[derive(Clone, Debug, Default, PartialEq, Eq)]
 pub struct Unfolded {
-    pub records: Vec<Bytes>,
+    pub records: Vec<Record>,
     pub lines: Vec<usize>,
     pub checks: Vec<Check>,
     pub stuck: Vec<At<Stuck>>,
@@ -61,7 +61,7 @@ pub fn unfold(table: &[u8], plan: &[At<Step>]) -> Unfolded {
 }
 
 impl Unfolded {
-    fn add(&mut self, line: usize, records: &[Bytes]) {
+    fn add(&mut self, line: usize, records: &[Record]) {
         self.records.extend(records);
         self.lines.resize(self.records.len(), line);
     }
@@ -75,16 +75,12 @@ impl Unfolded {
     }
 
     /// The answers to some records behind those that there are; none where that is no run, which is said later.
-    fn tried(&self, table: &[u8], more: &[Bytes]) -> Vec<Answer> {
-        self.ran(table, more).map_or(Vec::new(), |ran| ran.answers[self.records.len()..].to_vec())
-    }
-
-    fn ran(&self, table: &[u8], more: &[Bytes]) -> Option<Ran> {
-        run_records(table, &[&self.records, more].concat()).ok()
+    fn tried(&self, table: &[u8], more: &[Record]) -> Vec<Answer> {
+        answers_from(table, &[&self.records, more].concat(), self.records.len())
     }
 
     /// The same record again and again until its answer is this; where that is a refusal, the refused record is left out.
-    fn until(&mut self, table: &[u8], line: usize, record: Bytes, outcome: Outcome) {
+    fn until(&mut self, table: &[u8], line: usize, record: Record, outcome: Outcome) {
         let mut many = TRIED;
         loop {
             let tried = self.tried(table, &vec![record; many.min(self.room())]);
@@ -129,7 +125,7 @@ impl Unfolded {
             owed = outcome.owed;
         }
         let records = self.records.len() - begun;
-        if let Some(ran) = self.ran(table, &[]).filter(|ran| !ran.quiet) {
+        if let Some(ran) = run_records(table, &self.records).ok().filter(|ran| !ran.quiet) {
             let (still, steps) = self.probed(table);
             let programs = ran.ends.iter().map(|end| end.place).zip(steps).collect();
             self.stuck.push(At { line, it: Stuck::Unquiet { records, still, programs } });
@@ -137,9 +133,9 @@ impl Unfolded {
     }
 
     /// So many rounds as there is room for in a run, the first with the syncs that are owed.
-    fn batch(&self, table: &[u8], owed: &[u8], rounds: usize) -> Vec<Vec<Bytes>> {
-        let round: Vec<Bytes> = steps(table).chain(carries(table)).collect();
-        let syncs: Vec<Bytes> = owed.iter().map(|p| bytes(Move::Sync.number(), *p, 0)).collect();
+    fn batch(&self, table: &[u8], owed: &[u8], rounds: usize) -> Vec<Vec<Record>> {
+        let round: Vec<Record> = steps(table).chain(carries(table)).collect();
+        let syncs: Vec<Record> = owed.iter().map(|p| Record::sync(*p)).collect();
         let many = self.room().saturating_sub(syncs.len()) / round.len();
         let mut batch = vec![round; rounds.min(many)];
         if let Some(first) = batch.first_mut() {
@@ -150,24 +146,24 @@ impl Unfolded {
 
     /// What a step of each program would answer now, and whether all of these and a carry of each board would be refused.
     fn probed(&self, table: &[u8]) -> (bool, Vec<Answer>) {
-        let one = |record: Bytes| self.tried(table, &[record]).first().copied();
+        let one = |record: Record| self.tried(table, &[record]).first().copied();
         let steps: Vec<Answer> = steps(table).filter_map(one).collect();
         let carried = carries(table).filter_map(one).any(|answer| !answer.code.refused());
         (!carried && steps.iter().all(|answer| answer.code.refused()), steps)
     }
 }
 
-fn steps(table: &[u8]) -> impl Iterator<Item = Bytes> + '_ {
-    (0..table[4]).map(|p| bytes(Move::Step.number(), p, 0))
+fn steps(table: &[u8]) -> impl Iterator<Item = Record> + '_ {
+    (0..table[4]).map(Record::step)
 }
 
-fn carries(table: &[u8]) -> impl Iterator<Item = Bytes> + '_ {
-    (0..table[3]).map(|board| bytes(Move::Carry.number(), board, 0))
+fn carries(table: &[u8]) -> impl Iterator<Item = Record> + '_ {
+    (0..table[3]).map(Record::carry)
 }
 
 /// What is kept of a batch.
 struct Chosen {
-    done: Vec<Bytes>,
+    done: Vec<Record>,
     /// The programs that owe a sync, by their numbers.
     owed: Vec<u8>,
     ended: bool,
@@ -175,14 +171,14 @@ struct Chosen {
 
 /// What was done in the rounds of a batch, up to the first in which somebody owes a sync or in which all is refused; `synced` says that the
 /// first round began with the syncs that were owed.
-fn chosen(batch: &[Vec<Bytes>], answers: &[Answer], synced: bool) -> Chosen {
+fn chosen(batch: &[Vec<Record>], answers: &[Answer], synced: bool) -> Chosen {
     let mut chosen = Chosen { done: Vec::new(), owed: Vec::new(), ended: answers.is_empty() };
     let mut answers = answers.iter();
     for (i, round) in batch.iter().enumerate() {
         let before = chosen.done.len();
         for (record, answer) in round.iter().zip(answers.by_ref()) {
             match answer.code {
-                Code::OwesSync => chosen.owed.push(record[1]),
+                Code::OwesSync => chosen.owed.push(record.a),
                 code if !code.refused() => chosen.done.push(*record),
                 _ => (),
             }

@@ -96,7 +96,7 @@ impl Map {
             pulled.pull(Pull { board, before });
             runs += 1;
             made(runs);
-            pulled.run(places, |run| Ending::of(&run)).expect("a run of an accepted sweep")
+            Ending::of(&pulled.run(places).expect("a run of an accepted sweep"))
         };
         let boards = (0..input.table[3]).map(|board| (1..=places).map(|before| ending(board, before)).collect()).collect();
         let map = Map { boards };

@@ -41,7 +41,7 @@ fn stands(case: &Case, p: usize, (place, answer): (u8, Answer)) -> String {
     let next = table.processes[p].program.get(usize::from(place));
     let next = next.map_or("halted".to_string(), |operation| format!("`{}`", print::instruction(*operation, p, &case.names)));
     match answer.code.refused() {
-        true => format!("{name} at place {place}, {next}: {}, {}", answer.code.number(), answer.cause.words()),
+        true => format!("{name} at place {place}, {next}: {}, {}", answer.code.number(), answer.reason.words()),
         false => format!("{name} at place {place}, {next}, could step"),
     }
 }

@@ -80,8 +80,12 @@ fn unwritten() {
 fn closed_pipe() {
     let (reader, writer) = std::io::pipe().expect("a pipe");
     drop(reader);
-    let ended =
-        Command::new(env!("CARGO_BIN_EXE_ks")).args(["run", "samples/sample.hex"]).current_dir(ROOT).stdout(writer).output().expect("ks");
+    let ended = Command::new(env!("CARGO_BIN_EXE_ks"))
+        .args(["run", "samples/sample.hex"])
+        .current_dir(ROOT)
+        .stdout(writer)
+        .output()
+        .expect("ks");
     assert_eq!((ended.status.code(), ended.stderr.len()), (Some(1), 0));
 }
 
@@ -135,6 +139,12 @@ fn many_files() {
     let xml = std::fs::read_to_string(&junit).expect("JUnit's file");
     assert!(xml.contains("<testsuite name=\"ks check\" tests=\"100\" failures=\"10\" errors=\"0\""), "{xml}");
     assert_eq!((xml.matches("<testcase ").count(), xml.matches("<failure ").count()), (100, 10));
-    complains(&["check", "--junit", "/dev/full", "samples/release.cabinet"], &[], 1, "ok   samples/release.cabinet: 18 expectations, 96 records\n", "/dev/full: can't be written");
+    complains(
+        &["check", "--junit", "/dev/full", "samples/release.cabinet"],
+        &[],
+        1,
+        "ok   samples/release.cabinet: 18 expectations, 96 records\n",
+        "/dev/full: can't be written",
+    );
     std::fs::remove_dir_all(&folder).expect("a temporary folder");
 }

@@ -127,15 +127,15 @@ fn complaints() {
     complains(&["-"], b"00 0", 2, "", "ks explain: standard input:1: found `00 0`, expected pairs of hex digits");
     complains(&["-"], &[], 3, "refused 1\n", "standard input:1: the table has 0 bytes, and at least 6 are wanted");
     complains(&["--as", "bytes", sample], &[], 3, "refused 1\n", "samples/sample.hex: byte 0: the length field says 8992");
-    complains(&["-"], b"00 09 01 02 01 01 FF 00 00 01 00", 3, "refused 9\n", "standard input:1: there is no schedule, and at least 3 bytes are wanted");
-    let limited = b"00 0A 02 02 01 01 FF 00 00 01 11 00";
     complains(
         &["-"],
-        limited,
+        b"00 09 01 02 01 01 FF 00 00 01 00",
         3,
-        "refused 47\n",
-        "standard input:1: process 0: its limit is 17, and 1 to 16 are wanted",
+        "refused 9\n",
+        "standard input:1: there is no schedule, and at least 3 bytes are wanted",
     );
+    let limited = b"00 0A 02 02 01 01 FF 00 00 01 11 00";
+    complains(&["-"], limited, 3, "refused 47\n", "standard input:1: process 0: its limit is 17, and 1 to 16 are wanted");
     // 10,000 records have no room for a crash.
     let most =
         [&[0, 9, 1, 2, 1, 1, 255, 0, 0, 1, 0][..], &kunzeastylus::Record::schedule(&[kunzeastylus::Record::step(0); 10_000])]
@@ -149,8 +149,8 @@ fn origin(table: &Table, bus: Option<BusWord>) -> [u8; 2] {
     match bus {
         Some(BusWord { channel, sender: End::Process(p), place, .. }) => {
             let stands = table.processes[p as usize].program[usize::from(place)];
-            assert!(matches!(stands, Operation::Send { channel: to, .. } if to == channel.into()), "{stands:?} at {place}");
-            [p as u8, place]
+            assert!(matches!(stands, Operation::Send { channel: to, .. } if to == channel), "{stands:?} at {place}");
+            [p, place]
         }
         Some(on_the_bus) => [255, on_the_bus.place],
         None => [255, 255],
@@ -172,10 +172,10 @@ fn follows(table: &[u8], schedule: &[u8]) {
     let mut buffers = Buffers::for_run(table, schedule);
     let whole = run(table, schedule, &mut buffers).expect("a sound run");
     let simulated = outside::rules::run::run(table, schedule, Lent::needed(records, 16)).lent;
-    assert_eq!(whole.answers().map(|answer| answer.cause.number()).collect::<Vec<_>>(), simulated.reasons);
+    assert_eq!(whole.answers().map(|answer| answer.reason.number()).collect::<Vec<_>>(), simulated.reasons);
     assert_eq!(whole.answers().flat_map(|answer| origin(&decoded, answer.bus)).collect::<Vec<_>>(), simulated.origins);
     for (i, (record, answer)) in schedule[3..].chunks_exact(6).zip(whole.answers()).enumerate() {
-        followed.record(Move::of(record[0]), record[1], answer, || report(i + 1));
+        followed.record(Move::try_from(record[0]).ok(), record[1], answer, || report(i + 1));
         assert_eq!(followed.spots(), report(i + 1), "after record {}: {table:02X?} {schedule:02X?}", i + 1);
     }
     // The same in words, with each board pulled somewhere.

@@ -110,7 +110,9 @@ fn damaged(random: &mut Random, text: &str) -> String {
             match random.below(4) {
                 0 => drop(words.remove(at)),
                 1 => words.insert(at, words[at]),
-                2 if !numbers.is_empty() => words[random.pick(&numbers)] = random.pick(&["0", "1", "3", "17", "33", "255", "256"]),
+                2 if !numbers.is_empty() => {
+                    words[random.pick(&numbers)] = random.pick(&["0", "1", "3", "17", "33", "255", "256"])
+                }
                 _ => words.swap(at, other),
             }
             return words.join(" ");
@@ -172,7 +174,8 @@ fn all_at_once() {
 /// Counts that are too high are told, and take no time.
 #[test]
 fn no_flood() {
-    let flood = "boards 2\nchannel c outside -> p\nprogram p on 0 backup 1\nschedule\n".to_string() + &"step p x4294967295\n".repeat(1_000);
+    let flood = "boards 2\nchannel c outside -> p\nprogram p on 0 backup 1\nschedule\n".to_string()
+        + &"step p x4294967295\n".repeat(1_000);
     let ended = ks(&["run", "-"], flood.as_bytes());
     assert_eq!((ended.status.code(), String::from_utf8_lossy(&ended.stdout).as_ref()), (Some(3), "refused 9\n"));
     let said = String::from_utf8_lossy(&ended.stderr).to_string();

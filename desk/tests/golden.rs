@@ -22,7 +22,8 @@ fn block(line: &str) -> String {
 #[test]
 fn stored() {
     let folder = PathBuf::from(format!("{ROOT}/desk/tests/golden"));
-    let mut files: Vec<PathBuf> = std::fs::read_dir(folder).expect("golden/").map(|entry| entry.expect("golden/").path()).collect();
+    let mut files: Vec<PathBuf> =
+        std::fs::read_dir(folder).expect("golden/").map(|entry| entry.expect("golden/").path()).collect();
     files.retain(|path| path.extension().is_some_and(|extension| extension == "txt"));
     files.sort();
     assert!(files.len() >= 5, "{files:?}");

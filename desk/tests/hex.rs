@@ -14,7 +14,9 @@ fn converted(file: &str) -> Result<Vec<u8>, String> {
     let said = String::from_utf8(output.stderr).expect("a message");
     let said = said.strip_prefix("hex: ").expect("its name").trim_end();
     Err(match said.split_once(" is no hex text: ") {
-        Some((place, begins)) => format!("{}: found `{}`, expected pairs of hex digits", place.replace(": line ", ":"), begins.trim()),
+        Some((place, begins)) => {
+            format!("{}: found `{}`, expected pairs of hex digits", place.replace(": line ", ":"), begins.trim())
+        }
         None => said.to_string(),
     })
 }

@@ -71,7 +71,8 @@ fn damaged_lists() {
             _ if list.is_empty() => (),
             _ => {
                 let at = random.below(list.len() as u32) as usize;
-                list[at] = random.pick(&[0, 1, 2, 3, 4, 5, 6, 7, 8, 16, 17, 31, 32, 33, 64, 65, 254, 255, 256, 1 << 20, u32::MAX]);
+                list[at] =
+                    random.pick(&[0, 1, 2, 3, 4, 5, 6, 7, 8, 16, 17, 31, 32, 33, 64, 65, 254, 255, 256, 1 << 20, u32::MAX]);
             }
         };
         for _ in 0..=random.below(2) {
@@ -175,9 +176,17 @@ fn in_words() {
     hex("00 09\n03 02 01 01 FF 00 00 01 00", 2, "2: the version is 3, and there are 1 and 2");
     hex("00 09 01\n01\n01\n01 FF 00 00 01 00", 3, "2: 1 boards, and there are 2 to 16");
     hex("00 09 01 02 01 01\nFF 00\n00 01 41", 4, "3: process 0 has 65 instructions, and 64 are the most");
-    hex("00 09 01 02 01 01\nFF 00\n00 01 01", 4, "3: process 0 has 1 instructions, which end with byte 17, and the table has 11 bytes");
+    hex(
+        "00 09 01 02 01 01\nFF 00\n00 01 01",
+        4,
+        "3: process 0 has 1 instructions, which end with byte 17, and the table has 11 bytes",
+    );
     hex("00 0A 01 02 01 01\nFF 00\n00 01 00\n00", 4, "4: the process records end with byte 11, and 1 more follow in the table");
-    hex("00 09 01 02 01 01\nFF 01\n00 01 00", 5, "2: channel 0: its reader is 1, which is no process below 1 and not 255, the outside");
+    hex(
+        "00 09 01 02 01 01\nFF 01\n00 01 00",
+        5,
+        "2: channel 0: its reader is 1, which is no process below 1 and not 255, the outside",
+    );
     let five = "00 11 01 02 01 05\nFF 00\nFF 00\nFF 00\nFF 00\nFF 00\n00 01 00";
     hex(five, 6, "6: process 0 reads five channels: 0, 1, 2, 3, 4; four are the most");
     hex("00 09 01 02 01 01\nFF 00\n00 00 00", 7, "3: process 0: its board and its backup's are both 0");

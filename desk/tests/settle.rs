@@ -7,9 +7,8 @@ use desk::form::assemble::Step;
 use desk::form::syntax::At;
 use desk::input::Kind;
 use desk::proved::run_records;
-use desk::records::Bytes;
 use desk::settle::{unfold, Stuck, SETTLE_MOST};
-use kunzeastylus::{Code, Move};
+use kunzeastylus::{Code, Move, Record};
 use outside::random::Random;
 use outside::rules::generate::{encode_schedule, encode_table, schedule, table};
 use outside::rules::loops::loops;
@@ -17,7 +16,7 @@ use outside::rules::loops::loops;
 const SEED: u64 = 0xA076_1D64_78BD_642F;
 
 /// Some records, and then on until quiet.
-fn settled(table: &[u8], records: Vec<Bytes>, within: Option<u32>) -> (Vec<Bytes>, Option<Stuck>) {
+fn settled(table: &[u8], records: Vec<Record>, within: Option<u32>) -> (Vec<Record>, Option<Stuck>) {
     let plan = [Step::Records { records, expected: None }, Step::Settle { within }];
     let unfolded = unfold(table, &plan.map(|it| At { line: 1, it }));
     assert!(unfolded.stuck.len() <= 1 && unfolded.lines.len() == unfolded.records.len());
@@ -33,8 +32,7 @@ fn quiet_or_still() {
         let sound = if i % 3 == 0 { loops(&mut random) } else { table(&mut random) };
         let length = random.pick(&[0, 5, 40]);
         let before = schedule(&mut random, &sound, length);
-        let bytes = encode_schedule(&before);
-        let before: Vec<Bytes> = bytes[3..].chunks_exact(6).map(|record| record.try_into().expect("six bytes")).collect();
+        let before = Record::read(&encode_schedule(&before)).expect("a sound schedule");
         let table = encode_table(&sound);
         let within = random.pick(&[None, Some(100), Some(0)]);
         let (records, stuck) = settled(&table, before.clone(), within);
@@ -42,15 +40,21 @@ fn quiet_or_still() {
         assert!(records.starts_with(&before) && made <= within.map_or(SETTLE_MOST, |within| within as usize));
         let ran = run_records(&table, &records).expect("a run");
         for (record, answer) in records.iter().zip(&ran.answers).skip(before.len()) {
-            let kind = Move::of(record[0]);
-            assert!(matches!(kind, Some(Move::Step | Move::Sync | Move::Carry)) && !answer.code.refused(), "{record:?} {answer:?}");
+            let kind = record.kind();
+            assert!(
+                matches!(kind, Some(Move::Step | Move::Sync | Move::Carry)) && !answer.code.refused(),
+                "{record:?} {answer:?}"
+            );
         }
         match stuck {
             None => quiet += 1,
             Some(Stuck::Unquiet { still: true, records, programs }) => {
                 still += 1;
                 let codes: Vec<Code> = programs.iter().map(|(_, answer)| answer.code).collect();
-                assert!(records == made && codes.iter().all(|code| code.refused()) && codes.contains(&Code::ChannelHeld), "{codes:?}");
+                assert!(
+                    records == made && codes.iter().all(|code| code.refused()) && codes.contains(&Code::ChannelHeld),
+                    "{codes:?}"
+                );
             }
             Some(Stuck::Unquiet { records, .. }) => {
                 endless += 1;
@@ -68,11 +72,10 @@ fn quiet_or_still() {
 }
 
 /// How many records can be done behind these: 0 where the cabinet is quiet, by document 01.
-fn stuck_of(table: &[u8], records: &[Bytes]) -> Option<usize> {
-    let next = |kind: Move, a: u8| [kind.number(), a, 0, 0, 0, 0];
-    let answer = |record: Bytes| run_records(table, &[records, &[record]].concat()).expect("a run").answers[records.len()].code;
-    let waits = |p: u8| matches!(answer(next(Move::Step, p)), Code::Halted | Code::NoWord);
-    let empty = |board: u8| matches!(answer(next(Move::Carry, board)), Code::QueueEmpty | Code::BoardDead);
+fn stuck_of(table: &[u8], records: &[Record]) -> Option<usize> {
+    let answer = |record: Record| run_records(table, &[records, &[record]].concat()).expect("a run").answers[records.len()].code;
+    let waits = |p: u8| matches!(answer(Record::step(p)), Code::Halted | Code::NoWord);
+    let empty = |board: u8| matches!(answer(Record::carry(board)), Code::QueueEmpty | Code::BoardDead);
     let quiet = (0..table[4]).all(waits) && (0..table[3]).all(empty);
     (!quiet).then_some(1)
 }
@@ -80,13 +83,12 @@ fn stuck_of(table: &[u8], records: &[Bytes]) -> Option<usize> {
 /// What was made is what is written: the hex text of a schedule that settles runs as the words do.
 #[test]
 fn as_written() {
-    for name in ["samples/release.cabinet"] {
-        let hex = printed(&["hex", name], &[]);
-        assert_eq!(printed(&["run", "-"], hex.as_bytes()), printed(&["run", name], &[]));
-        let words = printed(&["words", name], &[]);
-        assert!(!words.contains("settle") && !words.contains("until"));
-        assert_eq!(printed(&["hex", "-"], words.as_bytes()), hex);
-    }
+    let name = "samples/release.cabinet";
+    let hex = printed(&["hex", name], &[]);
+    assert_eq!(printed(&["run", "-"], hex.as_bytes()), printed(&["run", name], &[]));
+    let words = printed(&["words", name], &[]);
+    assert!(!words.contains("settle") && !words.contains("until"));
+    assert_eq!(printed(&["hex", "-"], words.as_bytes()), hex);
 }
 
 /// In the order that the help says: syncs that are owed, a step of each program, a carry of each board.
@@ -101,12 +103,17 @@ fn in_order() {
 
 #[test]
 fn until() {
-    let sample = |rest: &str| common::sample("sample.cabinet").split_once("schedule").expect("a schedule").0.to_string() + "schedule\n" + rest;
+    let sample = |rest: &str| {
+        common::sample("sample.cabinet").split_once("schedule").expect("a schedule").0.to_string() + "schedule\n" + rest
+    };
     let made = |rest: &str| -> Vec<String> {
         let words = printed(&["words", "-"], sample(rest).as_bytes());
         words.split_once("schedule\n").expect("a schedule").1.lines().map(|line| line.trim().to_string()).collect()
     };
-    assert_eq!(made("feed numbers 1\nstep adder until queued\ncarry 0 until empty\nstep adder until refused"), ["feed numbers 1", "step adder x3", "carry 0", "step adder"]);
+    assert_eq!(
+        made("feed numbers 1\nstep adder until queued\ncarry 0 until empty\nstep adder until refused"),
+        ["feed numbers 1", "step adder x3", "carry 0", "step adder"]
+    );
     assert_eq!(made("carry 0 until empty"), [] as [&str; 0]);
     assert_eq!(made("feed numbers 3 until held"), vec!["feed numbers 3"; 8]);
     // What never comes is said, by its line.

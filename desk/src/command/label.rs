@@ -1,9 +1,9 @@
 //! `ks label`: the label line. Prints the labels that come out of a schedule, and how many cartons are still without theirs.
 use crate::args;
-use crate::failure::Failure;
-use crate::output::Outputs;
 use crate::case::schedule_on;
+use crate::failure::Failure;
 use crate::form::names::Names;
+use crate::output::Outputs;
 use crate::place::lent;
 use crate::{hex, input, told};
 use kunzeastylus::{label_run, label_table, labels, Buffers, End, Label};

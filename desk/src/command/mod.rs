@@ -17,7 +17,12 @@ mod words;
 /// A command whose module has its name.
 macro_rules! command {
     ($name:ident, $line:literal) => {
-        Command { name: stringify!($name), line: $line, help: include_str!(concat!("../../help/", stringify!($name), ".txt")), work: $name::work }
+        Command {
+            name: stringify!($name),
+            line: $line,
+            help: include_str!(concat!("../../help/", stringify!($name), ".txt")),
+            work: $name::work,
+        }
     };
 }
 

@@ -51,7 +51,7 @@ fn bus(case: &Case, ran: &Ran) -> String {
         End::Process(p) => case.names.program_name(p),
     };
     let line = |word: &kunzeastylus::BusWord| {
-        format!("{} {} {} {}\n", case.names.channel_name(word.channel.into()), word.word, sender(word.sender), word.place)
+        format!("{} {} {} {}\n", case.names.channel_name(word.channel), word.word, sender(word.sender), word.place)
     };
     ran.bus.iter().map(line).collect()
 }

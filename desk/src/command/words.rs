@@ -29,19 +29,20 @@ pub fn work(arguments: &[String], outputs: &mut Outputs) -> Result<(), Failure> 
 fn expecting(case: &Case, ran: &Ran) -> String {
     let mut text = "schedule\n".to_string();
     for (record, answer) in case.records().iter().zip(&ran.answers) {
-        let line = print::record(record, &case.names);
+        let line = print::record(*record, &case.names);
         writeln!(text, "    {line:<28}expect {}", expected(*answer)).unwrap();
     }
     let quiet = if ran.quiet { "quiet" } else { "not quiet" };
     writeln!(text, "    expect {quiet}").unwrap();
     for (p, end) in ran.ends.iter().enumerate() {
-        let (name, place) = (&case.names.programs[p], case.names.place_name(p, end.place.into()));
+        let (name, place) = (&case.names.programs[p], case.names.place_name(p, end.place));
         let [r0, r1, r2, r3] = end.registers;
         let stands = format!("on {} at {place} unread {} held-back {}", end.board, end.unread, end.hold_back);
         writeln!(text, "    expect {name} {stands} r0 {r0} r1 {r1} r2 {r2} r3 {r3}").unwrap();
     }
     for (k, name) in case.names.channels.iter().enumerate() {
-        let words: Vec<String> = ran.bus.iter().filter(|word| usize::from(word.channel) == k).map(|word| word.word.to_string()).collect();
+        let words: Vec<String> =
+            ran.bus.iter().filter(|word| usize::from(word.channel) == k).map(|word| word.word.to_string()).collect();
         let words = if words.is_empty() { "nothing".to_string() } else { words.join(" ") };
         writeln!(text, "    expect {name} {words}").unwrap();
     }

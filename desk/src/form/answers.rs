@@ -1,5 +1,5 @@
 //! The names of answers and of their reasons, as `expect` takes them beside their numbers.
-use kunzeastylus::{Answer, Cause, Code};
+use kunzeastylus::{Answer, Code, Reason};
 
 /// Every code with its name.
 pub const CODES: [(Code, &str); 25] = [
@@ -31,47 +31,47 @@ pub const CODES: [(Code, &str); 25] = [
 ];
 
 /// Every reason with its name: together with its code, a name says which it is.
-pub const CAUSES: [(Cause, &str); 40] = [
-    (Cause::Calculated, "calculated"),
-    (Cause::SyncIssued, "sync"),
-    (Cause::BoardCrashed, "crash"),
-    (Cause::ReturnedOrResync, "return-or-resync"),
-    (Cause::Took, "took"),
-    (Cause::Queued, "queued"),
-    (Cause::HeldBack, "held-back"),
-    (Cause::Carried, "carried"),
-    (Cause::Fed, "fed"),
-    (Cause::SyncCarried, "sync"),
-    (Cause::ResyncCarried, "resync"),
-    (Cause::SyncUnbacked, "sync-lost"),
-    (Cause::TakenBack, "taken-back"),
-    (Cause::NoSuchMove, "move"),
-    (Cause::WordNotZero, "word"),
-    (Cause::NoSuchProcess, "program"),
-    (Cause::NoSuchBoard, "board"),
-    (Cause::NoSuchChannel, "channel"),
-    (Cause::CarryOfDead, "carry"),
-    (Cause::CrashOfDead, "crash"),
-    (Cause::Halted, "halted"),
-    (Cause::NoWordForTake, "take"),
-    (Cause::NoWordForFirst, "first"),
-    (Cause::OwesForActs, "acts"),
-    (Cause::OwesForInstructions, "instructions"),
-    (Cause::QueueFullForSend, "send"),
-    (Cause::QueueFullForSync, "sync"),
-    (Cause::QueueFullForResync, "resync"),
-    (Cause::HeldForSend, "send"),
-    (Cause::HeldForFeed, "feed"),
-    (Cause::NoBackup, "no-backup"),
-    (Cause::SyncWaiting, "sync"),
-    (Cause::ResyncWaiting, "resync"),
-    (Cause::QueueEmpty, "empty"),
-    (Cause::NotFromOutside, "not-outside"),
-    (Cause::SomeUnbacked, "some-unbacked"),
-    (Cause::BoardLive, "live"),
-    (Cause::NotReady, "not-ready"),
-    (Cause::HasBackup, "has-backup"),
-    (Cause::NoneKept, "none-kept"),
+pub const REASONS: [(Reason, &str); 40] = [
+    (Reason::Calculated, "calculated"),
+    (Reason::SyncIssued, "sync"),
+    (Reason::BoardCrashed, "crash"),
+    (Reason::ReturnedOrResync, "return-or-resync"),
+    (Reason::Took, "took"),
+    (Reason::Queued, "queued"),
+    (Reason::HeldBack, "held-back"),
+    (Reason::Carried, "carried"),
+    (Reason::Fed, "fed"),
+    (Reason::SyncCarried, "sync"),
+    (Reason::ResyncCarried, "resync"),
+    (Reason::SyncUnbacked, "sync-lost"),
+    (Reason::TakenBack, "taken-back"),
+    (Reason::NoSuchMove, "move"),
+    (Reason::WordNotZero, "word"),
+    (Reason::NoSuchProcess, "program"),
+    (Reason::NoSuchBoard, "board"),
+    (Reason::NoSuchChannel, "channel"),
+    (Reason::CarryOfDead, "carry"),
+    (Reason::CrashOfDead, "crash"),
+    (Reason::Halted, "halted"),
+    (Reason::NoWordForTake, "take"),
+    (Reason::NoWordForFirst, "first"),
+    (Reason::OwesForActs, "acts"),
+    (Reason::OwesForInstructions, "instructions"),
+    (Reason::QueueFullForSend, "send"),
+    (Reason::QueueFullForSync, "sync"),
+    (Reason::QueueFullForResync, "resync"),
+    (Reason::HeldForSend, "send"),
+    (Reason::HeldForFeed, "feed"),
+    (Reason::NoBackup, "no-backup"),
+    (Reason::SyncWaiting, "sync"),
+    (Reason::ResyncWaiting, "resync"),
+    (Reason::QueueEmpty, "empty"),
+    (Reason::NotFromOutside, "not-outside"),
+    (Reason::SomeUnbacked, "some-unbacked"),
+    (Reason::BoardLive, "live"),
+    (Reason::NotReady, "not-ready"),
+    (Reason::HasBackup, "has-backup"),
+    (Reason::NoneKept, "none-kept"),
 ];
 
 /// An answer that is expected, or at which something ends.
@@ -89,7 +89,7 @@ impl Outcome {
     }
 
     pub fn numbered(number: u32) -> Option<Outcome> {
-        u8::try_from(number).ok().and_then(Code::of).map(Outcome::Code)
+        u8::try_from(number).ok().and_then(|number| Code::try_from(number).ok()).map(Outcome::Code)
     }
 
     pub fn is(self, answer: Answer) -> bool {
@@ -116,24 +116,24 @@ pub fn name(code: Code) -> &'static str {
 /// The reason that is expected.
 #[derive(Clone, Copy, Debug, PartialEq, Eq)]
 pub struct Why {
-    pub cause: Cause,
+    pub reason: Reason,
 }
 
 impl Why {
     /// By its byte in the list of reasons.
     pub fn numbered(number: u32) -> Option<Why> {
-        u8::try_from(number).ok().and_then(Cause::of).map(|cause| Why { cause })
+        u8::try_from(number).ok().and_then(|number| Reason::try_from(number).ok()).map(|reason| Why { reason })
     }
 
     /// By its name, which is of an answer with this outcome.
     pub fn named(name: &str, outcome: Outcome) -> Option<Why> {
-        let of = |cause: Cause| match outcome {
-            Outcome::Code(code) => cause.code() == code,
-            Outcome::Refused => cause.code().refused(),
+        let of = |reason: Reason| match outcome {
+            Outcome::Code(code) => reason.code() == code,
+            Outcome::Refused => reason.code().refused(),
         };
-        let mut found = CAUSES.iter().filter(|(cause, other)| *other == name && of(*cause));
+        let mut found = REASONS.iter().filter(|(reason, other)| *other == name && of(*reason));
         match (found.next(), found.next()) {
-            (Some((cause, _)), None) => Some(Why { cause: *cause }),
+            (Some((reason, _)), None) => Some(Why { reason: *reason }),
             _ => None,
         }
     }
@@ -141,23 +141,23 @@ impl Why {
 
 /// The names that a reason may have behind an outcome.
 pub fn reasons(outcome: Outcome) -> Vec<&'static str> {
-    CAUSES.iter().map(|(_, name)| *name).filter(|name| Why::named(name, outcome).is_some()).collect()
+    REASONS.iter().map(|(_, name)| *name).filter(|name| Why::named(name, outcome).is_some()).collect()
 }
 
 #[cfg(test)]
 mod tests {
-    use super::{name, Outcome, Why, CAUSES, CODES};
-    use kunzeastylus::{Cause, Code};
+    use super::{name, Outcome, Why, CODES, REASONS};
+    use kunzeastylus::{Code, Reason};
 
     #[test]
     fn every_one_has_a_name() {
         assert_eq!(CODES.map(|(code, _)| code), Code::ALL);
-        assert_eq!(CAUSES.map(|(cause, _)| cause), Cause::ALL);
+        assert_eq!(REASONS.map(|(reason, _)| reason), Reason::ALL);
         for (code, known) in CODES {
             assert_eq!((Outcome::named(known), name(code)), (Some(Outcome::Code(code)), known));
         }
-        for (cause, known) in CAUSES {
-            assert_eq!(Why::named(known, Outcome::Code(cause.code())), Some(Why { cause }), "{known}");
+        for (reason, known) in REASONS {
+            assert_eq!(Why::named(known, Outcome::Code(reason.code())), Some(Why { reason }), "{known}");
         }
     }
 }

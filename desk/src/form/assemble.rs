@@ -3,8 +3,8 @@ use super::answers::Outcome;
 use super::lexer::Wrong;
 use super::names::Names;
 use super::syntax::{Action, At, End, Expected, Fact, Instruction, Program, Ref, Statement, Text, Wanted};
-use crate::records::{bytes, Bytes, RECORDS_MOST};
-use kunzeastylus::{Counts, Lists, Move, LIMIT, OUTSIDE};
+use crate::records::RECORDS_MOST;
+use kunzeastylus::{Counts, Instruction as Code, Lists, Record, LIMIT, OUTSIDE};
 
 /// The line of each part of a table.
 #[derive(Clone, Debug, Default, PartialEq, Eq)]
@@ -26,8 +26,8 @@ pub enum Want {
 /// A part of a schedule.
 #[derive(Clone, Debug, PartialEq, Eq)]
 pub enum Step {
-    Records { records: Vec<Bytes>, expected: Option<Expected> },
-    Until { record: Bytes, outcome: Outcome },
+    Records { records: Vec<Record>, expected: Option<Expected> },
+    Until { record: Record, outcome: Outcome },
     Settle { within: Option<u32> },
     Expect(Want),
 }
@@ -38,10 +38,12 @@ pub fn table(text: &Text, names: &Names, wrong: &mut Vec<Wrong>) -> (Lists, Tabl
     if text.boards.is_none() {
         wrong.push(Wrong::new(first, "found no `boards`, expected how many there are: `boards 2`"));
     }
-    let mut check = |result: Result<u32, Wrong>| result.unwrap_or_else(|error| {
-        wrong.push(error);
-        0
-    });
+    let mut check = |result: Result<u32, Wrong>| {
+        result.unwrap_or_else(|error| {
+            wrong.push(error);
+            0
+        })
+    };
     let mut ends = Vec::new();
     for At { line, it } in &text.channels {
         for end in [&it.sender, &it.reader] {
@@ -69,7 +71,7 @@ pub fn table(text: &Text, names: &Names, wrong: &mut Vec<Wrong>) -> (Lists, Tabl
         ends,
         placements: text.programs.iter().flat_map(|program| placements(&program.it)).collect(),
         limits: match limited {
-            true => text.programs.iter().map(|program| program.it.limit.unwrap_or(LIMIT)).collect(),
+            true => text.programs.iter().map(|program| program.it.limit.unwrap_or(LIMIT.into())).collect(),
             false => Vec::new(),
         },
         instructions,
@@ -95,14 +97,15 @@ fn numbers(
     names: &Names,
     check: &mut impl FnMut(Result<u32, Wrong>) -> u32,
 ) -> [u32; 3] {
-    match instruction {
-        Instruction::Set { register, word } => [1, *register, *word],
-        Instruction::Add { register, other } => [2, *register, *other],
-        Instruction::Take { register, channel } => [3, *register, check(names.channel(line, channel))],
-        Instruction::First { register, channels } => [4, *register, check(mask(line, channels, names))],
-        Instruction::Send { register, channel } => [5, *register, check(names.channel(line, channel))],
-        Instruction::Jump { place, register } => [6, *register, check(names.place(line, p, place))],
-    }
+    let (code, register, operand) = match instruction {
+        Instruction::Set { register, word } => (Code::Set, register, *word),
+        Instruction::Add { register, other } => (Code::Add, register, *other),
+        Instruction::Take { register, channel } => (Code::Take, register, check(names.channel(line, channel))),
+        Instruction::First { register, channels } => (Code::First, register, check(mask(line, channels, names))),
+        Instruction::Send { register, channel } => (Code::Send, register, check(names.channel(line, channel))),
+        Instruction::Jump { place, register } => (Code::Jump, register, check(names.place(line, p, place))),
+    };
+    [code.number().into(), *register, operand]
 }
 
 /// Bit k stands for channel k.
@@ -110,9 +113,9 @@ fn mask(line: usize, channels: &[Ref], names: &Names) -> Result<u32, Wrong> {
     let mut mask = 0u32;
     for channel in channels {
         let number = names.channel(line, channel)?;
-        let bit = 1u32.checked_shl(number).ok_or_else(|| {
-            Wrong::new(line, format!("found `{number}`, expected a channel's number, 0 to 31"))
-        })?;
+        let bit = 1u32
+            .checked_shl(number)
+            .ok_or_else(|| Wrong::new(line, format!("found `{number}`, expected a channel's number, 0 to 31")))?;
         if mask & bit != 0 {
             return Err(Wrong::new(line, format!("found channel {} twice, expected each once", names.channel_name(number))));
         }
@@ -156,21 +159,21 @@ fn step(statement: &Statement, line: usize, names: &Names, room: usize) -> Resul
 }
 
 /// The records of an action, done once.
-fn records(action: &Action, line: usize, names: &Names) -> Result<Vec<Bytes>, Wrong> {
+fn records(action: &Action, line: usize, names: &Names) -> Result<Vec<Record>, Wrong> {
     let byte = |number: u32, what: &str| {
         u8::try_from(number).map_err(|_| Wrong::new(line, format!("found `{number}`, expected {what}'s number, 0 to 255")))
     };
     Ok(match action {
         Action::Feed { channel, words } => {
             let channel = byte(names.channel(line, channel)?, "a channel")?;
-            words.iter().map(|word| bytes(Move::Feed.number(), channel, *word)).collect()
+            words.iter().map(|word| Record::feed(channel, *word)).collect()
         }
         Action::OfProgram { kind, program } => {
-            vec![bytes(kind.number(), byte(names.program(line, program)?, "a program")?, 0)]
+            vec![Record::new(*kind, byte(names.program(line, program)?, "a program")?, 0)]
         }
-        Action::OfBoard { kind, board } => vec![bytes(kind.number(), byte(*board, "a board")?, 0)],
-        Action::Back => vec![bytes(Move::Back.number(), 0, 0)],
-        Action::Raw { kind, a, word } => vec![bytes(byte(*kind, "a move")?, byte(*a, "some")?, *word)],
+        Action::OfBoard { kind, board } => vec![Record::new(*kind, byte(*board, "a board")?, 0)],
+        Action::Back => vec![Record::back()],
+        Action::Raw { kind, a, word } => vec![Record { code: byte(*kind, "a move")?, a: byte(*a, "some")?, word: *word }],
     })
 }
 

@@ -11,8 +11,22 @@ pub const MOVES: [&str; 11] = ["feed", "step", "sync", "carry", "crash", "return
 
 /// What stands within a line.
 const OTHERS: [&str; 16] = [
-    "outside", "on", "backup", "limit", "if", "until", "within", "why", "quiet", "not", "at", "unread", "held-back", "halted",
-    "nothing", "empty",
+    "outside",
+    "on",
+    "backup",
+    "limit",
+    "if",
+    "until",
+    "within",
+    "why",
+    "quiet",
+    "not",
+    "at",
+    "unread",
+    "held-back",
+    "halted",
+    "nothing",
+    "empty",
 ];
 
 /// Whether a word is none of the form's own: no keyword, no register and no count.

@@ -78,7 +78,8 @@ fn run(text: &str) -> usize {
     let mut length = 0;
     for c in text.chars() {
         let behind = text[length + c.len_utf8()..].chars().next();
-        if !inside(c) && !(c == '-' && behind.is_some_and(inside)) {
+        let joined = c == '-' && behind.is_some_and(inside);
+        if !inside(c) && !joined {
             break;
         }
         length += c.len_utf8();
@@ -121,6 +122,9 @@ mod tests {
         assert_eq!(found, wanted);
         let (_, wrong) = lines("a $\n12ab\n0x\n4294967296\n4294967295\n-1");
         let told: Vec<(usize, &str)> = wrong.iter().map(|Wrong { line, what }| (*line, &what[..12])).collect();
-        assert_eq!(told, [(1, "found `$`, e"), (2, "found `12ab`"), (3, "found `0x`, "), (4, "found `42949"), (6, "found `-`, e")]);
+        assert_eq!(
+            told,
+            [(1, "found `$`, e"), (2, "found `12ab`"), (3, "found `0x`, "), (4, "found `42949"), (6, "found `-`, e")]
+        );
     }
 }

@@ -68,25 +68,28 @@ impl Names {
     }
 
     /// What a place of a program is called: by its label, or by its number.
-    pub fn place_name(&self, program: usize, place: u32) -> String {
+    pub fn place_name(&self, program: usize, place: impl Into<u32>) -> String {
+        let place = place.into();
         let label = self.labels.get(program).and_then(|labels| labels.iter().find(|(_, other)| *other == place));
         label.map_or(place.to_string(), |(label, _)| label.clone())
     }
 
     /// What a program is called; one that isn't there, by its number.
-    pub fn program_name(&self, number: u32) -> String {
+    pub fn program_name(&self, number: impl Into<u32>) -> String {
+        let number = number.into();
         self.programs.get(number as usize).cloned().unwrap_or(number.to_string())
     }
 
     /// What a channel is called; one that isn't there, by its number.
-    pub fn channel_name(&self, number: u32) -> String {
+    pub fn channel_name(&self, number: impl Into<u32>) -> String {
+        let number = number.into();
         self.channels.get(number as usize).cloned().unwrap_or(number.to_string())
     }
 }
 
 fn jump(operation: &Operation) -> Option<u32> {
     match operation {
-        Operation::Jump { place, .. } => Some(*place),
+        Operation::Jump { place, .. } => Some((*place).into()),
         _ => None,
     }
 }

@@ -106,7 +106,9 @@ impl Parser {
 /// What stands in a text only once.
 fn once<T>(place: &mut Option<At<T>>, line: usize, what: &str, it: T) -> Result<(), Wrong> {
     match place {
-        Some(first) => Err(Wrong::new(line, format!("found a second `{what}`, expected one: the first is in line {}", first.line))),
+        Some(first) => {
+            Err(Wrong::new(line, format!("found a second `{what}`, expected one: the first is in line {}", first.line)))
+        }
         None => {
             *place = Some(At { line, it });
             Ok(())

@@ -1,7 +1,6 @@
 //! A cabinet and a schedule, printed in words: what is read back gives the same bytes.
 use super::names::Names;
-use crate::records::{word, Bytes};
-use kunzeastylus::{End, Move, Operation, Process, Table};
+use kunzeastylus::{End, Move, Operation, Process, Record, Table};
 use std::fmt::Write;
 
 /// The table.
@@ -45,30 +44,29 @@ fn program(p: usize, process: &Process, names: &Names, text: &mut String) {
 
 /// An instruction of program `p`.
 pub fn instruction(operation: Operation, p: usize, names: &Names) -> String {
-    let channel = |channel: u32| names.channel_name(channel);
     match operation {
         Operation::Set { register, word } => format!("set r{register} {word}"),
         Operation::Add { register, other } => format!("add r{register} r{other}"),
-        Operation::Take { register, channel: k } => format!("take r{register} {}", channel(k)),
+        Operation::Take { register, channel: k } => format!("take r{register} {}", names.channel_name(k)),
         Operation::First { register, mask } => {
-            let channels: Vec<String> = (0..32).filter(|k| mask >> k & 1 == 1).map(channel).collect();
+            let channels: Vec<String> = (0..32u8).filter(|k| mask >> k & 1 == 1).map(|k| names.channel_name(k)).collect();
             format!("first r{register} {}", channels.join(" "))
         }
-        Operation::Send { register, channel: k } => format!("send r{register} {}", channel(k)),
+        Operation::Send { register, channel: k } => format!("send r{register} {}", names.channel_name(k)),
         Operation::Jump { register, place } => format!("jump {} if r{register}", names.place_name(p, place)),
     }
 }
 
 /// The schedule; equal records in a row are one line. `behind` is put behind a line, for so many records from this one on.
-pub fn schedule(records: &[Bytes], names: &Names, mut behind: impl FnMut(usize, usize) -> String) -> String {
+pub fn schedule(records: &[Record], names: &Names, mut behind: impl FnMut(usize, usize) -> String) -> String {
     let mut text = "schedule\n".to_string();
     let mut at = 0;
     while at < records.len() {
         let equal = records[at..].iter().take_while(|record| **record == records[at]).count();
-        let feed = Move::of(records[at][0]) == Some(Move::Feed);
+        let feed = records[at].kind() == Some(Move::Feed);
         let many = if feed { 1 } else { equal };
         let times = if many > 1 { format!(" x{many}") } else { String::new() };
-        let line = format!("    {}{times}", record(&records[at], names));
+        let line = format!("    {}{times}", record(records[at], names));
         let behind = behind(at, many);
         match behind.is_empty() {
             true => writeln!(text, "{line}").unwrap(),
@@ -80,10 +78,10 @@ pub fn schedule(records: &[Bytes], names: &Names, mut behind: impl FnMut(usize, 
 }
 
 /// A record.
-pub fn record(bytes: &[u8], names: &Names) -> String {
-    let (a, word) = (u32::from(bytes[1]), word(bytes));
+pub fn record(record: Record, names: &Names) -> String {
+    let (a, word) = (u32::from(record.a), record.word);
     let of_program = |name: &str| format!("{name} {}", names.program_name(a));
-    match Move::of(bytes[0]) {
+    match record.kind() {
         Some(Move::Feed) => format!("feed {} {word}", names.channel_name(a)),
         Some(Move::Back) if (a, word) == (0, 0) => "back".to_string(),
         Some(Move::Step) if word == 0 => of_program("step"),
@@ -92,6 +90,6 @@ pub fn record(bytes: &[u8], names: &Names) -> String {
         Some(Move::Carry) if word == 0 => format!("carry {a}"),
         Some(Move::Crash) if word == 0 => format!("crash {a}"),
         Some(Move::Return) if word == 0 => format!("return {a}"),
-        _ => format!("move {} {a} {word}", bytes[0]),
+        _ => format!("move {} {a} {word}", record.code),
     }
 }

@@ -33,9 +33,8 @@ fn settle(cursor: &mut Cursor) -> Result<Statement, Wrong> {
 }
 
 fn action(word: &str, cursor: &mut Cursor) -> Result<Action, Wrong> {
-    let of_program = |kind: Move, cursor: &mut Cursor| {
-        cursor.reference("a program").map(|program| Action::OfProgram { kind, program })
-    };
+    let of_program =
+        |kind: Move, cursor: &mut Cursor| cursor.reference("a program").map(|program| Action::OfProgram { kind, program });
     let of_board = |kind: Move, cursor: &mut Cursor| cursor.byte("a board's number").map(|board| Action::OfBoard { kind, board });
     match word {
         "feed" => {
@@ -177,5 +176,6 @@ fn fact(cursor: &mut Cursor) -> Result<Fact, Wrong> {
     if cursor.accept("held-back") {
         return cursor.number("how many words").map(Fact::HoldBack);
     }
-    Err(cursor.expected("`on` a board, `at` a place, `halted`, `unread`, `held-back`, a register with its word, or words of a channel"))
+    Err(cursor
+        .expected("`on` a board, `at` a place, `halted`, `unread`, `held-back`, a register with its word, or words of a channel"))
 }

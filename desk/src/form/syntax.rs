@@ -54,14 +54,27 @@ pub enum Instruction {
 /// What a record of a schedule does.
 #[derive(Clone, Debug, PartialEq, Eq)]
 pub enum Action {
-    Feed { channel: Ref, words: Vec<u32> },
+    Feed {
+        channel: Ref,
+        words: Vec<u32>,
+    },
     /// A step, sync or resync.
-    OfProgram { kind: Move, program: Ref },
+    OfProgram {
+        kind: Move,
+        program: Ref,
+    },
     /// A carry, crash or return.
-    OfBoard { kind: Move, board: u32 },
+    OfBoard {
+        kind: Move,
+        board: u32,
+    },
     Back,
     /// Any record at all, by its numbers.
-    Raw { kind: u32, a: u32, word: u32 },
+    Raw {
+        kind: u32,
+        a: u32,
+        word: u32,
+    },
 }
 
 /// The answer that is expected of a record.
@@ -97,11 +110,20 @@ pub enum Wanted {
 #[derive(Clone, Debug, PartialEq, Eq)]
 pub enum Statement {
     /// So many times, and what each answer is expected to be.
-    Do { action: Action, times: u32, expected: Option<Expected> },
+    Do {
+        action: Action,
+        times: u32,
+        expected: Option<Expected>,
+    },
     /// Again and again until the answer is this.
-    Until { action: Action, outcome: Outcome },
+    Until {
+        action: Action,
+        outcome: Outcome,
+    },
     /// On until quiet, by so many records at most.
-    Settle { within: Option<u32> },
+    Settle {
+        within: Option<u32>,
+    },
     Expect(Wanted),
 }
 

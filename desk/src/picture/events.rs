@@ -116,9 +116,9 @@ impl Mark<'_> {
                 pen.words("fed", lanes.outside - 4, self.y + 1, story.lives[word].word);
             }
             End::Process(reader) => {
-                let to = self.lane_of(reader as u8);
+                let to = self.lane_of(reader);
                 pen.arrow("reader", (x, self.y), (Self::beside(to, x), self.y - FAN));
-                if let Some(to) = self.backup_of(reader as u8) {
+                if let Some(to) = self.backup_of(reader) {
                     pen.arrow("saves", (x, self.y), (Self::beside(to, x), self.y));
                 }
             }
@@ -131,7 +131,7 @@ impl Mark<'_> {
         let x = self.drawing.lanes.boards[usize::from(board)].queue;
         self.to_the_reader(word, x, pen);
         if let End::Process(sender) = story.played.table.channels[usize::from(story.lives[word].channel)].0 {
-            if let Some(to) = self.backup_of(sender as u8).filter(|_| self.counts(sender as u8)) {
+            if let Some(to) = self.backup_of(sender).filter(|_| self.counts(sender)) {
                 pen.arrow("counts", (x, self.y), (Self::beside(to, x), self.y + FAN));
             }
         }
@@ -186,7 +186,7 @@ impl Mark<'_> {
     /// A tick at whom the record was about.
     fn refused(&self, pen: &mut Pen) {
         let (story, lanes) = (self.drawing.story, &self.drawing.lanes);
-        let a = story.played.records[self.row.from][1];
+        let a = story.played.records[self.row.from].a;
         let x = match story.played.kind(self.row.from) {
             Some(Move::Step | Move::Sync | Move::Resync) if usize::from(a) < story.start.seats.len() => {
                 self.lane_of(a) - BAR / 2 - 3

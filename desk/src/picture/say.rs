@@ -1,13 +1,12 @@
 //! The words of the picture: of a row, of a word and its life, of an entry, of a process and of a board.
 use super::scene::{Board, Entry, Seat, WordId};
 use super::story::{Event, Stage, Story};
-use crate::records::Bytes;
 use crate::words;
 use kunzeastylus::{End, Fate, Operation};
 
 /// What a process is called: by its name, or by its number.
 pub fn program(story: &Story, process: u8) -> String {
-    story.names.as_ref().map_or_else(|| format!("process {process}"), |names| names.program_name(process.into()))
+    story.names.as_ref().map_or_else(|| format!("process {process}"), |names| names.program_name(process))
 }
 
 /// Which name stands for which number, where there are names.
@@ -25,12 +24,11 @@ pub fn instruction(story: &Story, process: u8, seat: &Seat) -> Option<Operation>
 
 /// A record in words, with its steps named by their instruction.
 fn named(story: &Story, record: usize) -> String {
-    let bytes: &Bytes = &story.played.records[record];
     let does = |process: u8| {
         let seat = story.before(record).seats.get(usize::from(process))?;
         Some(words::next(instruction(story, process, seat)))
     };
-    words::record(bytes, does)
+    words::record(&story.played.records[record].bytes(), does)
 }
 
 /// A record and its answer in full.
@@ -44,7 +42,7 @@ pub fn record(story: &Story, record: usize) -> [String; 2] {
 
 pub fn word(story: &Story, word: WordId) -> String {
     let life = &story.lives[word];
-    let channel = story.names.as_ref().map(|names| names.channel_name(life.channel.into()));
+    let channel = story.names.as_ref().map(|names| names.channel_name(life.channel));
     format!("{} on {}", life.word, channel.unwrap_or_else(|| format!("channel {}", life.channel)))
 }
 
@@ -91,7 +89,7 @@ pub fn row(story: &Story, from: usize, to: usize) -> String {
         Event::ResyncIssued { process } => format!("a resync of {} joins the queue", who(process)),
         Event::Carried { word, .. } => match story.played.table.channels[usize::from(story.lives[*word].channel)].1 {
             End::Outside => format!("{} is carried to the outside", on(word)),
-            End::Process(reader) => format!("{} is carried to {}", on(word), who(&(reader as u8))),
+            End::Process(reader) => format!("{} is carried to {}", on(word), who(&reader)),
         },
         Event::SyncCarried { process, dropped, .. } => {
             let dropped = words::many(*dropped as usize, "saved word", "saved words");
@@ -127,8 +125,8 @@ fn place(story: &Story, record: usize, process: u8) -> String {
 fn refused(story: &Story, from: usize, to: usize) -> String {
     let times = if from == to { String::new() } else { format!(", {} times", to - from + 1) };
     let answer = story.played.ran.answers[from];
-    let record = words::record(&story.played.records[from], |_| None);
-    format!("{record}: refused {}, {}{times}", answer.code.number(), answer.cause.words())
+    let record = words::record(&story.played.records[from].bytes(), |_| None);
+    format!("{record}: refused {}, {}{times}", answer.code.number(), answer.reason.words())
 }
 
 /// What became of a word at a record.

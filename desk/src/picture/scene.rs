@@ -63,15 +63,15 @@ impl Scene {
     /// "It starts from the cabinet that the table gives".
     pub fn start(table: &Table) -> Scene {
         let seat = |process: &kunzeastylus::Process| Seat {
-            end: ProcessEnd { board: process.primary as u8, place: 0, unread: 0, hold_back: 0, registers: [0; 4] },
+            end: ProcessEnd { board: process.primary, place: 0, unread: 0, hold_back: 0, registers: [0; 4] },
             unread: Vec::new(),
-            backup: Some(Standby { board: process.backup as u8, ..Standby::default() }),
+            backup: Some(Standby { board: process.backup, ..Standby::default() }),
             making: None,
             taken: Vec::new(),
             held: Vec::new(),
             lost: Vec::new(),
         };
-        Scene { seats: table.processes.iter().map(seat).collect(), boards: vec![Board::default(); table.boards as usize] }
+        Scene { seats: table.processes.iter().map(seat).collect(), boards: vec![Board::default(); usize::from(table.boards)] }
     }
 
     /// How much is unread and held back, as a report would say it.
@@ -94,7 +94,7 @@ impl Scene {
     /// A word is on the bus: to its reader's inbox and backup.
     pub fn arrive(&mut self, reader: End, word: WordId) {
         let End::Process(reader) = reader else { return };
-        let seat = &mut self.seats[reader as usize];
+        let seat = &mut self.seats[usize::from(reader)];
         seat.unread.push(word);
         seat.backup.iter_mut().chain(&mut seat.making).for_each(|backup| backup.saved.push(word));
     }

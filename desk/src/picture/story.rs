@@ -5,8 +5,7 @@ use crate::follow::Spot;
 use crate::form::names::Names;
 use crate::played::Played;
 use crate::proved;
-use crate::records::word;
-use kunzeastylus::{Answer, Cause, Code, End, Fate, Move};
+use kunzeastylus::{Answer, Code, End, Fate, Move, Reason};
 
 /// What a record did.
 #[derive(Clone, Debug, PartialEq, Eq)]
@@ -160,10 +159,10 @@ impl Telling<'_> {
     /// What the record did, by its move and its answer; the words go where it put them.
     fn event(&mut self, answer: Answer) -> Event {
         let record = self.played.records[self.at];
-        let a = record[1];
+        let a = record.a;
         match self.played.kind(self.at) {
             _ if answer.code.refused() => Event::Refused,
-            Some(Move::Feed) => self.fed(a, word(&record)),
+            Some(Move::Feed) => self.fed(a, record.word),
             Some(Move::Step) => self.stepped(a, answer),
             Some(Move::Sync) => {
                 let taken = std::mem::take(&mut self.scene.seats[usize::from(a)].taken);
@@ -244,8 +243,8 @@ impl Telling<'_> {
     fn resync(&mut self, process: u8) -> Event {
         let boards = &self.played.table.processes[usize::from(process)];
         let seat = &mut self.scene.seats[usize::from(process)];
-        let other = if u32::from(seat.end.board) == boards.primary { boards.backup } else { boards.primary };
-        seat.making = Some(Standby { board: other as u8, saved: seat.unread.clone(), counted: Vec::new() });
+        let other = if seat.end.board == boards.primary { boards.backup } else { boards.primary };
+        seat.making = Some(Standby { board: other, saved: seat.unread.clone(), counted: Vec::new() });
         seat.taken.clear();
         self.scene.queue(process, Entry::Resync { process });
         Event::ResyncIssued { process }
@@ -257,7 +256,7 @@ impl Telling<'_> {
                 let (sender, reader) = self.played.table.channels[usize::from(self.lives[word].channel)];
                 self.scene.arrive(reader, word);
                 if let End::Process(sender) = sender {
-                    self.scene.seats[sender as usize].backup.iter_mut().for_each(|backup| backup.counted.push(word));
+                    self.scene.seats[usize::from(sender)].backup.iter_mut().for_each(|backup| backup.counted.push(word));
                 }
                 self.note(word, if reader == End::Outside { Stage::Printed } else { Stage::Carried });
                 Event::Carried { board, word }
@@ -272,7 +271,7 @@ impl Telling<'_> {
             Entry::Resync { process } => {
                 let seat = &mut self.scene.seats[usize::from(process)];
                 seat.backup = seat.making.take();
-                assert_eq!(answer.cause, Cause::ResyncCarried, "a fault of this program: it followed another entry");
+                assert_eq!(answer.reason, Reason::ResyncCarried, "a fault of this program: it followed another entry");
                 Event::ResyncCarried { board, process }
             }
         }
@@ -285,7 +284,7 @@ impl Telling<'_> {
             if let Entry::Word(word) = *entry {
                 self.note(word, Stage::Lost);
                 if let End::Process(sender) = self.played.table.channels[usize::from(self.lives[word].channel)].0 {
-                    self.scene.seats[sender as usize].lost.insert(0, word);
+                    self.scene.seats[usize::from(sender)].lost.insert(0, word);
                 }
             }
         }

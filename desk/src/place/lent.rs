@@ -30,5 +30,7 @@ pub fn output(table: usize, lent: usize) -> Vec<String> {
 /// 46: a first serial that is too high.
 pub fn serial(first: u32) -> Vec<String> {
     let over = first > SERIAL_MOST;
-    over.then(|| format!("the first serial is {first}, and {SERIAL_MOST} is the last one that leaves room for 10,000 labels")).into_iter().collect()
+    over.then(|| format!("the first serial is {first}, and {SERIAL_MOST} is the last one that leaves room for 10,000 labels"))
+        .into_iter()
+        .collect()
 }

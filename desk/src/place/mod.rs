@@ -57,12 +57,17 @@ impl Called<'_> {
 #[derive(Clone, Debug, PartialEq, Eq)]
 pub enum Lines {
     /// The part begins with this byte of a file of bytes.
-    Bytes { from: usize },
+    Bytes {
+        from: usize,
+    },
     /// The line of each byte of the part.
     Hex(Vec<usize>),
     Table(TableLines),
     /// The line of the heading, and that of each record.
-    Schedule { heading: usize, records: Vec<usize> },
+    Schedule {
+        heading: usize,
+        records: Vec<usize>,
+    },
 }
 
 /// A file and the lines of what was read from it.

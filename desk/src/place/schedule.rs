@@ -45,13 +45,14 @@ fn length(schedule: &[u8]) -> Vec<(Spot, String)> {
 /// 52: why a sound schedule isn't swept.
 fn swept(schedule: &[u8]) -> Vec<(Spot, String)> {
     let records = schedule.len() / 6;
-    let first = |kind| schedule[3..].chunks_exact(6).position(|record| Move::of(record[0]) == Some(kind));
+    let first = |kind| schedule[3..].chunks_exact(6).position(|record| Move::try_from(record[0]) == Ok(kind));
     let crash = first(Move::Crash).map(|i| {
         let what = format!("record {} is a crash; a sweep puts its own at every place, so leave out all of them", i + 1);
         (Spot::Record(i), what)
     });
     let back = first(Move::Back).map(|i| {
-        let what = format!("record {} is a back, which could take back the crash; leave out all of them and what they take back", i + 1);
+        let what =
+            format!("record {} is a back, which could take back the crash; leave out all of them and what they take back", i + 1);
         (Spot::Record(i), what)
     });
     let long = (records > SWEPT_MOST).then(|| {

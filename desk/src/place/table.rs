@@ -118,7 +118,10 @@ fn ends(draft: &Draft, called: Called) -> Vec<(Spot, String)> {
         let end = |end: u32, what: &str| {
             (end >= draft.processes && end != outside).then(|| {
                 let processes = draft.processes;
-                (Spot::Channel(k), format!("{it}: its {what} is {end}, which is no process below {processes} and not {outside}, the outside"))
+                (
+                    Spot::Channel(k),
+                    format!("{it}: its {what} is {end}, which is no process below {processes} and not {outside}, the outside"),
+                )
             })
         };
         let both = (*pair == [outside, outside]).then(|| (Spot::Channel(k), format!("{it}: both its ends are the outside")));
@@ -146,7 +149,8 @@ fn boards(draft: &Draft, called: Called) -> Vec<(Spot, String)> {
     let wrong = |(p, process): (usize, &Process)| {
         let (it, boards) = (called.process(p), draft.boards);
         let over = |board: u32, what: &str| {
-            (board >= boards).then(|| (Spot::Process(p), format!("{it}: its {what} is {board}, and the boards are 0 to {}", boards - 1)))
+            (board >= boards)
+                .then(|| (Spot::Process(p), format!("{it}: its {what} is {board}, and the boards are 0 to {}", boards - 1)))
         };
         let same = (process.primary == process.backup)
             .then(|| (Spot::Process(p), format!("{it}: its board and its backup's are both {}", process.primary)));
@@ -158,7 +162,9 @@ fn boards(draft: &Draft, called: Called) -> Vec<(Spot, String)> {
 fn limits(draft: &Draft, called: Called) -> Vec<(Spot, String)> {
     let limited = draft.programs.iter().enumerate().filter_map(|(p, process)| process.limit.map(|limit| (p, limit)));
     let wrong = limited.filter(|(_, limit)| !(1..=16).contains(limit));
-    wrong.map(|(p, limit)| (Spot::Limit(p), format!("{}: its limit is {limit}, and 1 to 16 are wanted", called.process(p)))).collect()
+    wrong
+        .map(|(p, limit)| (Spot::Limit(p), format!("{}: its limit is {limit}, and 1 to 16 are wanted", called.process(p))))
+        .collect()
 }
 
 fn instructions(draft: &Draft, called: Called) -> Vec<(Spot, String)> {
@@ -175,7 +181,7 @@ fn instructions(draft: &Draft, called: Called) -> Vec<(Spot, String)> {
 
 /// What is wrong with an instruction of process `p`, and what it is called.
 fn instruction(draft: &Draft, p: usize, [code, a, operand]: [u32; 3], called: Called) -> Option<(String, String)> {
-    let Some(known) = u8::try_from(code).ok().and_then(Instruction::of) else {
+    let Some(known) = u8::try_from(code).ok().and_then(|code| Instruction::try_from(code).ok()) else {
         return Some((format!("code {code}"), "the codes are 1 to 6".to_string()));
     };
     let name = crate::lists::mnemonic(code).unwrap_or("?");

@@ -89,7 +89,7 @@ impl<'t> Plain<'t> {
     fn put(&mut self, sent: BusWord) -> Did {
         self.bus.push(sent);
         if let End::Process(reader) = self.table.channels[usize::from(sent.channel)].1 {
-            self.machines[reader as usize].inbox.push((sent.channel, sent.word));
+            self.machines[usize::from(reader)].inbox.push((sent.channel, sent.word));
         }
         Did::Put(sent)
     }
@@ -115,8 +115,8 @@ impl<'t> Plain<'t> {
             }
             Operation::Send { register, channel } => {
                 let word = registers[register as usize];
-                let sender = End::Process(process.into());
-                did = self.put(BusWord { channel: channel as u8, word, sender, place: place as u8 });
+                let sender = End::Process(process);
+                did = self.put(BusWord { channel, word, sender, place: place as u8 });
             }
             Operation::Jump { register, place } if registers[register as usize] != 0 => next = place as usize,
             Operation::Jump { .. } => (),
@@ -128,7 +128,7 @@ impl<'t> Plain<'t> {
 
 impl Machine {
     /// "TAKE and FIRST remove the first word in the inbox on a channel they name": bit k of the mask is channel k.
-    fn take(&mut self, register: u32, mask: u32) -> Result<Did, Refused> {
+    fn take(&mut self, register: u8, mask: u32) -> Result<Did, Refused> {
         let at = self.inbox.iter().position(|&(channel, _)| mask >> channel & 1 == 1).ok_or(Refused::NoWord)?;
         let (channel, word) = self.inbox.remove(at);
         self.registers[register as usize] = word;

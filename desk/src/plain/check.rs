@@ -2,7 +2,6 @@
 //! channel, word, sender and place agree (W-212); what counts are the records that stand (W-214).
 use super::cabinet::{Machine, Plain, PlainMove, Refused};
 use crate::played::Played;
-use crate::records::word;
 use kunzeastylus::{BusWord, Code, Move, ProcessEnd};
 use std::fmt;
 
@@ -81,7 +80,7 @@ pub fn check(played: &Played, moves: &[PlainMove]) -> Result<Held, Fault> {
 /// "its feeds are, in order, the feeds of our list that answered 4"
 fn fed_in(played: &Played) -> Vec<(u8, u32)> {
     let fed = played.standing().filter(|&i| played.kind(i) == Some(Move::Feed) && played.ran.answers[i].code == Code::OnTheBus);
-    fed.map(|i| (played.records[i][1], word(&played.records[i]))).collect()
+    fed.map(|i| (played.records[i].a, played.records[i].word)).collect()
 }
 
 /// "The bus order is the answers 4", each with its origin.

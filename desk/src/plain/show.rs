@@ -4,7 +4,7 @@ use super::check::Held;
 use super::witness::Beside;
 use crate::played::Played;
 use crate::words;
-use kunzeastylus::{Cause, Code, End, Fate, Move, Operation};
+use kunzeastylus::{Code, End, Fate, Move, Operation, Reason};
 use std::fmt::Write;
 
 /// How wide our half of a line is.
@@ -33,11 +33,11 @@ pub fn words(played: &Played, found: &[Beside], held: &Held) -> String {
 
 /// A record and its answer, in few words.
 fn record(played: &Played, i: usize) -> String {
-    let (bytes, answer) = (&played.records[i], played.ran.answers[i]);
+    let (given, answer) = (played.records[i], played.ran.answers[i]);
     let mark = if matches!(played.ran.fates[i], Fate::TakenBackBy(_)) { words::TAKEN_BACK } else { ' ' };
     let record = match (played.kind(i), answer.code.refused()) {
-        (Some(Move::Feed), true) => format!("feed channel {}", bytes[1]),
-        _ => words::record(bytes, |_| None),
+        (Some(Move::Feed), true) => format!("feed channel {}", given.a),
+        _ => words::record(&given.bytes(), |_| None),
     };
     let what = match (answer.code, played.kind(i)) {
         (Code::Done, _) | (Code::OnTheBus, Some(Move::Feed)) => String::new(),
@@ -45,7 +45,7 @@ fn record(played: &Played, i: usize) -> String {
         (Code::Queued, _) => ": queued".to_string(),
         (Code::HeldBack, _) => ": held back".to_string(),
         (Code::OnTheBus, _) => ": on the bus".to_string(),
-        (Code::SyncCarried, _) if answer.cause == Cause::ResyncCarried => format!(": resync of {}", answer.a),
+        (Code::SyncCarried, _) if answer.reason == Reason::ResyncCarried => format!(": resync of {}", answer.a),
         (Code::SyncCarried | Code::SyncUnbacked, _) => format!(": sync of {}", answer.a),
         (Code::TakenBack, _) => match played.ran.fates[i] {
             Fate::TookBack(taken) => format!(", takes back {}", taken + 1),

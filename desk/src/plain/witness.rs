@@ -4,7 +4,6 @@
 use super::cabinet::{Did, Plain, PlainMove};
 use super::check::Fault;
 use crate::played::Played;
-use crate::records::word;
 use kunzeastylus::{End, Move};
 
 /// A move of the plain run, and the record of our run that it is made for; none at a quiet end.
@@ -28,10 +27,10 @@ pub fn find(played: &Played) -> Result<Vec<Beside>, Fault> {
         let Some(on_the_bus) = played.ran.answers[i].bus else { continue };
         match (played.kind(i), on_the_bus.sender) {
             (Some(Move::Feed), _) => {
-                let plain = PlainMove::Feed { channel: played.records[i][1], word: word(&played.records[i]) };
+                let plain = PlainMove::Feed { channel: played.records[i].a, word: played.records[i].word };
                 search.make(Some(i), plain)?;
             }
-            (_, End::Process(sender)) => search.until_sent(i, sender as u8)?,
+            (_, End::Process(sender)) => search.until_sent(i, sender)?,
             (_, End::Outside) => return Err(Fault::NoSender(i)),
         }
     }

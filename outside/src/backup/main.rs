@@ -181,7 +181,7 @@ fn report(seen: &Seen) -> bool {
 }
 
 fn main() {
-    let mut arguments = std::env::args().skip(1);
+    let mut arguments = std::env::args().skip(1).filter(|argument| argument != "--all-met");
     let calls: u32 = arguments.next().map_or(CALLS, |a| a.parse().expect("the number of calls"));
     let seed: u64 = arguments.next().map_or(SEED, |a| a.parse().expect("the seed"));
     println!("backup: {calls} calls, seed {seed}");

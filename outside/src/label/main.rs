@@ -7,6 +7,7 @@ mod compare;
 
 use compare::{compare, Counts};
 use outside::call::ks_label_table;
+use outside::options::number;
 use outside::random::Random;
 use outside::rules::generate::{continued, encode_table};
 use outside::rules::going_back::going_back;
@@ -157,8 +158,7 @@ fn long(counts: &mut Counts, first: u32, table: &Table, place: usize, board: u8)
 }
 
 fn main() {
-    let mut arguments = std::env::args().skip_while(|argument| argument != "--seed").skip(1);
-    let seed = arguments.next().map_or(SEED, |value| value.parse().expect("--seed takes a number"));
+    let seed = number("--seed").unwrap_or(SEED);
     println!("label: seed {seed}");
     let mut random = Random::new(seed);
     let mut counts = Counts::default();

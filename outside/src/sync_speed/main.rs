@@ -5,6 +5,7 @@
 //! each order as often as any other. The replies and the records afterwards are compared.
 mod plain;
 
+use outside::options::number;
 use outside::random::Random;
 use plain::{Checkpoint, Record, Saved};
 use std::time::Instant;
@@ -224,17 +225,11 @@ fn time(random: &mut Random, row: &Row, repetitions: u64) -> [[f64; 2]; 3] {
     })
 }
 
-/// The value of an option, if it is given.
-fn option(name: &str) -> Option<u64> {
-    let mut arguments = std::env::args().skip_while(|argument| argument != name).skip(1);
-    arguments.next().map(|value| value.parse().unwrap_or_else(|_| panic!("{name} takes a number")))
-}
-
 fn main() {
     assert!(unsafe { sync_log() } == LOG, "the record's size is another");
-    let repetitions = option("--repetitions").unwrap_or(REPETITIONS).max(1);
-    let seed = option("--seed").unwrap_or(SEED);
-    let only = option("--row");
+    let repetitions = number("--repetitions").unwrap_or(REPETITIONS).max(1);
+    let seed = number("--seed").unwrap_or(SEED);
+    let only = number("--row");
     println!(
         "nanoseconds a sync, the quickest (and the median) of {repetitions} repetitions over {RECORDS} records, seed {seed}"
     );
