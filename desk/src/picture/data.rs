@@ -4,22 +4,12 @@ use super::layout::Row;
 use super::say;
 use super::scene::{Scene, WordId};
 use super::story::Story;
+use crate::json;
 use kunzeastylus::Fate;
-use std::fmt::Write;
 
 /// Text as JSON has it, safe within a page.
 fn quoted(text: &str) -> String {
-    let mut quoted = String::from("\"");
-    for character in text.chars() {
-        match character {
-            '"' | '\\' => quoted.extend(['\\', character]),
-            '<' => quoted.push_str("\\u003c"),
-            c if c.is_control() => write!(quoted, "\\u{:04x}", u32::from(c)).unwrap(),
-            c => quoted.push(c),
-        }
-    }
-    quoted.push('"');
-    quoted
+    json::string(text).replace('<', "\\u003c")
 }
 
 fn list(items: impl Iterator<Item = String>) -> String {

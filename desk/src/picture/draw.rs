@@ -1,7 +1,7 @@
 //! The drawing of some rows: what stays (columns, bars, gauges, queues) as long shapes from one change to the next, and what happens as a mark in its
 //! row. A part of a run is drawn from its own rows alone.
 use super::events;
-use super::layout::{Lanes, Row, ROW};
+use super::layout::{Lanes, Row, LINE, NUMBER, ROW};
 use super::pen::Pen;
 use super::scene::{Scene, Seat};
 use super::story::Story;
@@ -166,10 +166,10 @@ impl<'s> Drawing<'s> {
             format!("class=\"{}\" id=\"r{}\" data-r=\"{}\"", if gone { "row gone" } else { "row" }, row.from + 1, row.from + 1);
         pen.group(attributes, |pen| {
             pen.rect("hit", 0, row.y, self.lanes.width, row.height);
-            pen.words("number", super::layout::NUMBER, row.y + 13, number(row, gone));
+            pen.words("number", NUMBER, row.y + 13, number(row, gone));
             self.places(row, pen);
             events::draw(self, row, pen);
-            for (line, y) in row.words.iter().zip((row.y + 13..).step_by(super::layout::LINE as usize)) {
+            for (line, y) in row.words.iter().zip((row.y + 13..).step_by(LINE as usize)) {
                 pen.words("words", self.lanes.words, y, line);
             }
         });

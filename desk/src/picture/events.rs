@@ -1,7 +1,7 @@
 //! What happens in a row, as marks: words as dots and squares with their arrows, syncs as diamonds, a crash as a cross with what it lost, a refusal as
 //! a tick.
 use super::draw::{colour, Drawing, BAR};
-use super::layout::{Row, CROSS, LINE, LISTED, ROW};
+use super::layout::{Row, CROSS, LINE, LISTED, NUMBER, ROW};
 use super::pen::Pen;
 use super::say;
 use super::scene::{Entry, WordId};
@@ -17,40 +17,26 @@ pub fn draw(drawing: &Drawing, row: &Row, pen: &mut Pen) {
         Event::Fed(word) => mark.of_word(*word, pen, |pen| mark.fed(*word, pen)),
         Event::Took { process, word } => mark.of_word(*word, pen, |pen| mark.took(*process, pen)),
         Event::Queued { process, word } => mark.of_word(*word, pen, |pen| {
-            mark.to_the_queue(*process, "sent", pen);
-            pen.square("word", mark.queue_of(*process), mark.y);
+            let x = mark.to_the_queue(*process, pen);
+            pen.square("word", x, mark.y);
         }),
-        Event::HeldBack { process, word } => mark.of_word(*word, pen, |pen| {
-            let x = mark.lane_of(*process) + BAR / 2 + 7;
-            pen.line("sent", (x - 7, mark.y), (x - 4, mark.y));
-            pen.square("hollow", x, mark.y);
-        }),
+        Event::HeldBack { process, word } => mark.of_word(*word, pen, |pen| mark.held_back(*process, pen)),
         Event::Calculated { .. } => (),
         Event::SyncIssued { process } => {
-            mark.to_the_queue(*process, "sent", pen);
-            pen.diamond("sync", mark.queue_of(*process), mark.y);
+            let x = mark.to_the_queue(*process, pen);
+            pen.diamond("sync", x, mark.y);
         }
         Event::ResyncIssued { process } => {
-            mark.to_the_queue(*process, "sent", pen);
-            pen.diamond("resync", mark.queue_of(*process), mark.y);
+            let x = mark.to_the_queue(*process, pen);
+            pen.diamond("resync", x, mark.y);
         }
         Event::Carried { board, word } => mark.of_word(*word, pen, |pen| mark.carried(*board, *word, pen)),
         Event::SyncCarried { board, process, dropped } => mark.landed(*board, *process, "sync", *dropped, pen),
         Event::ResyncCarried { board, process } => mark.landed(*board, *process, "resync", 0, pen),
-        Event::SyncUnbacked { board, .. } => {
-            let x = mark.drawing.lanes.boards[usize::from(*board)].queue;
-            pen.diamond("sync", x, mark.y);
-            pen.path("tick", format_args!("M{} {}l12 12m0 -12l-12 12", x - 6, mark.y - 6));
-        }
+        Event::SyncUnbacked { board, .. } => mark.unbacked(*board, pen),
         Event::Crashed { board, lost, moved } => mark.crashed(*board, lost, moved, pen),
-        Event::Returned { board } => {
-            let column = &drawing.lanes.boards[usize::from(*board)];
-            pen.line("returns", (column.x, row.y + 1), (column.x + column.width, row.y + 1));
-            pen.words("returned", column.x + column.width / 2, row.y + 13, "returns");
-        }
-        Event::TookBack(_) => {
-            pen.path("back", format_args!("M{} {}c12 0 12 -9 0 -9l4 -3m-4 3l4 3", super::layout::NUMBER + 6, mark.y + 4))
-        }
+        Event::Returned { board } => mark.returned(*board, pen),
+        Event::TookBack(_) => pen.path("back", format_args!("M{} {}c12 0 12 -9 0 -9l4 -3m-4 3l4 3", NUMBER + 6, mark.y + 4)),
         Event::Refused => mark.refused(pen),
     }
 }
@@ -86,8 +72,32 @@ impl Mark<'_> {
         Some(self.drawing.lanes.lane(backup.board, process))
     }
 
-    fn to_the_queue(&self, process: u8, class: &str, pen: &mut Pen) {
-        pen.line(class, (self.lane_of(process) + BAR / 2, self.y), (self.queue_of(process) - 4, self.y));
+    /// A line from a process to its queue, and where that is.
+    fn to_the_queue(&self, process: u8, pen: &mut Pen) -> i32 {
+        let x = self.queue_of(process);
+        pen.line("sent", (self.lane_of(process) + BAR / 2, self.y), (x - 4, self.y));
+        x
+    }
+
+    /// A send that goes nowhere.
+    fn held_back(&self, process: u8, pen: &mut Pen) {
+        let x = self.lane_of(process) + BAR / 2 + 7;
+        pen.line("sent", (x - 7, self.y), (x - 4, self.y));
+        pen.square("hollow", x, self.y);
+    }
+
+    /// A sync that finds no backup.
+    fn unbacked(&self, board: u8, pen: &mut Pen) {
+        let x = self.drawing.lanes.boards[usize::from(board)].queue;
+        pen.diamond("sync", x, self.y);
+        pen.path("tick", format_args!("M{} {}l12 12m0 -12l-12 12", x - 6, self.y - 6));
+    }
+
+    /// The column begins anew.
+    fn returned(&self, board: u8, pen: &mut Pen) {
+        let (column, y) = (&self.drawing.lanes.boards[usize::from(board)], self.row.y);
+        pen.line("returns", (column.x, y + 1), (column.x + column.width, y + 1));
+        pen.words("returned", column.x + column.width / 2, y + 13, "returns");
     }
 
     /// A triangle that points into the bar.
@@ -195,7 +205,7 @@ impl Mark<'_> {
                 lanes.boards[usize::from(a)].queue
             }
             Some(Move::Feed) => lanes.outside,
-            _ => super::layout::NUMBER + 8,
+            _ => NUMBER + 8,
         };
         let y = self.row.y + ROW / 2;
         pen.path("tick", format_args!("M{} {}l6 6m0 -6l-6 6", x - 3, y - 3));
