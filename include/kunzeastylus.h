@@ -31,6 +31,10 @@ extern "C" {
 #define KS_RECORDS_MOST 10000
 #define KS_SWEEP_MOST 500       /* records of a schedule that is swept */
 #define KS_PROCESSES_MOST 16
+#define KS_BOARDS_MOST 16
+#define KS_CHANNELS_MOST 32
+#define KS_WORDS_MOST 64        /* unread words of a process, and saved words of a backup */
+#define KS_QUEUE_MOST 32        /* entries of a board's queue */
 #define KS_ENDS_MOST 64         /* the longest lists of a table, in numbers */
 #define KS_PLACEMENTS_MOST 48
 #define KS_LIMITS_MOST 16
@@ -42,6 +46,7 @@ extern "C" {
 #define KS_LABEL_TABLE 84       /* a label line's table */
 #define KS_STATE 135            /* a backup record, in numbers of 32 bits */
 #define KS_CALL 10              /* a call of the backup record, in numbers of 32 bits */
+#define KS_VIEW 11187           /* the whole cabinet, in numbers of 32 bits: struct ks_view */
 #define KS_SCHEDULE_BYTES(records) (3 + KS_RECORD * (records)) /* a schedule of so many records */
 
 /* ---- stack that a call takes at most, in bytes; it is measured for many inputs whenever the library is tested */
@@ -79,7 +84,8 @@ enum ks_refusal {
     KS_FIRST_SERIAL = 46,     /* of ks_label_table and ks_label_run alone */
     KS_LIMIT = 47,
     KS_ORIGINS_SHORT = 51,
-    KS_UNSWEPT = 52           /* of ks_sweep alone */
+    KS_UNSWEPT = 52,          /* of ks_sweep alone */
+    KS_VIEW_SHORT = 54        /* of ks_view alone */
 };
 
 /* ---- the answer to a record, in the words of ks_answer_text; behind each, its a and word */
@@ -173,6 +179,59 @@ enum ks_backup_reply {
 
 enum ks_asked { KS_NEW = 0, KS_ARRIVE = 1, KS_COUNT = 2, KS_BACKUP_SYNC = 3, KS_TAKE_OVER = 4 };
 
+/* ---- the whole cabinet as numbers: what ks_view writes. Lists are oldest first, with 0 behind their last; what the table doesn't have is 0 */
+
+enum ks_view_backup_state { KS_BACKUP_NONE = 0, KS_BACKUP_COMPLETE = 1, KS_BACKUP_MAKING = 2 };
+enum ks_view_kind { KS_ENTRY_NONE = 0, KS_ENTRY_WORD = 1, KS_ENTRY_SYNC = 2, KS_ENTRY_RESYNC = 3 };
+
+struct ks_view_unread { uint32_t channel, word; };
+struct ks_view_saved { uint32_t slot, word; };
+
+struct ks_view_backup { /* all 0 where there is none */
+    uint32_t state;           /* enum ks_view_backup_state; being made, it is from a resync's issue until its carry */
+    uint32_t board;
+    uint32_t place;
+    uint32_t registers[4];
+    uint32_t count;           /* words of the process carried since this state */
+    uint32_t saved;           /* how many words are saved */
+    struct ks_view_saved words[KS_WORDS_MOST];
+};
+
+struct ks_view_process {
+    uint32_t board;           /* where it runs */
+    uint32_t place;
+    uint32_t registers[4];
+    uint32_t hold_back;
+    uint32_t acts;            /* these three since its last sync or resync was issued */
+    uint32_t instructions;
+    uint32_t takes[4];        /* of each slot */
+    uint32_t unread;          /* how many words are in its inbox */
+    struct ks_view_unread inbox[KS_WORDS_MOST];
+    struct ks_view_backup backup;
+};
+
+struct ks_view_entry {        /* what its kind doesn't have is 0 */
+    uint32_t kind;            /* enum ks_view_kind */
+    uint32_t channel, word;   /* of a word */
+    uint32_t process;         /* of a sync or a resync */
+    uint32_t place;           /* of a word, that of its SEND; of a sync, the snapshot's, as the next two */
+    uint32_t registers[4];
+    uint32_t takes[4];
+};
+
+struct ks_view_board {
+    uint32_t dead;            /* 1, or 0 where it is live */
+    uint32_t waiting;         /* how many entries its queue has */
+    struct ks_view_entry queue[KS_QUEUE_MOST];
+};
+
+struct ks_view {              /* KS_VIEW numbers */
+    uint32_t boards, processes, channels; /* how many the table has */
+    struct ks_view_process process[KS_PROCESSES_MOST];
+    struct ks_view_board board[KS_BOARDS_MOST];
+    uint32_t total[KS_CHANNELS_MOST];     /* of each channel: unread words and words in queues together */
+};
+
 /* ---- the calls */
 
 /* The KS_ABI that the library was built for. */
@@ -195,6 +254,11 @@ uint32_t ks_judge(const uint8_t *table, size_t table_len, const uint8_t *schedul
  * with none, unpacked by ks_number, ks_swept_quiet, ks_swept_held and ks_swept_open; together they are (n + 1) * boards. Refused, with 1 to 10,
  * KS_LIMIT or KS_UNSWEPT, they are 0. */
 uint64_t ks_sweep(const uint8_t *table, size_t table_len, const uint8_t *schedule, size_t schedule_len);
+
+/* The whole cabinet as it is after a run, as KS_VIEW numbers to the front of out: struct ks_view laid over them has their names. 0, or the number
+ * by which it is refused: 1 to 10 or KS_LIMIT as ks_run would be, then KS_VIEW_SHORT. Numbers behind the view stay as they were; refused, all of
+ * out does. */
+uint32_t ks_view(const uint8_t *table, size_t table_len, const uint8_t *schedule, size_t schedule_len, uint32_t *out, size_t out_len);
 
 /* A call of the backup record. state is KS_STATE numbers: how many words are saved, count, place, four registers, then 64 pairs of slot and
  * word. call is KS_CALL numbers, its own and its arguments:
