@@ -5,10 +5,12 @@ use std::io::Write;
 use std::path::PathBuf;
 use std::process::{Command, Stdio};
 
-/// Where `rt check bench` puts the program, below the repository's root; or KS_BENCH.
+/// Where the program is: KS_BENCH, or beside this program, where both are installed, or where `rt check bench` puts it.
 fn program() -> PathBuf {
-    let built = concat!(env!("CARGO_MANIFEST_DIR"), "/../target/bin/bench");
-    std::env::var_os("KS_BENCH").map_or(PathBuf::from(built), PathBuf::from)
+    let said = std::env::var_os("KS_BENCH").map(PathBuf::from);
+    let beside = || std::env::current_exe().ok().map(|path| path.with_file_name("ks-bench")).filter(|path| path.exists());
+    let built = || PathBuf::from(concat!(env!("CARGO_MANIFEST_DIR"), "/../target/bin/bench"));
+    said.or_else(beside).unwrap_or_else(built)
 }
 
 /// The page of a table and a schedule.

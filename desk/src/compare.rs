@@ -88,8 +88,10 @@ fn ends(a: &Side, b: &Side, width: usize, text: &mut String) -> bool {
     for p in 0..left.len().max(right.len()) {
         let shown = |ends: &[ProcessEnd], names: &Names| ends.get(p).map_or("-".to_string(), |end| stands(p, end, names));
         columns(text, &shown(left, &a.case.names), same(p), &shown(right, &b.case.names), width);
-        let counts = |ends: &[ProcessEnd]| ends.get(p).map_or(String::new(), inner);
-        columns(text, &counts(left), same(p), &counts(right), width);
+        for inner in [counts, registers] {
+            let shown = |ends: &[ProcessEnd]| ends.get(p).map_or(String::new(), inner);
+            columns(text, &shown(left), same(p), &shown(right), width);
+        }
     }
     let said = |quiet: bool| if quiet { "quiet" } else { "not quiet" };
     columns(text, said(a.ran.quiet), quiet, said(b.ran.quiet), width);
@@ -97,11 +99,14 @@ fn ends(a: &Side, b: &Side, width: usize, text: &mut String) -> bool {
 }
 
 fn stands(p: usize, end: &ProcessEnd, names: &Names) -> String {
-    let ProcessEnd { board, place, unread, hold_back, .. } = end;
-    format!("{} on {board} at {place} unread {unread} held-back {hold_back}", names.program_name(p as u32))
+    format!("{} on {} at {}", names.program_name(p as u32), end.board, names.place_name(p, end.place))
 }
 
-fn inner(end: &ProcessEnd) -> String {
+fn counts(end: &ProcessEnd) -> String {
+    format!("    unread {} held-back {}", end.unread, end.hold_back)
+}
+
+fn registers(end: &ProcessEnd) -> String {
     let [r0, r1, r2, r3] = end.registers;
     format!("    registers {r0} {r1} {r2} {r3}")
 }

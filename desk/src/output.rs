@@ -52,10 +52,17 @@ fn columns() -> Option<usize> {
     String::from_utf8(asked.stdout).ok()?.split_whitespace().nth(1)?.parse().ok().filter(|&columns| columns > 0)
 }
 
+/// How wide a text is on a terminal: colours take no room.
+fn wide(text: &str) -> usize {
+    let mut pieces = text.split("\x1b[");
+    let first = pieces.next().map_or(0, |piece| piece.chars().count());
+    first + pieces.map(|piece| piece.split_once('m').map_or(0, |(_, rest)| rest.chars().count())).sum::<usize>()
+}
+
 /// A line in lines that are no wider, further in from the second on. A word that is wider stays whole; so do the spaces before a word.
 fn fold_line(line: &str, width: usize) -> String {
     let (line, end) = line.strip_suffix('\n').map_or((line, ""), |line| (line, "\n"));
-    if line.chars().count() <= width {
+    if wide(line) <= width {
         return format!("{line}{end}");
     }
     let inner = line.len() - line.trim_start_matches(' ').len();
@@ -63,8 +70,7 @@ fn fold_line(line: &str, width: usize) -> String {
     let mut folded = String::new();
     let mut row = String::new();
     for piece in line.split_inclusive(' ') {
-        let wide = row.chars().count() + piece.trim_end_matches(' ').chars().count() > width;
-        if wide && !row.trim().is_empty() {
+        if wide(&row) + wide(piece.trim_end_matches(' ')) > width && !row.trim().is_empty() {
             folded += row.trim_end_matches(' ');
             folded.push('\n');
             row.clone_from(&hanging);
@@ -112,7 +118,7 @@ impl Outputs<'_> {
 
 #[cfg(test)]
 mod tests {
-    use super::{Style, PLAIN};
+    use super::{wide, Colour, Style, PLAIN};
 
     #[test]
     fn folded() {
@@ -122,6 +128,8 @@ mod tests {
         assert_eq!(style(12).fold("  one two three four\n"), "  one two\n      three\n      four\n");
         assert_eq!(style(10).fold("a_word_that_is_wider stays\nx"), "a_word_that_is_wider\n    stays\nx");
         assert_eq!(style(12).fold("one    two   three"), "one    two\n    three");
+        let green = style(8).paint(Colour::Green, "ok");
+        assert_eq!((green.as_str(), wide("\x1b[32mok\x1b[0m fine")), ("ok", 7));
         let line = "word ".repeat(40);
         assert!(PLAIN.fold(&line).lines().all(|line| line.len() <= 100));
     }
