@@ -123,7 +123,7 @@ fn damaged(random: &mut Random, text: &str) -> String {
 
 /// Each message names the file and a line of it, or the file's byte where it is no text any more.
 fn names_a_line(said: &str, lines: usize) -> bool {
-    let Some(rest) = said.strip_prefix("standard input:") else { return said.starts_with("and ") };
+    let Some(rest) = said.strip_prefix("standard input:") else { return false };
     let line = rest.split(':').next().unwrap_or("");
     line.parse::<usize>().is_ok_and(|line| (1..=lines.max(1)).contains(&line)) || rest.starts_with(" byte ")
 }
