@@ -1,0 +1,128 @@
+//! Where a command writes: standard output and standard error, each with its width, and colour only on a terminal and not with NO_COLOR.
+use std::fs::File;
+use std::io::{self, IsTerminal, Write};
+use std::process::{Command, Stdio};
+
+/// No line is wider where nobody says how wide lines may be.
+pub const WIDTH: usize = 100;
+
+/// How something is to look.
+#[derive(Clone, Copy, Debug, PartialEq, Eq)]
+pub struct Style {
+    pub colour: bool,
+    pub width: usize,
+}
+
+/// As in a pipe.
+pub const PLAIN: Style = Style { colour: false, width: WIDTH };
+
+#[derive(Clone, Copy, Debug, PartialEq, Eq)]
+pub enum Colour {
+    Red = 31,
+    Green = 32,
+    Yellow = 33,
+}
+
+impl Style {
+    /// The style of a stream, which may be a terminal. COLUMNS says outright how wide lines may be.
+    fn of(terminal: bool) -> Style {
+        let said = std::env::var("COLUMNS").ok().and_then(|columns| columns.parse().ok()).filter(|&columns| columns > 0);
+        let width = said.or_else(|| terminal.then(columns).flatten()).unwrap_or(WIDTH);
+        let plain = std::env::var_os("NO_COLOR").is_some_and(|value| !value.is_empty());
+        let dumb = std::env::var_os("TERM").is_some_and(|term| term == "dumb");
+        Style { colour: terminal && !plain && !dumb, width }
+    }
+
+    pub fn paint(self, colour: Colour, text: &str) -> String {
+        match self.colour {
+            true => format!("\x1b[{}m{text}\x1b[0m", colour as u8),
+            false => text.to_string(),
+        }
+    }
+
+    /// The text with no line wider than this style has it, as far as its words allow.
+    pub fn fold(self, text: &str) -> String {
+        text.split_inclusive('\n').map(|line| fold_line(line, self.width)).collect()
+    }
+}
+
+/// The columns of the terminal, as `stty` tells them.
+fn columns() -> Option<usize> {
+    let asked = Command::new("stty").arg("size").stdin(File::open("/dev/tty").ok()?).stderr(Stdio::null()).output().ok()?;
+    String::from_utf8(asked.stdout).ok()?.split_whitespace().nth(1)?.parse().ok().filter(|&columns| columns > 0)
+}
+
+/// A line in lines that are no wider, further in from the second on. A word that is wider stays whole; so do the spaces before a word.
+fn fold_line(line: &str, width: usize) -> String {
+    let (line, end) = line.strip_suffix('\n').map_or((line, ""), |line| (line, "\n"));
+    if line.chars().count() <= width {
+        return format!("{line}{end}");
+    }
+    let inner = line.len() - line.trim_start_matches(' ').len();
+    let hanging = " ".repeat((inner + 4).min(width / 2));
+    let mut folded = String::new();
+    let mut row = String::new();
+    for piece in line.split_inclusive(' ') {
+        let wide = row.chars().count() + piece.trim_end_matches(' ').chars().count() > width;
+        if wide && !row.trim().is_empty() {
+            folded += row.trim_end_matches(' ');
+            folded.push('\n');
+            row.clone_from(&hanging);
+            if piece.trim().is_empty() {
+                continue;
+            }
+        }
+        row += piece;
+    }
+    folded + row.trim_end_matches(' ') + end
+}
+
+/// Both streams of a command.
+pub struct Outputs<'o> {
+    pub out: &'o mut dyn Write,
+    pub err: &'o mut dyn Write,
+    pub out_style: Style,
+    pub err_style: Style,
+}
+
+impl Outputs<'_> {
+    /// Writes to the real streams.
+    pub fn with<T>(work: impl FnOnce(&mut Outputs) -> T) -> T {
+        let (out_style, err_style) = (Style::of(io::stdout().is_terminal()), Style::of(io::stderr().is_terminal()));
+        let mut out = io::BufWriter::with_capacity(1 << 16, io::stdout().lock());
+        work(&mut Outputs { out: &mut out, err: &mut io::stderr().lock(), out_style, err_style })
+    }
+
+    /// Text for people: lines that are too wide are folded.
+    pub fn text(&mut self, text: &str) -> io::Result<()> {
+        self.out.write_all(self.out_style.fold(text).as_bytes())
+    }
+
+    /// Bytes, and text for programs, as they are.
+    pub fn bytes(&mut self, bytes: &[u8]) -> io::Result<()> {
+        self.out.write_all(bytes)
+    }
+
+    /// A message. Where it can't be said there is nobody to tell.
+    pub fn say(&mut self, message: &str) {
+        let message = self.err_style.fold(&format!("{}\n", message.trim_end()));
+        let _ = self.err.write_all(message.as_bytes());
+    }
+}
+
+#[cfg(test)]
+mod tests {
+    use super::{Style, PLAIN};
+
+    #[test]
+    fn folded() {
+        let style = |width| Style { colour: false, width };
+        assert_eq!(style(10).fold("short\n\n  and more\n"), "short\n\n  and more\n");
+        assert_eq!(style(12).fold("one two three four five"), "one two\n    three\n    four\n    five");
+        assert_eq!(style(12).fold("  one two three four\n"), "  one two\n      three\n      four\n");
+        assert_eq!(style(10).fold("a_word_that_is_wider stays\nx"), "a_word_that_is_wider\n    stays\nx");
+        assert_eq!(style(12).fold("one    two   three"), "one    two\n    three");
+        let line = "word ".repeat(40);
+        assert!(PLAIN.fold(&line).lines().all(|line| line.len() <= 100));
+    }
+}
