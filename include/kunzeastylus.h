@@ -44,7 +44,7 @@ extern "C" {
 #define KS_HEAD 7               /* the rest of it, in numbers of 32 bits */
 #define KS_SLOTS 4
 #define KS_REGISTERS 4
-#define KS_SYNC_REPORT 8        /* what a sync of it reports, in numbers of 32 bits: for each slot the words dropped, then for each those that remain */
+#define KS_SYNC_REPORT 8        /* what a sync of it reports, in numbers of 32 bits: words dropped on each slot, then those that remain on each */
 #define KS_SCHEDULE_BYTES(records) (3 + KS_RECORD * (records)) /* a schedule of so many records */
 
 /* ---- stack that a call takes at most, in bytes, as it is measured for many inputs whenever the library is tested. A thread may have less by default */
@@ -163,14 +163,13 @@ enum ks_reason {
 
 /* ---- the backup record: what it is, and what its calls reply */
 
-/* As many of saved as head[KS_WORDS] says are saved words, oldest first, each slot times 2^32 plus word; nobody reads the others. head is all else.
- * It may lie where it likes, in two pieces too, and is made by ks_new, or by anybody: every call looks for KS_BACKUP_UNFIT first. */
+/* ks_new makes one; of any other numbers every call says first whether they are fit. */
 struct ks_backup {
-    uint64_t saved[KS_SAVED];
-    uint32_t head[KS_HEAD];
+    uint64_t saved[KS_SAVED]; /* the saved words, oldest first: slot times 2^32 plus word; nobody reads those behind head[KS_WORDS] */
+    uint32_t head[KS_HEAD];   /* how many words are saved, count, place, four registers */
 };
 
-enum { KS_WORDS = 0, KS_COUNT = 1, KS_PLACE = 2, KS_REGISTER = 3 }; /* where head has how many words are saved, count, place, the first register */
+enum { KS_WORDS = 0, KS_COUNT = 1, KS_PLACE = 2, KS_REGISTER = 3 }; /* where head has them; the registers are from KS_REGISTER on */
 
 enum ks_backup_reply {
     KS_BACKUP_OK = 0,
@@ -204,14 +203,15 @@ uint32_t ks_judge(const uint8_t *table, size_t table_len, const uint8_t *schedul
  * KS_LIMIT or KS_UNSWEPT, they are 0. */
 uint64_t ks_sweep(const uint8_t *table, size_t table_len, const uint8_t *schedule, size_t schedule_len);
 
-/* The backup record, in two lent arrays (ks_arrive and the other helpers below lend those of a struct ks_backup). A refused call changes neither. Behind
- * the words that were saved and those that are, nothing is written; what a sync leaves in the places of the words that it dropped is left open.
+/* The backup record, in two lent arrays; the helpers below, as ks_arrive, lend those of a struct ks_backup. A refused call leaves both as they
+ * were. Behind the words that were saved and those that are, nothing is written; what a sync leaves in the places of the words that it dropped
+ * is open.
  *     ks_backup_new        head becomes that of a record as it starts: no words, and the rest 0
- *     ks_backup_arrive     a word arrives on a slot and is saved
- *     ks_backup_count      a word of the process was carried
- *     ks_backup_sync       a sync lands, with four registers, and on each slot how many words were taken: report becomes KS_SYNC_REPORT numbers, all 0
- *                          when refused
- *     ks_backup_take_over  handed becomes head, and the saved words are as they stand; when refused all of it is 0, and so no words are handed over */
+ *     ks_backup_arrive     a word arrives on a slot and is saved: 0, or 20, 21, 22
+ *     ks_backup_count      a word of the process was carried: 0, or 20, 24
+ *     ks_backup_sync       a sync lands, with a place, four registers, and how many words were taken on each slot: 0, or 20, 21, 23; report becomes
+ *                          the words dropped on each slot, and then those that remain on each, all 0 when refused
+ *     ks_backup_take_over  0, or 20. handed becomes what takes over, laid out as head; its words are the first of saved. All 0 when refused */
 void ks_backup_new(uint32_t head[KS_HEAD]);
 uint32_t ks_backup_arrive(uint64_t saved[KS_SAVED], uint32_t head[KS_HEAD], uint32_t slot, uint32_t word);
 uint32_t ks_backup_count(const uint64_t saved[KS_SAVED], uint32_t head[KS_HEAD]);
