@@ -22,7 +22,7 @@ extern "C" {
 /* ---- which release this is, and which calls: the number of these goes up when a signature or a layout changes */
 
 #define KS_VERSION "1.0.0"
-#define KS_ABI 2
+#define KS_ABI 3
 
 /* ---- sizes, in bytes unless said */
 
@@ -31,10 +31,6 @@ extern "C" {
 #define KS_RECORDS_MOST 10000
 #define KS_SWEEP_MOST 500       /* records of a schedule that is swept */
 #define KS_PROCESSES_MOST 16
-#define KS_BOARDS_MOST 16
-#define KS_CHANNELS_MOST 32
-#define KS_WORDS_MOST 64        /* unread words of a process, and saved words of a backup */
-#define KS_QUEUE_MOST 32        /* entries of a board's queue */
 #define KS_ENDS_MOST 64         /* the longest lists of a table, in numbers */
 #define KS_PLACEMENTS_MOST 48
 #define KS_LIMITS_MOST 16
@@ -44,12 +40,14 @@ extern "C" {
 #define KS_REPORT 20            /* of each process */
 #define KS_ORIGIN 2             /* of each record in the list of origins: sender and place of the word that it put on the bus */
 #define KS_LABEL_TABLE 84       /* a label line's table */
-#define KS_STATE 135            /* a backup record, in numbers of 32 bits */
-#define KS_CALL 10              /* a call of the backup record, in numbers of 32 bits */
-#define KS_VIEW 11187           /* the whole cabinet, in numbers of 32 bits: struct ks_view */
+#define KS_SAVED 64             /* the saved words of a backup record, in numbers of 64 bits */
+#define KS_HEAD 7               /* the rest of it, in numbers of 32 bits */
+#define KS_SLOTS 4
+#define KS_REGISTERS 4
+#define KS_SYNC_REPORT 8        /* what a sync of it reports, in numbers of 32 bits: words dropped on each slot, then those that remain on each */
 #define KS_SCHEDULE_BYTES(records) (3 + KS_RECORD * (records)) /* a schedule of so many records */
 
-/* ---- stack that a call takes at most, in bytes; it is measured for many inputs whenever the library is tested */
+/* ---- stack that a call takes at most, in bytes, as it is measured for many inputs whenever the library is tested. A thread may have less by default */
 
 #define KS_STACK_RUN 278528         /* ks_run, ks_label_run */
 #define KS_STACK_SWEEP 286720       /* ks_sweep */
@@ -84,8 +82,7 @@ enum ks_refusal {
     KS_FIRST_SERIAL = 46,     /* of ks_label_table and ks_label_run alone */
     KS_LIMIT = 47,
     KS_ORIGINS_SHORT = 51,
-    KS_UNSWEPT = 52,          /* of ks_sweep alone */
-    KS_VIEW_SHORT = 54        /* of ks_view alone */
+    KS_UNSWEPT = 52           /* of ks_sweep alone */
 };
 
 /* ---- the answer to a record, in the words of ks_answer_text; behind each, its a and word */
@@ -164,7 +161,15 @@ enum ks_reason {
     KS_REASON_NONE_KEPT = 212
 };
 
-/* ---- what the backup record replies */
+/* ---- the backup record: what it is, and what its calls reply */
+
+/* ks_new makes one; of any other numbers every call says first whether they are fit. */
+struct ks_backup {
+    uint64_t saved[KS_SAVED]; /* the saved words, oldest first: slot times 2^32 plus word; nobody reads those behind head[KS_WORDS] */
+    uint32_t head[KS_HEAD];   /* how many words are saved, count, place, four registers */
+};
+
+enum { KS_WORDS = 0, KS_COUNT = 1, KS_PLACE = 2, KS_REGISTER = 3 }; /* where head has them; the registers are from KS_REGISTER on */
 
 enum ks_backup_reply {
     KS_BACKUP_OK = 0,
@@ -172,64 +177,7 @@ enum ks_backup_reply {
     KS_BACKUP_BAD = 21,       /* arrive: slot over 3; sync: place over 64 */
     KS_BACKUP_FULL = 22,      /* 64 words saved */
     KS_BACKUP_TAKEN = 23,     /* more taken on a slot than saved */
-    KS_BACKUP_COUNT = 24,     /* count at 32 */
-    KS_BACKUP_MISSIZED = 25,  /* a lent length is not KS_STATE, KS_CALL, KS_STATE */
-    KS_BACKUP_UNKNOWN = 26    /* no such call */
-};
-
-enum ks_asked { KS_NEW = 0, KS_ARRIVE = 1, KS_COUNT = 2, KS_BACKUP_SYNC = 3, KS_TAKE_OVER = 4 };
-
-/* ---- the whole cabinet as numbers: what ks_view writes. Lists are oldest first, with 0 behind their last; what the table doesn't have is 0 */
-
-enum ks_view_backup_state { KS_BACKUP_NONE = 0, KS_BACKUP_COMPLETE = 1, KS_BACKUP_MAKING = 2 };
-enum ks_view_kind { KS_ENTRY_NONE = 0, KS_ENTRY_WORD = 1, KS_ENTRY_SYNC = 2, KS_ENTRY_RESYNC = 3 };
-
-struct ks_view_unread { uint32_t channel, word; };
-struct ks_view_saved { uint32_t slot, word; };
-
-struct ks_view_backup { /* all 0 where there is none */
-    uint32_t state;           /* enum ks_view_backup_state; being made, it is from a resync's issue until its carry */
-    uint32_t board;
-    uint32_t place;
-    uint32_t registers[4];
-    uint32_t count;           /* words of the process carried since this state */
-    uint32_t saved;           /* how many words are saved */
-    struct ks_view_saved words[KS_WORDS_MOST];
-};
-
-struct ks_view_process {
-    uint32_t board;           /* where it runs */
-    uint32_t place;
-    uint32_t registers[4];
-    uint32_t hold_back;
-    uint32_t acts;            /* these three since its last sync or resync was issued */
-    uint32_t instructions;
-    uint32_t takes[4];        /* of each slot */
-    uint32_t unread;          /* how many words are in its inbox */
-    struct ks_view_unread inbox[KS_WORDS_MOST];
-    struct ks_view_backup backup;
-};
-
-struct ks_view_entry {        /* what its kind doesn't have is 0 */
-    uint32_t kind;            /* enum ks_view_kind */
-    uint32_t channel, word;   /* of a word */
-    uint32_t process;         /* of a sync or a resync */
-    uint32_t place;           /* of a word, that of its SEND; of a sync, the snapshot's, as the next two */
-    uint32_t registers[4];
-    uint32_t takes[4];
-};
-
-struct ks_view_board {
-    uint32_t dead;            /* 1, or 0 where it is live */
-    uint32_t waiting;         /* how many entries its queue has */
-    struct ks_view_entry queue[KS_QUEUE_MOST];
-};
-
-struct ks_view {              /* KS_VIEW numbers */
-    uint32_t boards, processes, channels; /* how many the table has */
-    struct ks_view_process process[KS_PROCESSES_MOST];
-    struct ks_view_board board[KS_BOARDS_MOST];
-    uint32_t total[KS_CHANNELS_MOST];     /* of each channel: unread words and words in queues together */
+    KS_BACKUP_COUNT = 24      /* count at 32 */
 };
 
 /* ---- the calls */
@@ -239,9 +187,9 @@ uint32_t ks_abi(void);
 
 /* The run of a schedule on a table. The result is number + 256 * quiet + 2^32 * records, unpacked by ks_number, ks_quiet and ks_records. An accepted
  * run writes six bytes a record to answers, one byte a record to reasons, 20 bytes a process to report and two bytes a record to origins, and nothing
- * beyond those; a refused one writes nothing at all. The two bytes of origins are the sender and the place of its SEND for a word that the record carried, KS_OUTSIDE and
- * 0 for a word that it fed, and 255 and 255 where no word was on the bus. What is written for a record stays where KS_BACK takes the record back,
- * but its word counts in the bus order no longer, and its feed not as fed: ks_standing says which records stand. */
+ * beyond those; a refused one writes nothing at all. The two bytes of origins are the sender and the place of its SEND for a word that the record
+ * carried, KS_OUTSIDE and 0 for a word that it fed, and 255 and 255 where no word was on the bus. What is written for a record stays where KS_BACK
+ * takes the record back, but its word counts in the bus order no longer, and its feed not as fed: ks_standing says which records stand. */
 uint64_t ks_run(const uint8_t *table, size_t table_len, const uint8_t *schedule, size_t schedule_len, uint8_t *answers, size_t answers_len,
                 uint8_t *reasons, size_t reasons_len, uint8_t *report, size_t report_len, uint8_t *origins, size_t origins_len);
 
@@ -255,22 +203,21 @@ uint32_t ks_judge(const uint8_t *table, size_t table_len, const uint8_t *schedul
  * KS_LIMIT or KS_UNSWEPT, they are 0. */
 uint64_t ks_sweep(const uint8_t *table, size_t table_len, const uint8_t *schedule, size_t schedule_len);
 
-/* The whole cabinet as it is after a run, as KS_VIEW numbers to the front of out: struct ks_view laid over them has their names. 0, or the number
- * by which it is refused: 1 to 10 or KS_LIMIT as ks_run would be, then KS_VIEW_SHORT. Numbers behind the view stay as they were; refused, all of
- * out does. */
-uint32_t ks_view(const uint8_t *table, size_t table_len, const uint8_t *schedule, size_t schedule_len, uint32_t *out, size_t out_len);
-
-/* A call of the backup record. state is KS_STATE numbers: how many words are saved, count, place, four registers, then 64 pairs of slot and
- * word. call is KS_CALL numbers, its own and its arguments:
- *     KS_NEW                                                    state becomes the record as it starts
- *     KS_ARRIVE       slot, word
- *     KS_COUNT
- *     KS_BACKUP_SYNC  place, four registers, four numbers taken (a slot each)
- *                                                               reply's first eight numbers become the words dropped on each slot, and then
- *                                                               those that remain on each; all 0 when refused
- *     KS_TAKE_OVER                                              state stays, reply (KS_STATE numbers) becomes what is handed over
- * A refused call leaves state as it was; but for KS_BACKUP_SYNC and KS_TAKE_OVER, reply is left as it was. */
-uint32_t ks_backup_call(uint32_t *state, size_t state_len, const uint32_t *call, size_t call_len, uint32_t *reply, size_t reply_len);
+/* The backup record, in two lent arrays; the helpers below, as ks_arrive, lend those of a struct ks_backup. A refused call leaves both as they
+ * were. Behind the words that were saved and those that are, nothing is written; what a sync leaves in the places of the words that it dropped
+ * is open.
+ *     ks_backup_new        head becomes that of a record as it starts: no words, and the rest 0
+ *     ks_backup_arrive     a word arrives on a slot and is saved: 0, or 20, 21, 22
+ *     ks_backup_count      a word of the process was carried: 0, or 20, 24
+ *     ks_backup_sync       a sync lands, with a place, four registers, and how many words were taken on each slot: 0, or 20, 21, 23; report becomes
+ *                          the words dropped on each slot, and then those that remain on each, all 0 when refused
+ *     ks_backup_take_over  0, or 20. handed becomes what takes over, laid out as head; its words are the first of saved. All 0 when refused */
+void ks_backup_new(uint32_t head[KS_HEAD]);
+uint32_t ks_backup_arrive(uint64_t saved[KS_SAVED], uint32_t head[KS_HEAD], uint32_t slot, uint32_t word);
+uint32_t ks_backup_count(const uint64_t saved[KS_SAVED], uint32_t head[KS_HEAD]);
+uint32_t ks_backup_sync(uint64_t saved[KS_SAVED], uint32_t head[KS_HEAD], uint32_t place, const uint32_t registers[KS_REGISTERS],
+                        const uint32_t taken[KS_SLOTS], uint32_t report[KS_SYNC_REPORT]);
+uint32_t ks_backup_take_over(const uint64_t saved[KS_SAVED], const uint32_t head[KS_HEAD], uint32_t handed[KS_HEAD]);
 
 /* The table that lists of numbers say, to the front of out: version is 1 or 2, ends has sender and reader of each channel, placements primary
  * board, backup board and n of each process, limits in version 2 the limit of each process and in version 1 nothing, instructions code, a and
@@ -400,9 +347,25 @@ static inline uint8_t ks_unread(const uint8_t *report, size_t p) { return report
 static inline uint8_t ks_hold_back(const uint8_t *report, size_t p) { return report[KS_REPORT * p + 3]; }
 static inline uint32_t ks_register(const uint8_t *report, size_t p, size_t r) { return ks_word(report + KS_REPORT * p + 4 + 4 * r); }
 
-/* The slot and the word of message i of a backup record's state, i below state[0]. */
-static inline uint32_t ks_slot(const uint32_t *state, size_t i) { return state[7 + 2 * i]; }
-static inline uint32_t ks_saved(const uint32_t *state, size_t i) { return state[8 + 2 * i]; }
+/* The calls of the backup record. */
+static inline void ks_new(struct ks_backup *backup) { ks_backup_new(backup->head); }
+static inline enum ks_backup_reply ks_arrive(struct ks_backup *backup, uint32_t slot, uint32_t word) {
+    return (enum ks_backup_reply)ks_backup_arrive(backup->saved, backup->head, slot, word);
+}
+static inline enum ks_backup_reply ks_count(struct ks_backup *backup) {
+    return (enum ks_backup_reply)ks_backup_count(backup->saved, backup->head);
+}
+static inline enum ks_backup_reply ks_sync(struct ks_backup *backup, uint32_t place, const uint32_t registers[KS_REGISTERS],
+                                           const uint32_t taken[KS_SLOTS], uint32_t report[KS_SYNC_REPORT]) {
+    return (enum ks_backup_reply)ks_backup_sync(backup->saved, backup->head, place, registers, taken, report);
+}
+static inline enum ks_backup_reply ks_take_over(const struct ks_backup *backup, uint32_t handed[KS_HEAD]) {
+    return (enum ks_backup_reply)ks_backup_take_over(backup->saved, backup->head, handed);
+}
+
+/* The slot and the word of its saved word i, from 0 and below head[KS_WORDS]. */
+static inline uint32_t ks_slot(const struct ks_backup *backup, size_t i) { return (uint32_t)(backup->saved[i] >> 32); }
+static inline uint32_t ks_saved(const struct ks_backup *backup, size_t i) { return (uint32_t)backup->saved[i]; }
 
 /* ---- numbers in words, those of docs/NUMBERS.md */
 
@@ -527,8 +490,6 @@ static inline const char *ks_backup_text(enum ks_backup_reply number) {
     case KS_BACKUP_FULL: return "64 words are saved";
     case KS_BACKUP_TAKEN: return "more taken on a slot than there are saved words on it";
     case KS_BACKUP_COUNT: return "the count is 32";
-    case KS_BACKUP_MISSIZED: return "a lent length is not 135, 10, 135";
-    case KS_BACKUP_UNKNOWN: return "there is no such call";
     }
     return "no such number";
 }

@@ -1,4 +1,4 @@
-# Sourced by ./run and ./ks: proves and builds what is missing or older than what it is made of, and says on standard error what is done. The
+# Sourced by ./run, ./ks and tools/install: proves and builds what is missing or older than what it is made of, and says on standard error what is done. The
 # script that sources it has set `root` (the repository), `name` (what its messages begin with) and pipefail.
 
 say() {
@@ -71,4 +71,28 @@ made() {
     fi
     touch -r "$begun" "$product"
     rm -f "$begun"
+}
+
+library=$root/target/staticlib/libkunzeastylus.a
+bench=$root/target/bin/bench
+program=$root/build/release/ks
+
+# Each of these sees to it that one of the three is there and no older than what it is made of.
+have_library() {
+    fresh "$library" "$root/crates" "$root/crates.txt" && return
+    say 'proving and building the library; the first time takes minutes'
+    prove 'the library' "$library" kunzeastylus rt staticlib kunzeastylus
+}
+
+have_bench() {
+    fresh "$bench" "$root/crates" "$root/crates.txt" && return
+    say 'proving and building the bench program; the first time takes minutes'
+    prove 'the bench program' "$bench" bench rt check bench
+}
+
+have_ks() {
+    have_library || return
+    fresh "$program" "$library" "$root"/{desk,bindings}/{src,Cargo.toml} "$root/desk/help" "$root/bindings/build.rs" "$root"/Cargo.{toml,lock} && return
+    say 'building the program'
+    build 'the program' "$program" ' *Compiling ' cargo build --release --offline --locked -p desk --bin ks
 }
