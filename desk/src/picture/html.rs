@@ -27,9 +27,9 @@ pub fn html(drawing: &Drawing) -> String {
     head.put("</svg>");
     let parts: String = rows.chunks(PART).map(|rows| part(drawing, rows)).collect();
     format!(
-        "<!DOCTYPE html>\n<html lang=\"en\">\n<head>\n<meta charset=\"utf-8\">\n<meta name=\"viewport\" content=\"width=device-width\">\n\
+        "<!DOCTYPE html>\n<html lang=\"en\">\n<head>\n<meta charset=\"utf-8\">\n{POLICY}<meta name=\"viewport\" content=\"width=device-width\">\n\
          <meta name=\"color-scheme\" content=\"light dark\">\n<title>{title}</title>\n<style>\n{CSS}{PAGE_CSS}</style>\n</head>\n<body>\n\
-         <nav title=\"the whole run\">\n{}</nav>\n<main tabindex=\"0\">\n<table>\n<thead><tr><td>{}</td></tr></thead>\n<tbody id=\"rows\">\n{parts}</tbody>\n</table>\n</main>\n\
+         <nav title=\"the whole run\">\n{}</nav>\n<main tabindex=\"0\">\n<h1 class=\"paper-only\">{title}</h1>\n<table>\n<thead><tr><td>{}</td></tr></thead>\n<tbody id=\"rows\">\n{parts}</tbody>\n</table>\n</main>\n\
          <aside>\n<h1>{title}</h1>\n{called}<p>{}</p>\n{HINT}<div id=\"life\"></div>\n<div id=\"state\"></div>\n\
          <details open>\n<summary>What the signs stand for</summary>\n{}</details>\n</aside>\n\
          <script type=\"application/json\" id=\"data\">\n{}\n</script>\n<script>\n{SCRIPT}</script>\n</body>\n</html>\n",
@@ -40,6 +40,9 @@ pub fn html(drawing: &Drawing) -> String {
         data(story, &rows, open)
     )
 }
+
+/// A browser is told to fetch nothing for this page, whatever it says.
+const POLICY: &str = "<meta http-equiv=\"Content-Security-Policy\" content=\"default-src 'none'; style-src 'unsafe-inline'; script-src 'unsafe-inline'\">\n";
 
 const HINT: &str = "<p class=\"hint\">Point at a record to see the cabinet after it; click to keep it. Click a word to see its life. Arrow keys go from \
     record to record, c and C from crash to crash, Escape lets go. The strip shows the whole run.</p>\n";
