@@ -42,13 +42,14 @@ below() {
         }' "$root/crates.txt"
 }
 
-# countdown CRATES: of the lines of rt, those that a crate of these is proved, or stands already; with how many are left.
+# countdown CRATES: of the lines of rt, those that a crate of these is proved, with how many are left; what is unchanged is only counted.
 countdown() {
     awk -v name="$name" -v crates="$1" '
         BEGIN { left = split(crates, list, " "); for (i in list) todo[list[i]] }
-        /^rt: [a-z_]+ / && ($2 in todo) {
+        /^rt: [a-z_]+ proved/ && ($2 in todo) {
             delete todo[$2]
             left--
+            if (/unchanged/) next
             sub(/^rt: /, "")
             printf "%s: %s; %s\n", name, $0, (left == 1 ? "1 crate is left" : left ? left " crates are left" : "all are proved")
             fflush()

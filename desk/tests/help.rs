@@ -48,3 +48,13 @@ fn version_of_the_package() {
     let wanted = format!("ks {}, over the calls of ABI {}\n", env!("CARGO_PKG_VERSION"), kunzeastylus::ABI);
     assert_eq!(read("desk/help/version.txt"), wanted);
 }
+
+/// While something is proved, each crate is said with how many are left; those that stand already are only counted.
+#[test]
+fn how_many_are_left() {
+    let lines = "rt: facts proved (unchanged since it was last proved)\nfn words::a: proved\nrt: words proved (4 s)\nrt: backup proved (21 s)\n";
+    let script = format!("root=. name=ks; source tools/build.sh; printf '{lines}' | countdown \"$(below backup)\"");
+    let ended = Command::new("bash").args(["-c", &script]).current_dir(ROOT).output().expect("bash");
+    let said = String::from_utf8(ended.stdout).expect("text");
+    assert_eq!(said, "ks: words proved (4 s); 1 crate is left\nks: backup proved (21 s); all are proved\n");
+}
