@@ -220,7 +220,14 @@ fn damaged_files() {
         let bytes = [table, schedule].concat();
         let (kind, text) = match i % 2 {
             0 => (Kind::Bytes, bytes),
-            _ => (Kind::Hex, bytes.chunks(6).map(|line| line.iter().map(|byte| format!("{byte:02x}")).collect::<String>() + "\n").collect::<String>().into_bytes()),
+            _ => (
+                Kind::Hex,
+                bytes
+                    .chunks(6)
+                    .map(|line| line.iter().map(|byte| format!("{byte:02x}")).collect::<String>() + "\n")
+                    .collect::<String>()
+                    .into_bytes(),
+            ),
         };
         std::fs::write(&file, &text).expect("a temporary file");
         if let Err(failure) = load_any(Source { table: None, file: &file, kind }) {
@@ -228,8 +235,12 @@ fn damaged_files() {
             let lines = text.iter().filter(|byte| **byte == b'\n').count().max(1);
             for said in &failure.said {
                 let place = said.strip_prefix(&file).expect("its file");
-                let line = place.strip_prefix(':').and_then(|rest| rest.split(':').next()).and_then(|line| line.parse::<usize>().ok());
-                assert!(place.starts_with(": byte ") && kind == Kind::Bytes || line.is_some_and(|line| (1..=lines).contains(&line)), "{said}");
+                let line =
+                    place.strip_prefix(':').and_then(|rest| rest.split(':').next()).and_then(|line| line.parse::<usize>().ok());
+                assert!(
+                    place.starts_with(": byte ") && kind == Kind::Bytes || line.is_some_and(|line| (1..=lines).contains(&line)),
+                    "{said}"
+                );
             }
             assert!(failure.shown.starts_with("refused ") && !failure.said.is_empty());
         }
