@@ -17,6 +17,6 @@ int main(void) {
     ks_count(&backup);                             /* a word of the process is on the bus */
 
     if (ks_take_over(&backup, handed) == KS_BACKUP_OK) /* its board has failed: it goes on here */
-        printf("at place %u, with %u word unread (%u), holding back %u\n", handed[KS_PLACE], handed[KS_WORDS], ks_saved(&backup, 0), handed[KS_COUNT]);
+        printf("at place %u, %u word unread, holding back %u\n", handed[KS_PLACE], handed[KS_WORDS], handed[KS_COUNT]);
     return 0;
 }

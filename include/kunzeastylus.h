@@ -393,6 +393,7 @@ static inline const char *ks_refusal_text(enum ks_refusal number) {
     case KS_LIMIT: return "a table of version 2: a process's limit is outside 1 to 16";
     case KS_ORIGINS_SHORT: return "the buffer of origins has under two bytes a record";
     case KS_UNSWEPT: return "of a sweep alone: the schedule has a record of move 5 or 8, whatever its a and word, or over 500 records";
+    case KS_VIEW_SHORT: return "of a view alone: the lent list has under 11,187 numbers";
     }
     return "no such number";
 }

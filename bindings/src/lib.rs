@@ -45,6 +45,7 @@ mod run;
 mod sweep;
 pub mod sys;
 mod table;
+mod view;
 
 pub use abi::{check_abi, OtherLibrary, ABI};
 pub use answer::{Answer, BusWord, Code, Reason};
@@ -60,6 +61,9 @@ pub use refusal::Refusal;
 pub use run::{judge, run, ProcessEnd, Run};
 pub use sweep::{sweep, Sweep};
 pub use table::{End, Operation, Process, Table, LIMIT};
+pub use view::{
+    BackupState, BackupView, BoardView, Entry, EntryView, ProcessView, SavedWord, UnreadWord, View, QUEUE_MOST, VIEW, WORDS_MOST,
+};
 
 /// The release of these bindings, `KS_VERSION` of the header. Every front prints it for `--version`.
 pub const VERSION: &str = env!("CARGO_PKG_VERSION");

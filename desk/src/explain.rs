@@ -6,6 +6,7 @@ use kunzeastylus::{Cabinet, Fate, Lengths, Move, Refusal, Run, Table};
 use std::fmt::Write;
 
 /// A table and a schedule, as `./run` takes them one behind the other.
+#[derive(Clone, Debug, PartialEq, Eq)]
 pub struct Input {
     pub table: Vec<u8>,
     pub schedule: Vec<u8>,

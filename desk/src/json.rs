@@ -41,7 +41,7 @@ pub fn refused(number: &str, why: &[String]) -> String {
 }
 
 /// A string of JSON.
-fn string(text: &str) -> String {
+pub fn string(text: &str) -> String {
     let mut quoted = "\"".to_string();
     for c in text.chars() {
         match c {

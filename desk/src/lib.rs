@@ -1,5 +1,6 @@
 //! What `ks` is made of: its commands, how they are called and how they end, how they read what they are given, cabinets and schedules in words,
-//! where a refusal has its place, expectations, a run in words and record by record, and every place to pull a board.
+//! where a refusal has its place, expectations, a run in words and record by record, its plain run and its
+//! picture, and every place to pull a board.
 #![forbid(unsafe_code)]
 
 pub mod args;
@@ -20,7 +21,10 @@ pub mod json;
 pub mod ks;
 pub mod lists;
 pub mod output;
+pub mod picture;
 pub mod place;
+pub mod plain;
+pub mod played;
 pub mod progress;
 pub mod proved;
 pub mod records;

@@ -6,6 +6,8 @@ mod compare;
 mod explain;
 mod hex;
 mod label;
+mod picture;
+mod plain;
 mod run;
 mod step;
 mod sweep;
@@ -33,6 +35,8 @@ pub const COMMANDS: &[Command] = &[
     command!(words, "a cabinet and a schedule in words"),
     command!(explain, "a run in words: each record, its answer and why, and each end"),
     command!(step, "a run record by record, forward and back"),
+    command!(picture, "a run to look at: a page, or an SVG file"),
+    command!(plain, "the plain run that has the same words in the same order"),
     command!(sweep, "every place to pull a board, and how these runs end"),
     command!(table, "a table from lists of numbers, and back"),
     command!(label, "the labels of the label line"),
