@@ -1,5 +1,5 @@
-//! The page by the proved bench program, which reads standard input and can't tell whether its page was written: so its page is taken whole and
-//! written here.
+//! The page by the proved bench program, which reads standard input and can't tell whether its page was written: so its page is taken whole
+//! and written here.
 use crate::failure::Failure;
 use std::io::Write;
 use std::path::PathBuf;

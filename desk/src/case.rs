@@ -1,5 +1,5 @@
-//! A cabinet and a schedule as a command gets them, whatever they were written in: the bytes that the proved calls take, the lines that they
-//! come from, the names, and what is expected.
+//! A cabinet and a schedule as a command gets them, whatever they were written in: the bytes that the proved calls take, the lines that
+//! they come from, the names, and what is expected.
 use crate::args;
 use crate::explain::Input;
 use crate::failure::Failure;

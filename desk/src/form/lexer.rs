@@ -39,24 +39,28 @@ impl fmt::Display for Token {
 pub struct Line {
     pub number: usize,
     pub tokens: Vec<Token>,
+    /// Something behind these is no token, which is said already.
+    pub broken: bool,
 }
 
-/// The lines of a text, and what in it is no token. A line with such a thing is left out.
+/// The lines of a text, and what in it is no token. Of a line with such a thing the tokens before it are there.
 pub fn lines(text: &str) -> (Vec<Line>, Vec<Wrong>) {
     let (mut lines, mut wrong) = (Vec::new(), Vec::new());
     for (line, number) in text.lines().zip(1..) {
         let line = line.split('#').next().unwrap_or("");
-        match tokens(line) {
-            Ok(tokens) if tokens.is_empty() => (),
-            Ok(tokens) => lines.push(Line { number, tokens }),
-            Err(what) => wrong.push(Wrong::new(number, what)),
+        let mut tokens = Vec::new();
+        let read = read(line, &mut tokens);
+        let broken = read.is_err();
+        wrong.extend(read.err().map(|what| Wrong::new(number, what)));
+        if !tokens.is_empty() {
+            lines.push(Line { number, tokens, broken });
         }
     }
     (lines, wrong)
 }
 
-fn tokens(line: &str) -> Result<Vec<Token>, String> {
-    let mut tokens = Vec::new();
+/// Adds the tokens of a line, up to what is none.
+fn read(line: &str, tokens: &mut Vec<Token>) -> Result<(), String> {
     let mut rest = line.trim_start();
     while let Some(first) = rest.chars().next() {
         let (token, length) = match first {
@@ -64,12 +68,12 @@ fn tokens(line: &str) -> Result<Vec<Token>, String> {
             ':' => (Token::Colon, 1),
             _ if first.is_ascii_digit() => number(rest)?,
             _ if first.is_alphabetic() || first == '_' => word(rest),
-            _ => return Err(format!("found `{}`, expected a word or a number", first.escape_debug())),
+            _ => return Err(format!("found `{}`, expected a word, a number, `->` or `:`", first.escape_debug())),
         };
         tokens.push(token);
         rest = rest[length..].trim_start();
     }
-    Ok(tokens)
+    Ok(())
 }
 
 /// How many bytes are letters, digits, `_`, and `-` before one of these.
@@ -115,9 +119,9 @@ mod tests {
         let (found, wrong) = lines("\n a->b-1 # c\r\nnext:0x1F 007\n\u{fc}ber _x\n# \n");
         assert_eq!(wrong, []);
         let wanted = [
-            Line { number: 2, tokens: vec![word("a"), Token::Arrow, word("b-1")] },
-            Line { number: 3, tokens: vec![word("next"), Token::Colon, number(31, "0x1F"), number(7, "007")] },
-            Line { number: 4, tokens: vec![word("\u{fc}ber"), word("_x")] },
+            Line { number: 2, tokens: vec![word("a"), Token::Arrow, word("b-1")], broken: false },
+            Line { number: 3, tokens: vec![word("next"), Token::Colon, number(31, "0x1F"), number(7, "007")], broken: false },
+            Line { number: 4, tokens: vec![word("\u{fc}ber"), word("_x")], broken: false },
         ];
         assert_eq!(found, wanted);
         let (_, wrong) = lines("a $\n12ab\n0x\n4294967296\n4294967295\n-1");

@@ -25,9 +25,9 @@ pub fn parse(text: &str) -> (Text, Vec<Wrong>) {
     let (lines, wrong) = lines(text);
     let mut parser = Parser { text: Text::default(), below: Below::Nothing, wrong };
     for line in &lines {
-        if let Err(wrong) = parser.line(line) {
-            parser.wrong.push(wrong);
-        }
+        // What a broken line says is looked at for its names alone.
+        let read = parser.line(line);
+        parser.wrong.extend(read.err().filter(|_| !line.broken));
     }
     (parser.text, parser.wrong)
 }
