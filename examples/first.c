@@ -12,7 +12,9 @@ int main(void) {
                                     KS_TAKE, 0, 0, 0, 0, 0, KS_ADD, 1, 0, 0, 0, 0, KS_SEND, 1, 0, 0, 0, 1, KS_JUMP, 0, 0, 0, 0, 0};
     uint8_t bytes[KS_SCHEDULE_BYTES(4)], answers[4 * KS_RECORD], reasons[4 * KS_REASON], report[1 * KS_REPORT], origins[4 * KS_ORIGIN];
     if (ks_abi() != KS_ABI) {
-        return 1; /* the library is of another release than the header */
+        fprintf(stderr, "first: libkunzeastylus.a has the calls of ABI %u, the header those of ABI %u: take both from one release\n",
+                (unsigned)ks_abi(), (unsigned)KS_ABI);
+        return 1;
     }
     struct ks_schedule schedule = ks_schedule_begin(bytes, sizeof bytes);
     ks_schedule_add(&schedule, KS_FEED, 0, 5);

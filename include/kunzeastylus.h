@@ -204,8 +204,8 @@ uint32_t ks_judge(const uint8_t *table, size_t table_len, const uint8_t *schedul
 uint64_t ks_sweep(const uint8_t *table, size_t table_len, const uint8_t *schedule, size_t schedule_len);
 
 /* The backup record, in two lent arrays; the helpers below, as ks_arrive, lend those of a struct ks_backup. A refused call leaves both as they
- * were. Behind the words that were saved and those that are, nothing is written; what a sync leaves in the places of the words that it dropped
- * is open.
+ * were. Behind the words that were saved and those that are, nothing is written; what a sync leaves in saved from the new length to the old is
+ * open.
  *     ks_backup_new        head becomes that of a record as it starts: no words, and the rest 0
  *     ks_backup_arrive     a word arrives on a slot and is saved: 0, or 20, 21, 22
  *     ks_backup_count      a word of the process was carried: 0, or 20, 24

@@ -12,10 +12,16 @@ fresh() {
     [[ -e $product && -z $(find "$@" -newer "$product" -print -quit) ]]
 }
 
-# build WHAT PRODUCT LINES COMMAND..: runs the command; of what it prints, those lines are passed on to standard error.
+# build WHAT PRODUCT CRATES COMMAND..: runs the command, which has cargo compile these crates in this order, as far as they are not compiled; each is
+# said on standard error when it begins, with how many are left.
 build() {
-    local lines=$3
-    made "$1" "$2" "${@:4}" | sed -u -n "s/^$lines/$name: /p" >&2
+    made "$1" "$2" "${@:4}" | awk -v name="$name" -v crates="$3" '
+        BEGIN { many = split(crates, list, " "); for (i in list) place[list[i]] = i }
+        $1 == "Compiling" {
+            left = many - place[$2]
+            printf "%s: compiling %s; %s\n", name, $2, (left == 1 ? "1 crate is left" : left ? left " crates are left" : "none is left")
+            fflush()
+        }' >&2
 }
 
 # prove WHAT PRODUCT CRATE COMMAND..: runs the command, which proves a crate and all that it stands on; each crate that is proved is said on
@@ -95,5 +101,5 @@ have_ks() {
     have_library || return
     fresh "$program" "$library" "$root"/{desk,bindings}/{src,Cargo.toml} "$root/desk/help" "$root/bindings/build.rs" "$root"/Cargo.{toml,lock} && return
     say 'building the program'
-    build 'the program' "$program" ' *Compiling ' cargo build --release --offline --locked -p desk --bin ks
+    build 'the program' "$program" 'kunzeastylus desk' cargo build --release --offline --locked -p desk --bin ks
 }

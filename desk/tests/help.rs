@@ -1,15 +1,29 @@
 //! Help and version come at once: `./ks` prints what the program itself would, whatever has been built.
 mod common;
 
-use common::{printed, read, ROOT};
+use common::{ks, printed, read, ROOT};
 use desk::command::COMMANDS;
-use std::process::Command;
+use std::process::{Command, Output};
 
-/// What `./ks` prints where nothing can be built: no rt, no cargo.
+/// `./ks` where nothing can be built: no rt, no cargo.
+fn front(arguments: &[&str]) -> Output {
+    Command::new(format!("{ROOT}/ks")).args(arguments).env("PATH", "/usr/bin:/bin").output().expect("./ks")
+}
+
+/// What it prints.
 fn without_a_program(arguments: &[&str]) -> String {
-    let ended = Command::new(format!("{ROOT}/ks")).args(arguments).env("PATH", "/usr/bin:/bin").output().expect("./ks");
+    let ended = front(arguments);
     assert!(ended.status.success() && ended.stderr.is_empty(), "{arguments:?}");
     String::from_utf8(ended.stdout).expect("text")
+}
+
+/// Nothing is proved for a command that there is not.
+#[test]
+fn no_such_command() {
+    for arguments in [&[][..], &["wat"], &["help", "wat"], &["version"], &["../help/run"]] {
+        assert_eq!(front(arguments), ks(arguments, &[]), "{arguments:?}");
+        assert_eq!(front(arguments).status.code(), Some(2), "{arguments:?}");
+    }
 }
 
 #[test]

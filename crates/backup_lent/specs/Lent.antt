@@ -18,8 +18,8 @@ abbrev pub freshLent : List ℕ
 freshLent = replicate lentLength 0
 
 -- What a call promises, from both arrays at entry and at exit, the number that it returns, and the definition that it follows.
--- The value afterwards gives all seven numbers of the head and the first saved words, as many as the head says. Of the others those behind
--- the words that there were, and those that there are, are as they were. So nothing is open but what a sync leaves where words were dropped.
+-- The value afterwards gives all seven numbers of the head and the saved words, as many as the head says (LentLaws). Behind the words that there
+-- were and those that there are, all is as it was. So nothing is open but, after a sync, the numbers from the new length to the old.
 pub record Answered (saved head saved′ head′ : List ℕ) (number : ℕ) (call : Replica → Reply) : Type 0 where
   pub number-is : number ≡ call (viewIn saved head) .number
   pub value-is : viewIn saved′ head′ ≡ call (viewIn saved head) .replica

@@ -2,11 +2,16 @@
 use super::scene::{Board, Entry, Seat, WordId};
 use super::story::{Event, Stage, Story};
 use crate::words;
-use kunzeastylus::{End, Fate, Operation};
+use kunzeastylus::{End, Fate, Move, Operation, Record};
 
 /// What a process is called: by its name, or by its number.
 pub fn program(story: &Story, process: u8) -> String {
     story.names.as_ref().map_or_else(|| format!("process {process}"), |names| names.program_name(process))
+}
+
+/// What a channel is called.
+fn channel(story: &Story, channel: u8) -> String {
+    story.names.as_ref().map_or_else(|| format!("channel {channel}"), |names| names.channel_name(channel))
 }
 
 /// Which name stands for which number, where there are names.
@@ -42,8 +47,7 @@ pub fn record(story: &Story, record: usize) -> [String; 2] {
 
 pub fn word(story: &Story, word: WordId) -> String {
     let life = &story.lives[word];
-    let channel = story.names.as_ref().map(|names| names.channel_name(life.channel));
-    format!("{} on {}", life.word, channel.unwrap_or_else(|| format!("channel {}", life.channel)))
+    format!("{} on {}", life.word, channel(story, life.channel))
 }
 
 pub fn entry(story: &Story, entry: &Entry) -> String {
@@ -125,8 +129,21 @@ fn place(story: &Story, record: usize, process: u8) -> String {
 fn refused(story: &Story, from: usize, to: usize) -> String {
     let times = if from == to { String::new() } else { format!(", {} times", to - from + 1) };
     let answer = story.played.ran.answers[from];
-    let record = words::record(&story.played.records[from].bytes(), |_| None);
-    format!("{record}: refused {}, {}{times}", answer.code.number(), answer.reason.words())
+    format!("{}: refused {}, {}{times}", asked(story, from), answer.code.number(), answer.reason.words())
+}
+
+/// What a record asks for, with names where it speaks of a program or a channel that there is.
+fn asked(story: &Story, record: usize) -> String {
+    let Record { a, word, .. } = story.played.records[record];
+    let (program, channels) = (|| program(story, a), story.played.table.channels.len());
+    let there = usize::from(a) < story.start.seats.len() && word == 0;
+    match story.played.kind(record) {
+        Some(Move::Step) if there => format!("step {}", program()),
+        Some(Move::Sync) if there => format!("sync {}", program()),
+        Some(Move::Resync) if there => format!("resync {}", program()),
+        Some(Move::Feed) if usize::from(a) < channels => format!("feed {word} on {}", channel(story, a)),
+        _ => words::record(&story.played.records[record].bytes(), |_| None),
+    }
 }
 
 /// What became of a word at a record.
