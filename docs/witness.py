@@ -10,8 +10,8 @@ Demand 3 says: of every accepted run there is a plain run with the same feeds an
 plain run ends in the same places and registers with the same unread words, and could not go on. This page finds such a plain run, from
 the run alone, and checks it from the start; a plain run that is given is checked likewise. It needs Python 3.9 and nothing else.
 
-A page has no origins: then a word on the bus is compared by channel, word and sender, and not by the place of its SEND. Of the unread words a
-run tells only how many there are. Exit codes: 0 all is as demand 3 says, 1 something is not, 2 the input can't be read.
+A page has no origins: then a word on the bus is compared by channel, word and sender, and not by the place of its SEND. Of the unread
+words a run tells only how many there are. Exit codes: 0 all is as demand 3 says, 1 something is not, 2 the input can't be read.
 """
 import json
 import sys
@@ -103,7 +103,7 @@ class Plain:
 
 
 class Run:
-    """What a run was given and what it told. Answers are (code, a, word, sender, place); sender and place are None where they are not told."""
+    """What a run was given and told. Answers are (code, a, word, sender, place); sender and place are None where they are not told."""
 
     def __init__(self, table, schedule, answers, report, quiet):
         self.table = Table(table)
@@ -189,7 +189,8 @@ def json_told(text):
     """The same of what `ks run --json` prints, with the places of SENDs."""
     told = json.loads(text)
     answers = [(record["code"], record["a"], record["word"], record["sender"], record["place"]) for record in told["records"]]
-    return answers, [(end["board"], end["place"], end["unread"], end["holdback"], *end["registers"]) for end in told["report"]], told["quiet"]
+    ends = [(end["board"], end["place"], end["unread"], end["holdback"], *end["registers"]) for end in told["report"]]
+    return answers, ends, told["quiet"]
 
 
 def from_page(cabinet, page):

@@ -9,7 +9,7 @@
   const key = name => document.dispatchEvent(new KeyboardEvent("keydown", { key: name, bubbles: true }));
   const rows = [...document.querySelectorAll(".row")], words = [...document.querySelectorAll(".life")];
   const crash = document.querySelector(".row .cross");
-  if (crash) wants(crash.closest(".row").classList.contains("on") || document.querySelector(".row.on:not(.gone) .cross"), "it opens at a crash");
+  if (crash) wants(document.querySelector(".row.on .cross"), "it opens at a crash");
   for (const row of [rows[0], rows[rows.length - 1]].filter(row => row)) {
     on(row, "mousemove");
     wants(new RegExp("^Records? " + row.dataset.r + "(?![0-9])").test(text("state")), "it shows record " + row.dataset.r);

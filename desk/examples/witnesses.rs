@@ -1,5 +1,5 @@
-//! Generated runs for `docs/witness.py`, one a line, as `ks plain --json` prints a run: `witnesses RUNS SEED`. With `damaged` behind them, one thing
-//! of each run is changed, so that no plain run explains it, or of the plain run, so that it doesn't.
+//! Generated runs for `docs/witness.py`, one a line, as `ks plain --json` prints a run: `witnesses RUNS SEED`. With `damaged` behind
+//! them, one thing of each run is changed, so that no plain run explains it, or of the plain run, so that it doesn't.
 use desk::explain::Input;
 use desk::plain::{check, find, json, PlainMove};
 use desk::played::Played;

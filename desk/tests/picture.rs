@@ -1,5 +1,5 @@
-//! `ks picture`: two samples as stored beside them; that pictures are well-formed and name nothing outside of themselves, of every sample and of
-//! generated runs; that a page of 10,000 records stays small; and what is said where it can't.
+//! `ks picture`: two samples as stored beside them; that pictures are well-formed and name nothing outside of themselves, of every sample
+//! and of generated runs; that a page of 10,000 records stays small; and what is said where it can't.
 use desk::explain::Input;
 use desk::hex;
 use desk::picture::{opening, page, picture, Story};

@@ -1,5 +1,5 @@
-//! The plain run of a run: of two samples in words, as stored beside them; what is said of a run that no plain run explains, and of a list of moves
-//! that is none. `tools/witness` holds generated runs against it.
+//! The plain run of a run: of two samples in words, as stored beside them; what is said of a run that no plain run explains, and of a
+//! list of moves that is none. `tools/witness` holds generated runs against it.
 use desk::explain::Input;
 use desk::hex;
 use desk::plain::{check, find, plain, Fault, Form, PlainMove, Refused};

@@ -1,5 +1,5 @@
-//! The story that a picture tells: after every record of generated runs its cabinet is that of documents 01 and 02, as `outside` has them, word for
-//! word, with its queues and backups; and every word's life fits the answers.
+//! The story that a picture tells: after every record of generated runs its cabinet is that of documents 01 and 02, as `outside` has
+//! them, word for word, with its queues and backups; and every word's life fits the answers.
 use desk::explain::Input;
 use desk::picture::scene::{Scene, WordId};
 use desk::picture::story::Stage;

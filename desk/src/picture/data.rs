@@ -1,5 +1,5 @@
-//! What the page's script shows when a record or a word is pointed at, as JSON: all of it in words already. What stays the same from record to record
-//! stands once, with the number of the record from which on it holds.
+//! What the page's script shows when a record or a word is pointed at, as JSON: all of it in words already. What stays the same from
+//! record to record stands once, with the number of the record from which on it holds.
 use super::layout::Row;
 use super::say;
 use super::scene::{Scene, WordId};

@@ -1,5 +1,5 @@
-//! The drawing of some rows: what stays (columns, bars, gauges, queues) as long shapes from one change to the next, and what happens as a mark in its
-//! row. A part of a run is drawn from its own rows alone.
+//! The drawing of some rows: what stays (columns, bars, gauges, queues) as long shapes from one change to the next, and what happens as a
+//! mark in its row. A part of a run is drawn from its own rows alone.
 use super::events;
 use super::layout::{Lanes, Row, LINE, NUMBER, ROW};
 use super::pen::Pen;

@@ -1,5 +1,5 @@
-//! What happens in a row, as marks: words as dots and squares with their arrows, syncs as diamonds, a crash as a cross with what it lost, a refusal as
-//! a tick.
+//! What happens in a row, as marks: words as dots and squares with their arrows, syncs as diamonds, a crash as a cross with what it lost,
+//! a refusal as a tick.
 use super::draw::{colour, Drawing, BAR};
 use super::layout::{Row, CROSS, LINE, LISTED, NUMBER, ROW};
 use super::pen::Pen;

@@ -1,5 +1,5 @@
-//! The picture as a page of its own: all rows in parts that a browser draws when they are seen, the whole run as a strip beside them, and what is
-//! pointed at in words. It needs no network, and without a script it is still the picture.
+//! The picture as a page of its own: all rows in parts that a browser draws when they are seen, the whole run as a strip beside them, and
+//! what is pointed at in words. It needs no network, and tells the browser to fetch nothing; without a script it is still the picture.
 use super::data::data;
 use super::draw::Drawing;
 use super::layout::Row;
@@ -7,7 +7,10 @@ use super::pen::{escaped, Pen};
 use super::say;
 use super::strip::strip;
 use super::svg::{heads, legend_svg, title, worded_rows, CSS, DEFS, HEAD};
+use crate::words;
 
+/// The page, with a name in double braces where something is put in.
+const PAGE: &str = include_str!("page.html");
 const PAGE_CSS: &str = include_str!("page.css");
 const SCRIPT: &str = include_str!("page.js");
 /// How many rows a part has: a page of paper has room for it.
@@ -18,34 +21,44 @@ pub fn html(drawing: &Drawing) -> String {
     let rows = worded_rows(story, 0..story.moments.len());
     let height = rows.last().map_or(0, |row| row.y + row.height);
     let open = story.first_crash().unwrap_or(0) + 1;
-    let title = escaped(&title(story));
-    let called = say::called(story).map_or(String::new(), |called| format!("<p>{}</p>\n", escaped(&called)));
-    let width = drawing.lanes.width;
-    let mut head = Pen::default();
-    head.put(format_args!("<svg viewBox=\"0 0 {width} {HEAD}\" width=\"{width}\" height=\"{HEAD}\">{DEFS}\n"));
-    heads(drawing, &mut head);
-    head.put("</svg>");
-    let parts: String = rows.chunks(PART).map(|rows| part(drawing, rows)).collect();
-    format!(
-        "<!DOCTYPE html>\n<html lang=\"en\">\n<head>\n<meta charset=\"utf-8\">\n{POLICY}<meta name=\"viewport\" content=\"width=device-width\">\n\
-         <meta name=\"color-scheme\" content=\"light dark\">\n<title>{title}</title>\n<style>\n{CSS}{PAGE_CSS}</style>\n</head>\n<body>\n\
-         <nav title=\"the whole run\">\n{}</nav>\n<main tabindex=\"0\">\n<h1 class=\"paper-only\">{title}</h1>\n<table>\n<thead><tr><td>{}</td></tr></thead>\n<tbody id=\"rows\">\n{parts}</tbody>\n</table>\n</main>\n\
-         <aside>\n<h1>{title}</h1>\n{called}<p>{}</p>\n{HINT}<div id=\"life\"></div>\n<div id=\"state\"></div>\n\
-         <details open>\n<summary>What the signs stand for</summary>\n{}</details>\n</aside>\n\
-         <script type=\"application/json\" id=\"data\">\n{}\n</script>\n<script>\n{SCRIPT}</script>\n</body>\n</html>\n",
-        strip(drawing, &rows, height),
-        head.text,
-        crate::words::quiet(story.played.ran.quiet),
-        legend_svg(1),
-        data(story, &rows, open)
-    )
+    filled(|name| match name {
+        "title" => escaped(&title(story)),
+        "style" => format!("{CSS}{PAGE_CSS}"),
+        "strip" => strip(drawing, &rows, height),
+        "heads" => picture(drawing.lanes.width, HEAD, |pen| {
+            pen.put(DEFS);
+            heads(drawing, pen);
+        }),
+        "parts" => rows.chunks(PART).map(|rows| part(drawing, rows)).collect(),
+        "called" => escaped(&say::called(story).unwrap_or_default()),
+        "quiet" => words::quiet(story.played.ran.quiet).to_string(),
+        "legend" => legend_svg(1),
+        "data" => data(story, &rows, open),
+        "script" => SCRIPT.to_string(),
+        _ => unreachable!("{name}: no such name in the page"),
+    })
 }
 
-/// A browser is told to fetch nothing for this page, whatever it says.
-const POLICY: &str = "<meta http-equiv=\"Content-Security-Policy\" content=\"default-src 'none'; style-src 'unsafe-inline'; script-src 'unsafe-inline'\">\n";
+/// The page with something for each of its names.
+fn filled(of: impl Fn(&str) -> String) -> String {
+    let (mut page, mut rest) = (String::new(), PAGE);
+    while let Some((before, after)) = rest.split_once("{{") {
+        let (name, behind) = after.split_once("}}").expect("a name ends");
+        page += before;
+        page += &of(name);
+        rest = behind;
+    }
+    page + rest
+}
 
-const HINT: &str = "<p class=\"hint\">Point at a record to see the cabinet after it; click to keep it. Click a word to see its life. Arrow keys go from \
-    record to record, c and C from crash to crash, Escape lets go. The strip shows the whole run.</p>\n";
+/// A picture within the page.
+fn picture(width: i32, height: i32, draw: impl FnOnce(&mut Pen)) -> String {
+    let mut pen = Pen::default();
+    pen.put(format_args!("<svg viewBox=\"0 0 {width} {height}\" width=\"{width}\" height=\"{height}\">\n"));
+    draw(&mut pen);
+    pen.put("</svg>");
+    pen.text
+}
 
 /// Some rows as a picture of their own, as high as they are.
 fn part(drawing: &Drawing, rows: &[Row]) -> String {
@@ -53,11 +66,6 @@ fn part(drawing: &Drawing, rows: &[Row]) -> String {
     let last = &rows[rows.len() - 1];
     let (width, height) = (drawing.lanes.width, last.y + last.height - top);
     let rows: Vec<Row> = rows.iter().map(|row| Row { y: row.y - top, ..row.clone() }).collect();
-    let mut pen = Pen::default();
-    pen.put(format_args!(
-        "<tr><td><div class=\"part\" style=\"width:{width}px;height:{height}px\"><svg viewBox=\"0 0 {width} {height}\" width=\"{width}\" height=\"{height}\">\n"
-    ));
-    drawing.rows(&rows, &mut pen);
-    pen.put("</svg></div></td></tr>\n");
-    pen.text
+    let drawn = picture(width, height, |pen| drawing.rows(&rows, pen));
+    format!("<tr><td><div class=\"part\" style=\"width:{width}px;height:{height}px\">{drawn}</div></td></tr>\n")
 }

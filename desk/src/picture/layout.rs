@@ -1,5 +1,6 @@
-//! Where things stand in the picture: from left to right the record's number, the outside, a column for each board with a lane for each process that
-//! has a half there and one for the queue, and the record in words; from top to bottom a row for each record, equal refusals in one.
+//! Where things stand in the picture: from left to right the record's number, the outside, a column for each board with a lane for each
+//! process that has a half there and one for the queue, and the record in words; from top to bottom a row for each record, equal refusals
+//! in one.
 use super::story::{Event, Story};
 use kunzeastylus::{Fate, Table};
 use std::ops::Range;

@@ -1,5 +1,5 @@
 "use strict";
-// Shows what is pointed at: a record with the cabinet after it, a word with its life. All words stand in the data; nothing is worked out here.
+// Shows what is pointed at: a record with the cabinet after it, a word with its life. All words stand in the data: nothing is worked out.
 (() => {
   const data = JSON.parse(document.getElementById("data").textContent);
   const main = document.querySelector("main"), body = document.getElementById("rows");

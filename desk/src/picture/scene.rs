@@ -1,10 +1,10 @@
-//! The cabinet at one moment of a run, as it is drawn: where each process runs and stands, which words are unread, saved and in queues. Words are
-//! named by their number, so that one can be followed from queue to inbox.
+//! The cabinet at one moment of a run, as it is drawn: where each process runs and stands, which words are unread, saved and in queues.
+//! Words are named by their number, so that one can be followed from queue to inbox.
 //!
-//! All of it follows from the answers, and is held against the report of the run up to there at every crash and at the end, where each process must
-//! be as the report says: a word on the bus joins its reader's inbox and backup, a take removes the oldest of its channel, a step moves the place as
-//! its instruction says, a carried sync drops what was taken before it was issued, and a crash makes the saved words the inbox and the counted ones
-//! those to be held back. Where a process goes on after a crash, the report says.
+//! All of it follows from the answers, and is held against the report of the run up to there at every crash and at the end, where each
+//! process must be as the report says: a word on the bus joins its reader's inbox and backup, a take removes the oldest of its channel, a
+//! step moves the place as its instruction says, a carried sync drops what was taken before it was issued, and a crash makes the saved
+//! words the inbox and the counted ones those to be held back. Where a process goes on after a crash, the report says.
 use kunzeastylus::{End, ProcessEnd, Table};
 
 /// A word by its number: its place in `Story::lives`.

@@ -1,5 +1,5 @@
-//! A run as a story: what each record did to whom, the cabinet after it, and the life of every word. It is made of what the proved run told, its
-//! answers and the reports of its beginnings up to each crash; how it is drawn is none of its business.
+//! A run as a story: what each record did to whom, the cabinet after it, and the life of every word. It is made of what the proved run
+//! told, its answers and the reports of its beginnings up to each crash; how it is drawn is none of its business.
 use super::scene::{Entry, Scene, Standby, WordId};
 use crate::follow::Spot;
 use crate::form::names::Names;

@@ -1,4 +1,5 @@
-//! The whole run in a strip: where each process runs, dead boards, crashes, words on the bus and refusals, over the same heights as the rows.
+//! The whole run in a strip: where each process runs, dead boards, crashes, words on the bus and refusals, over the same heights as the
+//! rows.
 use super::draw::{colour, Drawing};
 use super::layout::Row;
 use super::pen::Pen;

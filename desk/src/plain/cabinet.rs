@@ -1,5 +1,5 @@
-//! Document 01's plain cabinet: "It holds for each process four registers and a place, all 0 at first, and an inbox, a list of channels with words,
-//! of any length. Beside them is its bus order." It knows nothing of boards, queues, backups and limits.
+//! Document 01's plain cabinet: "It holds for each process four registers and a place, all 0 at first, and an inbox, a list of channels
+//! with words, of any length. Beside them is its bus order." It knows nothing of boards, queues, backups and limits.
 use kunzeastylus::{BusWord, End, Operation, Table};
 use std::fmt;
 
@@ -76,8 +76,8 @@ impl<'t> Plain<'t> {
         self.table.processes[usize::from(process)].program.get(machine.place).copied()
     }
 
-    /// "Feed of a channel whose sender is the outside, with any word: channel and word go to the end of the reader's inbox and of the bus order. A
-    /// feed of any other channel is refused."
+    /// "Feed of a channel whose sender is the outside, with any word: channel and word go to the end of the reader's inbox and of the bus
+    /// order. A feed of any other channel is refused."
     fn feed(&mut self, channel: u8, word: u32) -> Result<Did, Refused> {
         match self.table.channels.get(usize::from(channel)) {
             Some((End::Outside, _)) => Ok(self.put(BusWord { channel, word, sender: End::Outside, place: 0 })),
@@ -94,7 +94,8 @@ impl<'t> Plain<'t> {
         Did::Put(sent)
     }
 
-    /// "Step of a process: the instruction at its place". "A step is refused exactly where the place is n, or TAKE or FIRST finds no such word."
+    /// "Step of a process: the instruction at its place". "A step is refused exactly where the place is n, or TAKE or FIRST finds no such
+    /// word."
     fn step(&mut self, process: u8) -> Result<Did, Refused> {
         let machine = self.machines.get(usize::from(process)).ok_or(Refused::NoSuchProcess)?;
         let (place, operation) = (machine.place, self.next(process).ok_or(Refused::Halted)?);

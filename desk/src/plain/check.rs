@@ -1,5 +1,5 @@
-//! Whether a list of feeds and steps is a plain run that explains a run: demand 3 of one run, from nothing. Equal words on the bus means that
-//! channel, word, sender and place agree (W-212); what counts are the records that stand (W-214).
+//! Whether a list of feeds and steps is a plain run that explains a run: demand 3 of one run, from nothing. Equal words on the bus means
+//! that channel, word, sender and place agree (W-212); what counts are the records that stand (W-214).
 use super::cabinet::{Machine, Plain, PlainMove, Refused};
 use crate::played::Played;
 use kunzeastylus::{BusWord, Code, Move, ProcessEnd};

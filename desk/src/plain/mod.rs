@@ -1,5 +1,5 @@
-//! The witness: of an accepted run the plain run that demand 3 says exists, in words beside our records, as a list of moves, or with the whole run
-//! for `docs/witness.py`. It is checked from nothing before it is shown.
+//! The witness: of an accepted run the plain run that demand 3 says exists, in words beside our records, as a list of moves, or with the
+//! whole run for `docs/witness.py`. It is checked from nothing before it is shown.
 mod cabinet;
 mod check;
 mod show;

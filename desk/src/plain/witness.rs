@@ -1,6 +1,7 @@
-//! The plain run that demand 3 says exists, found: feeds as they come, each process stepped when a word of it is carried, and at a quiet end until
-//! it can go no further. It lags behind our cabinet: what a step of the plain cabinet does depends on the order of the words in the process's inbox
-//! and not on when it is made. What is found here is held against the run by `check`, which knows nothing of how it was found.
+//! The plain run that demand 3 says exists, found: feeds as they come, each process stepped when a word of it is carried, and at a quiet
+//! end until it can go no further. It lags behind our cabinet: what a step of the plain cabinet does depends on the order of the words in
+//! the process's inbox and not on when it is made. What is found here is held against the run by `check`, which knows nothing of how it
+//! was found.
 use super::cabinet::{Did, Plain, PlainMove};
 use super::check::Fault;
 use crate::played::Played;
