@@ -1,0 +1,3 @@
+-- The whole cabinet as numbers.
+pub mod View
+pub mod Lists

@@ -1,0 +1,5 @@
+// The whole cabinet as numbers.
+mod all;
+mod boards;
+mod lay;
+mod processes;
