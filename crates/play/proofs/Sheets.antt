@@ -119,9 +119,9 @@ module _ {before after : Sheets} {xs : List rules.Answer} (w : Wrote before 0 xs
 
 -- answers over others, from the first record on, are written as if those had not been
 drop-past : (a r : List ℕ) (m : ℕ) → length a ≤ m → drop m (a ++ r) ≡ drop (m - length a) r
-drop-past [] r m h = ap (λ (n : ℕ). drop n r) (omega arith)
+drop-past [] r m h = let e : m ≡ m - 0 = omega arith in ap (λ (n : ℕ). drop n r) e
 drop-past (x ∷ a) r zero h = absurd (omega arith)
-drop-past (x ∷ a) r (suc m) h = drop-past a r m (omega arith) ∙ ap (λ (n : ℕ). drop n r) (omega arith)
+drop-past (x ∷ a) r (suc m) h = let e : m - length a ≡ suc m - suc (length a) = omega arith in drop-past a r m (omega arith) ∙ ap (λ (n : ℕ). drop n r) e
 
 written-over : (a b buffer : List ℕ) → length a ≤ length b → written b (written a buffer) ≡ written b buffer
 written-over a b buffer h =

@@ -12,7 +12,7 @@ use Rattle.rules.specs.Table.{Table, SET, TAKE, SEND}
 use Rattle.rules.specs.Machine.{sentFrom}
 use Rattle.rules.specs.Reference.{Action, referenceStart, referenceRun}
 use Rattle.rules.specs.Cabinet.{outboxAt, full}
-use Rattle.rules.specs.Moves.{guard, Command}
+use Rattle.rules.specs.Moves.{guard, Command, runFrom}
 use Rattle.rules.specs.Transparent.{finished}
 use Rattle.rules.specs.Run.{run}
 use Rattle.progress.specs.Progress.{Stands, waits, pressed, Standstill}
@@ -43,7 +43,7 @@ standstills-hold = refl
 
 -- so that the exception of `Progress` is met
 pub a-standstill : Standstill nine (finished nine toStandstill)
-unfolding run guard syncReport syncNumber arriveNumber countNumber fit full
+unfolding run guard syncReport syncNumber arriveNumber countNumber fit full runFrom
 a-standstill = record {
   empty = no-entry;
   each = each-stands;

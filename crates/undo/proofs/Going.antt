@@ -22,7 +22,7 @@ use Rattle.state.specs.declared.entry.Entry.{Entry}
 use Rattle.state.specs.declared.moved.Answer.{Answer}
 use Rattle.state.specs.Store.{Store}
 use Rattle.play.specs.declared.play.Stretch.{Stretch}
-use Rattle.play.specs.Plays.{Sheets, AsLong, Writes, between, Suited, Plays}
+use Rattle.play.specs.Plays.{Sheets, Roomy, AsLong, Writes, between, Suited, Plays}
 use Rattle.play.proofs.Sheets.{as-long, still-long}
 use Rattle.rules.proofs.Scheduled.{commands-counted}
 use Rattle.play.proofs.Playing.{between-length, between-parts, between-all, between-one, anyUndo-parts}
@@ -67,6 +67,14 @@ going-last {schedule = schedule} {i = i} g over =
     let all : i ≡ commandsIn schedule = (let a = g .there in omega arith) in
     let done : between schedule 0 i ≡ decodeSchedule schedule = ap (between schedule 0) all ∙ between-all schedule in
     record { shown = λ t u. rw done at (g .in-hand t u .shown) }
+
+-- buffers as long as those with room for n records have room for fewer
+pub room-less : {n m : ℕ} {before sheets : Sheets} → Roomy n before → AsLong before sheets → m ≤ n → Roomy m sheets
+room-less room long few = record {
+  answers-room = (let a = room .answers-room in let b = long .answers-long in omega arith);
+  reasons-room = (let a = room .reasons-room in let b = long .reasons-long in omega arith);
+  origins-room = (let a = room .origins-room in let b = long .origins-long in omega arith);
+}
 
 -- how many are kept after n records more: all, but no more than 64
 manyKept-is : (k n : ℕ) → k ≤ keptMost → manyKept k n ≡ min (k + n) keptMost
@@ -176,9 +184,10 @@ module _ {l : Plan} {schedule : List ℕ} {s₀ : Store} {entries₀ : List Entr
           let f = p .forward in
           record { forward = omega arith; there = omega arith; fits = omega arith }
 
-      pub going-forward : {history′ : List ℕ} → AsLong sheets sheets′ → Remembers schedule i (r .from) history held history′
-          → Going l schedule s₀ entries₀ before s′ (r .entries) b at-base history′ (held + (r .from - i)) (min (kept + (r .from - i)) keptMost) (r .from) sheets′
-      going-forward {history′} long m =
+      pub going-forward : {history′ : List ℕ} {kept′ : ℕ} → AsLong sheets sheets′ → Remembers schedule i (r .from) history held history′
+          → kept′ ≡ min (kept + (r .from - i)) keptMost
+          → Going l schedule s₀ entries₀ before s′ (r .entries) b at-base history′ (held + (r .from - i)) kept′ (r .from) sheets′
+      going-forward {history′} long m is-kept =
           let fit = stretch-fits in
           let enough = g .enough in
           let few = g .few in
@@ -200,7 +209,7 @@ module _ {l : Plan} {schedule : List ℕ} {s₀ : Store} {entries₀ : List Entr
             in-hand = λ t u.
                 let h = g .in-hand t u in
                 let size = between-length schedule i (r .from) (fit .there) in
-                let kept-now = manyKept-is kept (length rs) few ∙ ap (λ (n : ℕ). min (kept + n) keptMost) size in
+                let kept-now = manyKept-is kept (length rs) few ∙ ap (λ (n : ℕ). min (kept + n) keptMost) size ∙ sym is-kept in
                 let done = sym (between-parts schedule 0 i (r .from) (omega arith) (p .forward)) in
                 let on = hand-forward h (p .no-undo) (p .played t _ (now-suited h)) so-many in
                 subst (λ (n : ℕ). InHand t l (between schedule 0 (r .from)) s′ (r .entries) b at-base (heldIn history′ (held + (r .from - i))) n before sheets′) kept-now

@@ -7,4 +7,4 @@ pub mod Hand
 -- and what holds between two of its rounds.
 pub mod Going
 -- All records, as one stretch or as a session.
-pub mod All
+pub mod AllRecords

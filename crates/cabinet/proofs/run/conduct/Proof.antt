@@ -6,18 +6,10 @@ use Rattle.cabinet.proofs.run.conduct.Reads as reads
 use Rattle.cabinet.proofs.run.conduct.Lts as lts
 use Rattle.outcome.proofs.quiet.quiescent.Reads as quiescent-reads
 use Rattle.outcome.proofs.report.write_report.Reads as write-report-reads
-use Rattle.outcome.proofs.start.start.Reads as start-reads
-use Rattle.play.proofs.play.count.Reads as count-reads
-use Rattle.play.proofs.play.play.Reads as play-reads
+use Rattle.undo.proofs.all.play_all.Reads as play-all-reads
 
-start-requires : tie.Need-start-requires
-start-requires c κs = search needs
-
-count-requires : tie.Need-count-requires
-count-requires c κs = search needs
-
-play-requires : tie.Need-play-requires
-play-requires c κs = rw (c .before .before .before .before .before .before .before .before .before .before .before .count .ensures) (c .before .before .before .before .before .before .before .before .before .before .before .before .before .before .before .before .before .before .before .before .before .before .before .before .before .before .before .before .before .before .before .before .pre)
+play-all-requires : tie.Need-play-all-requires
+play-all-requires c κs = c .before .before .before .before .before .before .before .before .before .before .before .before .before .before .before .before .before .before .before .before .before .before .before .before .pre
 
 write-report-requires : tie.Need-write-report-requires
 write-report-requires c κs = search needs
@@ -39,17 +31,15 @@ same-length-4 c = search needs
 
 returns : tie.Need-returns
 returns c =
-    let s = c .before .before .before .before .before .before .before .before .before .before .before .before .before .before .before .before .before .before .before .before .before .before .before .before .before .before .before .before .before .before .before .before .before .before .before .before .before .before .before .before .before .before .before .before .before .before .before .before .before .args in
-    conducts (s .table .now) (s .schedule .now) (s .plan) (s .answers .now) (s .reasons .now) (s .report .now) (s .origins .now) _ _ _ _ _ (c .before .before .before .before .before .before .before .before .before .before .before .before .before .before .before .before .before .before .before .before .before .before .before .before .before .before .before .before .count .ensures) _ _ _ _
-    (c .quiescent .result) (c .before .before .before .before .before .before .before .before .before .before .before .before .before .before .before .before .before .before .before .before .before .before .before .before .before .before .before .before .before .start .ensures) (c .before .before .before .before .before .before .before .before .before .before .before .before .before .before .before .before .play .ensures) (c .before .before .before .before .before .before .before .write-report .ensures) (c .quiescent .ensures)
+    let s = c .before .before .before .before .before .before .before .before .before .before .before .before .before .before .before .before .before .before .before .before .before .before .before .before .before .before .before .before .before .before .before .before .before .before .before .before .before .before .before .before .before .args in
+    conducts (s .table .now) (s .schedule .now) (s .plan) (s .answers .now) (s .reasons .now) (s .report .now) (s .origins .now) _ _ _ _ _ _ (c .quiescent .result)
+    (c .before .before .before .before .before .before .before .before .before .before .before .before .before .before .before .before .play-all .ensures) (c .before .before .before .before .before .before .before .write-report .ensures) (c .quiescent .ensures)
 
 pub conduct-spec : {M : Type 1} → statement M
 conduct-spec =
     tie.close
     (tie.spec
-    start-requires
-    count-requires
-    play-requires
+    play-all-requires
     write-report-requires
     quiescent-requires
     same-length
