@@ -4,6 +4,7 @@ use crate::abi::check_abi;
 use crate::buffers::{Buffers, Lengths};
 use crate::label::LABEL_TABLE;
 use crate::table::Lists;
+use crate::view::{View, VIEW};
 
 mod raw {
     use crate::label::LABEL_TABLE;
@@ -66,6 +67,15 @@ mod raw {
         ) -> u64;
 
         pub fn ks_sweep(table: *const u8, table_len: usize, schedule: *const u8, schedule_len: usize) -> u64;
+
+        pub fn ks_view(
+            table: *const u8,
+            table_len: usize,
+            schedule: *const u8,
+            schedule_len: usize,
+            out: *mut u32,
+            out_len: usize,
+        ) -> u32;
 
         pub fn ks_table_write(
             version: u32,
@@ -182,6 +192,15 @@ pub fn ks_sweep(table: &[u8], schedule: &[u8]) -> u64 {
     same_library();
     // SAFETY: two slices, each with its own length; the call only reads them and asks nothing else.
     unsafe { raw::ks_sweep(table.as_ptr(), table.len(), schedule.as_ptr(), schedule.len()) }
+}
+
+/// The number by which a view is refused, or 0 and the view.
+pub fn ks_view(table: &[u8], schedule: &[u8], view: &mut View) -> u32 {
+    same_library();
+    let out: *mut View = view;
+    // SAFETY: two slices, each with its own length, that are only read; and a `View`, which is VIEW numbers of 32 bits and nothing between them,
+    // any of which it may hold. The call asks nothing else.
+    unsafe { raw::ks_view(table.as_ptr(), table.len(), schedule.as_ptr(), schedule.len(), out.cast(), VIEW) }
 }
 
 /// The number by which lists or a buffer are refused or 0, plus 2^32 times the table's length.

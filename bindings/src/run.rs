@@ -24,6 +24,7 @@ worded! {
         Limit = 47 => "a table of version 2: a process's limit is outside 1 to 16",
         OriginsShort = 51 => "the buffer of origins has under two bytes a record",
         Unswept = 52 => "of a sweep alone: the schedule has a record of move 5 or 8, whatever its a and word, or over 500 records",
+        ViewShort = 54 => "of a view alone: the lent list has under 11,187 numbers",
     }
 }
 

@@ -7,3 +7,4 @@ pub mod label;
 pub mod run;
 pub mod swept;
 pub mod tables;
+pub mod viewed;

@@ -6,3 +6,4 @@ pub mod Blocks
 pub mod OfProcess
 pub mod OfBoard
 pub mod Whole
+pub mod Viewing

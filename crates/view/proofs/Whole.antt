@@ -5,7 +5,7 @@ use mathlib.Core.List.{List, [], _∷_, _++_}
 use Prim.Native.Nat.{ℕ, _+_, _%_, _^_, _≤_, _<_}
 use native.Mathlib.Omega.{arith}
 use lib.Dec.{eqb, ltb}
-use lib.ListN.{length, getD, replicate, List·getD-eq-default}
+use lib.ListN.{length, getD, replicate, length-append, List·getD-eq-default}
 use lib.Seq.{sets}
 use borrow.Author.Tests.{lt-ltb, le-ltb}
 use Rattle.facts.specs.Tests.{by-lt}
@@ -21,7 +21,7 @@ use Rattle.state.specs.declared.entry.Entry.{Entry}
 use Rattle.state.specs.Queue.{queueLength, queueDead, deadIn}
 use Rattle.state.specs.Store.{Store, Holds, processIn, outboxIn}
 use Rattle.state.proofs.Reading.{at-process, at-outbox, at-dead, how-many, how-many-boards}
-use Rattle.view.specs.View.{each, processNumbers, boardNumbers, totalNumber, processesNumbers, boardsNumbers, totalsNumbers, view}
+use Rattle.view.specs.View.{each, processNumbers, boardNumbers, totalNumber, processesNumbers, boardsNumbers, totalsNumbers, view, viewMost}
 use Rattle.view.specs.Lists.{rowFor, queueFor, totalFor, short, processBlock, boardBlock, totalBlock, viewIn, processNumbersIn, boardNumbersIn}
 use Rattle.view.proofs.Laying.{sets-more, each-length, each-same}
 use Rattle.view.proofs.Blocks.{process-block-wide, board-block-wide}
@@ -56,6 +56,21 @@ module _ (counts : Counts) (s : Store) (entries : List Entry) (out₀ : List ℕ
       ∙ sets-more processesIn (boardsIn ++ totalsIn) out₁ 3 4467 (omega arith)
       ∙ ap (λ (l : List ℕ). sets l 3 (processesIn ++ (boardsIn ++ totalsIn))) f₁
       ∙ sets-more (short (counts .boards) ∷ short (counts .processes) ∷ short (counts .channels) ∷ []) (processesIn ++ (boardsIn ++ totalsIn)) out₀ 0 3 refl
+
+-- how long it is
+pub view-long : (counts : Counts) (s : Store) (entries : List Entry) → length (viewIn counts s entries) ≡ viewMost
+unfolding viewIn
+view-long counts s entries =
+    let ps : List ℕ = processesIn counts s entries [] in
+    let bs : List ℕ = boardsIn counts s entries [] in
+    let ts : List ℕ = totalsIn counts s entries [] in
+    let p : length ps ≡ 4464 = each-length (processBlock (counts .processes) (s .rows) (s .mails) (s .logs) (s .heads)) 279 processesMost
+    (process-block-wide (counts .processes) (s .rows) (s .mails) (s .logs) (s .heads)) in
+    let b : length bs ≡ 6688 = each-length (boardBlock (counts .boards) (s .queues) entries) 418 boardsMost (board-block-wide (counts .boards) (s .queues) entries) in
+    let k : length ts ≡ 32 = each-length (totalBlock (counts .channels) (s .totals)) 1 channelsMost (λ _. refl) in
+    let x = length-append ps (bs ++ ts) in
+    let y = length-append bs ts in
+    omega arith
 
 -- ---- of the cabinet that the lists hold
 
