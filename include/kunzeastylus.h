@@ -1,5 +1,5 @@
-/* The proved calls for programs in C and C++: the run of a schedule, the judging of its input, every place to pull a board, tables, the backup
- * record and the label line. One library has them all, target/staticlib/libkunzeastylus.a, and exports nothing else:
+/* The proved calls for programs in C and C++: the run of a schedule, the judging of its input, every place to pull a board, the whole cabinet after
+ * a run, tables, the backup record and the label line. One library has them all, target/staticlib/libkunzeastylus.a, and exports nothing else:
  *
  *     rt staticlib kunzeastylus
  *

@@ -7,3 +7,4 @@ pub mod OfProcess
 pub mod OfBoard
 pub mod Whole
 pub mod Viewing
+pub mod Cases

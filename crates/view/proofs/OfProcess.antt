@@ -3,7 +3,7 @@ use mathlib.Core.Path.{_≡_, refl, ap, sym, _∙_}
 use mathlib.Core.Bool.{Bool, true, false, cond}
 use mathlib.Core.Option.{Option, none, some}
 use mathlib.Core.List.{List, [], _∷_, _++_, map}
-use Prim.Native.Nat.{ℕ, zero, suc, _≤_, _<_}
+use Prim.Native.Nat.{ℕ}
 use native.Mathlib.Omega.{arith}
 use lib.Dec.{eqb, ltb}
 use lib.ListN.{length, getD, replicate, length-map, List·getD-eq-default}
@@ -16,8 +16,8 @@ use Rattle.backup.specs.Replica.{Message}
 use Rattle.backup.specs.Place.{unpack, messages, headLen, headSent, headPc, headRegister, viewIn}
 use Rattle.process.specs.Row.{rowLength, boardIn, pcIn, registersIn, suppressIn, eventsIn, takenIn, flagIn, standbyBoardIn, unreadIn, instructionsIn}
 use Rattle.process.specs.Row.{mailAt, machineOf, standbyOf, processOf}
-use Rattle.rules.specs.Machine.{Mail, booted}
-use Rattle.rules.specs.Cabinet.{Standby, Process, nobody}
+use Rattle.rules.specs.Machine.{booted}
+use Rattle.rules.specs.Cabinet.{Standby, nobody}
 use Rattle.view.specs.View.{each, machineNumbers, mailNumbers, noMail, inboxNumbers, backupNumbers, savedWord, noMessage, logOf, savedNumbers, processNumbers}
 use Rattle.view.specs.Lists.{machineIn, behindState, backupIn, unreadAt, savedAt, processNumbersIn}
 use Rattle.view.proofs.Laying.{each-same}

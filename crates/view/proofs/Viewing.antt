@@ -1,22 +1,20 @@
 -- The call: refused with a number alone, or the view of the cabinet that the records leave, at the front of the lent list.
-use mathlib.Core.Path.{_≡_, refl, ap, sym, _∙_}
+use mathlib.Core.Path.{_≡_, ap, sym, _∙_}
 use mathlib.Core.List.{List, _++_}
-use Prim.Native.Nat.{ℕ, _+_, _*_, _≤_, _<_}
+use Prim.Native.Nat.{ℕ, _+_, _≤_, _<_}
 use native.Mathlib.Omega.{arith}
-use lib.Dec.{eqb, leb}
+use lib.Dec.{leb}
 use lib.ListN.{length, drop}
 use lib.Seq.{sets, sets-eq}
 use borrow.Author.Tests.{eq-eqb, ne-eqb, le-leb, lt-leb, leb-true}
 use Rattle.records.specs.Commands.{ScheduleJudged}
 use Rattle.records.specs.declared.schedule.Judged.{Judged}
-use Rattle.table.specs.Plan.{Plans, Decodes}
+use Rattle.table.specs.Plan.{Decodes}
 use Rattle.table.specs.declared.Decoded.{Decoded}
 use Rattle.table.specs.declared.Plan.{Plan}
-use Rattle.rules.specs.Sizes.{commandsMost}
 use Rattle.rules.specs.Bytes.{written}
 use Rattle.rules.specs.Table.{Table}
 use Rattle.rules.specs.Judge.{Accepted}
-use Rattle.rules.specs.Cabinet.{Cabinet}
 use Rattle.rules.specs.Transparent.{ended}
 use Rattle.rules.specs.Format.{validateTable, decodeTable}
 use Rattle.rules.specs.Schedule.{commandsIn, validateSchedule, decodeSchedule}
@@ -29,10 +27,11 @@ use Rattle.state.specs.declared.entry.Entry.{Entry}
 use Rattle.state.specs.Store.{Store}
 use Rattle.play.specs.Plays.{Sheets, sheetsOf, Roomy}
 use Rattle.undo.specs.Sessions.{PlaysAll}
-use Rattle.view.specs.View.{viewMost, Viewed, viewedOf, view, validateView, viewed}
+use Rattle.view.specs.View.{viewMost, viewedOf, view, validateView, viewed}
 use Rattle.view.specs.Lists.{viewIn}
 use Rattle.view.specs.Judged.{judgedView}
-use Rattle.view.specs.Views.{Shows, Views}
+use Rattle.view.specs.Shows.{Shows}
+use Rattle.view.specs.Views.{Views}
 use Rattle.view.proofs.Whole.{view-is, view-long}
 
 -- ---- the number

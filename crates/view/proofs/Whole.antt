@@ -1,10 +1,9 @@
 -- The whole view: its parts laid one behind the other, and that they are those of the cabinet that the lists hold.
 use mathlib.Core.Path.{_≡_, refl, ap, sym, _∙_}
-use mathlib.Core.Bool.{Bool, false, not, cond}
+use mathlib.Core.Bool.{Bool, false, cond}
 use mathlib.Core.List.{List, [], _∷_, _++_}
-use Prim.Native.Nat.{ℕ, _+_, _%_, _^_, _≤_, _<_}
+use Prim.Native.Nat.{ℕ, _+_}
 use native.Mathlib.Omega.{arith}
-use lib.Dec.{eqb, ltb}
 use lib.ListN.{length, getD, replicate, length-append, List·getD-eq-default}
 use lib.Seq.{sets}
 use borrow.Author.Tests.{lt-ltb, le-ltb}
@@ -12,17 +11,17 @@ use Rattle.facts.specs.Tests.{by-lt}
 use Rattle.facts.specs.Rings.{listed-length}
 use Rattle.plan.specs.declared.Counts.{Counts}
 use Rattle.plan.specs.Plan.{Plan, Planned}
-use Rattle.process.specs.Row.{rowLength, processOf}
+use Rattle.process.specs.Row.{rowLength}
 use Rattle.rules.specs.Sizes.{boardsMost, processesMost, channelsMost}
 use Rattle.rules.specs.Table.{Table}
 use Rattle.rules.specs.Judge.{Accepted}
-use Rattle.rules.specs.Cabinet.{Cabinet, Item, Process, nobody, processAt, outboxAt, deadAt, occupancy}
+use Rattle.rules.specs.Cabinet.{Cabinet, nobody, processAt, outboxAt, deadAt}
 use Rattle.state.specs.declared.entry.Entry.{Entry}
-use Rattle.state.specs.Queue.{queueLength, queueDead, deadIn}
-use Rattle.state.specs.Store.{Store, Holds, processIn, outboxIn}
+use Rattle.state.specs.Queue.{queueLength, deadIn}
+use Rattle.state.specs.Store.{Store, Holds, outboxIn}
 use Rattle.state.proofs.Reading.{at-process, at-outbox, at-dead, how-many, how-many-boards}
 use Rattle.view.specs.View.{each, processNumbers, boardNumbers, totalNumber, processesNumbers, boardsNumbers, totalsNumbers, view, viewMost}
-use Rattle.view.specs.Lists.{rowFor, queueFor, totalFor, short, processBlock, boardBlock, totalBlock, viewIn, processNumbersIn, boardNumbersIn}
+use Rattle.view.specs.Lists.{short, processBlock, boardBlock, totalBlock, viewIn, processNumbersIn, boardNumbersIn}
 use Rattle.view.proofs.Laying.{sets-more, each-length, each-same}
 use Rattle.view.proofs.Blocks.{process-block-wide, board-block-wide}
 use Rattle.view.proofs.OfProcess.{process-is, nobody-is}

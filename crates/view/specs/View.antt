@@ -7,10 +7,10 @@ use Prim.Native.Nat.{ℕ, zero, suc}
 use lib.Dec.{eqb, ltb, leb}
 use lib.ListN.{length, getD, replicate}
 use Rattle.backup.specs.Limits.{logMost}
-use Rattle.backup.specs.Replica.{Message, Replica, Checkpoint, takenOn}
+use Rattle.backup.specs.Replica.{Message}
 use Rattle.rules.specs.Sizes.{boardsMost, processesMost, channelsMost, outboxMost}
 use Rattle.rules.specs.Table.{Table}
-use Rattle.rules.specs.Machine.{Mail, Machine, register}
+use Rattle.rules.specs.Machine.{Mail}
 use Rattle.rules.specs.Cabinet.{Standby, Process, Item, message, checkpoint, transfer, Cabinet, nobody, processAt, outboxAt, deadAt, occupancy}
 use Rattle.rules.specs.Undo.{opened, playFrom}
 use Rattle.rules.specs.Transparent.{ended}

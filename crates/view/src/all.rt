@@ -1,6 +1,5 @@
 // The numbers of all processes, of all boards and of all channels, from the lists that hold a cabinet: zeros for those that the table doesn't have.
 ghost use mathlib.Core.Path.{_≡_};
-ghost use mathlib.Core.List.{[], _∷_};
 ghost use Prim.Native.Nat.{_+_, _%_, _^_, _≤_, _<_};
 ghost use lib.ListN.{length};
 ghost use lib.Seq.{sets};
@@ -85,7 +84,13 @@ fn queue_of(queues: &[[u32; QUEUE_ROW]; BOARDS], boards: usize, b: usize) -> [u3
     queues[b]
 }
 
-fn put_boards(boards: usize, queues: &[[u32; QUEUE_ROW]; BOARDS], entries: [Entry; ENTRIES], out: &mut [u32], at: usize)
+fn put_boards(
+    boards: usize,
+    queues: &[[u32; QUEUE_ROW]; BOARDS],
+    entries: [Entry; ENTRIES],
+    out: &mut [u32],
+    at: usize,
+)
     requires { ⌜ at + 6688 ≤ length (now out) ⌝ }
     ensures { λ _. ⌜ now (out .exit) ≡ sets (now (out .entry)) at (each (boardBlock boards (now (queues .entry)) entries) boardsMost) ⌝ }
 {
@@ -138,9 +143,21 @@ pub fn put_view(
     ensures { λ _. ⌜ now (out .exit) ≡ sets (now (out .entry)) 0 (viewIn counts (storeOf (now (rows .entry)) (now (mails .entry))
         (now (logs .entry)) (now (heads .entry)) (now (queues .entry)) (now (totals .entry))) entries) ⌝ }
 {
-    let head = [short(counts.boards), short(counts.processes), short(counts.channels)];
+    let head = [
+        short(counts.boards),
+        short(counts.processes),
+        short(counts.channels),
+    ];
     lay(&head, out, 0);
-    put_processes(counts.processes, rows, mails, logs, heads, out, AT_PROCESSES);
+    put_processes(
+        counts.processes,
+        rows,
+        mails,
+        logs,
+        heads,
+        out,
+        AT_PROCESSES,
+    );
     put_boards(counts.boards, queues, entries, out, AT_BOARDS);
     put_totals(counts.channels, totals, out, AT_TOTALS);
 }

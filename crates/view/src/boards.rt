@@ -103,7 +103,13 @@ fn dead(queue: &[u32; QUEUE_ROW]) -> u32
 }
 
 // All of them, of board b, whose row this is.
-pub fn put_board(queue: &[u32; QUEUE_ROW], entries: [Entry; ENTRIES], b: usize, out: &mut [u32], at: usize)
+pub fn put_board(
+    queue: &[u32; QUEUE_ROW],
+    entries: [Entry; ENTRIES],
+    b: usize,
+    out: &mut [u32],
+    at: usize,
+)
     requires { ⌜ (b < boardsMost) × (at + 418 ≤ length (now out)) ⌝ }
     ensures { λ _. ⌜ now (out .exit) ≡ sets (now (out .entry)) at (boardNumbersIn (now (queue .entry)) entries b) ⌝ }
 {

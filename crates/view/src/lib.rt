@@ -1,11 +1,12 @@
-// The whole cabinet after a run, as numbers in a fixed layout: "the run's parts" with another end, which writes neither answers nor a report but
-// everything that the rules speak of.
+// The whole cabinet after a run, as numbers in a fixed layout (docs/FORMATS.md, "View"): the run's parts with another end, which writes neither
+// answers nor a report but everything that the rules speak of.
 ghost use Rattle.rules.specs.Schedule.{commandsIn};
 ghost use Rattle.play.specs.Plays.{Roomy, sheetsOf};
 ghost use Prim.Native.Nat.{_≤_};
 ghost use lib.ListN.{length};
 ghost use Rattle.view.specs.View.{viewMost};
-ghost use Rattle.view.specs.Views.{Shows, Views};
+ghost use Rattle.view.specs.Shows.{Shows};
+ghost use Rattle.view.specs.Views.{Views};
 
 mod all;
 mod boards;
@@ -72,7 +73,15 @@ fn show(
         origins,
     );
     put_view(
-        counts, &rows, &mails, &logs, &heads, &queues, &totals, entries, out,
+        counts,
+        &rows,
+        &mails,
+        &logs,
+        &heads,
+        &queues,
+        &totals,
+        entries,
+        out,
     );
 }
 
@@ -91,7 +100,15 @@ pub fn view(table: &[u8], schedule: &[u8], out: &mut [u32]) -> u8
     let mut answers = [0u8; ANSWERS];
     let mut reasons = [0u8; COMMANDS_MOST];
     let mut origins = [0u8; ORIGINS];
-    show(table, schedule, plan, &mut answers, &mut reasons, &mut origins, out);
+    show(
+        table,
+        schedule,
+        plan,
+        &mut answers,
+        &mut reasons,
+        &mut origins,
+        out,
+    );
     0
 }
 

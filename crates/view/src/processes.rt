@@ -97,7 +97,11 @@ fn backup(row: &[u32; ROW], head: &[u32; HEAD]) -> [u32; BACKUP_LENGTH]
     if row[PROTECTED] == 0 {
         return [0u32; BACKUP_LENGTH];
     }
-    let state = if row[PROTECTED] == COMPLETE { COMPLETE } else { COMING };
+    let state = if row[PROTECTED] == COMPLETE {
+        COMPLETE
+    } else {
+        COMING
+    };
     [
         state,
         row[STANDBY],
@@ -147,7 +151,14 @@ fn put_saved(row: &[u32; ROW], log: &[u64; LOG], head: &[u32; HEAD], out: &mut [
 }
 
 // All of them.
-pub fn put_process(row: &[u32; ROW], mail: &[u64; LOG], log: &[u64; LOG], head: &[u32; HEAD], out: &mut [u32], at: usize)
+pub fn put_process(
+    row: &[u32; ROW],
+    mail: &[u64; LOG],
+    log: &[u64; LOG],
+    head: &[u32; HEAD],
+    out: &mut [u32],
+    at: usize,
+)
     requires { ⌜ at + 279 ≤ length (now out) ⌝ }
     ensures { λ _. ⌜ now (out .exit) ≡ sets (now (out .entry)) at
         (processNumbersIn (now (row .entry)) (now (mail .entry)) (now (log .entry)) (now (head .entry))) ⌝ }
