@@ -11,7 +11,7 @@ use Rattle.rules.specs.Cabinet.{Process, noneSince, nobody}
 use Rattle.view.specs.View.{processNumbers}
 
 -- nobody, with a fifth register
-five : Process
+unfoldable pub five : Process
 unfolding booted
 five = record {
   machine = record { registers = 0 ∷ 0 ∷ 0 ∷ 0 ∷ 7 ∷ []; pc = 0; mailbox = [] };
