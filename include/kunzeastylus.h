@@ -4,9 +4,9 @@
  *     rt staticlib kunzeastylus
  *
  * All numbers are those of document 01 (docs/NUMBERS.md has each in a line). The calls keep nothing between them, allocate nothing and may
- * be used from several threads at once. Of stack ks_run and ks_label_run take less than 272 KB, ks_sweep less than 280, ks_table_write less than 12
- * and the others less than 5 (measured: 267,544, 267,704, 276,632 and 11,224 bytes, and 4,792 at most), whether a schedule has a KS_BACK or
- * not: give a thread that calls one of the first three half a megabyte. Of the C library they call memcpy and
+ * be used from several threads at once. Of stack ks_run and ks_label_run take less than 272 KB, ks_sweep less than 280, ks_view less than 404,
+ * ks_table_write less than 12 and the others less than 5 (measured: 267,544, 267,704, 276,632, 401,352 and 11,224 bytes, and 4,792 at most), whether
+ * a schedule has a KS_BACK or not: give a thread that calls one of the first four half a megabyte. Of the C library they call memcpy and
  * memset. Each lent piece of memory is a pointer and a length, or an array of a fixed length. Its pointer is not null, not even
  * where the length is 0, and what is lent to be written overlaps nothing else that is lent. Otherwise the calls ask nothing of their caller:
  * any bytes, any lengths.
