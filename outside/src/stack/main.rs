@@ -54,7 +54,7 @@ impl Measured {
         self.call("ks_label_run", "KS_STACK_RUN", || ks_label_run(first, schedule, lent.lend()));
         self.call("ks_judge", "KS_STACK_OTHER", || ks_judge(table, schedule, lengths));
         let mut view = [0; VIEW];
-        self.call("ks_view", "KS_STACK_RUN", || calls::ks_view(table, schedule, &mut view));
+        self.call("ks_view", "KS_STACK_VIEW", || calls::ks_view(table, schedule, &mut view));
         self.call("ks_sweep", "KS_STACK_SWEEP", || calls::ks_sweep(table, swept));
         self.call("ks_label_table", "KS_STACK_OTHER", || calls::ks_label_table(first, &mut [0; 84]));
     }
