@@ -44,7 +44,7 @@ macro_rules! numbered {
 
 #[test]
 fn numbers() {
-    numbered!(Refusal, "ks_refusal", (1..=12).chain([46, 47, 51, 52]));
+    numbered!(Refusal, "ks_refusal", (1..=12).chain([46, 47, 51, 52, 54]));
     numbered!(Code, "ks_answer", (0..=7).chain(32..=44).chain(48..=50).chain([53]));
     numbered!(Cause, "ks_cause", REASONS.into_iter());
     numbered!(BackupRefusal, "ks_backup_reply", 20..=26);
