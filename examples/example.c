@@ -190,7 +190,7 @@ static void before_release(void) {
 }
 
 /* A board is pulled: what is on the bus until then, each word fed or with its sender and the place of its SEND, why each answer is what it is,
- * and with how much unread and held back the stand-by begins. */
+ * with how much unread and held back the stand-by begins, and of the whole cabinet which board is dead and which words are unread. */
 static void service_desk(void) {
     struct piece sound = table_of_version(1), schedule = first_records(11);
     struct lent l = lend(11, 1);
@@ -214,6 +214,14 @@ static void service_desk(void) {
     const uint8_t *report = l.report.at;
     printf("\nprocess 0 on board %u at place %u, unread %u, hold-back %u, quiet %d\n", ks_board(report, 0), ks_place(report, 0),
            ks_unread(report, 0), ks_hold_back(report, 0), ks_quiet(result));
+    struct ks_cabinet_view *view = memory(sizeof *view);
+    uint32_t viewed = ks_view(sound.at, sound.len, schedule.at, schedule.len, (uint32_t *)view, KS_VIEW);
+    printf("view %u, board 0 dead %u, inbox", viewed, view->board[0].dead);
+    for (size_t i = 0; i < view->process[0].unread; i++) {
+        printf(" %u:%u", view->process[0].inbox[i].channel, view->process[0].inbox[i].word);
+    }
+    printf("\n");
+    free(view);
     free(sound.at);
     free(schedule.at);
     give_back(l);

@@ -105,9 +105,10 @@ fn before_release() -> Result<(), Refusal> {
 }
 
 /// A board is pulled: what is on the bus until then, each word fed or with its sender and the place of its SEND, why each answer is what it is,
-/// and with how much unread and held back the stand-by begins.
+/// with how much unread and held back the stand-by begins, and of the whole cabinet which board is dead and which words are unread.
 fn service_desk() -> Result<(), Refusal> {
-    let run = Cabinet::new(TABLE)?.run(&Record::schedule(&records()[..11]))?;
+    let (cabinet, schedule) = (Cabinet::new(TABLE)?, Record::schedule(&records()[..11]));
+    let run = cabinet.run(&schedule)?;
     print!("service desk\non the bus");
     for on_the_bus in run.bus() {
         print!(" {}:{}", on_the_bus.channel, on_the_bus.word);
@@ -126,6 +127,10 @@ fn service_desk() -> Result<(), Refusal> {
             run.quiet as u8
         );
     }
+    let view = cabinet.view(&schedule)?;
+    print!("view 0, board 0 dead {}, inbox", view.boards()[0].is_dead() as u8);
+    view.processes()[0].inbox().iter().for_each(|unread| print!(" {}:{}", unread.channel, unread.word));
+    println!();
     Ok(())
 }
 
