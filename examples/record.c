@@ -8,8 +8,10 @@ int main(void) {
     uint32_t report[KS_SYNC_REPORT], handed[KS_HEAD];
     struct ks_backup backup;
 
-    if (ks_abi() != KS_ABI) /* the library is of another release than the header */
+    if (ks_abi() != KS_ABI) {
+        fputs("record: the library is of another release than the header: take both from one\n", stderr);
         return 1;
+    }
     ks_new(&backup);
     ks_arrive(&backup, 0, 501);                    /* a word for the process, on its slot 0 */
     ks_arrive(&backup, 0, 502);                    /* and another */
