@@ -1,6 +1,6 @@
 /* The proved calls for programs in C (from C99 on) and C++ (from C++11 on): the run of a schedule, the judging of its input, every place to pull a
- * board, tables, the backup record and the label line. One library for x86-64 has them all, libkunzeastylus.a, and exports nothing else; `rt
- * staticlib kunzeastylus` writes it to target/staticlib/, and `tools/install PREFIX` installs it with this header.
+ * board, the whole cabinet after a run, tables, the backup record and the label line. One library for x86-64 has them all, libkunzeastylus.a, and
+ * exports nothing else; `rt staticlib kunzeastylus` writes it to target/staticlib/, and `tools/install PREFIX` installs it with this header.
  *
  * All numbers are those of the documents; docs/NUMBERS.md has each in a line, and the texts below say the same. The calls keep nothing between them,
  * allocate nothing and may be used from several threads at once. Of the C library they call memcpy and memset. Each lent piece of memory is a
@@ -31,6 +31,10 @@ extern "C" {
 #define KS_RECORDS_MOST 10000
 #define KS_SWEEP_MOST 500       /* records of a schedule that is swept */
 #define KS_PROCESSES_MOST 16
+#define KS_BOARDS_MOST 16
+#define KS_CHANNELS_MOST 32
+#define KS_WORDS_MOST 64        /* unread words of a process, and saved words of a backup */
+#define KS_QUEUE_MOST 32        /* entries of a board's queue */
 #define KS_ENDS_MOST 64         /* the longest lists of a table, in numbers */
 #define KS_PLACEMENTS_MOST 48
 #define KS_LIMITS_MOST 16
@@ -45,12 +49,14 @@ extern "C" {
 #define KS_SLOTS 4
 #define KS_REGISTERS 4
 #define KS_SYNC_REPORT 8        /* what a sync of it reports, in numbers of 32 bits: words dropped on each slot, then those that remain on each */
+#define KS_VIEW 11187           /* the whole cabinet, in numbers of 32 bits: struct ks_cabinet_view */
 #define KS_SCHEDULE_BYTES(records) (3 + KS_RECORD * (records)) /* a schedule of so many records */
 
 /* ---- stack that a call takes at most, in bytes, as it is measured for many inputs whenever the library is tested. A thread may have less by default */
 
 #define KS_STACK_RUN 278528         /* ks_run, ks_label_run */
 #define KS_STACK_SWEEP 286720       /* ks_sweep */
+#define KS_STACK_VIEW 413696        /* ks_view */
 #define KS_STACK_TABLE_WRITE 12288  /* ks_table_write */
 #define KS_STACK_OTHER 6144         /* every other call */
 
@@ -62,7 +68,7 @@ enum { KS_SCANNER = 0, KS_PRINTER = 1, KS_OUTLET = 2 }; /* the label line's chan
 enum { KS_OUTSIDE = 255 }; /* as the sender or the reader of a channel, and as the sender of a word that is fed */
 
 /* ---- why a run, a sweep or a table is refused, in the words of ks_refusal_text; the lowest number first, but KS_LIMIT between 8 and 9, and
- * KS_NO_ROOM, KS_ORIGINS_SHORT and KS_UNSWEPT last. 0 is accepted */
+ * KS_NO_ROOM, KS_ORIGINS_SHORT, KS_UNSWEPT and KS_VIEW_SHORT last. 0 is accepted */
 
 enum ks_refusal {
     KS_ACCEPTED = 0,
@@ -82,7 +88,8 @@ enum ks_refusal {
     KS_FIRST_SERIAL = 46,     /* of ks_label_table and ks_label_run alone */
     KS_LIMIT = 47,
     KS_ORIGINS_SHORT = 51,
-    KS_UNSWEPT = 52           /* of ks_sweep alone */
+    KS_UNSWEPT = 52,          /* of ks_sweep alone */
+    KS_VIEW_SHORT = 54        /* of ks_view alone */
 };
 
 /* ---- the answer to a record, in the words of ks_answer_text; behind each, its a and word */
@@ -180,6 +187,59 @@ enum ks_backup_reply {
     KS_BACKUP_COUNT = 24      /* count at 32 */
 };
 
+/* ---- the whole cabinet as numbers: what ks_view writes. Lists are oldest first, with 0 behind their last; what the table doesn't have is 0 */
+
+enum ks_view_backup_state { KS_BACKUP_NONE = 0, KS_BACKUP_COMPLETE = 1, KS_BACKUP_MAKING = 2 };
+enum ks_view_kind { KS_ENTRY_NONE = 0, KS_ENTRY_WORD = 1, KS_ENTRY_SYNC = 2, KS_ENTRY_RESYNC = 3 };
+
+struct ks_view_unread { uint32_t channel, word; };
+struct ks_view_saved { uint32_t slot, word; };
+
+struct ks_view_backup { /* all 0 where there is none */
+    uint32_t state;           /* enum ks_view_backup_state; being made, it is from a resync's issue until its carry */
+    uint32_t board;
+    uint32_t place;
+    uint32_t registers[4];
+    uint32_t count;           /* words of the process carried since this state */
+    uint32_t saved;           /* how many words are saved */
+    struct ks_view_saved words[KS_WORDS_MOST];
+};
+
+struct ks_view_process {
+    uint32_t board;           /* where it runs */
+    uint32_t place;
+    uint32_t registers[4];
+    uint32_t hold_back;
+    uint32_t acts;            /* these three since its last sync or resync was issued */
+    uint32_t instructions;
+    uint32_t takes[4];        /* of each slot */
+    uint32_t unread;          /* how many words are in its inbox */
+    struct ks_view_unread inbox[KS_WORDS_MOST];
+    struct ks_view_backup backup;
+};
+
+struct ks_view_entry {        /* what its kind doesn't have is 0 */
+    uint32_t kind;            /* enum ks_view_kind */
+    uint32_t channel, word;   /* of a word */
+    uint32_t process;         /* of a sync or a resync */
+    uint32_t place;           /* of a word, that of its SEND; of a sync, the snapshot's, as the next two */
+    uint32_t registers[4];
+    uint32_t takes[4];
+};
+
+struct ks_view_board {
+    uint32_t dead;            /* 1, or 0 where it is live */
+    uint32_t waiting;         /* how many entries its queue has */
+    struct ks_view_entry queue[KS_QUEUE_MOST];
+};
+
+struct ks_cabinet_view {      /* KS_VIEW numbers */
+    uint32_t boards, processes, channels; /* how many the table has */
+    struct ks_view_process process[KS_PROCESSES_MOST];
+    struct ks_view_board board[KS_BOARDS_MOST];
+    uint32_t total[KS_CHANNELS_MOST];     /* of each channel: unread words and words in queues together */
+};
+
 /* ---- the calls */
 
 /* The KS_ABI that the library was built for. */
@@ -202,6 +262,11 @@ uint32_t ks_judge(const uint8_t *table, size_t table_len, const uint8_t *schedul
  * with none, unpacked by ks_number, ks_swept_quiet, ks_swept_held and ks_swept_open; together they are (n + 1) * boards. Refused, with 1 to 10,
  * KS_LIMIT or KS_UNSWEPT, they are 0. */
 uint64_t ks_sweep(const uint8_t *table, size_t table_len, const uint8_t *schedule, size_t schedule_len);
+
+/* The whole cabinet as it is after a run, as KS_VIEW numbers to the front of out: struct ks_cabinet_view laid over them has their names. 0, or the number
+ * by which it is refused: 1 to 10 or KS_LIMIT as ks_run would be, then KS_VIEW_SHORT. Numbers behind the view stay as they were; refused, all of
+ * out does. */
+uint32_t ks_view(const uint8_t *table, size_t table_len, const uint8_t *schedule, size_t schedule_len, uint32_t *out, size_t out_len);
 
 /* The backup record, in two lent arrays; the helpers below, as ks_arrive, lend those of a struct ks_backup. A refused call leaves both as they
  * were. Behind the words that were saved and those that are, nothing is written; what a sync leaves in saved from the new length to the old is

@@ -7,6 +7,7 @@ use crate::refusal::Refusal;
 use crate::run::{judge, Run};
 use crate::sweep::{sweep, Sweep};
 use crate::table::Table;
+use crate::view::{view, View};
 
 /// A table that was accepted. It keeps nothing else: each run begins anew.
 #[derive(Clone, Debug, PartialEq, Eq, Hash)]
@@ -46,6 +47,11 @@ impl Cabinet {
     /// Every place to pull a board. It is refused with 9, 10 or 52 alone.
     pub fn sweep(&self, schedule: &[u8]) -> Result<Sweep, Refusal> {
         sweep(&self.table, schedule)
+    }
+
+    /// The whole cabinet as it is after a schedule. It is refused with 9 or 10 alone.
+    pub fn view(&self, schedule: &[u8]) -> Result<Box<View>, Refusal> {
+        view(&self.table, schedule)
     }
 }
 

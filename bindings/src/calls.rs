@@ -6,6 +6,7 @@ use crate::backup::{HEAD, SAVED, SYNC_REPORT};
 use crate::buffers::{Buffers, Lengths};
 use crate::label::LABEL_TABLE;
 use crate::sys;
+use crate::view::{View, VIEW};
 
 /// The number of the calls that the library has.
 pub fn ks_abi() -> u32 {
@@ -122,6 +123,20 @@ pub fn ks_sweep(table: &[u8], schedule: &[u8]) -> u64 {
     same_library();
     // SAFETY: two slices, each with its own length; the call only reads them and asks nothing else.
     unsafe { sys::ks_sweep(table.as_ptr(), table.len(), schedule.as_ptr(), schedule.len()) }
+}
+
+/// The number by which a view is refused, or 0 and its numbers at the front of a list of any length.
+pub fn ks_view(table: &[u8], schedule: &[u8], out: &mut [u32]) -> u32 {
+    same_library();
+    // SAFETY: three slices that don't overlap, each with its own length; the first two are only read. The call asks nothing else.
+    unsafe { sys::ks_view(table.as_ptr(), table.len(), schedule.as_ptr(), schedule.len(), out.as_mut_ptr(), out.len()) }
+}
+
+/// The numbers of a view, where they stand.
+pub(crate) fn numbers_of(view: &mut View) -> &mut [u32; VIEW] {
+    let view: *mut View = view;
+    // SAFETY: a `View` is VIEW numbers of 32 bits and nothing between them, any of which it may hold; it is borrowed for as long as they are.
+    unsafe { &mut *view.cast() }
 }
 
 /// The number by which lists or a buffer are refused or 0, plus 2^32 times the table's length. The counts are boards, processes and channels, the

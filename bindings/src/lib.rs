@@ -2,7 +2,7 @@
 //!
 //! - A run: [`Cabinet::new`] takes a table, [`Cabinet::run`] a schedule ([`Record::schedule`]), and a [`Run`] has answers, bus order and report.
 //!   [`run`] does the same in lent buffers ([`Buffers`]) and allocates nothing; [`judge`] says by which number it would be refused.
-//! - Every place to pull a board: [`Cabinet::sweep`], [`sweep`].
+//! - Every place to pull a board: [`Cabinet::sweep`], [`sweep`]. The whole cabinet after a run: [`Cabinet::view`], [`view`].
 //! - Tables written and taken apart: by a builder ([`Table`]), or as lists of numbers ([`Lists`]).
 //! - The backup record: [`Backup`]. The label line: [`Cabinet::label_line`], [`label_run`], [`labels`].
 //!
@@ -62,7 +62,8 @@ pub use run::{judge, run, ProcessEnd, Run};
 pub use sweep::{sweep, Sweep};
 pub use table::{End, Operation, Process, Table, LIMIT};
 pub use view::{
-    BackupState, BackupView, BoardView, Entry, EntryView, ProcessView, SavedWord, UnreadWord, View, QUEUE_MOST, VIEW, WORDS_MOST,
+    view, BackupState, BackupView, BoardView, Entry, EntryView, ProcessView, SavedWord, UnreadWord, View, QUEUE_MOST, VIEW,
+    WORDS_MOST,
 };
 
 /// The release of these bindings, `KS_VERSION` of the header. Every front prints it for `--version`.

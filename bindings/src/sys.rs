@@ -68,6 +68,15 @@ extern "C" {
 
     pub fn ks_sweep(table: *const u8, table_len: usize, schedule: *const u8, schedule_len: usize) -> u64;
 
+    pub fn ks_view(
+        table: *const u8,
+        table_len: usize,
+        schedule: *const u8,
+        schedule_len: usize,
+        out: *mut u32,
+        out_len: usize,
+    ) -> u32;
+
     pub fn ks_table_write(
         version: u32,
         boards: u32,

@@ -1,4 +1,6 @@
 //! The whole cabinet after a run, with a name for each of its numbers: inboxes, saved words, queues, totals, dead boards.
+use crate::calls;
+use crate::refusal::Refusal;
 
 /// How many numbers of 32 bits a view has.
 pub const VIEW: usize = std::mem::size_of::<View>() / 4;
@@ -125,7 +127,24 @@ pub enum Entry {
     Resync { process: u32 },
 }
 
+/// The whole cabinet as it is after a run. Refused as the run would be, but for its buffers.
+pub fn view(table: &[u8], schedule: &[u8]) -> Result<Box<View>, Refusal> {
+    let mut view = Box::new(View::NONE);
+    let number = calls::ks_view(table, schedule, calls::numbers_of(&mut view));
+    Refusal::or(u64::from(number), || view)
+}
+
 impl View {
+    /// All zeros: of no table.
+    const NONE: View = View {
+        boards: 0,
+        processes: 0,
+        channels: 0,
+        process: [ProcessView::NONE; 16],
+        board: [BoardView::NONE; 16],
+        total: [0; 32],
+    };
+
     /// The processes that the table has.
     pub fn processes(&self) -> &[ProcessView] {
         first(&self.process, self.processes)
@@ -143,6 +162,19 @@ impl View {
 }
 
 impl ProcessView {
+    const NONE: ProcessView = ProcessView {
+        board: 0,
+        place: 0,
+        registers: [0; 4],
+        hold_back: 0,
+        acts: 0,
+        instructions: 0,
+        takes: [0; 4],
+        unread: 0,
+        inbox: [UnreadWord { channel: 0, word: 0 }; WORDS_MOST],
+        backup: BackupView::NONE,
+    };
+
     /// The unread words, oldest first.
     pub fn inbox(&self) -> &[UnreadWord] {
         first(&self.inbox, self.unread)
@@ -150,6 +182,16 @@ impl ProcessView {
 }
 
 impl BackupView {
+    const NONE: BackupView = BackupView {
+        state: 0,
+        board: 0,
+        place: 0,
+        registers: [0; 4],
+        count: 0,
+        saved: 0,
+        words: [SavedWord { slot: 0, word: 0 }; WORDS_MOST],
+    };
+
     pub fn state(&self) -> BackupState {
         match self.state {
             0 => BackupState::None,
@@ -165,6 +207,8 @@ impl BackupView {
 }
 
 impl BoardView {
+    const NONE: BoardView = BoardView { dead: 0, waiting: 0, queue: [EntryView::NONE; QUEUE_MOST] };
+
     pub fn is_dead(&self) -> bool {
         self.dead != 0
     }
@@ -176,6 +220,8 @@ impl BoardView {
 }
 
 impl EntryView {
+    const NONE: EntryView = EntryView { kind: 0, channel: 0, word: 0, process: 0, place: 0, registers: [0; 4], takes: [0; 4] };
+
     /// By its kind, of an entry that there is.
     pub fn entry(&self) -> Entry {
         let EntryView { kind, channel, word, process, place, registers, takes } = *self;

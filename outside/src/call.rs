@@ -2,7 +2,7 @@
 use crate::rules::lent::Lent;
 use kunzeastylus::{calls, Buffers};
 
-pub use calls::{ks_label_table, ks_sweep};
+pub use calls::{ks_label_table, ks_sweep, ks_view};
 
 impl<T> From<Lent<T>> for Buffers<T> {
     fn from(lent: Lent<T>) -> Buffers<T> {

@@ -7,3 +7,4 @@ pub mod record;
 pub mod run;
 pub mod swept;
 pub mod tables;
+pub mod viewed;

@@ -2,7 +2,7 @@
 //! [--seed N]`.
 mod painted;
 
-use kunzeastylus::{calls, Backup, Lists, Snapshot, TABLE_MOST};
+use kunzeastylus::{calls, Backup, Lists, Snapshot, TABLE_MOST, VIEW};
 use outside::call::{ks_judge, ks_label_run, ks_run};
 use outside::options::number;
 use outside::random::Random;
@@ -46,13 +46,15 @@ impl Measured {
         }
     }
 
-    /// A run, its judging, and the sweep and the label line's run of the same schedule.
+    /// A run, its judging, the view after it, and the sweep and the label line's run of the same schedule.
     fn runs(&mut self, table: &[u8], schedule: &[u8], swept: &[u8], first: u32) {
         let lengths = Lent::needed(schedule.len() / 6, 16);
         let mut lent = lengths.filled(0);
         self.call("ks_run", "KS_STACK_RUN", || ks_run(table, schedule, lent.lend()));
         self.call("ks_label_run", "KS_STACK_RUN", || ks_label_run(first, schedule, lent.lend()));
         self.call("ks_judge", "KS_STACK_OTHER", || ks_judge(table, schedule, lengths));
+        let mut view = [0; VIEW];
+        self.call("ks_view", "KS_STACK_VIEW", || calls::ks_view(table, schedule, &mut view));
         self.call("ks_sweep", "KS_STACK_SWEEP", || calls::ks_sweep(table, swept));
         self.call("ks_label_table", "KS_STACK_OTHER", || calls::ks_label_table(first, &mut [0; 84]));
     }
