@@ -106,33 +106,47 @@ static uint32_t judge(struct piece t, struct piece schedule, struct lent l, cons
                     l.origins.len - less[3]);
 }
 
-static void show_record(const char *name, const uint32_t *state) {
-    printf("%s: place %u, registers %u %u %u %u, count %u, words", name, state[2], state[3], state[4], state[5], state[6], state[1]);
-    for (size_t i = 0; i < state[0]; i++) {
-        printf(" %u:%u", ks_slot(state, i), ks_saved(state, i));
+/* A record's head, and as many of its saved words as that says. */
+static void show_record(const char *name, const struct ks_backup *backup, const uint32_t head[KS_HEAD]) {
+    const uint32_t *registers = head + KS_REGISTER;
+    printf("%s: place %u, registers %u %u %u %u, count %u, words", name, head[KS_PLACE], registers[0], registers[1], registers[2], registers[3],
+           head[KS_COUNT]);
+    for (size_t i = 0; i < head[KS_WORDS]; i++) {
+        printf(" %u:%u", ks_slot(backup, i), ks_saved(backup, i));
     }
     printf("\n");
 }
 
-/* A stand-by that is kept by hand: three words arrive, one of the process is carried, and a sync lands that has taken one on slot 0. */
+static void show_reply(enum ks_backup_reply reply) {
+    printf(" %u", (unsigned)reply);
+}
+
+/* A stand-by that is kept by hand: three words arrive, one of the process is carried, and a sync lands that has taken one on slot 0. Refused are a
+ * word on slot 4 and a sync that has taken one on slot 2. */
 static void board_programmer(void) {
-    static const uint32_t calls[][KS_CALL] = {
-        {KS_NEW}, {KS_ARRIVE, 0, 10}, {KS_ARRIVE, 1, 11}, {KS_ARRIVE, 0, 12}, {KS_COUNT},
-        {KS_ARRIVE, 4, 13}, {KS_BACKUP_SYNC, 5, 1, 2, 3, 4, 0, 0, 1, 0}, {KS_BACKUP_SYNC, 5, 1, 2, 3, 4, 1, 0, 0, 0}, {KS_ARRIVE, 3, 14},
-    };
-    uint32_t *state = memory(KS_STATE * sizeof *state), *reply = memory(KS_STATE * sizeof *reply);
+    static const uint32_t registers[KS_REGISTERS] = {1, 2, 3, 4}, one_of_2[KS_SLOTS] = {0, 0, 1, 0}, one_of_0[KS_SLOTS] = {1, 0, 0, 0};
+    struct ks_backup *backup = memory(sizeof *backup);
+    uint32_t *report = memory(KS_SYNC_REPORT * sizeof *report), *handed = memory(KS_HEAD * sizeof *handed);
     printf("board programmer\nreplies");
-    for (size_t i = 0; i < sizeof calls / sizeof calls[0]; i++) {
-        printf(" %u", ks_backup_call(state, KS_STATE, calls[i], KS_CALL, reply, KS_STATE));
-    }
-    printf("\nthe sync dropped %u %u %u %u, and", reply[0], reply[1], reply[2], reply[3]);
-    printf(" %u %u %u %u remain\n", reply[4], reply[5], reply[6], reply[7]);
-    show_record("saved", state);
-    static const uint32_t take_over[KS_CALL] = {KS_TAKE_OVER};
-    printf("reply %u\n", ks_backup_call(state, KS_STATE, take_over, KS_CALL, reply, KS_STATE));
-    show_record("taken over", reply);
-    free(state);
-    free(reply);
+    ks_new(backup);
+    show_reply(ks_arrive(backup, 0, 10));
+    show_reply(ks_arrive(backup, 1, 11));
+    show_reply(ks_arrive(backup, 0, 12));
+    show_reply(ks_count(backup));
+    show_reply(ks_arrive(backup, 4, 13));
+    show_reply(ks_sync(backup, 5, registers, one_of_2, report));
+    show_reply(ks_sync(backup, 5, registers, one_of_0, report));
+    show_reply(ks_arrive(backup, 3, 14));
+    printf("\nthe sync dropped %u %u %u %u, and", report[0], report[1], report[2], report[3]);
+    printf(" %u %u %u %u remain\n", report[4], report[5], report[6], report[7]);
+    show_record("saved", backup, backup->head);
+    printf("reply");
+    show_reply(ks_take_over(backup, handed));
+    printf("\n");
+    show_record("taken over", backup, handed);
+    free(backup);
+    free(report);
+    free(handed);
 }
 
 /* A table and a schedule are judged before they are run, and then run: the page. */

@@ -22,7 +22,7 @@ extern "C" {
 /* ---- which release this is, and which calls: the number of these goes up when a signature or a layout changes */
 
 #define KS_VERSION "1.0.0"
-#define KS_ABI 2
+#define KS_ABI 3
 
 /* ---- sizes, in bytes unless said */
 
@@ -44,12 +44,15 @@ extern "C" {
 #define KS_REPORT 20            /* of each process */
 #define KS_ORIGIN 2             /* of each record in the list of origins: sender and place of the word that it put on the bus */
 #define KS_LABEL_TABLE 84       /* a label line's table */
-#define KS_STATE 135            /* a backup record, in numbers of 32 bits */
-#define KS_CALL 10              /* a call of the backup record, in numbers of 32 bits */
+#define KS_SAVED 64             /* the saved words of a backup record, in numbers of 64 bits */
+#define KS_HEAD 7               /* the rest of it, in numbers of 32 bits */
+#define KS_SLOTS 4
+#define KS_REGISTERS 4
+#define KS_SYNC_REPORT 8        /* what a sync of it reports, in numbers of 32 bits: for each slot the words dropped, then for each those that remain */
 #define KS_VIEW 11187           /* the whole cabinet, in numbers of 32 bits: struct ks_view */
 #define KS_SCHEDULE_BYTES(records) (3 + KS_RECORD * (records)) /* a schedule of so many records */
 
-/* ---- stack that a call takes at most, in bytes; it is measured for many inputs whenever the library is tested */
+/* ---- stack that a call takes at most, in bytes, as it is measured for many inputs whenever the library is tested. A thread may have less by default */
 
 #define KS_STACK_RUN 278528         /* ks_run, ks_label_run */
 #define KS_STACK_SWEEP 286720       /* ks_sweep */
@@ -164,7 +167,16 @@ enum ks_reason {
     KS_REASON_NONE_KEPT = 212
 };
 
-/* ---- what the backup record replies */
+/* ---- the backup record: what it is, and what its calls reply */
+
+/* As many of saved as head[KS_WORDS] says are saved words, oldest first, each slot times 2^32 plus word; nobody reads the others. head is all else.
+ * It may lie where it likes, in two pieces too, and is made by ks_new, or by anybody: every call looks for KS_BACKUP_UNFIT first. */
+struct ks_backup {
+    uint64_t saved[KS_SAVED];
+    uint32_t head[KS_HEAD];
+};
+
+enum { KS_WORDS = 0, KS_COUNT = 1, KS_PLACE = 2, KS_REGISTER = 3 }; /* where head has how many words are saved, count, place, the first register */
 
 enum ks_backup_reply {
     KS_BACKUP_OK = 0,
@@ -172,12 +184,8 @@ enum ks_backup_reply {
     KS_BACKUP_BAD = 21,       /* arrive: slot over 3; sync: place over 64 */
     KS_BACKUP_FULL = 22,      /* 64 words saved */
     KS_BACKUP_TAKEN = 23,     /* more taken on a slot than saved */
-    KS_BACKUP_COUNT = 24,     /* count at 32 */
-    KS_BACKUP_MISSIZED = 25,  /* a lent length is not KS_STATE, KS_CALL, KS_STATE */
-    KS_BACKUP_UNKNOWN = 26    /* no such call */
+    KS_BACKUP_COUNT = 24      /* count at 32 */
 };
-
-enum ks_asked { KS_NEW = 0, KS_ARRIVE = 1, KS_COUNT = 2, KS_BACKUP_SYNC = 3, KS_TAKE_OVER = 4 };
 
 /* ---- the whole cabinet as numbers: what ks_view writes. Lists are oldest first, with 0 behind their last; what the table doesn't have is 0 */
 
@@ -239,9 +247,9 @@ uint32_t ks_abi(void);
 
 /* The run of a schedule on a table. The result is number + 256 * quiet + 2^32 * records, unpacked by ks_number, ks_quiet and ks_records. An accepted
  * run writes six bytes a record to answers, one byte a record to reasons, 20 bytes a process to report and two bytes a record to origins, and nothing
- * beyond those; a refused one writes nothing at all. The two bytes of origins are the sender and the place of its SEND for a word that the record carried, KS_OUTSIDE and
- * 0 for a word that it fed, and 255 and 255 where no word was on the bus. What is written for a record stays where KS_BACK takes the record back,
- * but its word counts in the bus order no longer, and its feed not as fed: ks_standing says which records stand. */
+ * beyond those; a refused one writes nothing at all. The two bytes of origins are the sender and the place of its SEND for a word that the record
+ * carried, KS_OUTSIDE and 0 for a word that it fed, and 255 and 255 where no word was on the bus. What is written for a record stays where KS_BACK
+ * takes the record back, but its word counts in the bus order no longer, and its feed not as fed: ks_standing says which records stand. */
 uint64_t ks_run(const uint8_t *table, size_t table_len, const uint8_t *schedule, size_t schedule_len, uint8_t *answers, size_t answers_len,
                 uint8_t *reasons, size_t reasons_len, uint8_t *report, size_t report_len, uint8_t *origins, size_t origins_len);
 
@@ -260,17 +268,20 @@ uint64_t ks_sweep(const uint8_t *table, size_t table_len, const uint8_t *schedul
  * out does. */
 uint32_t ks_view(const uint8_t *table, size_t table_len, const uint8_t *schedule, size_t schedule_len, uint32_t *out, size_t out_len);
 
-/* A call of the backup record. state is KS_STATE numbers: how many words are saved, count, place, four registers, then 64 pairs of slot and
- * word. call is KS_CALL numbers, its own and its arguments:
- *     KS_NEW                                                    state becomes the record as it starts
- *     KS_ARRIVE       slot, word
- *     KS_COUNT
- *     KS_BACKUP_SYNC  place, four registers, four numbers taken (a slot each)
- *                                                               reply's first eight numbers become the words dropped on each slot, and then
- *                                                               those that remain on each; all 0 when refused
- *     KS_TAKE_OVER                                              state stays, reply (KS_STATE numbers) becomes what is handed over
- * A refused call leaves state as it was; but for KS_BACKUP_SYNC and KS_TAKE_OVER, reply is left as it was. */
-uint32_t ks_backup_call(uint32_t *state, size_t state_len, const uint32_t *call, size_t call_len, uint32_t *reply, size_t reply_len);
+/* The backup record, in two lent arrays (ks_arrive and the other helpers below lend those of a struct ks_backup). A refused call changes neither. Behind
+ * the words that were saved and those that are, nothing is written; what a sync leaves in the places of the words that it dropped is left open.
+ *     ks_backup_new        head becomes that of a record as it starts: no words, and the rest 0
+ *     ks_backup_arrive     a word arrives on a slot and is saved
+ *     ks_backup_count      a word of the process was carried
+ *     ks_backup_sync       a sync lands, with four registers, and on each slot how many words were taken: report becomes KS_SYNC_REPORT numbers, all 0
+ *                          when refused
+ *     ks_backup_take_over  handed becomes head, and the saved words are as they stand; when refused all of it is 0, and so no words are handed over */
+void ks_backup_new(uint32_t head[KS_HEAD]);
+uint32_t ks_backup_arrive(uint64_t saved[KS_SAVED], uint32_t head[KS_HEAD], uint32_t slot, uint32_t word);
+uint32_t ks_backup_count(const uint64_t saved[KS_SAVED], uint32_t head[KS_HEAD]);
+uint32_t ks_backup_sync(uint64_t saved[KS_SAVED], uint32_t head[KS_HEAD], uint32_t place, const uint32_t registers[KS_REGISTERS],
+                        const uint32_t taken[KS_SLOTS], uint32_t report[KS_SYNC_REPORT]);
+uint32_t ks_backup_take_over(const uint64_t saved[KS_SAVED], const uint32_t head[KS_HEAD], uint32_t handed[KS_HEAD]);
 
 /* The table that lists of numbers say, to the front of out: version is 1 or 2, ends has sender and reader of each channel, placements primary
  * board, backup board and n of each process, limits in version 2 the limit of each process and in version 1 nothing, instructions code, a and
@@ -400,9 +411,25 @@ static inline uint8_t ks_unread(const uint8_t *report, size_t p) { return report
 static inline uint8_t ks_hold_back(const uint8_t *report, size_t p) { return report[KS_REPORT * p + 3]; }
 static inline uint32_t ks_register(const uint8_t *report, size_t p, size_t r) { return ks_word(report + KS_REPORT * p + 4 + 4 * r); }
 
-/* The slot and the word of message i of a backup record's state, i below state[0]. */
-static inline uint32_t ks_slot(const uint32_t *state, size_t i) { return state[7 + 2 * i]; }
-static inline uint32_t ks_saved(const uint32_t *state, size_t i) { return state[8 + 2 * i]; }
+/* The calls of the backup record. */
+static inline void ks_new(struct ks_backup *backup) { ks_backup_new(backup->head); }
+static inline enum ks_backup_reply ks_arrive(struct ks_backup *backup, uint32_t slot, uint32_t word) {
+    return (enum ks_backup_reply)ks_backup_arrive(backup->saved, backup->head, slot, word);
+}
+static inline enum ks_backup_reply ks_count(struct ks_backup *backup) {
+    return (enum ks_backup_reply)ks_backup_count(backup->saved, backup->head);
+}
+static inline enum ks_backup_reply ks_sync(struct ks_backup *backup, uint32_t place, const uint32_t registers[KS_REGISTERS],
+                                           const uint32_t taken[KS_SLOTS], uint32_t report[KS_SYNC_REPORT]) {
+    return (enum ks_backup_reply)ks_backup_sync(backup->saved, backup->head, place, registers, taken, report);
+}
+static inline enum ks_backup_reply ks_take_over(const struct ks_backup *backup, uint32_t handed[KS_HEAD]) {
+    return (enum ks_backup_reply)ks_backup_take_over(backup->saved, backup->head, handed);
+}
+
+/* The slot and the word of its saved word i, from 0 and below head[KS_WORDS]. */
+static inline uint32_t ks_slot(const struct ks_backup *backup, size_t i) { return (uint32_t)(backup->saved[i] >> 32); }
+static inline uint32_t ks_saved(const struct ks_backup *backup, size_t i) { return (uint32_t)backup->saved[i]; }
 
 /* ---- numbers in words, those of docs/NUMBERS.md */
 
@@ -528,8 +555,6 @@ static inline const char *ks_backup_text(enum ks_backup_reply number) {
     case KS_BACKUP_FULL: return "64 words are saved";
     case KS_BACKUP_TAKEN: return "more taken on a slot than there are saved words on it";
     case KS_BACKUP_COUNT: return "the count is 32";
-    case KS_BACKUP_MISSIZED: return "a lent length is not 135, 10, 135";
-    case KS_BACKUP_UNKNOWN: return "there is no such call";
     }
     return "no such number";
 }

@@ -34,13 +34,13 @@ fn show_record(name: &str, backup: &Backup) {
     println!();
 }
 
-/// A stand-by that is kept by hand: three words arrive, one of the process is carried, and a sync lands that has taken one on slot 0.
+/// A stand-by that is kept by hand: three words arrive, one of the process is carried, and a sync lands that has taken one on slot 0. Refused are
+/// a word on slot 4 and a sync that has taken one on slot 2.
 fn board_programmer() -> Result<(), BackupRefusal> {
     let snapshot = |taken| Snapshot { place: 5, registers: [1, 2, 3, 4], taken };
     let mut backup = Backup::new();
     let mut synced = Synced::default();
     let replies = [
-        Ok(()),
         backup.arrive(0, 10),
         backup.arrive(1, 11),
         backup.arrive(0, 12),

@@ -2,6 +2,7 @@
 //! that the library is the one that [`sys`] declares, and panics where it isn't; none asks anything else of its caller.
 #![allow(unsafe_code)] // the only one in this crate
 use crate::abi::check_abi;
+use crate::backup::{HEAD, SAVED, SYNC_REPORT};
 use crate::buffers::{Buffers, Lengths};
 use crate::label::LABEL_TABLE;
 use crate::sys;
@@ -48,11 +49,43 @@ pub fn ks_judge(table: &[u8], schedule: &[u8], lengths: Lengths) -> u32 {
     unsafe { sys::ks_judge(table.as_ptr(), table.len(), schedule.as_ptr(), schedule.len(), answers, reasons, report, origins) }
 }
 
-/// The backup record's number, or 0.
-pub fn ks_backup_call(state: &mut [u32], call: &[u32], reply: &mut [u32]) -> u32 {
+/// The head of a backup record as it starts.
+pub fn ks_backup_new(head: &mut [u32; HEAD]) {
     same_library();
-    // SAFETY: three slices that don't overlap, each with its own length; the second is only read. The call asks nothing else.
-    unsafe { sys::ks_backup_call(state.as_mut_ptr(), state.len(), call.as_ptr(), call.len(), reply.as_mut_ptr(), reply.len()) }
+    // SAFETY: an array of the length that the call wants. It asks nothing else; nor do the four below, whose arrays don't overlap.
+    unsafe { sys::ks_backup_new(head) }
+}
+
+/// The backup record's number, or 0; of the three below too.
+pub fn ks_backup_arrive(saved: &mut [u64; SAVED], head: &mut [u32; HEAD], slot: u32, word: u32) -> u32 {
+    same_library();
+    // SAFETY: as above.
+    unsafe { sys::ks_backup_arrive(saved, head, slot, word) }
+}
+
+pub fn ks_backup_count(saved: &[u64; SAVED], head: &mut [u32; HEAD]) -> u32 {
+    same_library();
+    // SAFETY: as above.
+    unsafe { sys::ks_backup_count(saved, head) }
+}
+
+pub fn ks_backup_sync(
+    saved: &mut [u64; SAVED],
+    head: &mut [u32; HEAD],
+    place: u32,
+    registers: &[u32; 4],
+    taken: &[u32; 4],
+    report: &mut [u32; SYNC_REPORT],
+) -> u32 {
+    same_library();
+    // SAFETY: as above.
+    unsafe { sys::ks_backup_sync(saved, head, place, registers, taken, report) }
+}
+
+pub fn ks_backup_take_over(saved: &[u64; SAVED], head: &[u32; HEAD], handed: &mut [u32; HEAD]) -> u32 {
+    same_library();
+    // SAFETY: as above.
+    unsafe { sys::ks_backup_take_over(saved, head, handed) }
 }
 
 /// 46, or 0 and the table of a first serial.

@@ -49,7 +49,7 @@ mod view;
 
 pub use abi::{check_abi, OtherLibrary, ABI};
 pub use answer::{Answer, BusWord, Code, Reason};
-pub use backup::{Backup, BackupRefusal, Snapshot, Synced, STATE};
+pub use backup::{Backup, BackupRefusal, Snapshot, Synced, HEAD, SAVED};
 pub use buffers::{Buffers, Lengths};
 pub use cabinet::Cabinet;
 pub use fate::Fate;

@@ -28,11 +28,6 @@ refusals! {
 }
 
 impl Refusal {
-    /// Whether it is about the table or the lists that say it, and not about a schedule, a buffer or a first serial.
-    pub fn of_the_table(self) -> bool {
-        matches!(self.number(), 1..=8 | 47)
-    }
-
     /// What a call returned, if it was accepted; its lowest byte is the number.
     pub(crate) fn or<T>(result: u64, accepted: impl FnOnce() -> T) -> Result<T, Refusal> {
         match result as u8 {

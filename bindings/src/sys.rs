@@ -1,5 +1,6 @@
 //! The calls of the proved library as include/kunzeastylus.h declares them; this is the one place in Rust that does. A slice is a pointer and a
 //! length, an array of a fixed length a pointer alone. [`calls`](crate::calls) has each for slices, and the crate itself for types.
+use crate::backup::{HEAD, SAVED, SYNC_REPORT};
 use crate::label::LABEL_TABLE;
 
 #[link(name = "kunzeastylus", kind = "static")]
@@ -32,14 +33,22 @@ extern "C" {
         origins_len: usize,
     ) -> u32;
 
-    pub fn ks_backup_call(
-        state: *mut u32,
-        state_len: usize,
-        call: *const u32,
-        call_len: usize,
-        reply: *mut u32,
-        reply_len: usize,
+    pub fn ks_backup_new(head: *mut [u32; HEAD]);
+
+    pub fn ks_backup_arrive(saved: *mut [u64; SAVED], head: *mut [u32; HEAD], slot: u32, word: u32) -> u32;
+
+    pub fn ks_backup_count(saved: *const [u64; SAVED], head: *mut [u32; HEAD]) -> u32;
+
+    pub fn ks_backup_sync(
+        saved: *mut [u64; SAVED],
+        head: *mut [u32; HEAD],
+        place: u32,
+        registers: *const [u32; 4],
+        taken: *const [u32; 4],
+        report: *mut [u32; SYNC_REPORT],
     ) -> u32;
+
+    pub fn ks_backup_take_over(saved: *const [u64; SAVED], head: *const [u32; HEAD], handed: *mut [u32; HEAD]) -> u32;
 
     pub fn ks_label_table(first: u32, table: *mut [u8; LABEL_TABLE]) -> u32;
 

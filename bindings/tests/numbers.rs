@@ -2,7 +2,7 @@
 //! the calls hand them on.
 use kunzeastylus::{
     check_abi, judge, take_apart, write_table, Backup, BackupRefusal, Code, End, Instruction, Lengths, Lists, Move, Operation,
-    Reason, Record, Refusal, Snapshot, Synced, Table, ABI, STATE, VERSION,
+    Reason, Record, Refusal, Snapshot, Synced, Table, ABI, SAVED, VERSION,
 };
 
 const HEADER: &str = include_str!("../../include/kunzeastylus.h");
@@ -50,7 +50,7 @@ fn numbers() {
     numbered!(Refusal, "ks_refusal", (1..=12).chain([45, 46, 47, 51, 52, 54]));
     numbered!(Code, "ks_answer", (0..=7).chain(32..=44).chain(48..=50).chain([53]));
     numbered!(Reason, "ks_reason", REASONS.into_iter());
-    numbered!(BackupRefusal, "ks_backup_reply", 20..=26);
+    numbered!(BackupRefusal, "ks_backup_reply", 20..=24);
     numbered!(Move, "ks_move", 1..=8);
     numbered!(Instruction, "ks_instruction", 1..=6);
     assert!(Code::ALL.iter().all(|code| code.refused() == (code.number() >= 32)));
@@ -128,7 +128,7 @@ fn one_abi() {
 #[test]
 fn the_record() {
     let mut backup = Backup::new();
-    assert_eq!(backup, Backup::from_numbers([0; STATE]));
+    assert_eq!(backup, Backup::from_numbers([9; SAVED], [0; 7]));
     (0..64).for_each(|i| assert_eq!(backup.arrive(i % 4, i), Ok(())));
     assert_eq!(backup.arrive(0, 0), Err(BackupRefusal::Full));
     assert_eq!(backup.arrive(4, 0), Err(BackupRefusal::Bad));
@@ -142,9 +142,9 @@ fn the_record() {
     assert_eq!(backup.take_over().map(|taken| (taken.count(), taken.words().count())), Ok((32, 64)));
     assert_eq!(backup.sync(&snapshot(64, [16, 16, 16, 15])), Ok(Synced { dropped: [16, 16, 16, 15], remain: [0, 0, 0, 1] }));
     assert_eq!((backup.words().collect::<Vec<_>>(), backup.count(), backup.place()), (vec![(3, 63)], 0, 64));
-    let mut unfit = *backup.numbers();
-    unfit[0] = u32::MAX;
-    let mut unfit = Backup::from_numbers(unfit);
+    let mut head = *backup.head();
+    head[0] = u32::MAX;
+    let mut unfit = Backup::from_numbers(*backup.saved(), head);
     assert_eq!((unfit.arrive(0, 0), unfit.take_over()), (Err(BackupRefusal::Unfit), Err(BackupRefusal::Unfit)));
     assert_eq!(unfit.words().count(), 64);
 }

@@ -1,16 +1,16 @@
-//! The page by the proved bench program, which reads standard input and can't tell whether its page was written: so its page is taken whole and
-//! written here.
+//! The page by the proved bench program, which reads standard input and can't tell whether its page was written: so its page is taken whole
+//! and written here.
 use crate::failure::Failure;
 use std::io::Write;
 use std::path::PathBuf;
 use std::process::{Command, Stdio};
 
-/// Where the program is: KS_BENCH, or beside this program, where both are installed, or where `rt check bench` puts it.
+/// KS_BENCH; or `ks-bench` beside this program, where both are installed; or where `rt check bench` puts it, below the repository's root.
 fn program() -> PathBuf {
-    let said = std::env::var_os("KS_BENCH").map(PathBuf::from);
-    let beside = || std::env::current_exe().ok().map(|path| path.with_file_name("ks-bench")).filter(|path| path.exists());
-    let built = || PathBuf::from(concat!(env!("CARGO_MANIFEST_DIR"), "/../target/bin/bench"));
-    said.or_else(beside).unwrap_or_else(built)
+    let named = std::env::var_os("KS_BENCH").map(PathBuf::from);
+    let beside = || Some(std::env::current_exe().ok()?.parent()?.join("ks-bench")).filter(|path| path.is_file());
+    let built = || concat!(env!("CARGO_MANIFEST_DIR"), "/../target/bin/bench").into();
+    named.or_else(beside).unwrap_or_else(built)
 }
 
 /// The page of a table and a schedule.

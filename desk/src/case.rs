@@ -1,5 +1,5 @@
-//! A cabinet and a schedule as a command gets them, whatever they were written in: the bytes that the proved calls take, the lines that they
-//! come from, the names, and what is expected.
+//! A cabinet and a schedule as a command gets them, whatever they were written in: the bytes that the proved calls take, the lines that
+//! they come from, the names, and what is expected.
 use crate::args;
 use crate::explain::Input;
 use crate::failure::Failure;
@@ -136,6 +136,10 @@ impl Said {
 
 /// Everything in one file of words.
 fn in_words(file: &str, text: &Text, wrong: Vec<Wrong>) -> Result<Case, Failure> {
+    if let (Some(schedule), None, []) = (&text.schedule, text.table(), &wrong[..]) {
+        let alone = "found a schedule alone, expected its table above it, or in a file that is named before it or by --table";
+        return Err(Failure::unread(format!("{}:{}: {alone}", input::name(file), schedule.line)));
+    }
     let (said, mut wrong) = Said::of(text, wrong);
     let plan = text.schedule.as_ref().map(|at| (at.line, assemble::plan(&at.it, &said.names, &mut wrong)));
     all_right(file, wrong)?;
@@ -220,10 +224,9 @@ const NAMED: usize = 20;
 
 /// A refusal with its places.
 pub fn refused(number: u8, faults: Vec<Fault>, at: impl Fn(place::Spot) -> String) -> Failure {
-    let many = faults.len();
     let mut why: Vec<String> = faults.iter().take(NAMED).map(|fault| format!("{}: {}", at(fault.spot), fault.what)).collect();
-    if many > NAMED {
-        why.push(format!("and {} more of the kind", many - NAMED));
+    if let Some(next) = faults.get(NAMED) {
+        why.push(format!("{}: and {} more of the kind", at(next.spot), faults.len() - NAMED));
     }
     if why.is_empty() {
         why.push(format!("{}: {}", at(place::Spot::Length), proved::meaning(number)));
@@ -254,6 +257,10 @@ impl Case {
     pub fn refused(&self, number: u8) -> Failure {
         let schedule = self.schedule.as_deref().unwrap_or(&[]);
         match number {
+            1 if self.table.is_empty() => {
+                let empty = "the file is empty; a cabinet in words is wanted (`ks check --help` shows one), hex text or bytes";
+                Failure::refused(number, vec![format!("{}: {empty}", self.table_from.at(&[], place::Spot::Length))])
+            }
             1..=8 | 47 => {
                 let faults = place::table::of_bytes(&self.table, number, Called::default());
                 refused(number, faults, |spot| self.table_from.at(&self.table, spot))

@@ -84,6 +84,9 @@ pub enum Content {
 /// What a file has, taken in this way.
 pub fn content(kind: Kind, file: &str) -> Result<Content, Failure> {
     let bytes = read(file)?;
+    if kind != Kind::Bytes && (bytes.starts_with(b"\xff\xfe") || bytes.starts_with(b"\xfe\xff")) {
+        return Err(Failure::unread(format!("{}:1: found UTF-16, expected UTF-8: save it as that", name(file))));
+    }
     let kind = match kind {
         Kind::AsItLooks if !hex::is_text(&bytes) => Kind::Bytes,
         Kind::AsItLooks if form::is_words(&String::from_utf8_lossy(&bytes)) => Kind::Words,

@@ -2,6 +2,7 @@
 use crate::command::COMMANDS;
 use crate::failure::{Exit, Failure};
 use crate::output::Outputs;
+use std::io::Write;
 use std::process::ExitCode;
 
 /// A command: what it is called, what it does in a line, all that its help says, and its work.
@@ -20,13 +21,24 @@ pub const VERSION: &str = include_str!("../help/version.txt");
 /// The whole program.
 pub fn main() -> ExitCode {
     let arguments: Result<Vec<String>, _> = std::env::args_os().skip(1).map(|argument| argument.into_string()).collect();
-    Outputs::with(|outputs| match arguments {
-        Ok(arguments) => ExitCode::from(ks(&arguments, outputs)),
-        Err(argument) => {
-            outputs.say(&format!("ks: the argument {} is no UTF-8", argument.to_string_lossy()));
-            ExitCode::from(Exit::Unasked as u8)
-        }
-    })
+    let code = guarded(|| {
+        Outputs::with(|outputs| match arguments {
+            Ok(arguments) => ks(&arguments, outputs),
+            Err(argument) => {
+                outputs.say(&format!("ks: the argument {} is no UTF-8", argument.to_string_lossy()));
+                Exit::Unasked as u8
+            }
+        })
+    });
+    ExitCode::from(code)
+}
+
+/// A panic is a fault of ours: it is said so, and ends with 1.
+fn guarded(work: impl FnOnce() -> u8) -> u8 {
+    std::panic::set_hook(Box::new(|panic| {
+        let _ = writeln!(std::io::stderr(), "ks: a fault of ours, which we would like to hear of: {panic}");
+    }));
+    std::panic::catch_unwind(std::panic::AssertUnwindSafe(work)).unwrap_or(Exit::Fault as u8)
 }
 
 /// The program with these arguments: the code that it ends with.
@@ -77,5 +89,15 @@ fn complain(name: &str, failure: &Failure, outputs: &mut Outputs) -> u8 {
             unwritten.said.iter().for_each(|message| outputs.say(&format!("{begin}: {message}")));
             unwritten.exit as u8
         }
+    }
+}
+
+#[cfg(test)]
+mod tests {
+    use super::guarded;
+
+    #[test]
+    fn a_fault_of_ours() {
+        assert_eq!((guarded(|| panic!("on purpose")), guarded(|| 4)), (1, 4));
     }
 }

@@ -1,6 +1,6 @@
-//! What `ks` is made of: its commands, how they are called and how they end, how they read what they are given, cabinets and schedules in words,
-//! where a refusal has its place, expectations, a run in words and record by record, its plain run and its
-//! picture, and every place to pull a board.
+//! What `ks` is made of: its commands, how they are called and how they end, how they read what they are given, cabinets and schedules in
+//! words, where a refusal has its place, expectations, a run in words and record by record, its plain run and its picture, and every place
+//! to pull a board.
 #![forbid(unsafe_code)]
 
 pub mod args;

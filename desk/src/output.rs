@@ -109,10 +109,42 @@ impl Outputs<'_> {
         self.out.write_all(bytes)
     }
 
+    /// The same for who writes piece by piece.
+    pub fn folding(&mut self) -> Folding<'_> {
+        Folding { out: &mut *self.out, style: self.out_style, line: Vec::new() }
+    }
+
     /// A message. Where it can't be said there is nobody to tell.
     pub fn say(&mut self, message: &str) {
         let message = self.err_style.fold(&format!("{}\n", message.trim_end()));
         let _ = self.err.write_all(message.as_bytes());
+    }
+}
+
+/// Text for people, in pieces: a line is folded when it is whole, and what is no whole line is written when it is flushed.
+pub struct Folding<'o> {
+    out: &'o mut dyn Write,
+    style: Style,
+    line: Vec<u8>,
+}
+
+impl Write for Folding<'_> {
+    fn write(&mut self, bytes: &[u8]) -> io::Result<usize> {
+        for piece in bytes.split_inclusive(|byte| *byte == b'\n') {
+            self.line.extend(piece);
+            if piece.ends_with(b"\n") {
+                let line = String::from_utf8_lossy(&self.line);
+                self.out.write_all(self.style.fold(&line).as_bytes())?;
+                self.line.clear();
+            }
+        }
+        Ok(bytes.len())
+    }
+
+    fn flush(&mut self) -> io::Result<()> {
+        self.out.write_all(&self.line)?;
+        self.line.clear();
+        self.out.flush()
     }
 }
 

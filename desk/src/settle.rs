@@ -1,8 +1,8 @@
 //! What a plan of a schedule comes to: `until` and `settle` are made into records, by proved runs of what stands before them.
 //!
-//! `settle` goes in rounds. A round has, in this order: a sync of each program whose last step was refused with 37; a step of each program, by its
-//! number; a carry of each board, by its number. What is refused is left out, which changes nothing: a refused record leaves the cabinet as it
-//! is. The first round in which all is refused is the end. Then the cabinet is quiet, or it stands still.
+//! `settle` goes in rounds. A round has, in this order: a sync of each program whose last step was refused with 37; a step of each program,
+//! by its number; a carry of each board, by its number. What is refused is left out, which changes nothing: a refused record leaves the
+//! cabinet as it is. The first round in which all is refused is the end. Then the cabinet is quiet, or it stands still.
 use crate::expect::Check;
 use crate::form::answers::Outcome;
 use crate::form::assemble::{Step, Want};

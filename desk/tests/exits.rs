@@ -75,6 +75,20 @@ fn unwritten() {
     assert!(matches!(ended.status.code(), Some(0 | 1)) && ended.stderr.is_empty(), "{ended:?}");
 }
 
+/// 1 too: the bench program isn't there. What needs no page needs no such program.
+#[test]
+fn no_bench_program() {
+    let run = |arguments: &[&str]| {
+        let mut program = Command::new(env!("CARGO_BIN_EXE_ks"));
+        program.args(arguments).env("KS_BENCH", "/no/such/program").current_dir(ROOT).output().expect("ks")
+    };
+    let ended = run(&["run", "samples/sample.hex"]);
+    let said = String::from_utf8_lossy(&ended.stderr);
+    assert_eq!((ended.status.code(), ended.stdout.len()), (Some(1), 0));
+    assert!(said.starts_with("ks run: the bench program, /no/such/program: "), "{said}");
+    assert_eq!(run(&["run", "--json", "samples/sample.hex"]).status.code(), Some(0));
+}
+
 /// A reader that has gone away before anything is written.
 #[test]
 fn closed_pipe() {

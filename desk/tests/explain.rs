@@ -125,7 +125,7 @@ fn complaints() {
     complains(&["--pull", "0@22", sample], &[], 2, "", "--pull 0@22: the schedule has 20 records, so N is 1 to 21");
     complains(&["missing"], &[], 2, "", "missing: no such file");
     complains(&["-"], b"00 0", 2, "", "ks explain: standard input:1: found `00 0`, expected pairs of hex digits");
-    complains(&["-"], &[], 3, "refused 1\n", "standard input:1: the table has 0 bytes, and at least 6 are wanted");
+    complains(&["-"], &[], 3, "refused 1\n", "standard input:1: the file is empty");
     complains(&["--as", "bytes", sample], &[], 3, "refused 1\n", "samples/sample.hex: byte 0: the length field says 8992");
     complains(
         &["-"],

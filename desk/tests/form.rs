@@ -121,9 +121,33 @@ fn damaged(random: &mut Random, text: &str) -> String {
     chars.into_iter().collect()
 }
 
+/// A character of this class cut, doubled or swapped with its neighbour, at some places of a text.
+fn each_class(random: &mut Random, text: &str) -> Vec<String> {
+    let classes: [fn(char) -> bool; 6] =
+        [|c| c.is_alphabetic(), |c| c.is_ascii_digit(), |c| c == ' ', |c| c == '\n', |c| ":->".contains(c), |c| c == '#'];
+    let chars: Vec<char> = text.chars().collect();
+    let mut damaged = Vec::new();
+    for class in classes {
+        let places: Vec<usize> = (0..chars.len() - 1).filter(|i| class(chars[*i])).collect();
+        for how in 0..3 {
+            for _ in 0..30.min(places.len()) {
+                let at = random.pick(&places);
+                let mut chars = chars.clone();
+                match how {
+                    0 => drop(chars.remove(at)),
+                    1 => chars.insert(at, chars[at]),
+                    _ => chars.swap(at, at + 1),
+                }
+                damaged.push(chars.into_iter().collect());
+            }
+        }
+    }
+    damaged
+}
+
 /// Each message names the file and a line of it, or the file's byte where it is no text any more.
 fn names_a_line(said: &str, lines: usize) -> bool {
-    let Some(rest) = said.strip_prefix("standard input:") else { return said.starts_with("and ") };
+    let Some(rest) = said.strip_prefix("standard input:") else { return false };
     let line = rest.split(':').next().unwrap_or("");
     line.parse::<usize>().is_ok_and(|line| (1..=lines.max(1)).contains(&line)) || rest.starts_with(" byte ")
 }
@@ -135,12 +159,19 @@ fn damaged_texts() {
     let folder = std::env::temp_dir().join(format!("ks-form-{}", std::process::id()));
     std::fs::create_dir_all(&folder).expect("a temporary folder");
     let file = folder.join("damaged").to_str().expect("a name").to_string();
-    for i in 0..3_000 {
-        let text = common::sample(random.pick(&["release.cabinet", "limits.cabinet", "back.cabinet", "first.cabinet"]));
-        let mut text = damaged(&mut random, &text);
-        for _ in 0..i % 3 {
-            text = damaged(&mut random, &text);
+    let mut texts = Vec::new();
+    for name in ["release.cabinet", "limits.cabinet", "back.cabinet", "first.cabinet"] {
+        let sound = common::sample(name);
+        texts.extend(each_class(&mut random, &sound));
+        for i in 0..500 {
+            let mut text = damaged(&mut random, &sound);
+            for _ in 0..i % 3 {
+                text = damaged(&mut random, &text);
+            }
+            texts.push(text);
         }
+    }
+    for text in texts {
         std::fs::write(&file, &text).expect("a temporary file");
         let lines = text.lines().count();
         match load_any(Source { table: None, file: &file, kind: Kind::Words }) {

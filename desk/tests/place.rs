@@ -3,6 +3,8 @@
 mod common;
 
 use common::complains;
+use desk::case::{load_any, Source};
+use desk::input::Kind;
 use desk::place::{draft::Draft, lent, schedule, table, Called};
 use kunzeastylus::{judge, label_table, sweep, write_table, Lengths, Lists, Table};
 use outside::random::Random;
@@ -171,7 +173,8 @@ fn in_words() {
         complains(&["run", "-"], text.as_bytes(), 3, &format!("refused {number}\n"), &format!("ks run: standard input:{about}"));
     };
     let schedule = "\n00 01 01";
-    hex("", 1, "1: the table has 0 bytes, and at least 6 are wanted");
+    hex("", 1, "1: the file is empty; a cabinet in words is wanted");
+    hex("00 23 01", 1, "1: the table has 3 bytes, and at least 6 are wanted");
     hex("00 40\n01 02 01 01 FF 00 00 01 00", 1, "1: the length field says 64, 9 bytes follow");
     hex("00 09\n03 02 01 01 FF 00 00 01 00", 2, "2: the version is 3, and there are 1 and 2");
     hex("00 09 01\n01\n01\n01 FF 00 00 01 00", 3, "2: 1 boards, and there are 2 to 16");
@@ -202,4 +205,46 @@ fn in_words() {
     complains(&["run", "-"], &bytes, 3, "refused 7\n", "ks run: standard input: byte 8: process 0: its board");
     // An accepted table is taken apart.
     assert!(Table::of(&bytes[..11]).is_err() && desk::hex::bytes(format!("{table}{schedule}").as_bytes()).is_ok());
+}
+
+/// Whatever bytes a file has, as they are or as hex text: what is refused is said with its place.
+#[test]
+fn damaged_files() {
+    let mut random = Random::new(SEED);
+    let folder = std::env::temp_dir().join(format!("ks-place-{}", std::process::id()));
+    std::fs::create_dir_all(&folder).expect("a temporary folder");
+    let file = folder.join("damaged").to_str().expect("a name").to_string();
+    let mut refused = 0;
+    for i in 0..1_000 {
+        let (table, schedule) = input(&mut random);
+        let bytes = [table, schedule].concat();
+        let (kind, text) = match i % 2 {
+            0 => (Kind::Bytes, bytes),
+            _ => (
+                Kind::Hex,
+                bytes
+                    .chunks(6)
+                    .map(|line| line.iter().map(|byte| format!("{byte:02x}")).collect::<String>() + "\n")
+                    .collect::<String>()
+                    .into_bytes(),
+            ),
+        };
+        std::fs::write(&file, &text).expect("a temporary file");
+        if let Err(failure) = load_any(Source { table: None, file: &file, kind }) {
+            refused += 1;
+            let lines = text.iter().filter(|byte| **byte == b'\n').count().max(1);
+            for said in &failure.said {
+                let place = said.strip_prefix(&file).expect("its file");
+                let line =
+                    place.strip_prefix(':').and_then(|rest| rest.split(':').next()).and_then(|line| line.parse::<usize>().ok());
+                assert!(
+                    place.starts_with(": byte ") && kind == Kind::Bytes || line.is_some_and(|line| (1..=lines).contains(&line)),
+                    "{said}"
+                );
+            }
+            assert!(failure.shown.starts_with("refused ") && !failure.said.is_empty());
+        }
+    }
+    std::fs::remove_dir_all(&folder).expect("a temporary folder");
+    assert!(refused > 300, "{refused}");
 }

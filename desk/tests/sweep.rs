@@ -134,7 +134,7 @@ fn complaints() {
     complains(&["--map", "--width", "19", SWEPT], &[], 2, "", "--width 19: a number from 20 on is wanted");
     complains(&["--width", "99", SWEPT], &[], 2, "", "--width is of --map");
     complains(&["missing"], &[], 2, "", "missing: no such file");
-    complains(&["-"], &[], 3, "refused 1\n", "standard input:1: the table has 0 bytes, and at least 6 are wanted");
+    complains(&["-"], &[], 3, "refused 1\n", "standard input:1: the file is empty");
     complains(&["-"], &IDLE, 3, "refused 9\n", "standard input: byte 11: there is no schedule, and at least 3 bytes are wanted");
     // 52: where, and what to do.
     let crash = "record 11 is a crash; a sweep puts its own at every place, so leave out all of them";

@@ -96,8 +96,8 @@ pub fn count(schedule: &[u8]) -> usize
 }
 
 // A stretch of a schedule's records, on lists that hold any cabinet that commands reach. It ends before a move 8, too. What is returned is what is
-// left of the stretch: the next record's number, and the entries then. The buffers have room for all records before `to`. The schedule's records are counted here, so that the compiler
-// knows that each of them is there.
+// left of the stretch: the next record's number, and the entries then. The buffers have room for all records before `to`. The schedule's records
+// are counted here, so that the compiler knows that each of them is there.
 pub fn play(
     table: &[u8],
     schedule: &[u8],

@@ -48,18 +48,18 @@ module _ (t : Table) where
 
 -- ---- how many are kept
 
--- the newest 64 of one more
+-- the newest of one more, as many as are kept
 take-more : {A : Type 0} (k : ℕ) (x : A) (l : List A) → k ≤ keptMost → take keptMost (x ∷ take k l) ≡ take (oneKept k) (x ∷ l)
 take-more k x l h =
-    by-lt k 64
-    (λ few. rw (lt-ltb k 64 few) (ap (λ m. x ∷ m) (take-all 63 (take k l) (let e = length-take k l in omega arith))))
-    (λ many. rw (le-ltb k 64 many) (ap (λ m. x ∷ m) (take-take 63 k l (omega arith))))
+    by-lt k keptMost
+    (λ few. rw (lt-ltb k keptMost few) (ap (λ m. x ∷ m) (take-all (keptMost - 1) (take k l) (let e = length-take k l in omega arith))))
+    (λ many. rw (le-ltb k keptMost many) (ap (λ m. x ∷ m) (take-take (keptMost - 1) k l (omega arith))))
 
 few-more : (k : ℕ) → k ≤ keptMost → oneKept k ≤ keptMost
-few-more k h = by-lt k 64 (λ few. rw (lt-ltb k 64 few) (omega arith)) (λ many. rw (le-ltb k 64 many) (omega arith))
+few-more k h = by-lt k keptMost (λ few. rw (lt-ltb k keptMost few) (omega arith)) (λ many. rw (le-ltb k keptMost many) (omega arith))
 
 at-most-one : (k : ℕ) → oneKept k ≤ suc k
-at-most-one k = by-lt k 64 (λ few. rw (lt-ltb k 64 few) (omega arith)) (λ many. rw (le-ltb k 64 many) (omega arith))
+at-most-one k = by-lt k keptMost (λ few. rw (lt-ltb k keptMost few) (omega arith)) (λ many. rw (le-ltb k keptMost many) (omega arith))
 
 -- ---- one record of a session: what code that holds a base, records and how many of them are kept may do
 

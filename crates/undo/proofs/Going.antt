@@ -80,9 +80,9 @@ room-less room long few = record {
 manyKept-is : (k n : ℕ) → k ≤ keptMost → manyKept k n ≡ min (k + n) keptMost
 manyKept-is k zero h = omega arith
 manyKept-is k (suc n) h =
-    by-lt k 64
-    (λ few. rw (lt-ltb k 64 few) (let a = manyKept-is (suc k) n (omega arith) in omega arith))
-    (λ many. rw (le-ltb k 64 many) (let a = manyKept-is 64 n (omega arith) in omega arith))
+    by-lt k keptMost
+    (λ few. rw (lt-ltb k keptMost few) (let a = manyKept-is (suc k) n (omega arith) in omega arith))
+    (λ many. rw (le-ltb k keptMost many) (let a = manyKept-is keptMost n (omega arith) in omega arith))
 
 -- records that are held, but for the last
 held-less : (history : List ℕ) (n : ℕ) → length history ≡ historyLength → n ≤ heldMost → 0 < n

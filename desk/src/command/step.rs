@@ -5,7 +5,7 @@ use crate::failure::Failure;
 use crate::input;
 use crate::output::Outputs;
 use crate::step::{session, Stepper};
-use std::io::{stdin, IsTerminal};
+use std::io::{stdin, IsTerminal, Write};
 
 pub fn work(arguments: &[String], outputs: &mut Outputs) -> Result<(), Failure> {
     let said = args::read(arguments, &[TABLE, input::AS])?;
@@ -14,5 +14,7 @@ pub fn work(arguments: &[String], outputs: &mut Outputs) -> Result<(), Failure> 
         return Err(Failure::usage("standard input is where the commands come from: name a file"));
     }
     let mut stepper = Stepper::new(load(source)?.input()).expect("an accepted run");
-    Ok(session(&mut stepper, stdin().lock(), &mut outputs.out, stdin().is_terminal())?)
+    let mut out = outputs.folding();
+    session(&mut stepper, stdin().lock(), &mut out, stdin().is_terminal())?;
+    Ok(out.flush()?)
 }

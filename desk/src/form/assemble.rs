@@ -2,7 +2,7 @@
 use super::answers::Outcome;
 use super::lexer::Wrong;
 use super::names::Names;
-use super::syntax::{Action, At, End, Expected, Fact, Instruction, Program, Ref, Statement, Text, Wanted};
+use super::syntax::{Action, At, Channel, End, Expected, Fact, Instruction, Program, Ref, Statement, Text, Wanted};
 use crate::records::RECORDS_MOST;
 use kunzeastylus::{Counts, Instruction as Code, Lists, Record, LIMIT, OUTSIDE};
 
@@ -38,29 +38,10 @@ pub fn table(text: &Text, names: &Names, wrong: &mut Vec<Wrong>) -> (Lists, Tabl
     if text.boards.is_none() {
         wrong.push(Wrong::new(first, "found no `boards`, expected how many there are: `boards 2`"));
     }
-    let mut check = |result: Result<u32, Wrong>| {
-        result.unwrap_or_else(|error| {
-            wrong.push(error);
-            0
-        })
-    };
-    let mut ends = Vec::new();
-    for At { line, it } in &text.channels {
-        for end in [&it.sender, &it.reader] {
-            ends.push(match end {
-                End::Outside => OUTSIDE.into(),
-                End::Program(program) => check(names.program(*line, program)),
-            });
-        }
-    }
-    let mut instructions = Vec::new();
-    for (p, program) in text.programs.iter().enumerate() {
-        for At { line, it } in &program.it.instructions {
-            instructions.extend(numbers(it, p, *line, names, &mut check));
-        }
-    }
+    let mut lookup = Lookup { names, wrong };
     let placements = |program: &Program| [program.primary, program.backup, program.instructions.len() as u32];
     let limited = text.programs.iter().any(|program| program.it.limit.is_some());
+    let limits = text.programs.iter().map(|program| program.it.limit.unwrap_or(LIMIT.into()));
     let lists = Lists {
         version: if limited { 2 } else { 1 },
         counts: Counts {
@@ -68,15 +49,54 @@ pub fn table(text: &Text, names: &Names, wrong: &mut Vec<Wrong>) -> (Lists, Tabl
             processes: text.programs.len() as u32,
             channels: text.channels.len() as u32,
         },
-        ends,
+        ends: text.channels.iter().flat_map(|channel| lookup.ends(channel)).collect(),
         placements: text.programs.iter().flat_map(|program| placements(&program.it)).collect(),
-        limits: match limited {
-            true => text.programs.iter().map(|program| program.it.limit.unwrap_or(LIMIT.into())).collect(),
-            false => Vec::new(),
-        },
-        instructions,
+        limits: limits.filter(|_| limited).collect(),
+        instructions: text.programs.iter().enumerate().flat_map(|(p, program)| lookup.program(p, &program.it)).collect(),
     };
     (lists, lines(text, first))
+}
+
+/// Names looked up for their numbers; what names nothing is noted, and has 0.
+struct Lookup<'a> {
+    names: &'a Names,
+    wrong: &'a mut Vec<Wrong>,
+}
+
+impl Lookup<'_> {
+    fn noted(&mut self, found: Result<u32, Wrong>) -> u32 {
+        found.unwrap_or_else(|wrong| {
+            self.wrong.push(wrong);
+            0
+        })
+    }
+
+    /// Sender and reader of a channel.
+    fn ends(&mut self, channel: &At<Channel>) -> [u32; 2] {
+        [&channel.it.sender, &channel.it.reader].map(|end| match end {
+            End::Outside => OUTSIDE.into(),
+            End::Program(program) => self.noted(self.names.program(channel.line, program)),
+        })
+    }
+
+    /// The instructions of program `p`, in a row.
+    fn program(&mut self, p: usize, program: &Program) -> Vec<u32> {
+        program.instructions.iter().flat_map(|instruction| self.instruction(p, instruction)).collect()
+    }
+
+    /// Code, `a` and operand of an instruction of program `p`.
+    fn instruction(&mut self, p: usize, instruction: &At<Instruction>) -> [u32; 3] {
+        let (line, names) = (instruction.line, self.names);
+        let (code, register, operand) = match &instruction.it {
+            Instruction::Set { register, word } => (Code::Set, register, Ok(*word)),
+            Instruction::Add { register, other } => (Code::Add, register, Ok(*other)),
+            Instruction::Take { register, channel } => (Code::Take, register, names.channel(line, channel)),
+            Instruction::First { register, channels } => (Code::First, register, mask(line, channels, names)),
+            Instruction::Send { register, channel } => (Code::Send, register, names.channel(line, channel)),
+            Instruction::Jump { place, register } => (Code::Jump, register, names.place(line, p, place)),
+        };
+        [code.number().into(), *register, self.noted(operand)]
+    }
 }
 
 fn lines(text: &Text, first: usize) -> TableLines {
@@ -87,25 +107,6 @@ fn lines(text: &Text, first: usize) -> TableLines {
         programs: text.programs.iter().map(|program| program.line).collect(),
         instructions: text.programs.iter().map(of_program).collect(),
     }
-}
-
-/// Code, `a` and operand of an instruction of program `p`.
-fn numbers(
-    instruction: &Instruction,
-    p: usize,
-    line: usize,
-    names: &Names,
-    check: &mut impl FnMut(Result<u32, Wrong>) -> u32,
-) -> [u32; 3] {
-    let (code, register, operand) = match instruction {
-        Instruction::Set { register, word } => (Code::Set, register, *word),
-        Instruction::Add { register, other } => (Code::Add, register, *other),
-        Instruction::Take { register, channel } => (Code::Take, register, check(names.channel(line, channel))),
-        Instruction::First { register, channels } => (Code::First, register, check(mask(line, channels, names))),
-        Instruction::Send { register, channel } => (Code::Send, register, check(names.channel(line, channel))),
-        Instruction::Jump { place, register } => (Code::Jump, register, check(names.place(line, p, place))),
-    };
-    [code.number().into(), *register, operand]
 }
 
 /// Bit k stands for channel k.

@@ -1,4 +1,4 @@
-//! The proved run of a schedule against the simulator, on generated tables and schedules: `cabinet [--runs N] [--seed N] [--all-met]`.
+//! The proved run of a schedule against the simulator, on generated tables and schedules: `cabinet_tests [--runs N] [--seed N] [--all-met]`.
 //!
 //! First the service desk's cases, with lines written by hand, and cases with reasons and origins written by hand; then these and document
 //! 01's sample, the desk's cut after each record and with each board pulled at each place; then saved lists as long as each limit lets them get;

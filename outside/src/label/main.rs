@@ -1,4 +1,4 @@
-//! The proved label line against the simulator on a table written from document 02: `label [--seed N]`.
+//! The proved label line against the simulator on a table written from document 02: `label_tests [--seed N]`.
 //!
 //! The table of first serials at both ends; schedules of several kinds, each with a crash of either board at each of its places and then
 //! led on until it is quiet; buffers that are too short; schedules of 10,000 records; crash after crash; and records taken back. Every end is

@@ -1,4 +1,4 @@
-//! The built bench program against the simulator's page: `program [--inputs N] [--seed N] [--all-met] [--program PATH]`.
+//! The built bench program against the simulator's page: `program_tests [--inputs N] [--seed N] [--all-met] [--program PATH]`.
 //!
 //! First the samples, the front door and the program's ends; then the sample, each of its beginnings and each of its bytes changed; then
 //! generated inputs, sound and damaged.

@@ -1,4 +1,4 @@
-//! That a cabinet goes on, by the proved run and by the simulator: `progress [--runs N] [--seed N] [--all-met]`.
+//! That a cabinet goes on, by the proved run and by the simulator: `progress_tests [--runs N] [--seed N] [--all-met]`.
 //!
 //! First the cases by hand. Then generated runs: after each crash that is done, and at the end, each process with hold-back is stepped until it has
 //! none; and the end is led on by carries, steps, and syncs that are owed, until the cabinet is quiet or stands still, or for a number of rounds: a

@@ -1,4 +1,4 @@
-//! The proved sweep against the simulator: `sweep [--sweeps N] [--seed N]`, or `sweep --time`, which times it and compares nothing.
+//! The proved sweep against the simulator: `sweep_tests [--sweeps N] [--seed N]`, or `sweep_tests --time`, which times it and compares nothing.
 //!
 //! First the cases that document 02 names, at and over each limit; then random tables and schedules, with returns and resyncs in them, sound and
 //! damaged, until there are N sweeps, and each ending was met at least as often as there are sweeps.

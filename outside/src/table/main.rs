@@ -1,4 +1,4 @@
-//! The proved judging of tables, schedules and buffers against the reader: `table [--runs N] [--seed N] [--all-met]`.
+//! The proved judging of tables, schedules and buffers against the reader: `table_tests [--runs N] [--seed N] [--all-met]`.
 //!
 //! Document 01's sample, in either version, with every length field, every change of one byte and every shorter length; then random tables and schedules,
 //! sound and damaged, with buffers of lengths around what is enough, and with each set of them one byte under it.

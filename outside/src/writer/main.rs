@@ -1,4 +1,4 @@
-//! The proved writer of tables against one written from the documents: `writer [--runs N] [--seed N] [--all-met]`.
+//! The proved writer of tables against one written from the documents: `writer_tests [--runs N] [--seed N] [--all-met]`.
 //!
 //! Random sound lists and damaged ones, with buffers around what is enough; random tables, sound and damaged, taken apart into lists with
 //! room around what is enough; and whatever comes apart is written again.

@@ -122,8 +122,7 @@ loop-less c = let a = here (c .before .before .before .before .before .before .b
 loop-again : tie.Need-loop-again Inv-loop μ-loop
 loop-again c =
     let k = c .before .before .before .before .before .before .before .before .before in
-    let g = here k in
-    (
+    let g = here k in (
       (let a = head g .loop .inv .0 in omega arith),
       going-undone (head g .loop .inv .1) (g .before .command-at .result) (g .before .command-at .ensures) (below g) (k .before .before .before .before .before .before .before .before .before .before .before .before .if1 .taken)
           (k .before .before .before .before .before .before .before .before .before .before .before .undo-answer .ensures .1) (k .before .before .before .before .before .before .before .before .before .before .before .undo-answer .ensures .0) (k .before .before .before .before .before .before .before .write .ensures) (c .before .before .before .before .before .before .before .before .if2 .taken) (c .replay .ensures),
@@ -135,8 +134,7 @@ loop-less-2 c = let a = here (c .before) .before .before .loop-test .taken in om
 loop-again-2 : tie.Need-loop-again-2 Inv-loop μ-loop
 loop-again-2 c =
     let k = c .before in
-    let g = here k in
-    (
+    let g = here k in (
       head g .loop .inv .0,
       going-refused (head g .loop .inv .1) (g .before .command-at .result) (g .before .command-at .ensures) (below g) (k .before .before .before .before .before .before .before .before .before .before .before .before .if1 .taken)
           (k .before .before .before .before .before .before .before .before .before .before .before .undo-answer .ensures .1) (k .before .before .before .before .before .before .before .before .before .before .before .undo-answer .ensures .0) (k .before .before .before .before .before .before .before .write .ensures) (c .if2 .left),
@@ -183,8 +181,7 @@ loop-less-3 c = let a = further (c .before .before .before .before .before .befo
 loop-again-3 : tie.Need-loop-again-3 Inv-loop μ-loop
 loop-again-3 c =
     let p = c .before .before .before .before .before .before .before .before .before .before .before .before .before .before .before .before .before .before .before in
-    let g = then p in
-    (
+    let g = then p in (
       omega arith,
       going-followed
           (going-forward (head g .loop .inv .1) (g .before .command-at .result) (g .before .command-at .ensures) (below g) (p .before .before .before .before .before .before .before .before .before .before .before .if1 .left) (head g .loop .inv .0)
@@ -198,8 +195,7 @@ loop-less-4 c = let a = further (c .before .before .before .before .before .befo
 loop-again-4 : tie.Need-loop-again-4 Inv-loop μ-loop
 loop-again-4 c =
     let p = c .before .before .before .before .before .before .before .before .before .before .before in
-    let g = then p in
-    (
+    let g = then p in (
       (let a = fits p .fits in let b = c .if3 .left in omega arith),
       going-forward (head g .loop .inv .1) (g .before .command-at .result) (g .before .command-at .ensures) (below g) (p .before .before .before .before .before .before .before .before .before .before .before .if1 .left) (head g .loop .inv .0)
           (ends p) (p .play .ensures) (long p) (c .before .before .remember .ensures) (c .before .least2 .ensures),
