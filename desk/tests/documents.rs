@@ -1,15 +1,16 @@
-//! What the documents say of `ks` is so: README's five minutes, and the names and keywords of docs/FORMATS.md.
+//! What the documents say of `ks` is so: the five minutes of docs/USING.md, and the names and keywords of docs/FORMATS.md. What commands print
+//! that README.md and docs/USING.md show is compared by `tools/readme`.
 mod common;
 
 use common::{printed, read};
 use desk::form::answers::{CODES, REASONS};
 use desk::form::keywords::{HEADINGS, INSTRUCTIONS, MOVES};
 
-/// From an empty file to a passed release check: each text of README's path passes, with the table that it begins with.
+/// From an empty file to a passed release check: each text of that path passes, with the table that it begins with.
 #[test]
 fn five_minutes() {
-    let readme = read("README.md");
-    let texts: Vec<&str> = readme.split("```cabinet\n").skip(1).map(|text| text.split("```").next().expect("its end")).collect();
+    let using = read("docs/USING.md");
+    let texts: Vec<&str> = using.split("```cabinet\n").skip(1).map(|text| text.split("```").next().expect("its end")).collect();
     let [whole, pulled] = texts[..] else { panic!("{texts:?}") };
     let table = whole.split_once("schedule\n").expect("a schedule").0;
     for text in [whole.to_string(), format!("{table}{pulled}")] {

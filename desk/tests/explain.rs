@@ -38,14 +38,6 @@ fn samples() {
     }
 }
 
-/// What README.md shows.
-#[test]
-fn shown() {
-    let arguments = "--pull 0@7 --from 5 --to 8 samples/sample.hex";
-    let wanted = common::shown(&format!("./ks explain {arguments}"));
-    assert_eq!(printed(&arguments.split(' ').collect::<Vec<_>>(), &[]).trim_end(), wanted);
-}
-
 /// The lines of what is printed, not folded, and parted by white space alone.
 fn lines(arguments: &[&str]) -> Vec<String> {
     let text = common::printed_wide(&[&["explain"], arguments].concat(), &[]);

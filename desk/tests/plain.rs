@@ -7,7 +7,7 @@ use desk::played::Played;
 use kunzeastylus::{BusWord, End};
 
 mod common;
-use common::{printed, sample, shown};
+use common::sample;
 
 fn input(name: &str) -> Input {
     Input::of(hex::bytes(sample(&format!("{name}.hex")).as_bytes()).expect("hex text"))
@@ -77,10 +77,4 @@ fn another_run() {
     let twice = changed(&|played| bus(played, 19, carried));
     let refused = Fault::Refused { at: 10, plain: PlainMove::Step { process: 0 }, why: Refused::NoWord };
     assert_eq!(twice, (Some(refused), Err(Fault::Bus(4))));
-}
-
-/// What README.md shows.
-#[test]
-fn in_the_readme() {
-    assert_eq!(printed(&["plain", "samples/lost_queue.cabinet"], &[]).trim_end(), shown("./ks plain samples/lost_queue.cabinet"));
 }

@@ -44,18 +44,6 @@ fn sessions() {
     }
 }
 
-/// What README.md shows.
-#[test]
-fn shown() {
-    let readme = read("README.md");
-    let (command, after) = readme.split_once("$ ./ks step ").and_then(|(_, after)| after.split_once('\n')).expect("an example");
-    let wanted: Vec<&str> = after.lines().map_while(|line| line.strip_prefix("    ")).collect();
-    let lines: String =
-        wanted.iter().filter_map(|line| line.strip_prefix('>')).map(|line| line.trim().to_string() + "\n").collect();
-    let ended = called(&command.split(' ').collect::<Vec<_>>(), lines.as_bytes());
-    assert_eq!(String::from_utf8_lossy(&ended.stdout).lines().collect::<Vec<_>>(), wanted);
-}
-
 /// A terminal is asked for each line, and its lines are not printed once more.
 #[test]
 fn in_a_terminal() {

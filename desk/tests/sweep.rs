@@ -40,8 +40,6 @@ fn stored() {
     assert_eq!(printed(&["--map", SWEPT], &[]), wanted);
     let (counts, _) = wanted.split_once("\n\n").expect("counts and a map");
     assert_eq!(printed(&[SWEPT], &[]).trim_end(), counts);
-    // What README.md shows is the same.
-    assert_eq!(common::shown("./ks sweep --map samples/swept.hex"), wanted.trim_end());
 }
 
 #[test]

@@ -61,11 +61,3 @@ pub fn read(path: &str) -> String {
 pub fn sample(name: &str) -> String {
     read(&format!("samples/{name}"))
 }
-
-/// The lines of README.md behind a command that it shows.
-pub fn shown(command: &str) -> String {
-    let readme = read("README.md");
-    let shown = readme.split_once(&format!("    $ {command}\n")).unwrap_or_else(|| panic!("{command}: an example")).1;
-    let lines: Vec<&str> = shown.lines().map_while(|line| line.strip_prefix("    ").or(line.is_empty().then_some(""))).collect();
-    lines.join("\n").trim_end().to_string()
-}
