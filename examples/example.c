@@ -19,10 +19,17 @@ static const uint8_t table[] = {
     KS_TAKE, 0, 0, 0, 0, 0, KS_ADD, 1, 0, 0, 0, 0, KS_SEND, 1, 0, 0, 0, 1, KS_JUMP, 0, 0, 0, 0, 0,
 };
 
-/* Document 01's sample schedule as moves; a is 0 but for carry 1, and the word is 0 but in a feed. */
-static const uint8_t moves[20] = {
-    KS_FEED, KS_FEED, KS_STEP, KS_STEP, KS_STEP, KS_CARRY, KS_STEP, KS_STEP, KS_STEP, KS_STEP,
-    KS_CRASH, KS_STEP, KS_STEP, KS_STEP, KS_STEP, KS_STEP, KS_STEP, KS_STEP, KS_CARRY, KS_STEP,
+struct move {
+    enum ks_move move;
+    uint8_t a;
+    uint32_t word;
+};
+
+/* Document 01's sample schedule. */
+static const struct move moves[20] = {
+    {KS_FEED, 0, 5}, {KS_FEED, 0, 7}, {KS_STEP, 0, 0}, {KS_STEP, 0, 0}, {KS_STEP, 0, 0}, {KS_CARRY, 0, 0}, {KS_STEP, 0, 0}, {KS_STEP, 0, 0},
+    {KS_STEP, 0, 0}, {KS_STEP, 0, 0}, {KS_CRASH, 0, 0}, {KS_STEP, 0, 0}, {KS_STEP, 0, 0}, {KS_STEP, 0, 0}, {KS_STEP, 0, 0}, {KS_STEP, 0, 0},
+    {KS_STEP, 0, 0}, {KS_STEP, 0, 0}, {KS_CARRY, 1, 0}, {KS_STEP, 0, 0},
 };
 
 static void *memory(size_t size) {
@@ -53,22 +60,18 @@ static struct piece table_of_version(uint8_t version) {
     return p;
 }
 
-/* The sample schedule's first records. */
-static struct piece first_records(size_t records) {
-    size_t length = 1 + KS_RECORD * records;
-    struct piece p = piece(2 + length);
-    uint8_t *schedule = p.at;
-    schedule[0] = (uint8_t)(length >> 8);
-    schedule[1] = (uint8_t)length;
-    schedule[2] = 1;
+static struct piece schedule_of(const struct move *given, size_t records) {
+    struct piece p = piece(KS_SCHEDULE_BYTES(records));
+    struct ks_schedule schedule = ks_schedule_begin(p.at, p.len);
     for (size_t i = 0; i < records; i++) {
-        uint8_t *record = schedule + 3 + KS_RECORD * i;
-        record[0] = moves[i];
-        record[1] = i == 18;
-        record[5] = i == 0 ? 5 : i == 1 ? 7 : 0;
+        ks_schedule_add(&schedule, given[i].move, given[i].a, given[i].word);
     }
+    p.len = ks_schedule_end(&schedule);
     return p;
 }
+
+/* The sample schedule's first records. */
+static struct piece first_records(size_t records) { return schedule_of(moves, records); }
 
 /* What a run of so many records on so many processes is lent to write to. */
 struct lent {
@@ -103,33 +106,47 @@ static uint32_t judge(struct piece t, struct piece schedule, struct lent l, cons
                     l.origins.len - less[3]);
 }
 
-static void show_record(const char *name, const uint32_t *state) {
-    printf("%s: place %u, registers %u %u %u %u, count %u, words", name, state[2], state[3], state[4], state[5], state[6], state[1]);
-    for (size_t i = 0; i < state[0]; i++) {
-        printf(" %u:%u", ks_slot(state, i), ks_saved(state, i));
+/* A record's head, and as many of its saved words as that says. */
+static void show_record(const char *name, const struct ks_backup *backup, const uint32_t head[KS_HEAD]) {
+    const uint32_t *registers = head + KS_REGISTER;
+    printf("%s: place %u, registers %u %u %u %u, count %u, words", name, head[KS_PLACE], registers[0], registers[1], registers[2], registers[3],
+           head[KS_COUNT]);
+    for (size_t i = 0; i < head[KS_WORDS]; i++) {
+        printf(" %u:%u", ks_slot(backup, i), ks_saved(backup, i));
     }
     printf("\n");
 }
 
-/* A stand-by that is kept by hand: three words arrive, one of the process is carried, and a sync lands that has taken one on slot 0. */
+static void show_reply(enum ks_backup_reply reply) {
+    printf(" %u", (unsigned)reply);
+}
+
+/* A stand-by that is kept by hand: three words arrive, one of the process is carried, and a sync lands that has taken one on slot 0. Refused are a
+ * word on slot 4 and a sync that has taken one on slot 2. */
 static void board_programmer(void) {
-    static const uint32_t calls[][KS_CALL] = {
-        {KS_NEW}, {KS_ARRIVE, 0, 10}, {KS_ARRIVE, 1, 11}, {KS_ARRIVE, 0, 12}, {KS_COUNT},
-        {KS_ARRIVE, 4, 13}, {KS_BACKUP_SYNC, 5, 1, 2, 3, 4, 0, 0, 1, 0}, {KS_BACKUP_SYNC, 5, 1, 2, 3, 4, 1, 0, 0, 0}, {KS_ARRIVE, 3, 14},
-    };
-    uint32_t *state = memory(KS_STATE * sizeof *state), *reply = memory(KS_STATE * sizeof *reply);
+    static const uint32_t registers[KS_REGISTERS] = {1, 2, 3, 4}, one_of_2[KS_SLOTS] = {0, 0, 1, 0}, one_of_0[KS_SLOTS] = {1, 0, 0, 0};
+    struct ks_backup *backup = memory(sizeof *backup);
+    uint32_t *report = memory(KS_SYNC_REPORT * sizeof *report), *handed = memory(KS_HEAD * sizeof *handed);
     printf("board programmer\nreplies");
-    for (size_t i = 0; i < sizeof calls / sizeof calls[0]; i++) {
-        printf(" %u", ks_backup_call(state, KS_STATE, calls[i], KS_CALL, reply, KS_STATE));
-    }
-    printf("\nthe sync dropped %u %u %u %u, and", reply[0], reply[1], reply[2], reply[3]);
-    printf(" %u %u %u %u remain\n", reply[4], reply[5], reply[6], reply[7]);
-    show_record("saved", state);
-    static const uint32_t take_over[KS_CALL] = {KS_TAKE_OVER};
-    printf("reply %u\n", ks_backup_call(state, KS_STATE, take_over, KS_CALL, reply, KS_STATE));
-    show_record("taken over", reply);
-    free(state);
-    free(reply);
+    ks_new(backup);
+    show_reply(ks_arrive(backup, 0, 10));
+    show_reply(ks_arrive(backup, 1, 11));
+    show_reply(ks_arrive(backup, 0, 12));
+    show_reply(ks_count(backup));
+    show_reply(ks_arrive(backup, 4, 13));
+    show_reply(ks_sync(backup, 5, registers, one_of_2, report));
+    show_reply(ks_sync(backup, 5, registers, one_of_0, report));
+    show_reply(ks_arrive(backup, 3, 14));
+    printf("\nthe sync dropped %u %u %u %u, and", report[0], report[1], report[2], report[3]);
+    printf(" %u %u %u %u remain\n", report[4], report[5], report[6], report[7]);
+    show_record("saved", backup, backup->head);
+    printf("reply");
+    show_reply(ks_take_over(backup, handed));
+    printf("\n");
+    show_record("taken over", backup, handed);
+    free(backup);
+    free(report);
+    free(handed);
 }
 
 /* A table and a schedule are judged before they are run, and then run: the page. */
@@ -142,7 +159,8 @@ static void driver_bench(void) {
     for (size_t i = 0; i < 4; i++) {
         printf(" %u", judge(sound, schedule, l, less[i]));
     }
-    printf("\nrefused %u\n", (unsigned)ks_number(run(other, schedule, l)));
+    enum ks_refusal refusal = ks_number(run(other, schedule, l));
+    printf("\nrefused %u: %s\n", (unsigned)refusal, ks_refusal_text(refusal));
     uint64_t result = run(sound, schedule, l);
     printf("records %u\n", ks_records(result));
     for (size_t i = 0; i < ks_records(result); i++) {
@@ -172,7 +190,7 @@ static void before_release(void) {
 }
 
 /* A board is pulled: what is on the bus until then, each word fed or with its sender and the place of its SEND, why each answer is what it is,
- * and with how much unread and held back the stand-by begins. */
+ * with how much unread and held back the stand-by begins, and of the whole cabinet which board is dead and which words are unread. */
 static void service_desk(void) {
     struct piece sound = table_of_version(1), schedule = first_records(11);
     struct lent l = lend(11, 1);
@@ -190,11 +208,20 @@ static void service_desk(void) {
     }
     printf("\nreasons");
     for (size_t i = 0; i < ks_records(result); i++) {
-        printf(" %u", (unsigned)ks_cause(l.reasons.at, i));
+        printf(" %u", (unsigned)ks_why(l.reasons.at, i));
     }
+    printf(", the last of them %s", ks_reason_text(ks_why(l.reasons.at, ks_records(result) - 1)));
     const uint8_t *report = l.report.at;
     printf("\nprocess 0 on board %u at place %u, unread %u, hold-back %u, quiet %d\n", ks_board(report, 0), ks_place(report, 0),
            ks_unread(report, 0), ks_hold_back(report, 0), ks_quiet(result));
+    struct ks_cabinet_view *view = memory(sizeof *view);
+    uint32_t viewed = ks_view(sound.at, sound.len, schedule.at, schedule.len, (uint32_t *)view, KS_VIEW);
+    printf("view %u, board 0 dead %u, inbox", viewed, view->board[0].dead);
+    for (size_t i = 0; i < view->process[0].unread; i++) {
+        printf(" %u:%u", view->process[0].inbox[i].channel, view->process[0].inbox[i].word);
+    }
+    printf("\n");
+    free(view);
     free(sound.at);
     free(schedule.at);
     give_back(l);
@@ -202,12 +229,9 @@ static void service_desk(void) {
 
 /* The second carton is taken back, and a step is, and given again: which records stand, and what is on the bus by them. */
 static void programmer(void) {
-    static const uint8_t keys[6] = {KS_FEED, KS_FEED, KS_BACK, KS_STEP, KS_BACK, KS_STEP};
-    struct piece sound = table_of_version(1), schedule = first_records(6);
+    static const struct move keys[6] = {{KS_FEED, 0, 5}, {KS_FEED, 0, 7}, {KS_BACK, 0, 0}, {KS_STEP, 0, 0}, {KS_BACK, 0, 0}, {KS_STEP, 0, 0}};
+    struct piece sound = table_of_version(1), schedule = schedule_of(keys, 6);
     struct lent l = lend(6, 1);
-    for (size_t i = 0; i < 6; i++) {
-        schedule.at[3 + KS_RECORD * i] = keys[i];
-    }
     uint64_t result = run(sound, schedule, l);
     printf("programmer\nanswers");
     for (size_t i = 0; i < ks_records(result); i++) {
@@ -234,18 +258,14 @@ static void programmer(void) {
 
 /* A carton is fed to the label line, numbered and printed: its code and its serial are at the outlet. A first serial can be too high. */
 static void label_line(void) {
-    static const uint8_t made[][2] = {{KS_FEED, KS_SCANNER}, {KS_STEP, 0}, {KS_STEP, 0}, {KS_STEP, 0}, {KS_STEP, 0}, {KS_STEP, 0},
-                                      {KS_CARRY, 0}, {KS_CARRY, 0}, {KS_STEP, 1}, {KS_STEP, 1}, {KS_STEP, 1}, {KS_CARRY, 1}, {KS_STEP, 1},
-                                      {KS_STEP, 1}, {KS_STEP, 1}, {KS_CARRY, 1}};
-    const size_t records = sizeof made / sizeof made[0], length = 1 + KS_RECORD * records;
-    struct piece schedule = piece(2 + length), line = piece(KS_LABEL_TABLE);
+    static const struct move made[] = {
+        {KS_FEED, KS_SCANNER, 77}, /* the carton's code */
+        {KS_STEP, 0, 0}, {KS_STEP, 0, 0}, {KS_STEP, 0, 0}, {KS_STEP, 0, 0}, {KS_STEP, 0, 0}, {KS_CARRY, 0, 0}, {KS_CARRY, 0, 0},
+        {KS_STEP, 1, 0}, {KS_STEP, 1, 0}, {KS_STEP, 1, 0}, {KS_CARRY, 1, 0}, {KS_STEP, 1, 0}, {KS_STEP, 1, 0}, {KS_STEP, 1, 0}, {KS_CARRY, 1, 0},
+    };
+    const size_t records = sizeof made / sizeof made[0];
+    struct piece schedule = schedule_of(made, records), line = piece(KS_LABEL_TABLE);
     struct lent l = lend(records, 2);
-    schedule.at[1] = (uint8_t)length;
-    schedule.at[2] = 1;
-    for (size_t i = 0; i < records; i++) {
-        memcpy(schedule.at + 3 + KS_RECORD * i, made[i], 2);
-    }
-    schedule.at[8] = 77; /* the carton's code */
     printf("label line\ntables %u", ks_label_table(4294957295u, line.at));
     printf(" %u\n", ks_label_table(4294957296u, line.at));
     uint64_t result = label_run(1000, schedule, l);
@@ -268,17 +288,17 @@ static void planners_office(void) {
     static const uint32_t instructions[] = {KS_TAKE, 0, 0, KS_ADD, 1, 0, KS_SEND, 1, 1, KS_JUMP, 0, 0};
     struct piece out = piece(sizeof table + 1);
     uint64_t written = ks_table_write(2, 2, 1, 2, ends, 4, placements, 3, &two, 1, instructions, 12, out.at, out.len);
-    printf("planner's office\nwritten %u, %u bytes\n", (unsigned)(written & 255), (unsigned)(written >> 32));
+    printf("planner's office\nwritten %u, %zu bytes\n", (unsigned)ks_number(written), ks_written(written));
     uint32_t *lists = memory((4 + 3 + 1 + 12) * sizeof *lists);
     uint64_t apart = ks_table_apart(out.at, out.len, lists, 4, lists + 4, 3, lists + 7, 1, lists + 8, 12);
-    printf("taken apart %u, version %u, limit %u\n", (unsigned)(apart & 255), (unsigned)(apart >> 48), lists[7]);
+    printf("taken apart %u, version %u, limit %u\n", (unsigned)ks_number(apart), ks_apart_version(apart), lists[7]);
     printf("refused");
     written = ks_table_write(2, 2, 1, 2, ends, 4, placements, 3, &seventeen, 1, instructions, 12, out.at, out.len);
-    printf(" %u", (unsigned)(written & 255));
+    printf(" %u", (unsigned)ks_number(written));
     written = ks_table_write(1, 2, 1, 2, ends, 4, placements, 3, &two, 1, instructions, 12, out.at, out.len);
-    printf(" %u", (unsigned)(written & 255));
+    printf(" %u", (unsigned)ks_number(written));
     written = ks_table_write(3, 2, 1, 2, ends, 4, placements, 3, &two, 1, instructions, 12, out.at, out.len);
-    printf(" %u\n", (unsigned)(written & 255));
+    printf(" %u\n", (unsigned)ks_number(written));
     free(out.at);
     free(lists);
 }

@@ -1,9 +1,10 @@
 //! The proved calls from Rust, as board programmers, the driver bench, the service desk, programmers who go back, the label line and the planner's
 //! office use them. examples/example.c is the same in C; both print examples/example.out.
 use kunzeastylus::{
-    check_abi, judge, label_run, label_table, labels, run, sweep, Backup, BackupRefusal, Buffers, End, Lengths, Lists, Record,
-    Refusal, Snapshot, Synced, SCANNER,
+    check_abi, judge, labels, run, Backup, BackupRefusal, Buffers, Cabinet, End, Lengths, Lists, Record, Refusal, Snapshot,
+    Synced, SCANNER,
 };
+use std::error::Error;
 
 /// Document 01's sample table.
 const TABLE: [u8; 37] = [
@@ -33,13 +34,13 @@ fn show_record(name: &str, backup: &Backup) {
     println!();
 }
 
-/// A stand-by that is kept by hand: three words arrive, one of the process is carried, and a sync lands that has taken one on slot 0.
-fn board_programmer() {
+/// A stand-by that is kept by hand: three words arrive, one of the process is carried, and a sync lands that has taken one on slot 0. Refused are
+/// a word on slot 4 and a sync that has taken one on slot 2.
+fn board_programmer() -> Result<(), BackupRefusal> {
     let snapshot = |taken| Snapshot { place: 5, registers: [1, 2, 3, 4], taken };
     let mut backup = Backup::new();
     let mut synced = Synced::default();
     let replies = [
-        Ok(()),
         backup.arrive(0, 10),
         backup.arrive(1, 11),
         backup.arrive(0, 12),
@@ -58,11 +59,12 @@ fn board_programmer() {
     show_record("saved", &backup);
     let taken_over = backup.take_over();
     println!("reply {}", taken_over.map_or_else(BackupRefusal::number, |_| 0));
-    show_record("taken over", &taken_over.unwrap());
+    show_record("taken over", &taken_over?);
+    Ok(())
 }
 
-/// A table and a schedule are judged before they are run, and then run: the page.
-fn driver_bench() {
+/// A table and a schedule are judged before they are run, and then run, in buffers that are lent: the page.
+fn driver_bench() -> Result<(), Refusal> {
     let schedule = Record::schedule(&records());
     let mut other = TABLE;
     other[2] = 9;
@@ -79,8 +81,8 @@ fn driver_bench() {
     print!("driver bench\njudged");
     judged.iter().for_each(|judged| print!(" {}", judged.map_or_else(Refusal::number, |()| 0)));
     println!();
-    println!("refused {}", run(&other, &schedule, &mut buffers).unwrap_err().number());
-    let run = run(&TABLE, &schedule, &mut buffers).unwrap();
+    println!("{}", run(&other, &schedule, &mut buffers).unwrap_err());
+    let run = run(&TABLE, &schedule, &mut buffers)?;
     println!("records {}", run.records());
     for (i, answer) in run.answers().enumerate() {
         println!("{} {} {} {}", i + 1, answer.code.number(), answer.a, answer.word);
@@ -90,21 +92,23 @@ fn driver_bench() {
         println!("process {p} {} {} {} {} {r0} {r1} {r2} {r3}", end.board, end.place, end.unread, end.hold_back);
     }
     println!("quiet {}", run.quiet as u8);
+    Ok(())
 }
 
 /// Every place to pull a board, of the sample up to its crash; with that crash in it a schedule is refused.
-fn before_release() {
-    let swept = sweep(&TABLE, &Record::schedule(&records()[..10])).unwrap();
+fn before_release() -> Result<(), Refusal> {
+    let cabinet = Cabinet::new(TABLE)?;
+    let swept = cabinet.sweep(&Record::schedule(&records()[..10]))?;
     println!("before release\nquiet {}, held {}, open {}", swept.quiet, swept.held, swept.open);
-    println!("refused {}", sweep(&TABLE, &Record::schedule(&records())).unwrap_err().number());
+    println!("refused {}", cabinet.sweep(&Record::schedule(&records())).unwrap_err().number());
+    Ok(())
 }
 
 /// A board is pulled: what is on the bus until then, each word fed or with its sender and the place of its SEND, why each answer is what it is,
-/// and with how much unread and held back the stand-by begins.
-fn service_desk() {
-    let schedule = Record::schedule(&records()[..11]);
-    let mut buffers = Buffers::for_run(&TABLE, &schedule);
-    let run = run(&TABLE, &schedule, &mut buffers).unwrap();
+/// with how much unread and held back the stand-by begins, and of the whole cabinet which board is dead and which words are unread.
+fn service_desk() -> Result<(), Refusal> {
+    let (cabinet, schedule) = (Cabinet::new(TABLE)?, Record::schedule(&records()[..11]));
+    let run = cabinet.run(&schedule)?;
     print!("service desk\non the bus");
     for on_the_bus in run.bus() {
         print!(" {}:{}", on_the_bus.channel, on_the_bus.word);
@@ -114,8 +118,8 @@ fn service_desk() {
         }
     }
     print!("\nreasons");
-    run.answers().for_each(|answer| print!(" {}", answer.cause.number()));
-    println!();
+    run.answers().for_each(|answer| print!(" {}", answer.reason.number()));
+    println!(", the last of them {}", run.answers().last().unwrap().reason.words());
     for (p, end) in run.processes().enumerate() {
         let (board, place, unread, hold_back) = (end.board, end.place, end.unread, end.hold_back);
         println!(
@@ -123,14 +127,18 @@ fn service_desk() {
             run.quiet as u8
         );
     }
+    let view = cabinet.view(&schedule)?;
+    print!("view 0, board 0 dead {}, inbox", view.boards()[0].is_dead() as u8);
+    view.processes()[0].inbox().iter().for_each(|unread| print!(" {}:{}", unread.channel, unread.word));
+    println!();
+    Ok(())
 }
 
 /// The second carton is taken back, and a step is, and given again: which records stand, and what is on the bus by them.
-fn programmer() {
+fn programmer() -> Result<(), Refusal> {
     let (step, back) = (Record::step(0), Record::back());
     let schedule = Record::schedule(&[Record::feed(0, 5), Record::feed(0, 7), back, step, back, step]);
-    let mut buffers = Buffers::for_run(&TABLE, &schedule);
-    let run = run(&TABLE, &schedule, &mut buffers).unwrap();
+    let run = Cabinet::new(TABLE)?.run(&schedule)?;
     print!("programmer\nanswers");
     run.answers().for_each(|answer| print!(" {}", answer.code.number()));
     print!("\nstanding");
@@ -138,10 +146,11 @@ fn programmer() {
     print!("\non the bus");
     run.bus().for_each(|on_the_bus| print!(" {}:{}", on_the_bus.channel, on_the_bus.word));
     println!();
+    Ok(())
 }
 
 /// A carton is fed to the label line, numbered and printed: its code and its serial are at the outlet. A first serial can be too high.
-fn label_line() {
+fn label_line() -> Result<(), Refusal> {
     let mut records = vec![Record::feed(SCANNER, 77)];
     records.extend([Record::step(0); 5]);
     records.extend([Record::carry(0); 2]);
@@ -150,24 +159,24 @@ fn label_line() {
     records.extend([Record::step(1); 3]);
     records.push(Record::carry(1));
     let schedule = Record::schedule(&records);
-    let number = |refused: Option<Refusal>| refused.map_or(0, Refusal::number);
-    println!("label line\ntables {} {}", number(label_table(4_294_957_295).err()), number(label_table(4_294_957_296).err()));
-    let mut buffers = Buffers::for_label_run(&schedule);
-    let run = label_run(1000, &schedule, &mut buffers).unwrap();
+    let number = |first: u32| Cabinet::label_line(first).map_or_else(Refusal::number, |_| 0);
+    println!("label line\ntables {} {}", number(4_294_957_295), number(4_294_957_296));
+    let run = Cabinet::label_line(1000)?.run(&schedule)?;
     print!("outlet");
     labels(&run).iter().for_each(|label| print!(" {} {}", label.code, label.serial.unwrap()));
-    println!("\nrefused {}", number(label_run(u32::MAX, &schedule, &mut buffers).err()));
+    println!("\nrefused {}", number(u32::MAX));
+    Ok(())
 }
 
 /// The sample table from lists of numbers, in version 2 with a limit of 2, and taken apart again. Refused are a limit of 17, a limit in version
 /// 1, and version 3.
-fn planners_office() {
-    let mut lists = Lists::of(&TABLE).unwrap();
+fn planners_office() -> Result<(), Refusal> {
+    let mut lists = Lists::of(&TABLE)?;
     lists.version = 2;
     lists.limits = vec![2];
-    let table = lists.table().unwrap();
+    let table = lists.table()?;
     println!("planner's office\nwritten 0, {} bytes", table.len());
-    let apart = Lists::of(&table).unwrap();
+    let apart = Lists::of(&table)?;
     println!("taken apart 0, version {}, limit {}", apart.version, apart.limits[0]);
     print!("refused");
     for (version, limit) in [(2, 17), (1, 2), (3, 2)] {
@@ -175,18 +184,17 @@ fn planners_office() {
         print!(" {}", lists.table().unwrap_err().number());
     }
     println!();
+    Ok(())
 }
 
-fn main() {
-    if let Err(other) = check_abi() {
-        eprintln!("example: {other}");
-        std::process::exit(1);
-    }
-    board_programmer();
-    driver_bench();
-    before_release();
-    service_desk();
-    programmer();
-    label_line();
-    planners_office();
+fn main() -> Result<(), Box<dyn Error>> {
+    check_abi()?;
+    board_programmer()?;
+    driver_bench()?;
+    before_release()?;
+    service_desk()?;
+    programmer()?;
+    label_line()?;
+    planners_office()?;
+    Ok(())
 }

@@ -4,7 +4,7 @@ use crate::calls;
 use std::fmt;
 
 /// The number of the calls that these bindings declare, `KS_ABI` of the header. It goes up when a signature or a layout changes.
-pub const ABI: u32 = 2;
+pub const ABI: u32 = 3;
 
 /// The library that is linked is of another number than these bindings.
 #[derive(Clone, Copy, Debug, PartialEq, Eq, Hash)]
@@ -42,10 +42,10 @@ mod tests {
 
     #[test]
     fn another_library_is_named() {
-        assert_eq!(compare(2), Ok(()));
-        for number in [0, 1, 3, u32::MAX] {
+        assert_eq!(compare(3), Ok(()));
+        for number in [0, 2, 4, u32::MAX] {
             let said = format!(
-                "libkunzeastylus.a has the calls of ABI {number}, these bindings those of ABI 2: take both from one release"
+                "libkunzeastylus.a has the calls of ABI {number}, these bindings those of ABI 3: take both from one release"
             );
             assert_eq!(compare(number).map_err(|other| other.to_string()), Err(said));
         }

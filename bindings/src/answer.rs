@@ -1,54 +1,36 @@
 //! The answer to a record: document 01, "What each move replies"; why it is that one: document 02, W-206; and from where the word came that it
 //! put on the bus: W-212.
-use crate::numbers::{numbers, worded};
+use crate::numbers::worded;
 use crate::table::End;
 
-numbers! {
+worded! {
     /// An answer's code: what was done (0 to 7), or why the record was refused (32 to 44, 48 to 50, 53).
     Code {
-        Done = 0,
-        /// Took: channel and word.
-        Took = 1,
-        /// Queued: channel and word.
-        Queued = 2,
-        /// Held back: channel and the word not sent.
-        HeldBack = 3,
-        /// Word on the bus: channel and word; also of a feed.
-        OnTheBus = 4,
-        /// Sync carried: the process, and how many saved words it dropped; also a resync, with word 0.
-        SyncCarried = 5,
-        /// Sync with no backup left: the process.
-        SyncUnbacked = 6,
-        /// A record was taken back.
-        TakenBack = 7,
-        /// An unknown move, or a word that should be 0; of a back, also an `a` that should be.
-        BadRecord = 32,
-        /// No process, board or channel of this table.
-        BadIndex = 33,
-        BoardDead = 34,
-        Halted = 35,
-        /// No such word.
-        NoWord = 36,
-        /// Backed or a resync waits, and acts are at the process's limit (8 in a table of version 1) or instructions 64.
-        OwesSync = 37,
-        QueueFull = 38,
-        ChannelHeld = 39,
-        NoBackup = 40,
-        /// One sync is waiting; for a resync, a sync or a resync is.
-        SyncWaiting = 41,
-        QueueEmpty = 42,
-        /// The channel's sender is not the outside.
-        NotFromOutside = 43,
-        /// Some process has no backup.
-        SomeUnbacked = 44,
-        /// A return of a live board.
-        BoardLive = 48,
-        /// A resync with hold-back above 0, or with more than 8 words, unread and in queues, on one channel that the process reads.
-        NotReady = 49,
-        /// A resync of a process that has a backup, or whose other table board is dead.
-        HasBackup = 50,
-        /// No record is kept to go back to.
-        NoneKept = 53,
+        Done = 0 => "done: a SET, ADD or JUMP, a sync or a resync issued, a crash, a return",
+        Took = 1 => "took: a word left the inbox for a register",
+        Queued = 2 => "queued: a word waits to be carried",
+        HeldBack = 3 => "held back: a SEND whose word was on the bus before the crash; nothing is sent",
+        OnTheBus = 4 => "a word on the bus, carried or fed",
+        SyncCarried = 5 => "a sync was carried: the backup record has a newer state; or a resync was: the process has a backup again",
+        SyncUnbacked = 6 => "a sync was carried, but the process has no backup any more",
+        TakenBack = 7 => "a back: the last record not yet taken back, refused or not, is taken back; what was written for it stays and counts no longer",
+        BadRecord = 32 => "no such move, or a word that should be 0 (all but a feed's); of a back, also an a that should be 0",
+        BadIndex = 33 => "a is no process (step, sync, resync), board (carry, crash, return) or channel (feed) of this table; never of a back",
+        BoardDead = 34 => "the board is dead: it crashed earlier",
+        Halted = 35 => "the process has halted",
+        NoWord = 36 => "TAKE or FIRST finds no such word",
+        OwesSync = 37 => "the process has a backup and as many acts as its limit says (8 in a table of version 1), or 64 instructions, since its last sync: it owes one; likewise while a resync of it waits",
+        QueueFull = 38 => "the queue of the process's board is full, 32 entries",
+        ChannelHeld = 39 => "the channel is held: 8 words or more unread and in queues",
+        NoBackup = 40 => "the process has no backup (any more, or not yet)",
+        SyncWaiting = 41 => "a sync of the process waits in the queue already; for a resync, a sync or a resync does",
+        QueueEmpty = 42 => "the board's queue is empty",
+        NotFromOutside = 43 => "a feed of a channel whose sender is a process",
+        SomeUnbacked = 44 => "some process has no backup, so a crash now could lose it",
+        BoardLive = 48 => "a return of a board that is live",
+        NotReady = 49 => "the process isn't ready for a resync: it has hold-back left, or a channel that it reads has more than 8 words unread and in queues",
+        HasBackup = 50 => "the process has a backup, or its other table board is dead",
+        NoneKept = 53 => "a back, and no record is kept to go back to: none was given, all that were kept are taken back, or the rest were pushed out",
     }
 }
 
@@ -61,7 +43,7 @@ impl Code {
 
 worded! {
     /// Why an answer is what it is. The number is the byte in the list of reasons: the answer's code times 4, plus its cause.
-    Cause {
+    Reason {
         Calculated = 0 => "done: calculated",
         SyncIssued = 1 => "done: sync issued",
         BoardCrashed = 2 => "done: board crashed",
@@ -105,10 +87,15 @@ worded! {
     }
 }
 
-impl Cause {
-    /// The code of an answer with this cause.
+impl Reason {
+    /// The code of an answer with this reason.
     pub fn code(self) -> Code {
-        Code::of(self.number() / 4).expect("a cause is of some code")
+        Code::try_from(self.number() / 4).expect("a reason is of some code")
+    }
+
+    /// What tells it from the other reasons for this code: 0 to 3.
+    pub fn cause(self) -> u8 {
+        self.number() % 4
     }
 }
 
@@ -123,24 +110,24 @@ pub struct BusWord {
     pub place: u8,
 }
 
-/// "One six-byte answer a record: code, a, word", its cause from the list of reasons, and the word that the record put on the bus, if it did.
+/// "One six-byte answer a record: code, a, word", why it is that one from the list of reasons, and the word that the record put on the bus, if it did.
 #[derive(Clone, Copy, Debug, PartialEq, Eq, Hash)]
 pub struct Answer {
     pub code: Code,
     pub a: u8,
     pub word: u32,
-    pub cause: Cause,
+    pub reason: Reason,
     pub bus: Option<BusWord>,
 }
 
 impl Answer {
     /// The answer that six bytes stand for, one byte of reasons and two of origins.
     pub(crate) fn of(bytes: &[u8], reason: u8, origin: &[u8]) -> Answer {
-        let code = Code::of(bytes[0]).expect("a run writes document 01's codes alone");
-        let cause = Cause::of(reason).expect("a run writes document 02's reasons alone");
+        let code = Code::try_from(bytes[0]).expect("a run writes document 01's codes alone");
+        let reason = Reason::try_from(reason).expect("a run writes document 02's reasons alone");
         let (a, word) = (bytes[1], word(&bytes[2..6]));
-        let on_the_bus = || BusWord { channel: a, word, sender: End::of(origin[0].into()), place: origin[1] };
-        Answer { code, a, word, cause, bus: (code == Code::OnTheBus).then(on_the_bus) }
+        let on_the_bus = || BusWord { channel: a, word, sender: End::from(origin[0]), place: origin[1] };
+        Answer { code, a, word, reason, bus: (code == Code::OnTheBus).then(on_the_bus) }
     }
 }
 

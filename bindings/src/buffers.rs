@@ -30,8 +30,7 @@ impl Lengths {
 impl Buffers {
     /// As long as a run of so many records on so many processes needs; all bytes are 0.
     pub fn new(records: usize, processes: usize) -> Buffers {
-        let Lengths { answers, reasons, report, origins } = Lengths::needed(records, processes);
-        Buffers { answers: vec![0; answers], reasons: vec![0; reasons], report: vec![0; report], origins: vec![0; origins] }
+        Lengths::needed(records, processes).map(|length| vec![0; length])
     }
 
     /// As long as a run of this schedule on this table needs.
@@ -50,25 +49,53 @@ fn records(schedule: &[u8]) -> usize {
     (schedule.len() / 6).min(10_000)
 }
 
+impl<B> Buffers<B> {
+    /// Something of each.
+    fn map<T>(self, each: impl Fn(B) -> T) -> Buffers<T> {
+        let Buffers { answers, reasons, report, origins } = self;
+        Buffers { answers: each(answers), reasons: each(reasons), report: each(report), origins: each(origins) }
+    }
+}
+
 impl<B: AsRef<[u8]>> Buffers<B> {
     pub fn lengths(&self) -> Lengths {
+        self.borrow().map(<[u8]>::len)
+    }
+
+    /// The same, borrowed to be read.
+    pub(crate) fn borrow(&self) -> Buffers<&[u8]> {
         Buffers {
-            answers: self.answers.as_ref().len(),
-            reasons: self.reasons.as_ref().len(),
-            report: self.report.as_ref().len(),
-            origins: self.origins.as_ref().len(),
+            answers: self.answers.as_ref(),
+            reasons: self.reasons.as_ref(),
+            report: self.report.as_ref(),
+            origins: self.origins.as_ref(),
         }
     }
 }
 
 impl<B: AsMut<[u8]>> Buffers<B> {
-    /// The same, borrowed.
+    /// The same, borrowed to be written.
     pub(crate) fn lend(&mut self) -> Buffers<&mut [u8]> {
         Buffers {
             answers: self.answers.as_mut(),
             reasons: self.reasons.as_mut(),
             report: self.report.as_mut(),
             origins: self.origins.as_mut(),
+        }
+    }
+
+    /// What an accepted run wrote there, by what it returned, which has the records; nothing of a refused one.
+    pub(crate) fn written(&mut self, result: u64, processes: impl FnOnce() -> u8) -> Buffers<&[u8]> {
+        let lengths = match result as u8 {
+            0 => Lengths::needed((result >> 32) as usize, processes().into()),
+            _ => Lengths::default(),
+        };
+        let Buffers { answers, reasons, report, origins } = self.lend();
+        Buffers {
+            answers: &answers[..lengths.answers],
+            reasons: &reasons[..lengths.reasons],
+            report: &report[..lengths.report],
+            origins: &origins[..lengths.origins],
         }
     }
 }

@@ -1,6 +1,6 @@
 //! Which records of a run stand in the end, and which were taken back by which: document 02, W-214.
-use crate::answer::Code;
-use crate::record::Move;
+use crate::answer::{Answer, Code};
+use crate::record::{Move, Record};
 
 /// What became of a record. Others are named by their places in the schedule, from 0.
 #[derive(Clone, Copy, Debug, PartialEq, Eq, Hash)]
@@ -15,13 +15,13 @@ pub enum Fate {
     TookNothing,
 }
 
-/// The fate of each record, by the moves of a schedule and the codes of its answers.
-pub(crate) fn fates(run: impl Iterator<Item = (u8, u8)>) -> Vec<Fate> {
+/// The fate of each record, by the records of a schedule and their answers.
+pub(crate) fn fates(run: impl Iterator<Item = (Record, Answer)>) -> Vec<Fate> {
     let mut fates = Vec::new();
     let mut standing = Vec::new();
-    for (i, (kind, code)) in run.enumerate() {
-        let fate = match Move::of(kind) {
-            Some(Move::Back) if code == Code::TakenBack.number() => {
+    for (i, (record, answer)) in run.enumerate() {
+        let fate = match record.kind() {
+            Some(Move::Back) if answer.code == Code::TakenBack => {
                 let taken = standing.pop().expect("a move 8 that is done takes back a record");
                 fates[taken] = Fate::TakenBackBy(i);
                 Fate::TookBack(taken)

@@ -1,7 +1,8 @@
 //! The label line: one scanner, one numbering program and one printer program on two boards.
 use crate::buffers::Buffers;
 use crate::calls;
-use crate::run::{refusal, Refusal, Run};
+use crate::refusal::Refusal;
+use crate::run::Run;
 
 /// Bytes of a label line's table.
 pub const LABEL_TABLE: usize = 84;
@@ -22,18 +23,21 @@ pub struct Label {
 /// The table of a first serial, or `Refusal::FirstSerial`.
 pub fn label_table(first: u32) -> Result<[u8; LABEL_TABLE], Refusal> {
     let mut table = [0; LABEL_TABLE];
-    refusal(calls::ks_label_table(first, &mut table)).map_or(Ok(table), Err)
+    Refusal::or(calls::ks_label_table(first, &mut table).into(), || table)
 }
 
 /// Runs a schedule on the table of a first serial, as [`run`](crate::run) does on any; [`Buffers::for_label_run`] makes what it is lent.
-pub fn label_run<'b, B: AsMut<[u8]>>(first: u32, schedule: &'b [u8], buffers: &'b mut Buffers<B>) -> Result<Run<'b>, Refusal> {
-    let mut lent = buffers.lend();
-    let result = calls::ks_label_run(first, schedule, &mut lent);
-    Run::of(result, || 2, schedule, lent)
+pub fn label_run<'b, B: AsMut<[u8]>>(
+    first: u32,
+    schedule: &'b [u8],
+    buffers: &'b mut Buffers<B>,
+) -> Result<Run<&'b [u8]>, Refusal> {
+    let result = calls::ks_label_run(first, schedule, buffers.lend());
+    Run::of(result, schedule, buffers.written(result, || 2))
 }
 
 /// The labels at the outlet, in order, of the records that stand.
-pub fn labels(run: &Run) -> Vec<Label> {
+pub fn labels<B: AsRef<[u8]>>(run: &Run<B>) -> Vec<Label> {
     let words: Vec<u32> = run.bus().filter(|on_the_bus| on_the_bus.channel == OUTLET).map(|on_the_bus| on_the_bus.word).collect();
     words.chunks(2).map(|label| Label { code: label[0], serial: label.get(1).copied() }).collect()
 }

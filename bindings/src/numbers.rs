@@ -1,10 +1,27 @@
-//! How an enum carries document 01's numbers: each case is one of them, and both ways are written once.
+//! How an enum carries the documents' numbers: each case is one of them, and both ways are written once.
+use std::fmt;
 
-/// An enum whose cases are numbers, with `number` and `of`.
+/// A number that none of an enum's cases has.
+#[derive(Clone, Copy, Debug, PartialEq, Eq, Hash)]
+pub struct UnknownNumber {
+    /// What the enum's cases are.
+    pub of: &'static str,
+    pub number: u8,
+}
+
+impl fmt::Display for UnknownNumber {
+    fn fmt(&self, out: &mut fmt::Formatter) -> fmt::Result {
+        write!(out, "{} is the number of no {}", self.number, self.of)
+    }
+}
+
+impl std::error::Error for UnknownNumber {}
+
+/// An enum whose cases are numbers, with `number` one way and `TryFrom<u8>` the other.
 macro_rules! numbers {
     ($(#[$about:meta])* $name:ident { $($(#[$case_about:meta])* $case:ident = $number:literal,)+ }) => {
         $(#[$about])*
-        #[derive(Clone, Copy, Debug, PartialEq, Eq, Hash)]
+        #[derive(Clone, Copy, Debug, PartialEq, Eq, Hash, PartialOrd, Ord)]
         #[repr(u8)]
         pub enum $name {
             $($(#[$case_about])* $case = $number,)+
@@ -14,16 +31,19 @@ macro_rules! numbers {
             /// Every case, ascending.
             pub const ALL: &'static [$name] = &[$($name::$case,)+];
 
-            /// Its number in document 01.
+            /// Its number in the documents.
             pub fn number(self) -> u8 {
                 self as u8
             }
+        }
 
-            /// The case with this number, if it is one.
-            pub fn of(number: u8) -> Option<$name> {
+        impl TryFrom<u8> for $name {
+            type Error = $crate::UnknownNumber;
+
+            fn try_from(number: u8) -> Result<$name, $crate::UnknownNumber> {
                 match number {
-                    $($number => Some($name::$case),)+
-                    _ => None,
+                    $($number => Ok($name::$case),)+
+                    _ => Err($crate::UnknownNumber { of: stringify!($name), number }),
                 }
             }
         }
@@ -49,4 +69,19 @@ macro_rules! worded {
     };
 }
 
-pub(crate) use {numbers, worded};
+/// The same, each case a reason why a call did nothing: an error, which says its number and its words.
+macro_rules! refusals {
+    ($(#[$about:meta])* $name:ident { $($cases:tt)+ }) => {
+        $crate::numbers::worded! { $(#[$about])* $name { $($cases)+ } }
+
+        impl std::fmt::Display for $name {
+            fn fmt(&self, out: &mut std::fmt::Formatter) -> std::fmt::Result {
+                write!(out, "refused {}: {}", self.number(), self.words())
+            }
+        }
+
+        impl std::error::Error for $name {}
+    };
+}
+
+pub(crate) use {numbers, refusals, worded};

@@ -1,8 +1,14 @@
 //! A schedule's records and a table's instruction codes, as numbers and as bytes.
+use crate::buffers::Lengths;
 use crate::numbers::numbers;
+use crate::refusal::Refusal;
+use crate::run::judge;
 
 /// A channel's end that is no process.
 pub const OUTSIDE: u8 = 255;
+
+/// A sound table: two boards, and a process with no instructions that reads a channel from the outside.
+const ANY_TABLE: [u8; 11] = [0, 9, 1, 2, 1, 1, OUTSIDE, 0, 0, 1, 0];
 
 numbers! {
     /// The moves.
@@ -38,52 +44,61 @@ numbers! {
     }
 }
 
-/// One record of a schedule: a process for steps, syncs and resyncs, a board for carries, crashes and returns, a channel for feeds, 0 for a
-/// back; and a feed's word.
+/// One record of a schedule: its move's code; a process for steps, syncs and resyncs, a board for carries, crashes and returns, a channel for
+/// feeds, 0 for a back; and a feed's word. Any six bytes are a record, if only one that is answered with 32.
 #[derive(Clone, Copy, Debug, PartialEq, Eq, Hash)]
 pub struct Record {
-    pub kind: Move,
+    pub code: u8,
     pub a: u8,
     pub word: u32,
 }
 
 impl Record {
+    pub fn new(kind: Move, a: u8, word: u32) -> Record {
+        Record { code: kind.number(), a, word }
+    }
+
     pub fn step(process: u8) -> Record {
-        Record { kind: Move::Step, a: process, word: 0 }
+        Record::new(Move::Step, process, 0)
     }
 
     pub fn sync(process: u8) -> Record {
-        Record { kind: Move::Sync, a: process, word: 0 }
+        Record::new(Move::Sync, process, 0)
     }
 
     pub fn carry(board: u8) -> Record {
-        Record { kind: Move::Carry, a: board, word: 0 }
+        Record::new(Move::Carry, board, 0)
     }
 
     pub fn feed(channel: u8, word: u32) -> Record {
-        Record { kind: Move::Feed, a: channel, word }
+        Record::new(Move::Feed, channel, word)
     }
 
     pub fn crash(board: u8) -> Record {
-        Record { kind: Move::Crash, a: board, word: 0 }
+        Record::new(Move::Crash, board, 0)
     }
 
     pub fn return_board(board: u8) -> Record {
-        Record { kind: Move::Return, a: board, word: 0 }
+        Record::new(Move::Return, board, 0)
     }
 
     pub fn resync(process: u8) -> Record {
-        Record { kind: Move::Resync, a: process, word: 0 }
+        Record::new(Move::Resync, process, 0)
     }
 
     pub fn back() -> Record {
-        Record { kind: Move::Back, a: 0, word: 0 }
+        Record::new(Move::Back, 0, 0)
+    }
+
+    /// Its move, if there is one with its code.
+    pub fn kind(self) -> Option<Move> {
+        Move::try_from(self.code).ok()
     }
 
     /// Its six bytes.
     pub fn bytes(self) -> [u8; 6] {
         let [w0, w1, w2, w3] = self.word.to_be_bytes();
-        [self.kind.number(), self.a, w0, w1, w2, w3]
+        [self.code, self.a, w0, w1, w2, w3]
     }
 
     /// A schedule of these records. Over 10,000 of them are refused by a run, with 9.
@@ -92,7 +107,24 @@ impl Record {
         let length = (1 + 6 * records.len()).min(65_535) as u16;
         let mut bytes = length.to_be_bytes().to_vec();
         bytes.push(1);
-        records.iter().for_each(|record| bytes.extend(record.bytes()));
+        bytes.extend(records.iter().flat_map(|record| record.bytes()));
         bytes
     }
+
+    /// The records of a schedule, or 9 or 10 where it is none, as a run on any sound table would say.
+    pub fn read(schedule: &[u8]) -> Result<Vec<Record>, Refusal> {
+        judge(&ANY_TABLE, schedule, Lengths::ENOUGH).map(|()| records(schedule).collect())
+    }
+}
+
+impl From<[u8; 6]> for Record {
+    fn from([code, a, w0, w1, w2, w3]: [u8; 6]) -> Record {
+        Record { code, a, word: u32::from_be_bytes([w0, w1, w2, w3]) }
+    }
+}
+
+/// The records of an accepted schedule.
+pub(crate) fn records(schedule: &[u8]) -> impl Iterator<Item = Record> + '_ {
+    let (records, _) = schedule[3..].as_chunks();
+    records.iter().map(|&bytes: &[u8; 6]| bytes.into())
 }

@@ -1,6 +1,6 @@
 //! Every place to pull a board: a schedule with the crash of each board at each of its places, and how these runs end.
 use crate::calls;
-use crate::run::{refusal, Refusal};
+use crate::refusal::Refusal;
 
 /// How many of the runs end in each way: of a schedule of n records on B boards (n + 1) × B in all.
 #[derive(Clone, Copy, Debug, Default, PartialEq, Eq, Hash)]
@@ -24,5 +24,5 @@ impl Sweep {
 pub fn sweep(table: &[u8], schedule: &[u8]) -> Result<Sweep, Refusal> {
     let result = calls::ks_sweep(table, schedule);
     let count = |at: u32| (result >> at & 65_535) as u32;
-    refusal(count(0)).map_or(Ok(Sweep { quiet: count(16), held: count(32), open: count(48) }), Err)
+    Refusal::or(result, || Sweep { quiet: count(16), held: count(32), open: count(48) })
 }

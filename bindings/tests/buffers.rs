@@ -1,6 +1,6 @@
 //! What a run is lent: owned and borrowed, what it writes there and what it leaves alone, and the words on the bus that are read off it.
 use kunzeastylus::{
-    judge, label_run, run, Buffers, BusWord, Cause, Code, End, Lengths, Operation, Record, Refusal, Table, SCANNER,
+    judge, label_run, run, Buffers, BusWord, Code, End, Lengths, Operation, Reason, Record, Refusal, Table, SCANNER,
 };
 
 /// A process that takes a word from the outside and sends it to the outside, at places 1 and 2, for ever.
@@ -86,7 +86,7 @@ fn longer_ones_will_do() {
     let accepted = run(&table, &schedule, &mut lent).expect("a sound run");
     assert_eq!((accepted.records(), accepted.bus().collect()), (11, bus_order()));
     let last = accepted.answers().last().expect("an answer");
-    assert_eq!((last.code, last.cause, last.a, last.word, last.bus), (Code::QueueEmpty, Cause::QueueEmpty, 1, 0, None));
+    assert_eq!((last.code, last.reason, last.a, last.word, last.bus), (Code::QueueEmpty, Reason::QueueEmpty, 1, 0, None));
     let end = accepted.processes().next().expect("a process");
     assert_eq!((end.board, end.place, end.unread, end.registers, accepted.quiet), (1, 3, 0, [9, 0, 0, 0], false));
     assert!([&answers[66..], &reasons[11..], &report[20..], &origins[22..]].concat().iter().all(|&byte| byte == 0xEE));

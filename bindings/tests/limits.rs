@@ -1,5 +1,5 @@
 //! Tables with sync limits: built, written and taken apart, and what is refused of them.
-use kunzeastylus::{take_apart, Apart, Counts, End, Operation, Table, TableRefusal};
+use kunzeastylus::{take_apart, Apart, Counts, End, Operation, Refusal, Table};
 
 /// A scanner's process on board 0 and a printer's on board 1, each the other's backup board.
 fn table() -> Table {
@@ -29,20 +29,23 @@ fn version_by_limits() {
 #[test]
 fn refused() {
     let mut limited = table();
-    for limit in [0, 17, 258] {
+    for limit in [0, 17, 255] {
         limited.limit(1, limit);
-        assert_eq!(limited.bytes(), Err(TableRefusal::Limit), "limit {limit}");
+        assert_eq!(limited.bytes(), Err(Refusal::Limit), "limit {limit}");
     }
+    let mut lists = limited.lists();
+    lists.limits[1] = 258;
+    assert_eq!(lists.table(), Err(Refusal::Limit));
     // Version 1 takes no limits, not even eights; there is no version 3.
     let mut lists = table().lists();
     lists.limits = vec![8, 8];
-    assert_eq!(lists.table(), Err(TableRefusal::Extent));
+    assert_eq!(lists.table(), Err(Refusal::TableExtent));
     lists.version = 2;
     assert_eq!(lists.table().map(|table| table.len()), Ok(36));
     lists.limits.pop();
-    assert_eq!(lists.table(), Err(TableRefusal::Extent));
+    assert_eq!(lists.table(), Err(Refusal::TableExtent));
     lists.version = 3;
-    assert_eq!(lists.table(), Err(TableRefusal::Version));
+    assert_eq!(lists.table(), Err(Refusal::TableVersion));
 }
 
 #[test]
@@ -53,7 +56,7 @@ fn apart() {
     let mut limits = [7; 3];
     let mut apart = |bytes: &[u8], room: usize| take_apart(bytes, &mut [0; 4], &mut [0; 6], &mut limits[..room], &mut [0; 9]);
     let counts = Counts { boards: 2, processes: 2, channels: 2 };
-    assert_eq!(apart(&bytes, 1), Err(TableRefusal::NoRoom));
+    assert_eq!(apart(&bytes, 1), Err(Refusal::NoRoom));
     assert_eq!(apart(&bytes, 3), Ok(Apart { version: 2, counts, instructions: 3 }));
     assert_eq!(limits, [2, 8, 7]);
     // Version 1 has none, and needs no room for them.
@@ -61,5 +64,5 @@ fn apart() {
     let apart = |bytes: &[u8]| take_apart(bytes, &mut [0; 4], &mut [0; 6], &mut [], &mut [0; 9]);
     assert_eq!(apart(&plain), Ok(Apart { version: 1, counts, instructions: 3 }));
     bytes[12] = 0;
-    assert_eq!(Table::of(&bytes), Err(TableRefusal::Limit));
+    assert_eq!(Table::of(&bytes), Err(Refusal::Limit));
 }

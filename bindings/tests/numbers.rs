@@ -1,8 +1,8 @@
 //! The enums have document 01's numbers, all of them and no others, here and in include/kunzeastylus.h; docs/NUMBERS.md explains each; and
 //! the calls hand them on.
 use kunzeastylus::{
-    check_abi, judge, take_apart, write_table, Backup, BackupRefusal, Cause, Code, End, Instruction, Lengths, Move, Operation,
-    Record, Refusal, Snapshot, Synced, Table, TableRefusal, ABI, STATE,
+    check_abi, judge, take_apart, write_table, Backup, BackupRefusal, Code, End, Instruction, Lengths, Lists, Move, Operation,
+    Reason, Record, Refusal, Snapshot, Synced, Table, ABI, SAVED, VERSION,
 };
 
 const HEADER: &str = include_str!("../../include/kunzeastylus.h");
@@ -17,15 +17,18 @@ const REASONS: [u8; 40] = [
     157, 160, 164, 167, 168, 172, 176, 192, 196, 200, 212,
 ];
 
-/// The numbers of an enum of the header, ascending.
-fn header(name: &str) -> Vec<u8> {
+/// The constants of an enum of the header.
+fn constants(name: &str) -> impl Iterator<Item = (&'static str, u8)> {
     let start = HEADER.find(&format!("enum {name} {{")).expect("an enum of the header");
     let body = HEADER[start..].split('{').nth(1).unwrap().split('}').next().unwrap();
-    let mut numbers: Vec<u8> = body
-        .split('=')
-        .skip(1)
-        .map(|rest| rest.trim_start().chars().take_while(char::is_ascii_digit).collect::<String>().parse().unwrap())
-        .collect();
+    let constant = |piece: &'static str| piece.rsplit([' ', '\n']).next().unwrap();
+    let number = |piece: &str| piece.chars().take_while(char::is_ascii_digit).collect::<String>().parse().unwrap();
+    body.match_indices(" = ").map(move |(at, _)| (constant(&body[..at]), number(&body[at + 3..])))
+}
+
+/// The numbers of an enum of the header, ascending.
+fn header(name: &str) -> Vec<u8> {
+    let mut numbers: Vec<u8> = constants(name).map(|(_, number)| number).collect();
     numbers.sort();
     numbers
 }
@@ -36,7 +39,7 @@ macro_rules! numbered {
         let wanted: Vec<u8> = $wanted.collect();
         assert_eq!($name::ALL.iter().map(|case| case.number()).collect::<Vec<_>>(), wanted);
         for number in 0..=255 {
-            assert_eq!($name::of(number).map($name::number), wanted.contains(&number).then_some(number));
+            assert_eq!($name::try_from(number).ok().map($name::number), wanted.contains(&number).then_some(number));
         }
         assert_eq!(header($header).into_iter().filter(|&number| number != 0 || wanted.contains(&0)).collect::<Vec<_>>(), wanted);
     };
@@ -44,51 +47,59 @@ macro_rules! numbered {
 
 #[test]
 fn numbers() {
-    numbered!(Refusal, "ks_refusal", (1..=12).chain([46, 47, 51, 52]));
+    numbered!(Refusal, "ks_refusal", (1..=12).chain([45, 46, 47, 51, 52, 54]));
     numbered!(Code, "ks_answer", (0..=7).chain(32..=44).chain(48..=50).chain([53]));
-    numbered!(Cause, "ks_cause", REASONS.into_iter());
-    numbered!(BackupRefusal, "ks_backup_reply", 20..=26);
+    numbered!(Reason, "ks_reason", REASONS.into_iter());
+    numbered!(BackupRefusal, "ks_backup_reply", 20..=24);
     numbered!(Move, "ks_move", 1..=8);
     numbered!(Instruction, "ks_instruction", 1..=6);
     assert!(Code::ALL.iter().all(|code| code.refused() == (code.number() >= 32)));
-    assert!(Cause::ALL.iter().all(|cause| cause.code().number() == cause.number() / 4));
+    assert!(Reason::ALL.iter().all(|cause| cause.code().number() == cause.number() / 4));
 }
 
-/// Each has its line in docs/NUMBERS.md, in the section of its kind.
-#[test]
-fn explained() {
-    let section = |title: &str| NUMBERS.split("\n## ").find(|section| section.starts_with(title)).expect("a section");
-    let has_line = |title: &str, number: u8| {
-        assert!(section(title).lines().any(|line| line.starts_with(&format!("| {number} |"))), "{title}: no line for {number}");
-    };
-    Refusal::ALL.iter().for_each(|refusal| has_line("Of a run", refusal.number()));
-    Code::ALL.iter().for_each(|code| has_line("Of a record: its answer", code.number()));
-    BackupRefusal::ALL.iter().for_each(|refusal| has_line("Of the backup record", refusal.number()));
-    let of_lists = [TableRefusal::Version, TableRefusal::NoRoom, TableRefusal::Limit];
-    of_lists.iter().for_each(|refusal| has_line("Of the writer of tables", refusal.number()));
+/// The lines of a section of docs/NUMBERS.md: a number, and the other columns, without backticks.
+fn lines(title: &str) -> Vec<(u8, Vec<String>)> {
+    let section = NUMBERS.split("\n## ").find(|section| section.starts_with(title)).expect("a section");
+    let cells = |line: &str| -> Vec<String> { line.split('|').map(|cell| cell.trim().replace('`', "")).collect() };
+    let line = |cells: Vec<String>| Some((cells.get(1)?.parse().ok()?, cells[2..].to_vec()));
+    section.lines().map(cells).filter_map(line).collect()
 }
 
-/// The words are those of docs/NUMBERS.md, for every byte of reasons and for every refused run, and no line there is without them.
+/// What a text of the header says for each number, as C reads it.
+fn texts(function: &str, name: &str) -> Vec<(u8, String)> {
+    let start = HEADER.find(&format!("{function}(enum {name} number)")).expect("a text of the header");
+    let body = HEADER[start..].split("\n}").next().unwrap();
+    let constants: Vec<(&str, u8)> = constants(name).collect();
+    let case = |case: &str| {
+        let (constant, rest) = case.split_once(':').expect("a case");
+        let number = constants.iter().find(|(other, _)| *other == constant).expect("a constant of the enum").1;
+        let literals = rest.split("\";").next().unwrap().split('"').skip(1).step_by(2);
+        (number, literals.collect::<String>())
+    };
+    body.split("case ").skip(1).map(case).collect()
+}
+
+/// The words of the bindings and of the header are those of docs/NUMBERS.md, in a column of a section; no line there is without them.
+macro_rules! in_words {
+    ($name:ident, $title:literal, $column:literal, $function:literal, $header:literal) => {
+        let said: Vec<(u8, String)> = lines($title).into_iter().map(|(number, cells)| (number, cells[$column].clone())).collect();
+        let ours: Vec<(u8, String)> = $name::ALL.iter().map(|case| (case.number(), case.words().to_string())).collect();
+        let refusals = ours[0].0 != 0;
+        assert_eq!(said.iter().filter(|(number, _)| !refusals || *number != 0).cloned().collect::<Vec<_>>(), ours);
+        assert_eq!(texts($function, $header), said);
+    };
+}
+
 #[test]
-fn in_words() {
-    let lines = |title: &str| -> Vec<&str> {
-        let section = NUMBERS.split("\n## ").find(|section| section.starts_with(title)).expect("a section");
-        section.lines().filter(|line| line.starts_with("| ") && line.as_bytes()[2].is_ascii_digit()).collect()
-    };
-    let cause = |cause: &Cause| {
-        let (byte, code) = (cause.number(), cause.code().number());
-        format!("| {byte} | {code} | {} | {} |", byte - 4 * code, cause.words())
-    };
-    assert_eq!(lines("Of a record: why"), Cause::ALL.iter().map(cause).collect::<Vec<_>>());
-    let commented = |cause: &Cause| {
-        let (number, words) = (format!("= {}", cause.number()), format!("/* {} */", cause.words()));
-        HEADER.lines().any(|line| line.contains("KS_CAUSE_") && line.contains(&number) && line.ends_with(&words))
-    };
-    Cause::ALL.iter().for_each(|cause| assert!(commented(cause), "the header doesn't say {}", cause.words()));
-    let refused: Vec<&str> = lines("Of a run").into_iter().filter(|line| !line.starts_with("| 0 |")).collect();
-    let begins = |refusal: &Refusal| format!("| {} | {} |", refusal.number(), refusal.words());
-    assert_eq!(refused.len(), Refusal::ALL.len());
-    refused.iter().zip(Refusal::ALL).for_each(|(line, refusal)| assert!(line.starts_with(&begins(refusal)), "{line}"));
+fn words() {
+    in_words!(Refusal, "Of a run", 0, "ks_refusal_text", "ks_refusal");
+    in_words!(Code, "Of a record: its answer", 0, "ks_answer_text", "ks_answer");
+    in_words!(Reason, "Of a record: why", 2, "ks_reason_text", "ks_reason");
+    in_words!(BackupRefusal, "Of the backup record", 1, "ks_backup_text", "ks_backup_reply");
+    for (byte, cells) in lines("Of a record: why") {
+        let reason = Reason::try_from(byte).expect("a reason");
+        assert_eq!((cells[0].parse(), cells[1].parse()), (Ok(reason.code().number()), Ok(reason.cause())), "{byte}");
+    }
 }
 
 #[test]
@@ -106,17 +117,18 @@ fn records_as_bytes() {
     }
 }
 
-/// The library, the header and the bindings are of one number.
+/// The library, the header and the bindings are of one number, and of one release.
 #[test]
 fn one_abi() {
-    let said = HEADER.lines().find_map(|line| line.strip_prefix("#define KS_ABI ")).expect("KS_ABI in the header");
-    assert_eq!((said.parse(), check_abi()), (Ok(ABI), Ok(())));
+    let defined = |name: &str| HEADER.lines().find_map(|line| line.strip_prefix("#define ")?.strip_prefix(name)).expect(name);
+    assert_eq!((defined("KS_ABI ").parse(), check_abi()), (Ok(ABI), Ok(())));
+    assert_eq!(defined("KS_VERSION "), format!("{VERSION:?}"));
 }
 
 #[test]
 fn the_record() {
     let mut backup = Backup::new();
-    assert_eq!(backup, Backup::from_numbers([0; STATE]));
+    assert_eq!(backup, Backup::from_numbers([9; SAVED], [0; 7]));
     (0..64).for_each(|i| assert_eq!(backup.arrive(i % 4, i), Ok(())));
     assert_eq!(backup.arrive(0, 0), Err(BackupRefusal::Full));
     assert_eq!(backup.arrive(4, 0), Err(BackupRefusal::Bad));
@@ -130,9 +142,9 @@ fn the_record() {
     assert_eq!(backup.take_over().map(|taken| (taken.count(), taken.words().count())), Ok((32, 64)));
     assert_eq!(backup.sync(&snapshot(64, [16, 16, 16, 15])), Ok(Synced { dropped: [16, 16, 16, 15], remain: [0, 0, 0, 1] }));
     assert_eq!((backup.words().collect::<Vec<_>>(), backup.count(), backup.place()), (vec![(3, 63)], 0, 64));
-    let mut unfit = *backup.numbers();
-    unfit[0] = u32::MAX;
-    let mut unfit = Backup::from_numbers(unfit);
+    let mut head = *backup.head();
+    head[0] = u32::MAX;
+    let mut unfit = Backup::from_numbers(*backup.saved(), head);
     assert_eq!((unfit.arrive(0, 0), unfit.take_over()), (Err(BackupRefusal::Unfit), Err(BackupRefusal::Unfit)));
     assert_eq!(unfit.words().count(), 64);
 }
@@ -154,17 +166,25 @@ fn tables() {
     assert_eq!(judge(&bytes, &[0, 1, 1], Lengths::needed(0, 1)), Ok(()));
     let lists = table.lists();
     let mut short = [0xEE; 30];
-    assert_eq!(write_table(&lists, &mut short), Err(TableRefusal::NoRoom));
+    assert_eq!(write_table(&lists, &mut short), Err(Refusal::NoRoom));
     let mut few = [7; 8];
-    assert_eq!(take_apart(&bytes, &mut [0; 4], &mut [0; 3], &mut [], &mut few), Err(TableRefusal::NoRoom));
+    assert_eq!(take_apart(&bytes, &mut [0; 4], &mut [0; 3], &mut [], &mut few), Err(Refusal::NoRoom));
     assert!(short.iter().all(|&byte| byte == 0xEE) && few.iter().all(|&n| n == 7));
-    table.processes[0].backup = 256;
-    assert_eq!(table.bytes(), Err(TableRefusal::Boards));
-    table.processes[0].program[0] = Operation::Take { register: 256, channel: 0 };
+    table.processes[0].backup = 2;
+    assert_eq!(table.bytes(), Err(Refusal::Boards));
+    table.processes[0].program[0] = Operation::Take { register: 4, channel: 0 };
     table.processes[0].backup = 1;
-    assert_eq!(table.bytes(), Err(TableRefusal::Instruction));
-    assert_eq!(Table::of(&bytes[1..]), Err(TableRefusal::Length));
-    let numbers: Vec<u8> = TableRefusal::ALL.iter().map(|refusal| refusal.number()).collect();
-    assert_eq!(numbers, (1..=8).chain([45, 47]).collect::<Vec<_>>());
-    assert_eq!(header("ks_table_refusal"), [45]);
+    assert_eq!(table.bytes(), Err(Refusal::Instruction));
+    // Lists may have numbers that fit no byte.
+    let changed = |change: fn(&mut Lists)| {
+        let mut lists = lists.clone();
+        change(&mut lists);
+        lists.table()
+    };
+    assert_eq!(changed(|lists| lists.placements[1] = 257), Err(Refusal::Boards));
+    assert_eq!(changed(|lists| lists.instructions[1] = 256), Err(Refusal::Instruction));
+    // So many channels that a number fits no byte are too many anyway.
+    (0..300).for_each(|_| assert!(table.channel(End::Outside, End::Process(0)) > 1));
+    assert_eq!(table.bytes(), Err(Refusal::TableCounts));
+    assert_eq!(Table::of(&bytes[1..]), Err(Refusal::TableLength));
 }

@@ -1,11 +1,12 @@
 //! A run in words: a line for each record, then each process, and whether the cabinet ended quiet.
 use crate::follow::{Followed, Spot};
-use crate::front::Failure;
-use crate::{input, words};
-use kunzeastylus::{Buffers, Fate, Lengths, Move, Refusal, Run, Table};
+use crate::records::schedule_length;
+use crate::words;
+use kunzeastylus::{Cabinet, Fate, Lengths, Move, Refusal, Run, Table};
 use std::fmt::Write;
 
 /// A table and a schedule, as `./run` takes them one behind the other.
+#[derive(Clone, Debug, PartialEq, Eq)]
 pub struct Input {
     pub table: Vec<u8>,
     pub schedule: Vec<u8>,
@@ -62,48 +63,32 @@ impl Input {
         self.schedule.splice(..2, schedule_length(self.schedule.len()));
     }
 
-    /// The run of the first records of an accepted schedule, handed over; the buffers are as long as needed.
-    pub fn run<T>(&self, records: usize, use_of: impl FnOnce(Run) -> T) -> Result<T, Refusal> {
+    /// The run of the first records of an accepted schedule.
+    pub fn run(&self, records: usize) -> Result<Run, Refusal> {
         let mut schedule = self.schedule.clone();
         if records < schedule.len() / 6 {
             schedule.truncate(3 + 6 * records);
             schedule.splice(..2, schedule_length(schedule.len()));
         }
-        kunzeastylus::run(&self.table, &schedule, &mut Buffers::for_run(&self.table, &schedule)).map(use_of)
+        Cabinet::new(&self.table[..])?.run(&schedule)
     }
-}
-
-/// What a refusal means, and of which bytes of a file; `with` says what was done to its schedule.
-pub fn refused(input: &Input, file: &str, refusal: Refusal, with: &str) -> Failure {
-    let (table, schedule) = (input.table.len(), input.schedule.len());
-    let bytes = match refusal.number() {
-        1..=8 | 47 => format!("the table, its first {table} bytes"),
-        _ => format!("the schedule, {schedule} bytes behind the table's {table}{with}"),
-    };
-    Failure::Explained(refusal.number(), format!("{}: {bytes}: {}", input::name(file), refusal.words()))
-}
-
-/// The two length bytes of a schedule of so many bytes. A length that fits no field is of a schedule that is refused.
-pub(crate) fn schedule_length(bytes: usize) -> [u8; 2] {
-    ((bytes - 2).min(65_535) as u16).to_be_bytes()
 }
 
 /// The run in words, or why it is refused.
 pub fn explain(input: &Input, asked: Asked) -> Result<String, Refusal> {
     let records = input.records()?;
-    input.run(records, |run| {
-        let table = Table::of(&input.table).expect("the table of an accepted run");
-        let mut text = String::new();
-        writeln!(text, "{}", words::heading(records, &table)).unwrap();
-        let followed = lines(input, &table, &run, asked, &mut text);
-        let ends: Vec<Spot> = run.processes().map(Spot::from).collect();
-        assert_eq!(followed.spots(), ends, "a fault of this program: it followed the run to another end");
-        for (p, end) in run.processes().enumerate() {
-            writeln!(text, "{}", words::process(p, end, followed.next(p as u8))).unwrap();
-        }
-        writeln!(text, "{}", words::quiet(run.quiet)).unwrap();
-        text
-    })
+    let run = input.run(records)?;
+    let table = Table::of(&input.table).expect("the table of an accepted run");
+    let mut text = String::new();
+    writeln!(text, "{}", words::heading(records, &table)).unwrap();
+    let followed = lines(input, &table, &run, asked, &mut text);
+    let ends: Vec<Spot> = run.processes().map(Spot::from).collect();
+    assert_eq!(followed.spots(), ends, "a fault of this program: it followed the run to another end");
+    for (p, end) in run.processes().enumerate() {
+        writeln!(text, "{}", words::process(p, end, followed.next(p as u8))).unwrap();
+    }
+    writeln!(text, "{}", words::quiet(run.quiet)).unwrap();
+    Ok(text)
 }
 
 /// A line for each record that is asked for; all of them are followed.
@@ -120,9 +105,8 @@ fn lines<'t>(input: &Input, table: &'t Table, run: &Run, asked: Asked, text: &mu
             };
             writeln!(text, "{}", words::line(&line.name(), mark, &record, &words::answer(answer, taken.as_deref()))).unwrap();
         }
-        let report =
-            || input.run(i + 1, |run| run.processes().map(Spot::from).collect()).expect("a beginning of an accepted run");
-        followed.record(Move::of(line.record[0]), line.record[1], answer, report);
+        let report = || input.run(i + 1).expect("a beginning of an accepted run").processes().map(Spot::from).collect();
+        followed.record(Move::try_from(line.record[0]).ok(), line.record[1], answer, report);
     }
     followed
 }

@@ -21,7 +21,7 @@ impl From<ProcessEnd> for Spot {
 
 impl Spot {
     /// The instruction is done, with this answer.
-    fn step(&mut self, operation: Operation, answer: Answer) {
+    pub fn step(&mut self, operation: Operation, answer: Answer) {
         let registers = &mut self.registers;
         self.place += 1;
         match operation {

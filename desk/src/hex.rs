@@ -20,12 +20,18 @@ fn space(byte: u8) -> bool {
 
 /// The bytes that hex text stands for.
 pub fn bytes(text: &[u8]) -> Result<Vec<u8>, NoHex> {
-    let mut bytes = Vec::new();
-    for (i, line) in text.split(|&byte| byte == b'\n').enumerate() {
+    with_lines(text).map(|(bytes, _)| bytes)
+}
+
+/// The same, and the line of each byte.
+pub fn with_lines(text: &[u8]) -> Result<(Vec<u8>, Vec<usize>), NoHex> {
+    let (mut bytes, mut lines) = (Vec::new(), Vec::new());
+    for (line, number) in text.split(|&byte| byte == b'\n').zip(1..) {
         let line = line.split(|&byte| byte == b'#').next().unwrap_or(&[]);
-        pairs(line, &mut bytes).ok_or_else(|| NoHex { line: i + 1, begins: shown(line) })?;
+        pairs(line, &mut bytes).ok_or_else(|| NoHex { line: number, begins: shown(line) })?;
+        lines.resize(bytes.len(), number);
     }
-    Ok(bytes)
+    Ok((bytes, lines))
 }
 
 /// Adds a line's pairs, or none where it has anything else.

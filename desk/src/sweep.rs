@@ -1,15 +1,11 @@
 //! Every place to pull a board: the three counts of the proved sweep in words, and the ending at each place as a map or as a list.
 //!
-//! A place is called BOARD@N, as `./explain --pull` takes it: the crash of a board before record N, from 1; one past the last puts it at the
+//! A place is called BOARD@N, as `ks explain --pull` takes it: the crash of a board before record N, from 1; one past the last puts it at the
 //! end.
-use crate::explain::{refused, Input, Pull};
-use crate::front::Failure;
+use crate::explain::{Input, Pull};
 use crate::words::{heading, many};
-use kunzeastylus::{Move, Refusal, Run, Sweep, Table};
+use kunzeastylus::{Refusal, Run, Sweep, Table};
 use std::fmt::Write;
-
-/// Records that a swept schedule has at most.
-const RECORDS_MOST: usize = 500;
 
 /// How a run ends.
 #[derive(Clone, Copy, Debug, PartialEq, Eq)]
@@ -66,26 +62,9 @@ impl Ending {
     }
 }
 
-/// The sweep's counts, or why it is refused: what is wrong, where, and what to do about it.
-pub fn sweep(input: &Input, file: &str) -> Result<Sweep, Failure> {
-    kunzeastylus::sweep(&input.table, &input.schedule).map_err(|refusal| match refusal {
-        Refusal::Unswept => Failure::Explained(refusal.number(), format!("{}: {}", crate::input::name(file), unswept(input))),
-        _ => refused(input, file, refusal, ""),
-    })
-}
-
-/// Why a sound schedule isn't swept.
-fn unswept(input: &Input) -> String {
-    let records = input.schedule.len() / 6;
-    let first = |kind| input.schedule[3..].chunks_exact(6).position(|record| Move::of(record[0]) == Some(kind));
-    let crash = first(Move::Crash)
-        .map(|i| format!("record {} is a crash; a sweep puts its own at every place, so leave out all of them", i + 1));
-    let back = first(Move::Back).map(|i| {
-        format!("record {} is a back, which could take back the crash; leave out all of them and what they take back", i + 1)
-    });
-    let long = (records > RECORDS_MOST)
-        .then(|| format!("the schedule has {records} records and a sweep takes at most {RECORDS_MOST}, so sweep parts of it"));
-    [crash, back, long].into_iter().flatten().collect::<Vec<_>>().join("; ")
+/// The sweep's counts, or why it is refused.
+pub fn sweep(input: &Input) -> Result<Sweep, Refusal> {
+    kunzeastylus::sweep(&input.table, &input.schedule)
 }
 
 /// The counts in words.
@@ -117,7 +96,7 @@ impl Map {
             pulled.pull(Pull { board, before });
             runs += 1;
             made(runs);
-            pulled.run(places, |run| Ending::of(&run)).expect("a run of an accepted sweep")
+            Ending::of(&pulled.run(places).expect("a run of an accepted sweep"))
         };
         let boards = (0..input.table[3]).map(|board| (1..=places).map(|before| ending(board, before)).collect()).collect();
         let map = Map { boards };

@@ -1,5 +1,5 @@
 //! The words of the fronts: for a record, its answer, an instruction, a process and the whole cabinet.
-use kunzeastylus::{Answer, BusWord, Cause, Code, End, Move, Operation, ProcessEnd, Table};
+use kunzeastylus::{Answer, BusWord, Code, End, Move, Operation, ProcessEnd, Reason, Table};
 
 /// What stands behind the number of a record that a later one takes back.
 pub const TAKEN_BACK: char = '~';
@@ -20,7 +20,7 @@ pub fn line(name: &str, mark: char, record: &str, answer: &str) -> String {
 pub fn record(bytes: &[u8], does: impl FnOnce(u8) -> Option<String>) -> String {
     let (a, word) = (bytes[1], u32::from_be_bytes([bytes[2], bytes[3], bytes[4], bytes[5]]));
     let with_word = if word == 0 { String::new() } else { format!(", word {word}") };
-    match Move::of(bytes[0]) {
+    match Move::try_from(bytes[0]).ok() {
         Some(Move::Step) => {
             let what = does(a).map(|what| format!(", {what}")).unwrap_or_default();
             format!("step process {a}{what}{with_word}")
@@ -57,11 +57,11 @@ fn instruction(operation: Operation) -> String {
     }
 }
 
-/// An answer in words: those of its cause, and what it names; of a word on the bus also from where it came, and of a back the record that it took
+/// An answer in words: those of its reason, and what it names; of a word on the bus also from where it came, and of a back the record that it took
 /// back, by its name.
 pub fn answer(answer: Answer, taken: Option<&str>) -> String {
-    let Answer { code, a, word, cause, bus } = answer;
-    let words = cause.words();
+    let Answer { code, a, word, reason, bus } = answer;
+    let words = reason.words();
     match code {
         Code::TakenBack => taken.map_or(words.to_string(), |taken| format!("took back record {taken}")),
         _ if code.refused() => format!("refused {}, {words}", code.number()),
@@ -69,7 +69,7 @@ pub fn answer(answer: Answer, taken: Option<&str>) -> String {
             let from = bus.map(|on_the_bus| format!(", {}", origin(on_the_bus))).unwrap_or_default();
             format!("{words} (channel {a}, word {word}{from})")
         }
-        Code::SyncCarried if cause == Cause::SyncCarried => {
+        Code::SyncCarried if reason == Reason::SyncCarried => {
             format!("{words} (process {a}, {} dropped)", many(word as usize, "word", "words"))
         }
         Code::SyncCarried | Code::SyncUnbacked => format!("{words} (process {a})"),

@@ -1,86 +1,54 @@
-//! `./explain`: four samples in words, as stored beside them; a pulled board, also where records are taken back; what is said where it can't; and
+//! `ks explain`: four samples in words, as stored beside them; a pulled board, also where records are taken back; what is said where it can't; and
 //! that the places it follows are those of the report, after every record of generated runs.
+mod common;
+
+use common::sample;
 use desk::explain::{explain, Asked, Input, Pull};
 use desk::follow::{Followed, Spot};
 use desk::hex;
+use desk::output::PLAIN;
 use kunzeastylus::{run, Buffers, BusWord, End, Move, Operation, Table};
 use outside::random::Random;
 use outside::rules::generate::{encode_schedule, encode_table, schedule, table};
 use outside::rules::going_back::going_back;
 use outside::rules::lent::Lent;
 use outside::rules::loops::loops;
-use std::io::Write;
-use std::process::{Command, Output, Stdio};
 
-const ROOT: &str = concat!(env!("CARGO_MANIFEST_DIR"), "/..");
 const SEED: u64 = 0x94D0_49BB_1331_11EB;
 const ALL: Asked = Asked { from: 1, to: usize::MAX, pull: None };
 
-fn file(name: &str) -> String {
-    std::fs::read_to_string(format!("{ROOT}/samples/{name}")).expect("a sample")
-}
-
-fn sample(name: &str) -> Input {
-    Input::of(hex::bytes(file(&format!("{name}.hex")).as_bytes()).expect("hex text"))
-}
-
-fn called(arguments: &[&str], input: &[u8]) -> Output {
-    let mut program = Command::new(env!("CARGO_BIN_EXE_explain"))
-        .args(arguments)
-        .current_dir(ROOT)
-        .stdin(Stdio::piped())
-        .stdout(Stdio::piped())
-        .stderr(Stdio::piped())
-        .spawn()
-        .expect("the program");
-    // A program that reads nothing may be gone already.
-    let _ = program.stdin.take().expect("its input").write_all(input);
-    program.wait_with_output().expect("its end")
+fn input(name: &str) -> Input {
+    Input::of(hex::bytes(sample(&format!("{name}.hex")).as_bytes()).expect("hex text"))
 }
 
 fn printed(arguments: &[&str], input: &[u8]) -> String {
-    let ended = called(arguments, input);
-    assert_eq!((ended.status.code(), ended.stderr.len()), (Some(0), 0), "{arguments:?}");
-    String::from_utf8(ended.stdout).expect("text")
+    common::printed(&[&["explain"], arguments].concat(), input)
 }
 
 fn complains(arguments: &[&str], input: &[u8], code: i32, shown: &str, about: &str) {
-    let ended = called(arguments, input);
-    let (out, said) = (String::from_utf8_lossy(&ended.stdout), String::from_utf8_lossy(&ended.stderr));
-    assert!(
-        ended.status.code() == Some(code) && out == shown && said.contains(about),
-        "{arguments:?} prints {out} and says {said}"
-    );
+    common::complains(&[&["explain"], arguments].concat(), input, code, shown, about);
 }
 
 #[test]
 fn samples() {
     for name in ["lost_queue", "held", "repaired", "back"] {
-        let words = file(&format!("{name}.words"));
-        assert_eq!(explain(&sample(name), ALL).as_deref(), Ok(&words[..]), "{name}");
+        let words = sample(&format!("{name}.words"));
+        assert_eq!(explain(&input(name), ALL).map(|text| PLAIN.fold(&text)).as_deref(), Ok(&words[..]), "{name}");
         assert_eq!(printed(&[&format!("samples/{name}.hex")], &[]), words, "{name}");
     }
 }
 
-/// What README.md shows.
-#[test]
-fn shown() {
-    let readme = include_str!("../../README.md");
-    let (command, after) = readme.split_once("$ ./explain ").and_then(|(_, after)| after.split_once('\n')).expect("an example");
-    let lines: Vec<&str> = after.lines().map_while(|line| line.strip_prefix("    ")).collect();
-    assert_eq!(printed(&command.split(' ').collect::<Vec<_>>(), &[]).lines().collect::<Vec<_>>(), lines);
-}
-
-/// The lines, parted by white space alone.
-fn lines(text: &str) -> Vec<String> {
+/// The lines of what is printed, not folded, and parted by white space alone.
+fn lines(arguments: &[&str]) -> Vec<String> {
+    let text = common::printed_wide(&[&["explain"], arguments].concat(), &[]);
     text.lines().map(|line| line.split_whitespace().collect::<Vec<_>>().join(" ")).collect()
 }
 
 #[test]
 fn some_lines() {
-    let whole = lines(&file("lost_queue.words"));
+    let whole = lines(&["samples/lost_queue.hex"]);
     let (records, ends) = (&whole[1..16], &whole[16..]);
-    let asked = |arguments: &[&str]| lines(&printed(&[arguments, &["samples/lost_queue.hex"]].concat(), &[]));
+    let asked = |arguments: &[&str]| lines(&[arguments, &["samples/lost_queue.hex"]].concat());
     for (arguments, range) in [
         (&["--from", "3", "--to", "5"][..], 2..5),
         (&["--to", "1"], 0..1),
@@ -94,7 +62,7 @@ fn some_lines() {
 
 #[test]
 fn pulled() {
-    let pull = |at: &str, more: &[&str]| lines(&printed(&[&["--pull", at], more, &["samples/sample.hex"]].concat(), &[]));
+    let pull = |at: &str, more: &[&str]| lines(&[&["--pull", at], more, &["samples/sample.hex"]].concat());
     // The first record of the run, between two of them, and behind the last. The records keep their numbers.
     let first = pull("0@1", &["--to", "3"]);
     assert_eq!(
@@ -120,7 +88,7 @@ fn pulled() {
 /// A back may take back the crash that is put in, and then takes back another record than without it.
 #[test]
 fn pulled_and_taken_back() {
-    let pull = |at: &str| lines(&printed(&["--pull", at, "--from", "5", "--to", "7", "samples/back.hex"], &[]));
+    let pull = |at: &str| lines(&["--pull", at, "--from", "5", "--to", "7", "samples/back.hex"]);
     let carried = "carry board 0 on the bus: carried (channel 1, word 5, from process 0, place 2)";
     let queued = "5 step process 0, SEND channel 1 queued (channel 1, word 5)";
     assert_eq!(
@@ -136,40 +104,36 @@ fn pulled_and_taken_back() {
 #[test]
 fn complaints() {
     let sample = "samples/sample.hex";
-    for arguments in
-        [&[][..], &["--hex"], &[sample, sample], &["--what", sample], &["--from", sample], &["--to"], &["--help", sample]]
-    {
-        complains(arguments, &[], 2, "", if arguments == ["--from", sample] { "--from" } else { "usage: ./explain" });
-    }
-    complains(&["--from", "1", "--from", "2", sample], &[], 2, "", "usage: ./explain");
-    complains(&["--from", "0", sample], &[], 2, "", "--from 0: records are numbered from 1");
-    complains(&["--to", "x", sample], &[], 2, "", "--to x: records are numbered from 1");
+    complains(&[], &[], 2, "", "ks explain: a file is wanted, or - for standard input");
+    complains(&["--what", sample], &[], 2, "", "ks explain: no option --what: there are --from, --to, --pull");
+    complains(&["--to"], &[], 2, "", "ks explain: --to wants a value: --to=N");
+    complains(&["--from", "1", "--from", "2", sample], &[], 2, "", "ks explain: --from is given twice");
+    complains(&["--from", "0", sample], &[], 2, "", "--from 0: a number from 1 on is wanted");
+    complains(&["--to", "x", sample], &[], 2, "", "--to x: a number from 1 on is wanted");
     complains(&["--from", "9", "--to", "3", sample], &[], 2, "", "--from 9 is behind --to 3");
     for pull in ["0", "0@", "@1", "0@0", "256@1", "-1@1", "0@1@2"] {
         complains(&["--pull", pull, sample], &[], 2, "", &format!("--pull {pull}: BOARD@N is wanted"));
     }
     complains(&["--pull", "0@22", sample], &[], 2, "", "--pull 0@22: the schedule has 20 records, so N is 1 to 21");
     complains(&["missing"], &[], 2, "", "missing: no such file");
-    complains(&["-"], b"00 0", 2, "", "standard input: line 1");
-    complains(&["-"], &[], 3, "refused 1\n", "standard input: the table, its first 0 bytes: the table has under 6 bytes");
-    complains(&["--bytes", sample], &[], 3, "refused 1\n", "the table");
-    complains(&["-"], b"00 09 01 02 01 01 FF 00 00 01 00", 3, "refused 9\n", "the schedule, 0 bytes behind the table's 11");
-    let limited = b"00 0A 02 02 01 01 FF 00 00 01 11 00";
+    complains(&["-"], b"00 0", 2, "", "ks explain: standard input:1: found `00 0`, expected pairs of hex digits");
+    complains(&["-"], &[], 3, "refused 1\n", "standard input:1: the file is empty");
+    complains(&["--as", "bytes", sample], &[], 3, "refused 1\n", "samples/sample.hex: byte 0: the length field says 8992");
     complains(
         &["-"],
-        limited,
+        b"00 09 01 02 01 01 FF 00 00 01 00",
         3,
-        "refused 47\n",
-        "the table, its first 12 bytes: a table of version 2: a process's limit is outside",
+        "refused 9\n",
+        "standard input:1: there is no schedule, and at least 3 bytes are wanted",
     );
+    let limited = b"00 0A 02 02 01 01 FF 00 00 01 11 00";
+    complains(&["-"], limited, 3, "refused 47\n", "standard input:1: process 0: its limit is 17, and 1 to 16 are wanted");
     // 10,000 records have no room for a crash.
     let most =
         [&[0, 9, 1, 2, 1, 1, 255, 0, 0, 1, 0][..], &kunzeastylus::Record::schedule(&[kunzeastylus::Record::step(0); 10_000])]
             .concat();
-    complains(&["--pull", "0@1", "-"], &most, 3, "refused 9\n", "with the crash that --pull puts in: the schedule has");
-    assert_eq!(printed(&["-"], &most).lines().count(), 10_003);
-    let help = called(&["--help"], &[]);
-    assert!(help.status.code() == Some(0) && help.stdout.starts_with(b"usage: ./explain") && help.stderr.is_empty());
+    complains(&["--pull", "0@1", "-"], &most, 3, "refused 9\n", "the schedule has 10001 records, and 10000 are the most");
+    assert_eq!(common::printed_wide(&["explain", "-"], &most).lines().count(), 10_003);
 }
 
 /// The two bytes that a word on the bus stands for, or that there was none. Where it was sent, a SEND to its channel stands at its place.
@@ -177,8 +141,8 @@ fn origin(table: &Table, bus: Option<BusWord>) -> [u8; 2] {
     match bus {
         Some(BusWord { channel, sender: End::Process(p), place, .. }) => {
             let stands = table.processes[p as usize].program[usize::from(place)];
-            assert!(matches!(stands, Operation::Send { channel: to, .. } if to == channel.into()), "{stands:?} at {place}");
-            [p as u8, place]
+            assert!(matches!(stands, Operation::Send { channel: to, .. } if to == channel), "{stands:?} at {place}");
+            [p, place]
         }
         Some(on_the_bus) => [255, on_the_bus.place],
         None => [255, 255],
@@ -200,10 +164,10 @@ fn follows(table: &[u8], schedule: &[u8]) {
     let mut buffers = Buffers::for_run(table, schedule);
     let whole = run(table, schedule, &mut buffers).expect("a sound run");
     let simulated = outside::rules::run::run(table, schedule, Lent::needed(records, 16)).lent;
-    assert_eq!(whole.answers().map(|answer| answer.cause.number()).collect::<Vec<_>>(), simulated.reasons);
+    assert_eq!(whole.answers().map(|answer| answer.reason.number()).collect::<Vec<_>>(), simulated.reasons);
     assert_eq!(whole.answers().flat_map(|answer| origin(&decoded, answer.bus)).collect::<Vec<_>>(), simulated.origins);
     for (i, (record, answer)) in schedule[3..].chunks_exact(6).zip(whole.answers()).enumerate() {
-        followed.record(Move::of(record[0]), record[1], answer, || report(i + 1));
+        followed.record(Move::try_from(record[0]).ok(), record[1], answer, || report(i + 1));
         assert_eq!(followed.spots(), report(i + 1), "after record {}: {table:02X?} {schedule:02X?}", i + 1);
     }
     // The same in words, with each board pulled somewhere.

@@ -1,11 +1,10 @@
-//! `desk::input` reads what `tools/hex` reads: the same bytes, or the same complaint.
-use desk::front::Failure;
-use desk::input;
+//! `desk::input` reads what `tools/hex` reads: the same bytes, or a complaint about the same line.
+use desk::input::{self, Kind};
 use std::path::PathBuf;
 use std::process::Command;
 
-/// What `tools/hex` makes of a file: its bytes, or what it says where it ends with 2.
-fn converted(file: &str) -> Result<Vec<u8>, Failure> {
+/// What `tools/hex` makes of a file: its bytes, or what it says where it ends with 2, from the line on.
+fn converted(file: &str) -> Result<Vec<u8>, String> {
     let script = concat!(env!("CARGO_MANIFEST_DIR"), "/../tools/hex");
     let output = Command::new(script).arg(file).output().expect("tools/hex");
     if output.status.success() {
@@ -13,11 +12,18 @@ fn converted(file: &str) -> Result<Vec<u8>, Failure> {
     }
     assert_eq!((output.status.code(), output.stdout.len()), (Some(2), 0), "{file}");
     let said = String::from_utf8(output.stderr).expect("a message");
-    Err(Failure::Unasked(said.strip_prefix("hex: ").expect("its name").trim_end_matches('\n').to_string()))
+    let said = said.strip_prefix("hex: ").expect("its name").trim_end();
+    Err(match said.split_once(" is no hex text: ") {
+        Some((place, begins)) => {
+            format!("{}: found `{}`, expected pairs of hex digits", place.replace(": line ", ":"), begins.trim())
+        }
+        None => said.to_string(),
+    })
 }
 
-fn agrees(file: &str) -> Result<Vec<u8>, Failure> {
-    let ours = input::bytes(file);
+fn agrees(file: &str) -> Result<Vec<u8>, String> {
+    let kind = std::fs::read(file).map_or(Kind::Hex, |bytes| if desk::hex::is_text(&bytes) { Kind::Hex } else { Kind::Bytes });
+    let ours = input::bytes(kind, file).map_err(|failure| failure.said.join(" "));
     assert_eq!(ours, converted(file), "{file}");
     ours
 }
@@ -74,13 +80,4 @@ fn samples() {
         }
     }
     assert!(many >= 5);
-}
-
-#[test]
-fn endings() {
-    let usage = "./front FILE\n";
-    assert_eq!((Failure::Usage.exit_code(), Failure::Usage.message(usage)), (2, "usage: ./front FILE".to_string()));
-    let unasked = Failure::Unasked("x: no such file".to_string());
-    assert_eq!((unasked.exit_code(), unasked.message(usage)), (2, "x: no such file".to_string()));
-    assert_eq!((Failure::Refused(45).exit_code(), Failure::Refused(45).message(usage)), (3, "refused 45".to_string()));
 }

@@ -1,21 +1,11 @@
-//! `./label` as it is called: what it prints, what it says where it can't, and with which code it ends.
-use std::io::Write;
-use std::process::{Command, Output, Stdio};
+//! `ks label` as it is called: what it prints, what it says where it can't, and with which code it ends.
+mod common;
 
-const ROOT: &str = concat!(env!("CARGO_MANIFEST_DIR"), "/..");
+use common::ROOT;
+use std::process::Output;
 
 fn label(arguments: &[&str], input: &[u8]) -> Output {
-    let mut program = Command::new(env!("CARGO_BIN_EXE_label"))
-        .args(arguments)
-        .current_dir(ROOT)
-        .stdin(Stdio::piped())
-        .stdout(Stdio::piped())
-        .stderr(Stdio::piped())
-        .spawn()
-        .expect("the program");
-    // A program that reads nothing may be gone already.
-    let _ = program.stdin.take().expect("its input").write_all(input);
-    program.wait_with_output().expect("its end")
+    common::ks(&[&["label"], arguments].concat(), input)
 }
 
 fn prints(arguments: &[&str], input: &[u8], wanted: &str) {
@@ -23,10 +13,8 @@ fn prints(arguments: &[&str], input: &[u8], wanted: &str) {
     assert_eq!((ended.status.code(), String::from_utf8_lossy(&ended.stdout).as_ref()), (Some(0), wanted), "{arguments:?}");
 }
 
-fn complains(arguments: &[&str], input: &[u8], code: i32, about: &str) {
-    let ended = label(arguments, input);
-    let said = String::from_utf8_lossy(&ended.stderr);
-    assert!(ended.status.code() == Some(code) && ended.stdout.is_empty() && said.contains(about), "{arguments:?} says {said}");
+fn complains(arguments: &[&str], input: &[u8], code: i32, shown: &str, about: &str) {
+    common::complains(&[&["label"], arguments].concat(), input, code, shown, about);
 }
 
 /// A schedule of these records: move, a, and a feed's word.
@@ -83,16 +71,17 @@ fn year() {
 
 #[test]
 fn complaints() {
-    complains(&["4294957296"], &[], 3, "refused 46");
-    complains(&["99999999999999999999"], &[], 3, "refused 46");
-    complains(&["4294957296", "-"], &[], 3, "refused 46");
-    complains(&["1", "-"], &[], 3, "refused 9");
-    complains(&["1", "-"], &[0, 1, 2], 3, "refused 10");
-    complains(&["1", "-"], b"00 0", 2, "standard input: line 1");
-    complains(&["1", "missing"], &[], 2, "missing: no such file");
-    for arguments in [&[][..], &["x"], &["-1"], &[""], &["1", "-", "-"], &["--help", "1"]] {
-        complains(arguments, &[], 2, "usage: ./label FIRST");
+    let serial = "and 4294957295 is the last one";
+    complains(&["4294957296"], &[], 3, "refused 46\n", serial);
+    complains(&["99999999999999999999"], &[], 3, "refused 46\n", serial);
+    complains(&["4294957296", "-"], &[], 3, "refused 46\n", serial);
+    complains(&["1", "-"], &[], 3, "refused 9\n", "standard input:1: there is no schedule");
+    complains(&["1", "-"], &[0, 1, 2], 3, "refused 10\n", "standard input: byte 2: the schedule's version is 2, and there is 1");
+    complains(&["1", "-"], b"00 0", 2, "", "standard input:1: found `00 0`");
+    complains(&["1", "missing"], &[], 2, "", "missing: no such file");
+    complains(&["x"], &[], 2, "", "ks label: x: FIRST is a decimal number");
+    complains(&["-1"], &[], 2, "", "ks label: no option -1");
+    for arguments in [&[][..], &["1", "-", "-"]] {
+        complains(arguments, &[], 2, "", "ks label: FIRST, the first serial, is wanted");
     }
-    let help = label(&["--help"], &[]);
-    assert!(help.status.code() == Some(0) && help.stdout.starts_with(b"usage: ./label FIRST") && help.stderr.is_empty());
 }

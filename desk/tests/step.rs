@@ -1,5 +1,8 @@
-//! `./step`: two sessions as they are stored, on samples; what it says where it can't; and that a view is the same however it was come to, forward
+//! `ks step`: two sessions as they are stored, on samples; what it says where it can't; and that a view is the same however it was come to, forward
 //! and back, in generated runs.
+mod common;
+
+use common::read;
 use desk::explain::{explain, Asked, Input};
 use desk::hex;
 use desk::step::command::{parse, Command, Kind, Line};
@@ -9,28 +12,12 @@ use outside::random::Random;
 use outside::rules::generate::{encode_schedule, encode_table, schedule};
 use outside::rules::going_back::going_back;
 use outside::rules::repairs::{crash_after_crash, row};
-use std::io::Write;
-use std::process::{Command as Program, Output, Stdio};
+use std::process::Output;
 
-const ROOT: &str = concat!(env!("CARGO_MANIFEST_DIR"), "/..");
 const SEED: u64 = 0xBF58_476D_1CE4_E5B9;
 
 fn called(arguments: &[&str], input: &[u8]) -> Output {
-    let mut program = Program::new(env!("CARGO_BIN_EXE_step"))
-        .args(arguments)
-        .current_dir(ROOT)
-        .stdin(Stdio::piped())
-        .stdout(Stdio::piped())
-        .stderr(Stdio::piped())
-        .spawn()
-        .expect("the program");
-    // A program that reads nothing may be gone already.
-    let _ = program.stdin.take().expect("its input").write_all(input);
-    program.wait_with_output().expect("its end")
-}
-
-fn read(path: &str) -> String {
-    std::fs::read_to_string(format!("{ROOT}/{path}")).expect("a file")
+    common::ks(&[&["step"], arguments].concat(), input)
 }
 
 fn stepper(name: &str) -> Stepper {
@@ -55,18 +42,6 @@ fn sessions() {
         assert_eq!((ended.status.code(), ended.stderr.len()), (Some(0), 0), "{name}");
         assert_eq!(String::from_utf8_lossy(&ended.stdout), wanted, "{name}");
     }
-}
-
-/// What README.md shows.
-#[test]
-fn shown() {
-    let readme = read("README.md");
-    let (command, after) = readme.split_once("$ ./step ").and_then(|(_, after)| after.split_once('\n')).expect("an example");
-    let wanted: Vec<&str> = after.lines().map_while(|line| line.strip_prefix("    ")).collect();
-    let lines: String =
-        wanted.iter().filter_map(|line| line.strip_prefix('>')).map(|line| line.trim().to_string() + "\n").collect();
-    let ended = called(&command.split(' ').collect::<Vec<_>>(), lines.as_bytes());
-    assert_eq!(String::from_utf8_lossy(&ended.stdout).lines().collect::<Vec<_>>(), wanted);
 }
 
 /// A terminal is asked for each line, and its lines are not printed once more.
@@ -180,7 +155,7 @@ fn there_and_back(input: Input) {
     for line in words.lines().skip(1).take(stepper.records()) {
         stepper.obey(Command::Next).expect("a further record");
         let view = stepper.view();
-        // In words as by ./explain, but for the mark of a record that a later one takes back.
+        // In words as by ks explain, but for the mark of a record that a later one takes back.
         let shown = desk::step::draw(&view, Some(&before));
         assert_eq!(shown.lines().next().map(str::to_string), Some(line.replacen('~', " ", 1)));
         // A back of the file's own is not what the next one takes back.
@@ -247,14 +222,11 @@ fn complaints() {
         );
     };
     let sample = "samples/sample.hex";
-    for arguments in [&[][..], &["--hex"], &[sample, sample], &["--what", sample], &["--help", sample]] {
-        complains(arguments, 2, "", "usage: ./step");
-    }
+    complains(&[], 2, "", "ks step: a file is wanted");
+    complains(&["--what", sample], 2, "", "ks step: no option --what");
     complains(&["-"], 2, "", "standard input is where the commands come from");
     complains(&["missing"], 2, "", "missing: no such file");
-    complains(&["--bytes", sample], 3, "refused 1\n", "the table");
-    let help = called(&["--help"], &[]);
-    assert!(help.status.code() == Some(0) && help.stdout.starts_with(b"usage: ./step") && help.stderr.is_empty());
+    complains(&["--as=bytes", sample], 3, "refused 1\n", "byte 0: the length field says 8992");
     // The end of the input is an end, and so is q.
     for lines in ["", "n", "q\nn\n"] {
         assert_eq!(called(&[sample], lines.as_bytes()).status.code(), Some(0), "{lines:?}");

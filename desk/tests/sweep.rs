@@ -1,36 +1,24 @@
-//! `./sweep`: the counts, the map and the lists of a sample, as stored; that the map is what `./explain --pull` says at every place of two
+//! `ks sweep`: the counts, the map and the lists of a sample, as stored; that the map is what `ks explain --pull` says at every place of two
 //! samples; how it is folded; and what is said where there is none.
 mod common;
 
-use common::{called, sample};
+use common::sample;
 use desk::explain::{explain, Asked, Input, Pull};
+use desk::hex;
 use desk::sweep::{sweep, Ending, Map};
-use desk::{front::Failure, hex};
 use kunzeastylus::{Record, Sweep};
-use std::process::Output;
 
 const SWEPT: &str = "samples/swept.hex";
 
 /// A process with no instructions on two of three boards.
 const IDLE: [u8; 11] = [0, 9, 1, 3, 1, 1, 255, 0, 0, 1, 0];
 
-fn swept(arguments: &[&str], input: &[u8]) -> Output {
-    called(env!("CARGO_BIN_EXE_sweep"), arguments, input)
-}
-
 fn printed(arguments: &[&str], input: &[u8]) -> String {
-    let ended = swept(arguments, input);
-    assert_eq!((ended.status.code(), ended.stderr.len()), (Some(0), 0), "{arguments:?}");
-    String::from_utf8(ended.stdout).expect("text")
+    common::printed(&[&["sweep"], arguments].concat(), input)
 }
 
 fn complains(arguments: &[&str], input: &[u8], code: i32, shown: &str, about: &str) {
-    let ended = swept(arguments, input);
-    let (out, said) = (String::from_utf8_lossy(&ended.stdout), String::from_utf8_lossy(&ended.stderr));
-    assert!(
-        ended.status.code() == Some(code) && out == shown && said.contains(about),
-        "{arguments:?} prints {out} and says {said}"
-    );
+    common::complains(&[&["sweep"], arguments].concat(), input, code, shown, about);
 }
 
 fn input(name: &str) -> Input {
@@ -38,7 +26,7 @@ fn input(name: &str) -> Input {
 }
 
 fn map(input: &Input) -> Map {
-    Map::of(input, sweep(input, "a sample").expect("a sweep"), |_| ())
+    Map::of(input, sweep(input).expect("a sweep"), |_| ())
 }
 
 /// An idle table with this schedule behind it.
@@ -52,10 +40,6 @@ fn stored() {
     assert_eq!(printed(&["--map", SWEPT], &[]), wanted);
     let (counts, _) = wanted.split_once("\n\n").expect("counts and a map");
     assert_eq!(printed(&[SWEPT], &[]).trim_end(), counts);
-    // What README.md shows is the same.
-    let shown = include_str!("../../README.md").split_once("$ ./sweep --map samples/swept.hex\n").expect("an example").1;
-    let lines: Vec<&str> = shown.lines().map_while(|line| line.strip_prefix("    ").or(line.is_empty().then_some(""))).collect();
-    assert_eq!(lines.join("\n").trim_end(), wanted.trim_end());
 }
 
 #[test]
@@ -102,10 +86,8 @@ fn as_explained() {
     // A line of the list as it can be handed on.
     let open = printed(&["--list", "open", SWEPT], &[]);
     let place = open.lines().next().expect("a place");
-    let explained = called(env!("CARGO_BIN_EXE_explain"), &["--pull", place, SWEPT], &[]);
-    assert!(
-        explained.status.success() && explained.stdout.ends_with(b"not quiet: a queue has an entry, or a process could go on\n")
-    );
+    let explained = common::printed(&["explain", "--pull", place, SWEPT], &[]);
+    assert!(explained.ends_with("not quiet: a queue has an entry, or a process could go on\n"));
 }
 
 #[test]
@@ -129,7 +111,7 @@ fn folded() {
 #[test]
 fn required() {
     let counts = printed(&[SWEPT], &[]);
-    complains(&["--require-quiet", SWEPT], &[], 4, &counts, "sweep: 30 of 111 runs end unquiet");
+    complains(&["--require-quiet", SWEPT], &[], 4, &counts, "ks sweep: samples/swept.hex: 30 of 111 runs end unquiet");
     let all_quiet = idle(&[Record::step(0)]);
     assert!(printed(&["--require-quiet", "-"], &all_quiet).contains("6 runs: each board pulled at each of 2 places"));
     assert_eq!(printed(&["--require-quiet", "--list", "open", "-"], &all_quiet), "");
@@ -137,33 +119,36 @@ fn required() {
 
 #[test]
 fn complaints() {
-    for arguments in [&[][..], &["--map"], &[SWEPT, SWEPT], &["--what", SWEPT], &["--map", "--list", "open", SWEPT], &["--list"]]
-    {
-        complains(arguments, &[], 2, "", "usage: ./sweep");
+    for (arguments, about) in [
+        (&[][..], "a file is wanted"),
+        (&[SWEPT, SWEPT, SWEPT], "a file, or a table and a schedule, are wanted, and 3 files are named"),
+        (&["--what", SWEPT], "no option --what"),
+        (&["--map", "--list", "open", SWEPT], "--map and --list: one of them is wanted"),
+        (&["--list"], "--list wants a value: --list=ENDING"),
+    ] {
+        complains(arguments, &[], 2, "", about);
     }
     complains(&["--list", "loud", SWEPT], &[], 2, "", "--list loud: one of quiet, held and open is wanted");
-    complains(&["--map", "--width", "19", SWEPT], &[], 2, "", "--width 19: a number of columns is wanted, 20 or more");
+    complains(&["--map", "--width", "19", SWEPT], &[], 2, "", "--width 19: a number from 20 on is wanted");
     complains(&["--width", "99", SWEPT], &[], 2, "", "--width is of --map");
     complains(&["missing"], &[], 2, "", "missing: no such file");
-    complains(&["-"], &[], 3, "refused 1\n", "standard input: the table, its first 0 bytes: the table has under 6 bytes");
-    complains(&["-"], &IDLE, 3, "refused 9\n", "the schedule, 0 bytes behind the table's 11");
+    complains(&["-"], &[], 3, "refused 1\n", "standard input:1: the file is empty");
+    complains(&["-"], &IDLE, 3, "refused 9\n", "standard input: byte 11: there is no schedule, and at least 3 bytes are wanted");
     // 52: where, and what to do.
     let crash = "record 11 is a crash; a sweep puts its own at every place, so leave out all of them";
-    complains(&["samples/sample.hex"], &[], 3, "refused 52\n", &format!("samples/sample.hex: {crash}"));
+    complains(&["samples/sample.hex"], &[], 3, "refused 52\n", &format!("samples/sample.hex:26: {crash}"));
     let back = "record 2 is a back, which could take back the crash; leave out all of them and what they take back";
     complains(&["-"], &idle(&[Record::step(0), Record::back()]), 3, "refused 52\n", back);
     let both = idle(&[Record::crash(0), Record { a: 1, ..Record::back() }]);
-    complains(&["-"], &both, 3, "refused 52\n", &format!("so leave out all of them; {back}"));
+    complains(&["-"], &both, 3, "refused 52\n", back);
     let long = idle(&[Record::step(0); 501]);
     let parts = "the schedule has 501 records and a sweep takes at most 500, so sweep parts of it";
     complains(&["-"], &long, 3, "refused 52\n", parts);
-    complains(&["-"], &idle(&[Record::crash(0); 501]), 3, "refused 52\n", &format!("leave out all of them; {parts}"));
+    complains(&["-"], &idle(&[Record::crash(0); 501]), 3, "refused 52\n", parts);
     assert!(printed(&["-"], &idle(&[Record::step(0); 500])).contains("1503 runs"));
-    let help = swept(&["--help"], &[]);
-    assert!(help.status.code() == Some(0) && help.stdout.starts_with(b"usage: ./sweep") && help.stderr.is_empty());
     // Each ending is explained.
-    let help = String::from_utf8(help.stdout).expect("text");
-    let meaning = help.split_once("What an ending means:\n").expect("what the endings mean").1;
+    let help = printed(&["--help"], &[]);
+    let meaning = help.split_once("what an ending means:\n").expect("what the endings mean").1;
     for (start, words) in
         [("  quiet  ", "nothing is left to do"), ("  hold-back left  ", "64 further steps"), ("  none left  ", "stands still")]
     {
@@ -176,9 +161,9 @@ fn complaints() {
 fn nothing_to_run() {
     let bytes = idle(&[]);
     let input = Input::of(bytes.clone());
-    assert_eq!(sweep(&input, "idle"), Ok(Sweep { quiet: 3, held: 0, open: 0 }));
+    assert_eq!(sweep(&input), Ok(Sweep { quiet: 3, held: 0, open: 0 }));
     assert_eq!(map(&input).places(Ending::Quiet).next(), Some(Pull { board: 0, before: 1 }));
     assert!(printed(&["--map", "-"], &bytes).ends_with("before    1\nboard 0   .\nboard 1   .\nboard 2   .\n"));
-    assert_eq!(sweep(&Input::of(IDLE.to_vec()), "idle").map_err(|failure| failure.exit_code()), Err(3));
-    assert!(matches!(sweep(&Input::of(idle(&[Record::crash(9)])), "idle"), Err(Failure::Explained(52, _))));
+    assert_eq!(sweep(&Input::of(IDLE.to_vec())).map_err(|refusal| refusal.number()), Err(9));
+    assert_eq!(sweep(&Input::of(idle(&[Record::crash(9)]))).map_err(|refusal| refusal.number()), Err(52));
 }

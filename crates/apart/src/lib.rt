@@ -14,11 +14,11 @@ use records::bytes::byte;
 use records::fetch::fetch;
 use records::head::VERSION;
 use table::decode;
-use table::format::BOARDS;
-use table::format::CHANNELS;
+use table::format::BOARDS_AT;
+use table::format::CHANNELS_AT;
 use table::format::HEAD;
 use table::format::LIMIT;
-use table::format::PROCESSES;
+use table::format::PROCESSES_AT;
 use table::format::WITH_LIMITS;
 use table::record::length_place;
 use table::record::record_length;
@@ -142,7 +142,7 @@ fn limits_in(table: &[u8]) -> usize
     ensures { λ r. ⌜ r ≡ limitBytes (versionIn (now (table .entry))) * processesIn (now (table .entry)) ⌝ }
 {
     if version_of(table) == WITH_LIMITS {
-        byte_wide(byte(table, PROCESSES))
+        byte_wide(byte(table, PROCESSES_AT))
     } else {
         0
     }
@@ -155,8 +155,8 @@ fn instructions_in(table: &[u8]) -> usize
 {
     (table.len()
         - HEAD
-        - 2 * byte_wide(byte(table, CHANNELS))
-        - 3 * byte_wide(byte(table, PROCESSES))
+        - 2 * byte_wide(byte(table, CHANNELS_AT))
+        - 3 * byte_wide(byte(table, PROCESSES_AT))
         - limits_in(table))
         / 6
 }
@@ -176,8 +176,8 @@ fn take_lists(
         (lent (now (ends .exit)) (now (placements .exit)) (now (limits .exit)) (now (instructions .exit))) ⌝ }
 {
     let version = version_of(table);
-    let processes = byte_wide(byte(table, PROCESSES));
-    let pairs = 2 * byte_wide(byte(table, CHANNELS));
+    let processes = byte_wide(byte(table, PROCESSES_AT));
+    let pairs = 2 * byte_wide(byte(table, CHANNELS_AT));
     take_bytes(table, HEAD, pairs, ends);
     take_limits(table, HEAD + pairs, version, processes, limits);
     take_records(
@@ -203,8 +203,8 @@ fn has_room(
     requires { ⌜ (validateTable (now table) ≡ 0) × ((3 * total ≡ length (apart (now table) .instructions)) × (total ≤ 2 + tableMost)) ⌝ }
     ensures { λ r. ⌜ r ≡ roomFor (now (table .entry)) ends placements limits instructions ⌝ }
 {
-    2 * byte_wide(byte(table, CHANNELS)) <= ends
-        && (3 * byte_wide(byte(table, PROCESSES)) <= placements
+    2 * byte_wide(byte(table, CHANNELS_AT)) <= ends
+        && (3 * byte_wide(byte(table, PROCESSES_AT)) <= placements
             && (limits_in(table) <= limits && 3 * total <= instructions))
 }
 
@@ -241,9 +241,9 @@ pub fn take_apart(
     Taken {
         number: 0,
         version: byte(table, VERSION),
-        boards: byte(table, BOARDS),
-        processes: byte(table, PROCESSES),
-        channels: byte(table, CHANNELS),
+        boards: byte(table, BOARDS_AT),
+        processes: byte(table, PROCESSES_AT),
+        channels: byte(table, CHANNELS_AT),
         instructions: total as u32,
     }
 }

@@ -4,6 +4,7 @@ use mathlib.Core.List.{List, [], _∷_, _++_, map, map-append}
 use Prim.Native.Nat.{ℕ, zero, suc, _+_, _^_, _≤_, _<_}
 use native.Mathlib.Omega.{arith}
 use lib.ListN.{length, getD, set, length-set}
+use lib.Seq.{getD-set-other}
 use borrow.Author.Tests.{le-leb, lt-leb}
 use Rattle.facts.specs.Tests.{by-eq}
 use Rattle.facts.specs.Counts.{same-yes, same-no}
@@ -89,6 +90,7 @@ module _ (log head : List ℕ) (port word : ℕ) where
         is-fit = arrived-fit (viewIn log head) port word (s .is-fit) hp (rw (view-length log head) hl);
         tallies = tally-now hp hw hl s;
       })
+      (λ s i a b. getD-set-other log (headLen head) i (pack port word) 0 (λ e. let n = cell-0 hp hw hl s in omega arith))
 
 -- ---- its number, of any head
 

@@ -244,10 +244,14 @@ pub passed : {log₀ : List ℕ} {len : ℕ} {taken log₁ left₁ : List ℕ} {
 passed {log₀} {len} {taken} {log₁} {left₁} {i₁ = i₁} {log₂ = log₂} {left₂ = left₂} {due₂ = due₂} {i₂ = i₂} {kept₂ = kept₂} {log₃ = log₃} {kept = kept} f g z m = record {
   same-length = m .passing .same-length ∙ g .passing .same-length ∙ f .passing .same-length;
   rest = λ h k w. ap (λ (n : ℕ). messages n log₃) (stay-of (kept-are h k) k w) ∙ kept-are h k;
+  behind = λ j l.
+      m .passing .ahead j l
+      ∙ g .passing .ahead j (let a = g .passing .looked in omega arith)
+      ∙ f .passing .ahead j (let a = f .passing .looked in omega arith);
 }
   where
-    behind : remaining left₂ (drop i₂ (messages len log₂)) ≡ drop i₂ (messages len log₂)
-    behind =
+    none-goes : remaining left₂ (drop i₂ (messages len log₂)) ≡ drop i₂ (messages len log₂)
+    none-goes =
         by-lt i₂ len
         (λ l. none-due left₂ (drop i₂ (messages len log₂)) (g .four) (let a = g .owed in let b = z l in omega arith))
         (λ l.
@@ -266,7 +270,7 @@ passed {log₀} {len} {taken} {log₁} {left₁} {i₁ = i₁} {log₂ = log₂}
         let a : messages kept log₃ ++ remaining [] (drop len (messages len log₂)) ≡ messages kept log₃ =
         ap (λ (r : List Message). messages kept log₃ ++ remaining [] r) (drop-all len log₂) ∙ append-nil (messages kept log₃) in
         sym a ∙ m .passing .whole (g .passing .same-length ∙ q .0)
-        ∙ ap (λ (r : List Message). messages kept₂ log₂ ++ r) (none-taken [] (drop i₂ (messages len log₂)) (λ p. refl) ∙ sym behind)
+        ∙ ap (λ (r : List Message). messages kept₂ log₂ ++ r) (none-taken [] (drop i₂ (messages len log₂)) (λ p. refl) ∙ sym none-goes)
         ∙ left-over (g .passing) q
         ∙ left-over (f .passing) p
 
@@ -284,6 +288,7 @@ dropped-none log len taken f z = record {
   rest = λ h k w.
       let e : len - allTaken taken ≡ len = omega arith in
       ap (λ (n : ℕ). messages n log) e ∙ sym (none-due taken (messages len log) f z);
+  behind = λ i l. refl;
 }
 
 -- no less was taken than is saved: nothing stays
@@ -293,6 +298,7 @@ dropped-all log len taken l = record {
   rest = λ h k w.
       let e : len - allTaken taken ≡ 0 = omega arith in
       ap (λ (n : ℕ). messages n log) e ∙ sym (none-left (remaining taken (messages len log)) (let a = stay-count taken len log k w in omega arith));
+  behind = λ i l. refl;
 }
   where
     none-left : (l : List Message) → length l ≡ 0 → l ≡ []

@@ -14,7 +14,7 @@ use Rattle.backup.specs.Limits.{logMost, ports, sentMost}
 use Rattle.backup.specs.Replica.{Message, Replica, Reply, fit, savedOn, initial, count, countNumber, counted}
 use Rattle.backup.specs.Laws.{saved-cons}
 use Rattle.backup.specs.Accepts.{count-accepted, counted-fit}
-use Rattle.backup.specs.Place.{unpack, messages, viewIn, tallyIn, headLength, Sound, Called, countNumberIn, headLen, headSent}
+use Rattle.backup.specs.Place.{unpack, messages, viewIn, tallyIn, headLength, Sound, SameBehind, Called, countNumberIn, headLen, headSent}
 
 -- a refused call: the arrays stay, and the definition gives this number
 pub refused-so : (log head : List ℕ) (number : ℕ) (call : Replica → Reply)
@@ -24,6 +24,7 @@ refused-so log head number call h = record {
   number-is = λ s. ap (λ (r : Reply). r .number) (sym (h s));
   value-is = λ s. ap (λ (r : Reply). r .replica) (sym (h s));
   sound-again = λ s. s;
+  same-behind = λ s i a b. refl;
 }
 
 -- what an accepted call leaves: the new value in the arrays, fit, with true tallies
@@ -45,12 +46,13 @@ left-sound h = record {
 -- an accepted call: the definition gives 0 and the value that is left
 pub accepted-so : (log head log′ head′ : List ℕ) (call : Replica → Reply) (new : Replica)
     → (Sound log head → call (viewIn log head) ≡ record { number = 0; replica = new }) → (Sound log head → Left log′ head′ new)
-    → Called log head log′ head′ 0 call
-accepted-so log head log′ head′ call new h l = record {
+    → (Sound log head → SameBehind log head log′ head′) → Called log head log′ head′ 0 call
+accepted-so log head log′ head′ call new h l k = record {
   untouched = λ n. absurd (n refl);
   number-is = λ s. ap (λ (r : Reply). r .number) (sym (h s));
   value-is = λ s. l s .view ∙ ap (λ (r : Reply). r .replica) (sym (h s));
   sound-again = λ s. left-sound (l s);
+  same-behind = k;
 }
 
 -- two values with the same parts
@@ -112,6 +114,7 @@ module _ (log head : List ℕ) where
         is-fit = counted-fit (viewIn log head) (s .is-fit) h;
         tallies = λ p l. bumped-other head 1 (7 + p) (λ e. omega arith) ∙ s .tallies p l;
       })
+      (λ s i a b. refl)
 
 -- its number, of any head
 pub count-number-24 : (head : List ℕ) → sentMost ≤ headSent head → 24 ≡ countNumberIn head

@@ -114,13 +114,14 @@ module _ (log head log′ : List ℕ) (c : Checkpoint) (z : syncNumberIn head c 
   }
 
   pub sync-done : Called log head log′ (set (restatedIn head c) 0 (getD (restatedIn head c) 0 0 - allTaken (takenOf c))) 0 (λ v. sync v (checkpointOf c))
-  unfolding landed
+  unfolding landed restatedIn
   sync-done =
       accepted-so log head log′ (landed head c) (λ v. sync v (checkpointOf c)) (synced (viewIn log head) (checkpointOf c))
       (λ s.
       sync-accepted (viewIn log head) (checkpointOf c) (s .is-fit) (lands-by head c z .pc-small)
       (enough (takenOf c) (viewIn log head .log) (lacks-same log head (takenOf c) s ∙ lands-by head c z .has)))
       left-by
+      (λ s i a b. d .behind i a)
 
 -- its rounds are those of a drop on the head as it was
 pub rounds-done : (log head : List ℕ) (c : Checkpoint) (rounds : ℕ) → rounds ≡ syncRounds 0 (viewIn log (restatedIn head c)) (checkpointOf c)

@@ -76,6 +76,10 @@ pub record Sound (log head : List ℕ) : Type 0 where
   pub is-fit : fit (viewIn log head) ≡ true
   pub tallies : (p : ℕ) → p < ports → tallyIn head p ≡ savedOn p (viewIn log head .log)
 
+-- behind the messages that there were and those that there are, no number of a log is written
+abbrev pub SameBehind : List ℕ → List ℕ → List ℕ → List ℕ → Type 0
+SameBehind log head log′ head′ = (i : ℕ) → headLen head ≤ i → headLen head′ ≤ i → getD log′ i 0 ≡ getD log i 0
+
 -- What a call in place promises, from the arrays at entry and at exit, the number it returned, and the definition that it follows.
 pub record Called (log head log′ head′ : List ℕ) (number : ℕ) (call : Replica → Reply) : Type 0 where
   -- refused: both arrays are as they were
@@ -84,6 +88,7 @@ pub record Called (log head log′ head′ : List ℕ) (number : ℕ) (call : Re
   pub number-is : Sound log head → number ≡ call (viewIn log head) .number
   pub value-is : Sound log head → viewIn log′ head′ ≡ call (viewIn log head) .replica
   pub sound-again : Sound log head → Sound log′ head′
+  pub same-behind : Sound log head → SameBehind log head log′ head′
 
 -- the code's checkpoint as the definitions' one
 abbrev pub takenOf : Checkpoint → List ℕ
@@ -121,11 +126,12 @@ syncNumberIn head c = cond (ltb logMost (headLen head)) 20 (cond (ltb pcMost (c 
 -- ---- what the steps of a checkpoint in place do
 
 -- What was taken is dropped: of len messages on their ports, with no more taken on one than it has, the log's first numbers are what a drop
--- leaves.
+-- leaves. From len on the log is as it was.
 pub record Dropped (log : List ℕ) (len : ℕ) (taken : List ℕ) (log′ : List ℕ) : Type 0 where
   pub same-length : length log′ ≡ length log
   pub rest : length log ≡ logMost → onPorts (messages len log) ≡ true → lacking taken (messages len log) ≡ false
       → messages (len - allTaken taken) log′ ≡ remaining taken (messages len log)
+  pub behind : (i : ℕ) → len ≤ i → getD log′ i 0 ≡ getD log i 0
 
 -- the head after a checkpoint, but for how many messages stay: its state, no count, and the tallies less what was taken
 unfoldable pub restatedIn : List ℕ → Checkpoint → List ℕ

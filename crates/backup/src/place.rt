@@ -1,7 +1,8 @@
 // The backup in place: one backup in two lent arrays of numbers, a log and a head. These calls are for the crates above; they ask
 // nothing of their caller. Said of any arrays: the number, by a definition on head and arguments, and that a refused call touches
-// neither array. Said of a backup that is sound (fit, with true tallies): it replies as document 01 says and is sound again. They do
-// not look for 20, since a sound one is fit; what an unsound one comes to beside its number is only safe.
+// neither array. Said of a backup that is sound (fit, with true tallies): it replies as document 01 says and is sound again. They don't
+// look through the log for 20, since a sound one is fit; only a sync answers it, for a length over its array. What an unsound one comes to beside
+// its number is only safe.
 ghost use mathlib.Core.Path.{_≡_};
 ghost use mathlib.Core.List.{List, [], _∷_};
 ghost use Prim.Native.Nat.{ℕ, _+_, _-_, _%_, _^_, _≤_, _<_};
@@ -312,7 +313,7 @@ fn report(head: &[u32; HEAD], c: Checkpoint, rounds: usize) -> Metered
     }
 }
 
-// A checkpoint lands, with its rounds counted: 0, or 21 or 23.
+// A checkpoint lands, with its rounds counted: 0, or 20, 21 or 23.
 pub fn metered_sync_in(log: &mut [u64; LOG], head: &mut [u32; HEAD], c: Checkpoint) -> Metered
     ensures { λ r. ⌜ Called (now (log .entry)) (now (head .entry)) (now (log .exit)) (now (head .exit)) (r .landed .number)
         (λ v. sync v (checkpointOf c)) ⌝ }
@@ -329,7 +330,7 @@ pub fn metered_sync_in(log: &mut [u64; LOG], head: &mut [u32; HEAD], c: Checkpoi
     report(head, c, rounds)
 }
 
-// A checkpoint lands: 0, or 21 or 23, and what it dropped and left.
+// A checkpoint lands: 0, or 20, 21 or 23, and what it dropped and left.
 pub fn sync_in(log: &mut [u64; LOG], head: &mut [u32; HEAD], c: Checkpoint) -> Landed
     ensures { λ r. ⌜ Called (now (log .entry)) (now (head .entry)) (now (log .exit)) (now (head .exit)) (r .number)
         (λ v. sync v (checkpointOf c)) ⌝ }

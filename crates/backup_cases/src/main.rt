@@ -81,7 +81,7 @@ fn promoted(case: &[u8], f: FailOver) {
     show(f.promoted);
 }
 
-// Two words on slots 0 and 2, one on slot 1 between them.
+// Two words on slot 0, one on slot 1 between them.
 fn three() -> Backup {
     let a = backup_value::arrive(backup_value::new(), 0, 10).backup;
     let b = backup_value::arrive(a, 1, 11).backup;

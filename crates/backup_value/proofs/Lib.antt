@@ -1,3 +1,2 @@
--- The calls by value: a backup is looked through, laid out for the calls in place, and put together again.
-pub mod Looking
+-- The calls by value: a backup is laid out for the calls on lent numbers, and put together again.
 pub mod ByValue

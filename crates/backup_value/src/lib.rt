@@ -1,20 +1,13 @@
-// The backup record by value, for board programmers: each call takes a backup and gives one back. It is looked through, laid out in two
-// arrays, called in place (crate `backup`), and put together again.
+// The backup record by value: each call takes a backup and gives one back. It is laid out in two arrays, called there (crate
+// `backup_lent`), and put together again.
 ghost use mathlib.Core.Path.{_≡_};
-ghost use Prim.Native.Nat.{_≤_};
-ghost use Rattle.backup.specs.Limits.{logMost};
 ghost use Rattle.backup.specs.Replica.{initial, arrive as arriveOf, count as countOf, sync as syncOf, failOver};
-ghost use Rattle.backup.specs.Place.{viewIn, checkpointOf};
+ghost use Rattle.backup.specs.Place.{checkpointOf};
 ghost use Rattle.backup.specs.Rounds.{OnePass};
 ghost use Rattle.backup.specs.Report.{syncReport};
-ghost use Rattle.backup_value.specs.Value.{view, promotedBy, repliedOf, reportedOf, Answered, Census, Opened, Settled, Told};
+ghost use Rattle.backup_value.specs.Value.{view, promotedBy, repliedOf, reportedOf, headOf, backupOf, Answered};
 use backup::limits::LOG;
-use backup::limits::PC_MOST;
-use backup::limits::PORTS;
-use backup::limits::SENT_MOST;
-use backup::pack::port_of;
 use backup::place::Checkpoint;
-use backup::place::HEAD;
 use backup::place::LEN;
 use backup::place::PC;
 use backup::place::R0;
@@ -22,9 +15,8 @@ use backup::place::R1;
 use backup::place::R2;
 use backup::place::R3;
 use backup::place::SENT;
-
-// The number of a backup that is not fit.
-const UNFIT: u8 = 20;
+use backup_lent::LENT;
+use backup_lent::TOLD;
 
 // Passive replica of a process (document 01: backup record). A message of the log is one number, port times 2^32 plus word (see
 // `pack`); the log's first len numbers count.
@@ -65,21 +57,6 @@ pub struct FailOver {
     pub promoted: Backup,
 }
 
-// What a look through a log finds: whether each message is on a port, and how many are on each.
-struct Tallies {
-    fits: bool,
-    n0: u32,
-    n1: u32,
-    n2: u32,
-    n3: u32,
-}
-
-// A backup's head for the calls in place, where it is fit.
-struct Head {
-    fits: bool,
-    head: [u32; HEAD],
-}
-
 // A backup as it starts: no messages, and the rest 0.
 pub fn new() -> Backup
     ensures { λ r. ⌜ view r ≡ initial ⌝ }
@@ -96,89 +73,16 @@ pub fn new() -> Backup
     }
 }
 
-// Looks through the first len messages of a log, once.
-fn census(log: &[u64; LOG], len: usize) -> Tallies
-    requires { ⌜ len ≤ logMost ⌝ }
-    ensures { λ r. ⌜ Census (now (log .entry)) len r ⌝ }
+// A backup's head.
+fn opened(b: Backup) -> [u32; LENT]
+    ensures { λ r. ⌜ r ≡ headOf b ⌝ }
 {
-    let mut n = [0u32; 4];
-    let mut i = 0;
-    while i < len {
-        let port = port_of(log[i]);
-        if port >= PORTS {
-            return Tallies {
-                fits: false,
-                n0: 0,
-                n1: 0,
-                n2: 0,
-                n3: 0,
-            };
-        }
-        let s = port as usize;
-        n[s] = n[s] + 1;
-        i += 1;
-    }
-    Tallies {
-        fits: true,
-        n0: n[0],
-        n1: n[1],
-        n2: n[2],
-        n3: n[3],
-    }
-}
-
-// The head of a backup, and whether it is fit: document 01's 20.
-fn opened(b: Backup) -> Head
-    ensures { λ r. ⌜ Opened b r ⌝ }
-{
-    let len = b.len as usize;
-    if len > LOG {
-        return Head {
-            fits: false,
-            head: [0; HEAD],
-        };
-    }
-    if b.sent > SENT_MOST {
-        return Head {
-            fits: false,
-            head: [0; HEAD],
-        };
-    }
-    if b.pc > PC_MOST {
-        return Head {
-            fits: false,
-            head: [0; HEAD],
-        };
-    }
-    let log = b.log;
-    let t = census(&log, len);
-    if t.fits {
-        return Head {
-            fits: true,
-            head: [
-                b.len,
-                b.sent,
-                b.pc,
-                b.r0,
-                b.r1,
-                b.r2,
-                b.r3,
-                t.n0,
-                t.n1,
-                t.n2,
-                t.n3,
-            ],
-        };
-    }
-    Head {
-        fits: false,
-        head: [0; HEAD],
-    }
+    [b.len, b.sent, b.pc, b.r0, b.r1, b.r2, b.r3]
 }
 
 // The backup that a log and a head stand for.
-fn closed(log: [u64; LOG], head: [u32; HEAD]) -> Backup
-    ensures { λ r. ⌜ view r ≡ viewIn log head ⌝ }
+fn closed(log: [u64; LOG], head: [u32; LENT]) -> Backup
+    ensures { λ r. ⌜ r ≡ backupOf log head ⌝ }
 {
     Backup {
         log: log,
@@ -192,70 +96,29 @@ fn closed(log: [u64; LOG], head: [u32; HEAD]) -> Backup
     }
 }
 
-// The reply to a call that was made in place on a backup's arrays: refused, the very same backup comes back.
-fn settled(b: Backup, number: u8, log: [u64; LOG], head: [u32; HEAD]) -> Reply
-    ensures { λ r. ⌜ Settled b number log head r ⌝ }
+// A message arrives on a port: 20, 21, 22.
+pub fn arrive(b: Backup, port: u32, word: u32) -> Reply
+    ensures { λ r. ⌜ Answered b r (λ v. arriveOf v port word) ⌝ }
 {
-    if number != 0 {
-        return Reply {
-            number: number,
-            backup: b,
-        };
-    }
+    let mut log = b.log;
+    let mut head = opened(b);
+    let number = backup_lent::arrive(&mut log, &mut head, port, word);
     Reply {
         number: number,
         backup: closed(log, head),
     }
 }
 
-// The reply to any call on a backup that is not fit.
-fn unfit(b: Backup) -> Reply
-    ensures { λ r. ⌜ (r .number ≡ 20) × (r .backup ≡ b) ⌝ }
-{
-    Reply {
-        number: UNFIT,
-        backup: b,
-    }
-}
-
-// A message arrives on a port: 20, 21, 22.
-pub fn arrive(b: Backup, port: u32, word: u32) -> Reply
-    ensures { λ r. ⌜ Answered b r (λ v. arriveOf v port word) ⌝ }
-{
-    let h = opened(b);
-    if h.fits {
-        let mut log = b.log;
-        let mut head = h.head;
-        let saved = backup::place::arrive_in(&mut log, &mut head, port, word);
-        return settled(b, saved, log, head);
-    }
-    unfit(b)
-}
-
 // A message of the process was transmitted: 20, 24.
 pub fn count(b: Backup) -> Reply
     ensures { λ r. ⌜ Answered b r countOf ⌝ }
 {
-    let h = opened(b);
-    if h.fits {
-        let log = b.log;
-        let mut head = h.head;
-        let counted = backup::place::count_in(&mut head);
-        return settled(b, counted, log, head);
-    }
-    unfit(b)
-}
-
-// A sync's reply, from that of any call and what it dropped and left.
-fn told(r: Reply, dropped: [u32; 4], remained: [u32; 4]) -> SyncReply
-    ensures { λ t. ⌜ Told r dropped remained t ⌝ }
-{
-    let b = r.backup;
-    SyncReply {
-        number: r.number,
-        backup: b,
-        dropped: dropped,
-        remained: remained,
+    let log = b.log;
+    let mut head = opened(b);
+    let number = backup_lent::count(&log, &mut head);
+    Reply {
+        number: number,
+        backup: closed(log, head),
     }
 }
 
@@ -265,23 +128,20 @@ pub fn metered_sync(b: Backup, c: Checkpoint) -> MeteredReply
     ensures { λ r. ⌜ reportedOf (r .reply) ≡ syncReport (view b) (checkpointOf c) ⌝ }
     ensures { λ r. ⌜ OnePass (view b) (checkpointOf c) (r .reply .number) (r .rounds) ⌝ }
 {
-    let h = opened(b);
-    if h.fits {
-        let mut log = b.log;
-        let mut head = h.head;
-        let m = backup::place::metered_sync_in(&mut log, &mut head, c);
-        let l = m.landed;
-        let dropped = l.dropped;
-        let remained = l.remained;
-        let reply = settled(b, l.number, log, head);
-        return MeteredReply {
-            reply: told(reply, dropped, remained),
-            rounds: m.rounds,
-        };
-    }
+    let mut log = b.log;
+    let mut head = opened(b);
+    let registers = [c.r0, c.r1, c.r2, c.r3];
+    let taken = [c.t0, c.t1, c.t2, c.t3];
+    let mut t = [0; TOLD];
+    let m = backup_lent::metered_sync(&mut log, &mut head, c.pc, &registers, &taken, &mut t);
     MeteredReply {
-        reply: told(unfit(b), [0; 4], [0; 4]),
-        rounds: 0,
+        reply: SyncReply {
+            number: m.number,
+            backup: closed(log, head),
+            dropped: [t[0], t[1], t[2], t[3]],
+            remained: [t[4], t[5], t[6], t[7]],
+        },
+        rounds: m.rounds,
     }
 }
 
@@ -298,15 +158,12 @@ pub fn sync(b: Backup, c: Checkpoint) -> SyncReply
 pub fn fail_over(b: Backup) -> FailOver
     ensures { λ r. ⌜ promotedBy r ≡ failOver (view b) ⌝ }
 {
-    let h = opened(b);
-    if h.fits {
-        return FailOver {
-            number: 0,
-            promoted: b,
-        };
-    }
+    let log = b.log;
+    let head = opened(b);
+    let mut handed = [0; LENT];
+    let number = backup_lent::take_over(&log, &head, &mut handed);
     FailOver {
-        number: UNFIT,
-        promoted: new(),
+        number: number,
+        promoted: closed(log, handed),
     }
 }

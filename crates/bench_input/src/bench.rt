@@ -10,7 +10,7 @@ use page::write_page;
 use plan::PROCESSES as PROCESSES_MOST;
 use records::bytes::byte;
 use records::schedule::COMMANDS_MOST;
-use table::format::PROCESSES;
+use table::format::PROCESSES_AT;
 use words::byte_wide;
 use words::least;
 
@@ -59,7 +59,7 @@ fn run_page(table: &[u8], schedule: &[u8], out: &mut [u8]) -> usize
     let number = v.number;
     let records = v.records;
     let quiet = v.quiet;
-    let processes = byte_wide(byte(table, PROCESSES));
+    let processes = byte_wide(byte(table, PROCESSES_AT));
     print(number, records, quiet, &answers, processes, &report, out)
 }
 

@@ -16,8 +16,8 @@ use state::moved::Answer;
 use words::index16;
 use words::index32;
 
-// The sender's half, and then the reader's, which may be the same process. The sender of a word in a queue is one. The channel's total stays,
-// with a word less in the queues and one more unread; of a word that the outside reads it is one less.
+// The sender's half, and then the reader's, which may be the same process. The sender of a word in a queue is a process, never the outside. The
+// channel's total stays, with a word less in the queues and one more unread; of a word that the outside reads it is one less.
 pub fn transmit_word(
     wires: &[u32; WIRES],
     rows: &mut [[u32; ROW]; PROCESSES],

@@ -1,3 +1,4 @@
 -- Why the run is the rules'.
 pub mod Judging
 pub mod Running
+pub mod Totals

@@ -2,3 +2,4 @@
 pub mod Judged
 pub mod Conducts
 pub mod Runs
+pub mod Totals

@@ -12,7 +12,7 @@ use Rattle.backup.specs.Limits.{logMost}
 use Rattle.rules.specs.Cabinet.{unreadOn}
 use Rattle.rules.proofs.Counting.{unread-append}
 use Rattle.process.specs.Row.{mailIn, packedAt, mailsIn}
-use Rattle.crash.specs.Recount.{unreadHere, unreadAt, lessBy}
+use Rattle.crash.specs.Recount.{unreadHere, unreadAt}
 
 -- ---- one channel in one mailbox, whose oldest word stands at place `first`
 
@@ -59,9 +59,6 @@ module _ (first : ℕ) (mail : List ℕ) (n k count i : ℕ) (c : Counting first
       c .so-far ∙ ap (λ (j : ℕ). unreadOn k (mailsIn first j mail)) e
 
 -- ---- taken out of a total, or added
-
-pub less-by : (x y less : ℕ) → (less + y) % 2 ^ 32 ≡ x → less < 2 ^ 32 → y < 2 ^ 32 → less ≡ lessBy x y
-less-by x y less e l h = omega arith
 
 pub unread-inside : (rows mails : List (List ℕ)) (p k : ℕ) → p < 16 → unreadHere (getD rows p []) (getD mails p []) k ≡ unreadAt rows mails p k
 unread-inside rows mails p k l = rw (lt-ltb p 16 l)

@@ -1,7 +1,7 @@
 -- The unread words of a channel counted in its reader's mailbox, and taken out of the totals or added to them.
 use mathlib.Core.Bool.{cond}
 use mathlib.Core.List.{List, []}
-use Prim.Native.Nat.{ℕ, _+_, _-_, _%_, _^_, min}
+use Prim.Native.Nat.{ℕ, _+_, _%_, _^_, min}
 use lib.Dec.{ltb}
 use lib.ListN.{getD}
 use Rattle.backup.specs.Limits.{logMost}
@@ -9,6 +9,7 @@ use Rattle.rules.specs.Cabinet.{unreadOn}
 use Rattle.process.specs.Row.{unreadIn, oldestIn, mailsIn}
 use Rattle.plan.specs.Plan.{readerIn}
 use Rattle.rules.specs.Sizes.{processesMost}
+use Rattle.state.specs.Queue.{lessBy}
 use Rattle.crash.specs.Each.{Each}
 
 -- how many unread words of channel k a row and a mailbox have
@@ -19,10 +20,7 @@ unreadHere row mail k = unreadOn k (mailsIn (oldestIn row) (min (unreadIn row) l
 abbrev pub unreadAt : List (List ℕ) → List (List ℕ) → ℕ → ℕ → ℕ
 unreadAt rows mails p k = cond (ltb p processesMost) (unreadHere (getD rows p []) (getD mails p []) k) 0
 
--- a number less or more another, in 32 bits
-abbrev pub lessBy : ℕ → ℕ → ℕ
-lessBy x y = (x + (2 ^ 32 - y)) % 2 ^ 32
-
+-- a number more another, in 32 bits
 abbrev pub moreBy : ℕ → ℕ → ℕ
 moreBy x y = (x + y) % 2 ^ 32
 

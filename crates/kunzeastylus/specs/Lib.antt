@@ -1,4 +1,4 @@
--- What the exported calls promise. The backup record's promise is `Exported` of crate backup_call.
+-- What the exported calls promise. The backup record's promises are those of crate backup_lent.
 pub mod Abi
 pub mod Judges
 pub mod Packed

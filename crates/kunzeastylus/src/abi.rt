@@ -3,7 +3,7 @@ ghost use mathlib.Core.Path.{_≡_};
 ghost use Rattle.kunzeastylus.specs.Abi.{abi};
 
 // include/kunzeastylus.h has it as KS_ABI.
-pub const ABI: u32 = 2;
+pub const ABI: u32 = 3;
 
 #[no_mangle]
 pub extern "C" fn ks_abi() -> u32

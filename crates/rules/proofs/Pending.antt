@@ -13,7 +13,7 @@ use Rattle.facts.specs.Tests.{no-way, by-eq, by-lt}
 use Rattle.rules.specs.Table.{Table}
 use Rattle.rules.specs.Machine.{Machine, Act}
 use Rattle.rules.specs.Reference.{Reference}
-use Rattle.rules.specs.Cabinet.{Standby, Process, Item, message, checkpoint, transfer, Cabinet, processAt, outboxAt, isCheckpointOf, waiting, started}
+use Rattle.rules.specs.Cabinet.{Standby, Process, Item, message, checkpoint, transfer, Cabinet, processAt, outboxAt, isWaiterOf, waiting, started}
 use Rattle.rules.specs.Moves.{Command, runFrom}
 use Rattle.rules.specs.Judge.{Accepted}
 use Rattle.rules.specs.Rebackup.{BeingMade, pendingOf}
@@ -29,7 +29,7 @@ pending-mine t p [] = refl
 pending-mine t p (item ∷ q) = go item (eqb p (ownerOf t item)) refl (pending-mine t p q)
   where
     go : (i : Item) (b : Bool) → eqb p (ownerOf t i) ≡ b → checkpoints (mine t p q) ≡ pendingOf p q
-        → checkpoints (cond b (i ∷ mine t p q) (mine t p q)) ≡ cond (isCheckpointOf p i) (suc (pendingOf p q)) (pendingOf p q)
+        → checkpoints (cond b (i ∷ mine t p q) (mine t p q)) ≡ cond (isWaiterOf p i) (suc (pendingOf p q)) (pendingOf p q)
     go (message x pc) true e h = h
     go (message x pc) false e h = h
     go (checkpoint r k) true e h = rw e (ap suc h)
@@ -42,7 +42,7 @@ waits-mine t p [] = refl
 waits-mine t p (item ∷ q) = go item (eqb p (ownerOf t item)) refl (waits-mine t p q)
   where
     go : (i : Item) (b : Bool) → eqb p (ownerOf t i) ≡ b → waiting p (mine t p q) ≡ waiting p q
-        → waiting p (cond b (i ∷ mine t p q) (mine t p q)) ≡ isCheckpointOf p i || waiting p q
+        → waiting p (cond b (i ∷ mine t p q) (mine t p q)) ≡ isWaiterOf p i || waiting p q
     go (message x pc) true e h = h
     go (message x pc) false e h = h
     go (checkpoint r k) true e h = rw e
@@ -52,7 +52,7 @@ waits-mine t p (item ∷ q) = go item (eqb p (ownerOf t item)) refl (waits-mine 
 
 waits-there : (p : ℕ) (old new : List Item) → waiting p (old ++ (transfer p ∷ new)) ≡ true
 waits-there p [] new = rw (eq-eqb p p refl)
-waits-there p (y ∷ old) new = go (isCheckpointOf p y) (waits-there p old new)
+waits-there p (y ∷ old) new = go (isWaiterOf p y) (waits-there p old new)
   where
     go : (b : Bool) → waiting p (old ++ (transfer p ∷ new)) ≡ true → b || waiting p (old ++ (transfer p ∷ new)) ≡ true
     go true h = refl

@@ -175,15 +175,15 @@ unfoldable pub crowded : Table → Cabinet → ℕ → Bool
 unfolding occupancy inputs
 crowded t c p = anyBelow (λ i. ltb occupancyMost (occupancy t c (channelOn t p i))) (length (inputs t p))
 
--- a sync of process p waits in an outbox, or a resync: "41 (for a waiting resync too)"
-abbrev pub isCheckpointOf : ℕ → Item → Bool
-isCheckpointOf p (message x pc) = false
-isCheckpointOf p (checkpoint q s) = eqb p q
-isCheckpointOf p (transfer q) = eqb p q
+-- an entry of which process p may have but one waiting: a sync, or a resync, "41 (for a waiting resync too)"
+abbrev pub isWaiterOf : ℕ → Item → Bool
+isWaiterOf p (message x pc) = false
+isWaiterOf p (checkpoint q s) = eqb p q
+isWaiterOf p (transfer q) = eqb p q
 
 abbrev pub waiting : ℕ → List Item → Bool
 waiting p [] = false
-waiting p (x ∷ l) = isCheckpointOf p x || waiting p l
+waiting p (x ∷ l) = isWaiterOf p x || waiting p l
 
 -- ---- quiet
 

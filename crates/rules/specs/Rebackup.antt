@@ -10,7 +10,7 @@ use lib.Dec.{eqb}
 use Rattle.backup.specs.Replica.{Message, Replica, Checkpoint, initial, arrived, synced, arriveNumber, syncNumber}
 use Rattle.rules.specs.Table.{Table, placementAt, channelAt, portOf}
 use Rattle.rules.specs.Machine.{Mail, Machine}
-use Rattle.rules.specs.Cabinet.{Standby, Process, Item, Cabinet, noTakes, processAt, otherBoard, isCheckpointOf, occupancy}
+use Rattle.rules.specs.Cabinet.{Standby, Process, Item, Cabinet, noTakes, processAt, otherBoard, isWaiterOf, occupancy}
 use Rattle.rules.specs.Moves.{Answer, stepDone, issueDone, crashDone, rejoinDone, rebackupDone, received, queued, suppressed}
 use Rattle.rules.specs.Moves.{transmitted, injected, syncKept, syncLost, transferKept, undoDone, refused, numbers, copied}
 use Rattle.rules.specs.Transparent.{traceOf}
@@ -58,7 +58,7 @@ abbrev pub pendingOf : ℕ → List Item → ℕ
 pendingOf p [] = 0
 pendingOf p (x ∷ q) =
     let others = pendingOf p q in
-    cond (isCheckpointOf p x) (suc others) others
+    cond (isWaiterOf p x) (suc others) others
 
 -- ---- "those words, then all that have arrived since issue"
 

@@ -15,7 +15,7 @@ use Rattle.process.specs.Row.{processOf, waitsIn, boardIn, flagIn}
 use Rattle.process.proofs.Rows.{protected-is}
 use Rattle.rules.specs.Table.{Table}
 use Rattle.rules.specs.Cabinet as rules
-use Rattle.rules.specs.Cabinet.{isCheckpointOf, Cabinet, Process, outboxMost, processAt, outboxAt, protected, waiting}
+use Rattle.rules.specs.Cabinet.{isWaiterOf, Cabinet, Process, outboxMost, processAt, outboxAt, protected, waiting}
 use Rattle.rules.specs.Moves.{enqueue}
 use Rattle.rules.proofs.Counting.{weight, flight-joined}
 use Rattle.state.specs.declared.entry.Entry.{Entry}
@@ -68,13 +68,13 @@ module _ {t : Table} {s : Store} {entries : List Entry} {c : Cabinet} (reach : R
 
 -- an entry of process p that waits is a checkpoint or a transfer of it, and no word
 pub record Waiter (p : ℕ) (item : rules.Item) : Type 0 where
-  pub its : (q : ℕ) → isCheckpointOf q item ≡ eqb q p
+  pub its : (q : ℕ) → isWaiterOf q item ≡ eqb q p
   pub no-word : (k : ℕ) → weight k item ≡ 0
 
 -- it waits in a queue that it joined, and whatever waited before waits still
 waiting-joined : (q p : ℕ) (l : List rules.Item) (x : rules.Item) → Waiter p x → waiting q (l ++ (x ∷ [])) ≡ (waiting q l || eqb q p)
 waiting-joined q p [] x w = rw (w .its q) (or-false (eqb q p))
-waiting-joined q p (i ∷ l) x w = ap (λ (b : Bool). isCheckpointOf q i || b) (waiting-joined q p l x w) ∙ sym (or-assoc (isCheckpointOf q i) (waiting q l) (eqb q p))
+waiting-joined q p (i ∷ l) x w = ap (λ (b : Bool). isWaiterOf q i || b) (waiting-joined q p l x w) ∙ sym (or-assoc (isWaiterOf q i) (waiting q l) (eqb q p))
 
 module _ {t : Table} {s : Store} {entries : List Entry} {c : Cabinet} (reach : Reachable t c) (h : Holds t s entries c) (p : ℕ) (hp : p < length (t .processes))
     (x : Entry) (waiter : Waiter p (itemOf (x .item))) (few : countIn (s .queues) (boardIn (getD (s .rows) p [])) < outboxMost) where

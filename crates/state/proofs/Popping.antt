@@ -16,7 +16,7 @@ use Rattle.state.specs.declared.entry.Entry.{Entry}
 use Rattle.state.specs.declared.entry.Item.{Item}
 use Rattle.state.specs.declared.queue.Front.{Front}
 use Rattle.state.specs.declared.queue.Front.the-variants.{Oldest, Empty}
-use Rattle.state.specs.Queue.{countIn, queueCount, queueFirst, frontOf, lessOne, poppedIn, Popped}
+use Rattle.state.specs.Queue.{countIn, queueCount, queueFirst, frontOf, lessBy, poppedIn, Popped}
 use Rattle.state.specs.Store.{Store, Holds}
 
 -- ---- what stands in front
@@ -44,9 +44,9 @@ front-some queue x i e =
 
 -- ---- it leaves
 
--- a number one less in 32 bits
-is-less : (n less : ℕ) → (less + 1) % 2 ^ 32 ≡ n → less < 2 ^ 32 → less ≡ lessOne n
-is-less n less e l = omega arith
+-- a number less another, in 32 bits
+pub less-by : (x y less : ℕ) → (less + y) % 2 ^ 32 ≡ x → less < 2 ^ 32 → y < 2 ^ 32 → less ≡ lessBy x y
+less-by x y less e l h = omega arith
 
 pub popped : (queue : List ℕ) (more less : ℕ) → more ≡ (queueFirst queue + 1) % 2 ^ 32
     → (less + 1) % 2 ^ 32 ≡ getD (set queue 0 (more % 32)) 1 0 → less < 2 ^ 32
@@ -54,7 +54,7 @@ pub popped : (queue : List ℕ) (more less : ℕ) → more ≡ (queueFirst queue
 popped queue more less e f l =
     let a : more % 32 ≡ (queueFirst queue + 1) % 32 = omega arith in
     let b : getD (set queue 0 (more % 32)) 1 0 ≡ queueCount queue = getD-set-other queue 0 1 (more % 32) 0 (λ z. omega arith) in
-    ap (λ (n : ℕ). set (set queue 0 n) 1 less) a ∙ ap (set (set queue 0 ((queueFirst queue + 1) % 32)) 1) (is-less (queueCount queue) less (f ∙ b) l)
+    ap (λ (n : ℕ). set (set queue 0 n) 1 less) a ∙ ap (set (set queue 0 ((queueFirst queue + 1) % 32)) 1) (less-by (queueCount queue) 1 less (f ∙ b) l (omega arith))
 
 -- of lists that hold a cabinet, where the queue had an entry
 pub row-then : {t : Table} {s : Store} {entries : List Entry} {c : Cabinet} → Holds t s entries c → (b : ℕ) → b < t .boards → (count : ℕ)
@@ -67,11 +67,11 @@ row-then {s = s} h b hb count e =
     let z : length first ≡ length queue = length-set queue 0 _ in
     record {
       first-is =
-          getD-set-other first 1 0 (lessOne (queueCount queue)) 0 (λ i. omega arith)
+          getD-set-other first 1 0 (lessBy (queueCount queue) 1) 0 (λ i. omega arith)
           ∙ getD-set-same queue 0 ((queueFirst queue + 1) % 32) 0 (omega arith);
-      count-is = let a = getD-set-same first 1 (lessOne (queueCount queue)) 0 (omega arith) in omega arith;
+      count-is = let a = getD-set-same first 1 (lessBy (queueCount queue) 1) 0 (omega arith) in omega arith;
       dead-is =
-          getD-set-other first 1 2 (lessOne (queueCount queue)) 0 (λ i. omega arith)
+          getD-set-other first 1 2 (lessBy (queueCount queue) 1) 0 (λ i. omega arith)
           ∙ getD-set-other queue 0 2 ((queueFirst queue + 1) % 32) 0 (λ i. omega arith);
       three = length-set first 1 _ ∙ z ∙ l;
     }

@@ -2,7 +2,7 @@
 use mathlib.Core.Path.{_≡_}
 use mathlib.Core.Bool.{Bool, not, cond}
 use mathlib.Core.List.{List, []}
-use Prim.Native.Nat.{ℕ, suc, _+_, _*_, _%_, _^_}
+use Prim.Native.Nat.{ℕ, suc, _+_, _-_, _*_, _%_, _^_}
 use lib.Dec.{eqb}
 use lib.ListN.{length, getD, set}
 use Rattle.rules.specs.Sizes.{outboxMost}
@@ -49,13 +49,13 @@ oldestOf queue b = outboxMost * b + queueFirst queue % outboxMost
 abbrev pub frontOf : List ℕ → Entry → Front
 frontOf queue oldest = cond (eqb (queueCount queue) 0) Empty (Oldest (oldest .item))
 
--- one less, in 32 bits
-abbrev pub lessOne : ℕ → ℕ
-lessOne n = (n + 4294967295) % 2 ^ 32
+-- a number less another, in 32 bits
+abbrev pub lessBy : ℕ → ℕ → ℕ
+lessBy x y = (x + (2 ^ 32 - y)) % 2 ^ 32
 
 -- the row after the oldest left
 abbrev pub poppedIn : List ℕ → List ℕ
-poppedIn queue = set (set queue 0 ((queueFirst queue + 1) % outboxMost)) 1 (lessOne (queueCount queue))
+poppedIn queue = set (set queue 0 ((queueFirst queue + 1) % outboxMost)) 1 (lessBy (queueCount queue) 1)
 
 -- the row before and after it, of a queue that had an entry
 pub record Popped (queue queue′ : List ℕ) : Type 0 where

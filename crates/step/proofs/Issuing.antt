@@ -12,7 +12,7 @@ use Rattle.process.specs.Change.{RowBecame}
 use Rattle.process.proofs.Rows.{checkpoint-is}
 use Rattle.rules.specs.Table.{Table}
 use Rattle.rules.specs.Cabinet as rules
-use Rattle.rules.specs.Cabinet.{isCheckpointOf, Cabinet, outboxMost, processAt, outboxAt}
+use Rattle.rules.specs.Cabinet.{isWaiterOf, Cabinet, outboxMost, processAt, outboxAt}
 use Rattle.rules.specs.Moves.{refuse, accept, guard, noBackup, syncWaits, syncBlocked, refusalNumber, issue, issued, snapshot, withProcess, enqueue, issueDone, numbers}
 use Rattle.rules.specs.Reasons.{refusalCause, causeOf}
 use Rattle.rules.proofs.Counting.{weight}
@@ -74,7 +74,7 @@ module _ {t : Table} {s : Store} {entries : List Entry} {c : Cabinet} (reach : R
   its-item = ap (rules.checkpoint p) (checkpoint-is row _ _ _ ∙ ap snapshot (sym (at-process h p hp)))
 
   sync-waits : Waiter p (itemOf (syncEntry (s .rows) p .item))
-  sync-waits = record { its = λ q. ap (isCheckpointOf q) its-item; no-word = λ i. ap (weight i) its-item }
+  sync-waits = record { its = λ q. ap (isWaiterOf q) its-item; no-word = λ i. ap (weight i) its-item }
 
   -- the lists afterwards hold the rules' cabinet afterwards
   issue-holds : (row′ : List ℕ) → countIn (s .queues) b < outboxMost → RowBecame (getD (withFlag (s .rows) p 1) p []) row′ issued

@@ -17,7 +17,7 @@ use Rattle.plan.specs.Plan.{readerIn}
 use Rattle.rules.specs.Table.{Table, codeOf, limitOf, channelAt}
 use Rattle.rules.specs.Machine.{Mail, Machine, sent}
 use Rattle.rules.specs.Cabinet as rules
-use Rattle.rules.specs.Cabinet.{Cabinet, Process, outboxMost, isCheckpointOf, processAt, outboxAt, full, waiting}
+use Rattle.rules.specs.Cabinet.{Cabinet, Process, outboxMost, isWaiterOf, processAt, outboxAt, full, waiting}
 use Rattle.rules.specs.Moves as moves
 use Rattle.rules.specs.Moves.{guard, refuse, accept, owedFor, sendBlocked, sendHeld, refusalNumber, suppressed, numbers, advanced, counting, oneSent, step, stepFrom, withProcess, withOutbox, enqueue}
 use Rattle.rules.specs.Reasons.{refusalCause, causeOf}
@@ -47,7 +47,7 @@ use Rattle.step.proofs.Stepping.{machine-is, step-is, owing-is, blame-i
 -- a word that joins a queue is no checkpoint
 waiting-joined : (q : ℕ) (l : List rules.Item) (x : Mail) (pc : ℕ) → waiting q (l ++ (rules.message x pc ∷ [])) ≡ waiting q l
 waiting-joined q [] x pc = refl
-waiting-joined q (i ∷ l) x pc = ap (λ (b : Bool). isCheckpointOf q i || b) (waiting-joined q l x pc)
+waiting-joined q (i ∷ l) x pc = ap (λ (b : Bool). isWaiterOf q i || b) (waiting-joined q l x pc)
 
 module _ {t : Table} {s : Store} {entries : List Entry} {c : Cabinet} (reach : Reachable t c) (h : Holds t s entries c) (p : ℕ) (hp : p < length (t .processes))
     (n code a operand channel word : ℕ) (i : Intends (codeOf t p) (getD (s .rows) p []) (getD (s .mails) p []) n code a operand (Send channel word)) where

@@ -6,11 +6,11 @@ ghost use Rattle.rules.specs.Judge.{limitOk};
 ghost use Rattle.rules.specs.Format.{processesMost};
 ghost use Rattle.table.specs.Parts.{twoBoards, PlacedIn, PlacementsRead, limitsPass, Framed};
 use crate::extent::records_start;
-use crate::format::BOARDS;
+use crate::format::BOARDS_AT;
 use crate::format::LIMIT_LEAST;
 use crate::format::LIMIT_MOST;
 use crate::format::PRIMARY;
-use crate::format::PROCESSES;
+use crate::format::PROCESSES_AT;
 use crate::format::STANDBY;
 use crate::record::limit_of;
 use crate::record::program_length;
@@ -76,8 +76,8 @@ pub fn judge_boards(table: &[u8], rows: [u32; PROGRAMS]) -> Placements
     ensures { λ r. ⌜ PlacementsRead (now (table .entry)) rows r ⌝ }
 {
     let version = version_of(table);
-    let boards = byte(table, BOARDS);
-    let processes = byte_wide(byte(table, PROCESSES));
+    let boards = byte(table, BOARDS_AT);
+    let processes = byte_wide(byte(table, PROCESSES_AT));
     let mut programs = rows;
     let mut primary = [0u32; PROCESSES_MOST];
     let mut standby = [0u32; PROCESSES_MOST];

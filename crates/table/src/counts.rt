@@ -4,10 +4,10 @@ ghost use mathlib.Core.Bool.{_&&_};
 ghost use lib.Dec.{leb};
 ghost use Rattle.rules.specs.Format.{versionOk, countsFit};
 ghost use Rattle.table.specs.Parts.{countsIn};
-use crate::format::BOARDS;
+use crate::format::BOARDS_AT;
 use crate::format::BOARDS_LEAST;
-use crate::format::CHANNELS;
-use crate::format::PROCESSES;
+use crate::format::CHANNELS_AT;
+use crate::format::PROCESSES_AT;
 use crate::format::WITH_LIMITS;
 use crate::format::WITHOUT_LIMITS;
 use plan::BOARDS as BOARDS_MOST;
@@ -22,9 +22,9 @@ pub fn counts_of(table: &[u8]) -> Counts
     ensures { λ r. ⌜ r ≡ countsIn (now (table .entry)) ⌝ }
 {
     Counts {
-        boards: byte_wide(byte(table, BOARDS)),
-        processes: byte_wide(byte(table, PROCESSES)),
-        channels: byte_wide(byte(table, CHANNELS)),
+        boards: byte_wide(byte(table, BOARDS_AT)),
+        processes: byte_wide(byte(table, PROCESSES_AT)),
+        channels: byte_wide(byte(table, CHANNELS_AT)),
     }
 }
 

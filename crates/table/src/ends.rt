@@ -4,10 +4,10 @@ ghost use mathlib.Core.Bool.{true};
 ghost use Rattle.rules.specs.Judge.{endOk, endsOk};
 ghost use Rattle.rules.specs.Format.{countsOk, decodeTable};
 ghost use Rattle.table.specs.Parts.{pairOk, PortsRead};
-use crate::format::CHANNELS;
+use crate::format::CHANNELS_AT;
 use crate::format::PAIR_READER;
 use crate::format::PAIR_SENDER;
-use crate::format::PROCESSES;
+use crate::format::PROCESSES_AT;
 use crate::rows::put_ends;
 use crate::rows::put_input;
 use crate::rows::put_port;
@@ -46,8 +46,8 @@ fn pair_ok(processes: u8, sender: u8, reader: u8) -> bool
 pub fn ends_ok(table: &[u8]) -> bool
     ensures { λ r. ⌜ r ≡ endsOk (decodeTable (now (table .entry))) ⌝ }
 {
-    let processes = byte(table, PROCESSES);
-    let channels = byte_wide(byte(table, CHANNELS));
+    let processes = byte(table, PROCESSES_AT);
+    let channels = byte_wide(byte(table, CHANNELS_AT));
     let mut k = 0;
     while k < channels {
         let sender = byte(table, 2 * k + PAIR_SENDER);
@@ -65,8 +65,8 @@ pub fn judge_ports(table: &[u8]) -> Ports
     requires { ⌜ countsOk (now table) ≡ true ⌝ }
     ensures { λ r. ⌜ PortsRead (now (table .entry)) r ⌝ }
 {
-    let processes = byte(table, PROCESSES);
-    let channels = byte_wide(byte(table, CHANNELS));
+    let processes = byte(table, PROCESSES_AT);
+    let channels = byte_wide(byte(table, CHANNELS_AT));
     let mut wires = [0u32; WIRES];
     let mut programs = [0u32; PROGRAMS];
     let mut k = 0;

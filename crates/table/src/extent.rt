@@ -5,9 +5,9 @@ ghost use Rattle.table.specs.Parts.{recordIn, framing};
 use crate::counts::counts_fit;
 use crate::counts::counts_of;
 use crate::counts::version_ok;
-use crate::format::CHANNELS;
+use crate::format::CHANNELS_AT;
 use crate::format::HEAD;
-use crate::format::PROCESSES;
+use crate::format::PROCESSES_AT;
 use crate::format::PROGRAM_MOST;
 use crate::format::TABLE_MOST;
 use crate::record::program_length;
@@ -43,7 +43,7 @@ fn counts_ok(table: &[u8]) -> bool
 pub fn records_start(table: &[u8]) -> usize
     ensures { λ r. ⌜ r ≡ recordsStart (now (table .entry)) ⌝ }
 {
-    HEAD + 2 * byte_wide(byte(table, CHANNELS))
+    HEAD + 2 * byte_wide(byte(table, CHANNELS_AT))
 }
 
 // The length of the record that begins a rest, or 0 where it has over 64 instructions or the rest ends within it.
@@ -69,7 +69,7 @@ fn extent_ok(table: &[u8]) -> bool
         return false;
     }
     let version = version_of(table);
-    let processes = byte_wide(byte(table, PROCESSES));
+    let processes = byte_wide(byte(table, PROCESSES_AT));
     let mut p = 0;
     while p < processes {
         let length = record_in(version, &table[at..]);

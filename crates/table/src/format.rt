@@ -2,12 +2,12 @@
 // channels a table has at most, and the environment, are named by crate `plan`, how many channels a process reads by the record's limits.
 use backup::limits::PC_MOST;
 
-// Of the head, behind the length's two bytes and the version (records/src/head.rt): boards, processes, channels.
-pub const BOARDS: usize = 3;
+// Where the head has how many boards, processes and channels there are, behind the length's two bytes and the version (records/src/head.rt).
+pub const BOARDS_AT: usize = 3;
 
-pub const PROCESSES: usize = 4;
+pub const PROCESSES_AT: usize = 4;
 
-pub const CHANNELS: usize = 5;
+pub const CHANNELS_AT: usize = 5;
 
 pub const HEAD: usize = 6;
 

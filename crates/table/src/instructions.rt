@@ -7,10 +7,10 @@ ghost use Rattle.rules.specs.Judge.{instructionsOk};
 ghost use Rattle.rules.specs.Format.{recordsStart, recordLength, decodeTable, extentOk};
 ghost use Rattle.table.specs.Judging.{endIs, channelsPass, maskOk, passes, programOk, recordOk};
 use crate::extent::records_start;
-use crate::format::CHANNELS;
+use crate::format::CHANNELS_AT;
 use crate::format::PAIR_READER;
 use crate::format::PAIR_SENDER;
-use crate::format::PROCESSES;
+use crate::format::PROCESSES_AT;
 use crate::record::program_length;
 use crate::record::record_head;
 use crate::record::record_length;
@@ -26,7 +26,7 @@ fn end_is(table: &[u8], side: usize, k: u32, p: u8) -> bool
     ensures { λ r. ⌜ r ≡ endIs (now (table .entry)) side k p ⌝ }
 {
     let channel = wide(k);
-    if channel >= byte_wide(table[CHANNELS]) {
+    if channel >= byte_wide(table[CHANNELS_AT]) {
         return false;
     }
     table[2 * channel + side] == p
@@ -111,7 +111,7 @@ pub fn instructions_ok(table: &[u8]) -> bool
     ensures { λ r. ⌜ r ≡ instructionsOk (decodeTable (now (table .entry))) ⌝ }
 {
     let version = version_of(table);
-    let processes = table[PROCESSES];
+    let processes = table[PROCESSES_AT];
     let mut at = records_start(table);
     let mut p = 0;
     while p < processes {

@@ -88,11 +88,11 @@ fn number<N: std::str::FromStr>(text: &str, what: &str) -> Result<N, String> {
 }
 
 fn answer(text: &str) -> Result<Code, String> {
-    let code = number(text, "an answer's code, or refused,")?;
-    Code::of(code).ok_or_else(|| format!("{text}: no answer has this code (docs/NUMBERS.md)"))
+    let code: u8 = number(text, "an answer's code, or refused,")?;
+    Code::try_from(code).map_err(|_| format!("{text}: no answer has this code (docs/NUMBERS.md)"))
 }
 
-/// A move in words, as `./explain` prints them, or shorter: `feed channel 0, word 5`, `feed 0 5`. Whether there is such a board is the library's
+/// A move in words, as `ks explain` prints them, or shorter: `feed channel 0, word 5`, `feed 0 5`. Whether there is such a board is the library's
 /// to say.
 fn typed(first: &str, rest: &[&str]) -> Result<Bytes, String> {
     let nouns = ["process", "board", "channel", "a", "word"];

@@ -9,19 +9,18 @@ mod draw;
 mod session;
 mod view;
 
-use crate::explain::{schedule_length, Input};
+use crate::explain::Input;
+use crate::proved::{run, Ran};
+use crate::records::{schedule_length, RECORDS_MOST};
 use command::{Command, Kind};
 pub use draw::{bus_so_far, draw};
 use kunzeastylus::{Fate, Move, Record, Refusal, Table};
 pub use session::{session, HELP};
-use view::Played;
+use view::seats;
 pub use view::{Last, Seat, View};
 
 /// A record of a schedule: move, a, word.
 pub type Bytes = [u8; 6];
-
-/// The most records of a schedule.
-const RECORDS_MOST: usize = 10_000;
 
 /// From where a record came: of the file by its number, from 1; typed, by how many were; or a key that goes back.
 #[derive(Clone, Copy, Debug, PartialEq, Eq)]
@@ -93,7 +92,7 @@ impl Stepper {
         let now = self.played(self.given.iter().map(|given| given.record));
         View {
             last: self.last(&now),
-            seats: now.seats(&self.table),
+            seats: seats(&now, &self.table),
             coming: self.file.get(self.at).map(|&record| (self.at + 1, record)),
             bus: now.bus,
             quiet: now.quiet,
@@ -101,9 +100,9 @@ impl Stepper {
     }
 
     /// The last of the records given, and its answer in the run of all of them.
-    fn last(&self, now: &Played) -> Option<Last> {
+    fn last(&self, now: &Ran) -> Option<Last> {
         let (&Given { record, source }, before) = self.given.split_last()?;
-        let before = self.played(before.iter().map(|given| given.record)).seats(&self.table);
+        let before = seats(&self.played(before.iter().map(|given| given.record)), &self.table);
         let taken = match now.fates[self.given.len() - 1] {
             Fate::TookBack(taken) => Some(self.given[taken].source.name()),
             _ => None,
@@ -112,12 +111,12 @@ impl Stepper {
     }
 
     /// The run of these records.
-    fn played(&self, records: impl Iterator<Item = Bytes>) -> Played {
+    fn played(&self, records: impl Iterator<Item = Bytes>) -> Ran {
         let mut schedule = vec![0, 0, 1];
         schedule.extend(records.flatten());
         let length = schedule_length(schedule.len());
         schedule[..2].copy_from_slice(&length);
-        Played::of(&self.bytes, &schedule)
+        run(&self.bytes, &schedule).expect("a run of records on an accepted table")
     }
 
     /// Does what a command asks for.
@@ -133,9 +132,9 @@ impl Stepper {
                 return Ok(Went { records: to, anew: true });
             }
             Command::Go(to) => self.on(to)?,
-            Command::Crash => self.on_to("crash", |record| Move::of(record[0]) == Some(Move::Crash))?,
+            Command::Crash => self.on_to("crash", |record| Move::try_from(record[0]).ok() == Some(Move::Crash))?,
             Command::Process(process) => self.on_to(&format!("record of process {process}"), |record| {
-                let of_a_process = matches!(Move::of(record[0]), Some(Move::Step | Move::Sync | Move::Resync));
+                let of_a_process = matches!(Move::try_from(record[0]).ok(), Some(Move::Step | Move::Sync | Move::Resync));
                 of_a_process && record[1] == process
             })?,
             Command::Answer(kind) => self.on_to_answer(kind)?,

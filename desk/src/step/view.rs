@@ -1,36 +1,13 @@
 //! What there is to see of a run so far, as data: all of it is what the proved call wrote. How it is drawn is `draw`'s.
 use super::Bytes;
-use kunzeastylus::{Answer, Buffers, BusWord, Fate, Operation, ProcessEnd, Table};
+use crate::proved::Ran;
+use kunzeastylus::{Answer, BusWord, Operation, ProcessEnd, Table};
 
-/// What a run wrote, kept.
-pub(super) struct Played {
-    pub answers: Vec<Answer>,
-    pub fates: Vec<Fate>,
-    pub bus: Vec<BusWord>,
-    pub quiet: bool,
-    ends: Vec<ProcessEnd>,
-}
-
-impl Played {
-    /// The run of a schedule that is no longer than allowed, on the table of an accepted run.
-    pub fn of(table: &[u8], schedule: &[u8]) -> Played {
-        let mut buffers = Buffers::for_run(table, schedule);
-        let run = kunzeastylus::run(table, schedule, &mut buffers).expect("a run of records on an accepted table");
-        Played {
-            answers: run.answers().collect(),
-            fates: run.fates(),
-            bus: run.bus().collect(),
-            quiet: run.quiet,
-            ends: run.processes().collect(),
-        }
-    }
-
-    /// Where each process is at its end.
-    pub fn seats(&self, table: &Table) -> Vec<Seat> {
-        let program = |p: usize| &table.processes[p].program;
-        let seat = |(p, &end): (usize, &ProcessEnd)| Seat { end, next: program(p).get(usize::from(end.place)).copied() };
-        self.ends.iter().enumerate().map(seat).collect()
-    }
+/// Where each process is at the end of a run.
+pub(super) fn seats(ran: &Ran, table: &Table) -> Vec<Seat> {
+    let program = |p: usize| &table.processes[p].program;
+    let seat = |(p, &end): (usize, &ProcessEnd)| Seat { end, next: program(p).get(usize::from(end.place)).copied() };
+    ran.ends.iter().enumerate().map(seat).collect()
 }
 
 /// Where a process is: its line of the report, and the instruction at its place; none where it has halted.

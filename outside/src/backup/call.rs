@@ -1,40 +1,49 @@
-//! The proved library's exported call, and its lent numbers as a record.
+//! The proved library's exported calls of the backup record, and its two lent arrays as a record.
 use crate::model::{Record, WORDS_MOST};
+use kunzeastylus::calls;
 
-/// How many numbers a state and a reply have, and how many a call has.
-pub const STATE: usize = 7 + 2 * WORDS_MOST;
-pub const CALL: usize = 10;
+/// How many numbers the saved words have, a head, and what a sync reports.
+pub const SAVED: usize = WORDS_MOST;
+pub const HEAD: usize = 7;
+pub const REPORT: usize = 8;
 
-mod raw {
-    #[link(name = "kunzeastylus", kind = "static")]
-    extern "C" {
-        // Each slice is a pointer and a length.
-        pub fn ks_backup_call(
-            state: *mut u32,
-            state_len: usize,
-            call: *const u32,
-            call_len: usize,
-            reply: *mut u32,
-            reply_len: usize,
-        ) -> u32;
+/// What a board programmer lends: any numbers.
+#[derive(Clone, Debug, PartialEq, Eq)]
+pub struct Lent {
+    pub saved: [u64; SAVED],
+    pub head: [u32; HEAD],
+}
+
+/// A call with its arguments.
+#[derive(Clone, Copy, Debug)]
+pub enum Call {
+    New,
+    Arrive { slot: u32, word: u32 },
+    Count,
+    Sync { place: u32, registers: [u32; 4], taken: [u32; 4] },
+    TakeOver,
+}
+
+/// Makes a call. A sync writes its report, a promotion the head that it hands over; the other calls have neither.
+pub fn make(lent: &mut Lent, call: &Call, report: &mut [u32; REPORT], handed: &mut [u32; HEAD]) -> u32 {
+    let Lent { saved, head } = lent;
+    match call {
+        Call::New => {
+            calls::ks_backup_new(head);
+            0
+        }
+        Call::Arrive { slot, word } => calls::ks_backup_arrive(saved, head, *slot, *word),
+        Call::Count => calls::ks_backup_count(saved, head),
+        Call::Sync { place, registers, taken } => calls::ks_backup_sync(saved, head, *place, registers, taken, report),
+        Call::TakeOver => calls::ks_backup_take_over(saved, head, handed),
     }
 }
 
-/// The call on slices of any lengths: it asks nothing of its caller.
-pub fn ks_backup_call(state: &mut [u32], call: &[u32], reply: &mut [u32]) -> u32 {
-    // SAFETY: three slices that don't overlap, each with its own length.
-    unsafe { raw::ks_backup_call(state.as_mut_ptr(), state.len(), call.as_ptr(), call.len(), reply.as_mut_ptr(), reply.len()) }
-}
-
-/// The record that a state's numbers stand for: length, count, place, four registers, then pairs of slot and word. A length that goes far
-/// past the end is cut short: the record is unfit by one word too many already.
-pub fn view(numbers: &[u32]) -> Record {
-    let at = |i: usize| numbers.get(i).copied().unwrap_or(0);
-    let len = numbers[0].min(1000) as usize;
-    Record {
-        words: (0..len).map(|i| (at(7 + 2 * i), at(8 + 2 * i))).collect(),
-        count: numbers[1],
-        place: numbers[2],
-        registers: [numbers[3], numbers[4], numbers[5], numbers[6]],
-    }
+/// The record that two arrays stand for: of the saved words as many as the head says, each slot times 2^32 plus word; then count, place and four
+/// registers. A length that goes far past the end is cut short: the record is unfit by one word too many already.
+pub fn view(saved: &[u64; SAVED], head: &[u32; HEAD]) -> Record {
+    let [len, count, place, registers @ ..] = *head;
+    let at = |i: usize| saved.get(i).copied().unwrap_or(0);
+    let words = (0..len.min(1000) as usize).map(|i| ((at(i) >> 32) as u32, at(i) as u32)).collect();
+    Record { words, count, place, registers }
 }

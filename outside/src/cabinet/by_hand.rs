@@ -1,6 +1,6 @@
 //! The proved call's reasons and origins, beside those that are written by hand from document 02. The simulator has no part in this.
-use crate::call::ks_run;
 use crate::compare::Comparison;
+use outside::call::ks_run;
 use outside::rules::generate::{encode_schedule, encode_table};
 use outside::rules::lent::Lent;
 use outside::rules::reader::{Record, Table};

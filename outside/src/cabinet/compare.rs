@@ -1,7 +1,7 @@
 //! One run by the proved call and by the simulator, compared: the number returned, every byte of the lent buffers, and bytes on both
 //! sides of them which were not lent.
-use crate::call::ks_run;
 use crate::seen::Seen;
+use outside::call::ks_run;
 use outside::random::Random;
 use outside::rules::lent::{Lent, NAMES, PIECES};
 use outside::rules::reader::record;

@@ -1,7 +1,7 @@
 //! The service desk's cases of a pulled board: the last lines of each page, written by hand from document 01, beside those that the
 //! proved call's bytes give. The simulator has no part in this.
-use crate::call::ks_run;
 use crate::{returned, taken_back};
+use outside::call::ks_run;
 use outside::rules::generate::{encode_schedule, encode_table};
 use outside::rules::lent::Lent;
 use outside::rules::limits;

@@ -2,14 +2,14 @@
 use crate::compare::Comparison;
 use crate::seen::{LOOPS, SOUND};
 use outside::random::Random;
-use outside::rules::busy::busy;
 use outside::rules::damage::{damage_schedule, damage_table, Damage, DAMAGES};
-use outside::rules::generate::{any_word, continued, encode_schedule, encode_table, largest, schedule, table};
+use outside::rules::generate::{any_word, continued, encode_schedule, encode_table, schedule, table};
 use outside::rules::lent::Lent;
 use outside::rules::loops::loops;
 use outside::rules::reader::{Record, Table};
 use outside::rules::sample::crash;
 use outside::rules::simulator::Cabinet;
+use outside::rules::tables::of_any_size;
 
 /// What the largest schedule needs, and more.
 fn enough() -> Lent<usize> {
@@ -24,14 +24,7 @@ pub fn compare(comparison: &mut Comparison, random: &mut Random, kind: &'static 
 
 /// A sound table: any, the largest, or one whose programs go round for ever.
 pub fn some_table(random: &mut Random) -> Table {
-    match random.below(40) {
-        0 => largest(random),
-        1..=19 => {
-            let (boards, processes) = (2 + random.below(15) as u8, 1 + random.below(16) as u8);
-            busy(random, boards, processes)
-        }
-        _ => table(random),
-    }
+    of_any_size(random, 40)
 }
 
 /// A sound table and a schedule most of whose records are accepted.

@@ -1,6 +1,6 @@
 //! One run of the label line by the proved call and by the simulator, compared byte by byte; its labels, held against the sequence; and that its end
 //! is quiet or goes on, and is never a standstill.
-use crate::call::ks_label_run;
+use outside::call::ks_label_run;
 use outside::rules::answer::Answer;
 use outside::rules::generate::{encode_schedule, encode_table};
 use outside::rules::lent::Lent;

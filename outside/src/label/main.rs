@@ -1,13 +1,13 @@
-//! The proved label line against the simulator on a table written from document 02: `label [--seed N]`.
+//! The proved label line against the simulator on a table written from document 02: `label_tests [--seed N]`.
 //!
 //! The table of first serials at both ends; schedules of several kinds, each with a crash of either board at each of its places and then
 //! led on until it is quiet; buffers that are too short; schedules of 10,000 records; crash after crash; and records taken back. Every end is
 //! quiet or goes on.
-mod call;
 mod compare;
 
-use call::ks_label_table;
 use compare::{compare, Counts};
+use outside::call::ks_label_table;
+use outside::options::number;
 use outside::random::Random;
 use outside::rules::generate::{continued, encode_table};
 use outside::rules::going_back::going_back;
@@ -158,8 +158,7 @@ fn long(counts: &mut Counts, first: u32, table: &Table, place: usize, board: u8)
 }
 
 fn main() {
-    let mut arguments = std::env::args().skip_while(|argument| argument != "--seed").skip(1);
-    let seed = arguments.next().map_or(SEED, |value| value.parse().expect("--seed takes a number"));
+    let seed = number("--seed").unwrap_or(SEED);
     println!("label: seed {seed}");
     let mut random = Random::new(seed);
     let mut counts = Counts::default();

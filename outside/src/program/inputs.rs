@@ -1,11 +1,11 @@
 //! Inputs of the program by a seed, sound and damaged: the bytes of a table, then those of a schedule.
 use outside::random::Random;
-use outside::rules::busy::busy;
 use outside::rules::damage::{damage_schedule, damage_table, Damage, DAMAGES};
-use outside::rules::generate::{encode_schedule, encode_table, largest, schedule, table, with_length};
+use outside::rules::generate::{encode_schedule, encode_table, schedule, table, with_length};
 use outside::rules::going_back::going_back;
 use outside::rules::reader::{Record, Table};
 use outside::rules::sample::{sample_schedule, SAMPLE};
+use outside::rules::tables::of_any_size;
 
 /// The kinds of input; every kind has its share of the runs.
 pub const KINDS: [&str; 9] =
@@ -17,14 +17,7 @@ fn joined(table: &[u8], schedule: &[u8]) -> Vec<u8> {
 
 /// A sound table: any, the largest, or one whose programs go round for ever.
 fn some_table(random: &mut Random) -> Table {
-    match random.below(20) {
-        0 => largest(random),
-        1..=9 => {
-            let (boards, processes) = (2 + random.below(15) as u8, 1 + random.below(16) as u8);
-            busy(random, boards, processes)
-        }
-        _ => table(random),
-    }
+    of_any_size(random, 20)
 }
 
 /// A sound table, and records most of which are accepted.

@@ -1,4 +1,4 @@
-//! The built bench program against the simulator's page: `program [--inputs N] [--seed N] [--program PATH]`.
+//! The built bench program against the simulator's page: `program_tests [--inputs N] [--seed N] [--all-met] [--program PATH]`.
 //!
 //! First the samples, the front door and the program's ends; then the sample, each of its beginnings and each of its bytes changed; then
 //! generated inputs, sound and damaged.
@@ -11,22 +11,15 @@ mod samples;
 
 use compare::Comparison;
 use inputs::{around_the_sample, input, KINDS};
+use outside::met::all_met;
+use outside::options::{number, option};
 use outside::random::Random;
 
 const SEED: u64 = 0x8EBC_6AF0_9C88_C6E3;
 const INPUTS: u64 = 3_000;
 
-/// The value of an option, if it is given.
-fn option(name: &str) -> Option<String> {
-    std::env::args().skip_while(|argument| argument != name).nth(1)
-}
-
-fn number(name: &str, standard: u64) -> u64 {
-    option(name).map_or(standard, |value| value.parse().unwrap_or_else(|_| panic!("{name} takes a number")))
-}
-
 fn main() {
-    let (inputs, seed) = (number("--inputs", INPUTS), number("--seed", SEED));
+    let (inputs, seed) = (number("--inputs").unwrap_or(INPUTS), number("--seed").unwrap_or(SEED));
     let program = option("--program").map_or_else(|| samples::root().join("target/bin/bench"), Into::into);
     println!("program: {inputs} generated inputs, seed {seed}");
     let mut comparison = Comparison::new(program);
@@ -43,9 +36,6 @@ fn main() {
         let kind = i as usize % KINDS.len();
         comparison.compare(KINDS[kind], &input(&mut random, kind));
     }
-    if !comparison.report() {
-        println!("program: FAILED, not everything was met");
-        std::process::exit(1);
-    }
+    all_met("program", comparison.report());
     println!("program: ok, {} runs, every page as by the simulator", comparison.runs);
 }

@@ -1,6 +1,6 @@
 //! A cabinet that is led on, with what each further record has to be answered, by the simulator at once and by the proved call when all of it is
 //! given to that.
-use crate::call::ks_run;
+use outside::call::ks_run;
 use outside::random::Random;
 use outside::rules::generate::{encode_schedule, encode_table};
 use outside::rules::lent::Lent;

@@ -1,15 +1,15 @@
-//! That a cabinet goes on, by the proved run and by the simulator: `progress [--runs N] [--seed N]`.
+//! That a cabinet goes on, by the proved run and by the simulator: `progress_tests [--runs N] [--seed N] [--all-met]`.
 //!
 //! First the cases by hand. Then generated runs: after each crash that is done, and at the end, each process with hold-back is stepped until it has
 //! none; and the end is led on by carries, steps, and syncs that are owed, until the cabinet is quiet or stands still, or for a number of rounds: a
 //! program may go round for ever. In every round it is quiet, or something can be done, or it is a standstill, and never two of these; and the proved run
 //! answers what was given so: what can be done is done, and in a standstill no step and no carry is.
 mod by_hand;
-#[path = "../cabinet/call.rs"]
-mod call;
 mod led;
 
 use led::Led;
+use outside::met::all_met;
+use outside::options::number;
 use outside::random::Random;
 use outside::rules::generate::{continued, schedule};
 use outside::rules::progress::{halted_reader, pressed, upward, Standing, STEPS_MOST};
@@ -172,15 +172,9 @@ fn halting(seen: &mut Seen, random: &mut Random) {
     seen.run(random, &table, &records);
 }
 
-/// The value of an option, if it is given.
-fn option(name: &str) -> Option<u64> {
-    let mut arguments = std::env::args().skip_while(|argument| argument != name).skip(1);
-    arguments.next().map(|value| value.parse().unwrap_or_else(|_| panic!("{name} takes a number")))
-}
-
 fn main() {
-    let runs = option("--runs").unwrap_or(RUNS);
-    let seed = option("--seed").unwrap_or(SEED);
+    let runs = number("--runs").unwrap_or(RUNS);
+    let seed = number("--seed").unwrap_or(SEED);
     println!("progress: {runs} runs or more, seed {seed}");
     by_hand::check();
     let (mut seen, mut random) = (Seen::default(), Random::new(seed));
@@ -190,9 +184,6 @@ fn main() {
             (0..6).for_each(|_| kind(&mut seen, &mut random));
         }
     }
-    if !seen.report() {
-        println!("progress: FAILED, not everything was met");
-        std::process::exit(1);
-    }
+    all_met("progress", seen.report());
     println!("progress: ok, {} runs, and the proved run answers as they say", seen.runs);
 }

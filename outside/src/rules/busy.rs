@@ -1,7 +1,7 @@
 //! Sound tables whose programs go round for ever: every process reads what comes on any of its channels and sends on, so that words keep
 //! moving and schedules of any length have accepted records. A label line is of this form.
-use super::generate::in_some_version;
-use super::reader::{Channel, Instruction, Process, Table, OUTSIDE};
+use super::generate::placed;
+use super::reader::{Channel, Instruction, Table, OUTSIDE};
 use crate::random::Random;
 
 /// A table of so many boards and processes, with up to 32 channels.
@@ -30,13 +30,7 @@ pub fn busy(random: &mut Random, boards: u8, processes: u8) -> Table {
         table.channels.push(ends);
     }
     let used = if random.once_in(2) { boards.min(3) } else { boards };
-    for p in 0..processes as usize {
-        let primary = random.below(used as u32) as u8;
-        let backup = (primary + 1 + random.below(used as u32 - 1) as u8) % used;
-        let program = round(random, table.reads(p).collect(), table.sends(p).collect());
-        table.processes.push(Process::new(primary, backup, program));
-    }
-    in_some_version(random, table)
+    placed(random, table, used, processes, round)
 }
 
 /// A program that goes round for ever: reads a word on any of its channels, adds, and sends on each of its own; or first reads all.

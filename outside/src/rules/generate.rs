@@ -133,6 +133,23 @@ pub fn limit(random: &mut Random) -> u8 {
     random.pick(&[1, 2, 8, 16, 16, any, any])
 }
 
+/// A table of channels with so many processes on the first boards, each with a program by the channels that it reads and those that it sends on.
+pub fn placed(
+    random: &mut Random,
+    mut table: Table,
+    boards: u8,
+    processes: u8,
+    program: fn(&mut Random, Vec<u8>, Vec<u8>) -> Vec<Instruction>,
+) -> Table {
+    for p in 0..processes as usize {
+        let primary = random.below(boards as u32) as u8;
+        let backup = (primary + 1 + random.below(boards as u32 - 1) as u8) % boards;
+        let program = program(random, table.reads(p).collect(), table.sends(p).collect());
+        table.processes.push(Process::new(primary, backup, program));
+    }
+    in_some_version(random, table)
+}
+
 /// The table as it is, in version 1, or in version 2 with limits for its processes.
 pub fn in_some_version(random: &mut Random, table: Table) -> Table {
     if random.once_in(2) {

@@ -24,6 +24,7 @@ pub mod session;
 pub mod simulator;
 pub mod sweep;
 pub mod tables;
+pub mod view;
 
 #[cfg(test)]
 mod marked;

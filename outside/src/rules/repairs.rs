@@ -1,7 +1,7 @@
 //! Schedules in which boards crash, return and get their stand-bys back under load, again and again (W-210, W-211), and tables whose runs
 //! come to rest when nothing more is fed.
-use super::generate::{in_some_version, Writing};
-use super::reader::{Channel, Instruction, Process, Record, Table, OUTSIDE};
+use super::generate::{placed, Writing};
+use super::reader::{Channel, Instruction, Record, Table, OUTSIDE};
 use super::sample::{carry, crash, give_back, resync, step, sync};
 use super::simulator::Cabinet;
 use crate::random::Random;
@@ -26,13 +26,7 @@ pub fn row(random: &mut Random) -> Table {
         };
         table.channels.push(ends);
     }
-    for p in 0..processes as usize {
-        let primary = random.below(boards as u32) as u8;
-        let backup = (primary + 1 + random.below(boards as u32 - 1) as u8) % boards;
-        let program = passing_on(random, table.reads(p).collect(), table.sends(p).collect());
-        table.processes.push(Process::new(primary, backup, program));
-    }
-    in_some_version(random, table)
+    placed(random, table, boards, processes, passing_on)
 }
 
 /// Takes a word on any of its channels, or one on each in turn, adds, and sends on each of its own, for ever.

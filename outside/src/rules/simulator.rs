@@ -9,7 +9,7 @@ use std::collections::VecDeque;
 /// "An entry of an outgoing queue is a word or a sync"; W-210: "its snapshot and copies of all its unread words join the queue as one
 /// entry".
 #[derive(Clone, Debug, PartialEq, Eq)]
-enum Entry {
+pub(super) enum Entry {
     Word { channel: u8, word: u32, origin: Origin },
     Sync { process: u8, snapshot: Snapshot },
     Resync { process: u8, snapshot: Snapshot, copies: Vec<Message> },
@@ -17,7 +17,7 @@ enum Entry {
 
 /// What of a process waits in its board's queue, beside words.
 #[derive(Clone, Debug, PartialEq, Eq)]
-enum Waiting {
+pub(super) enum Waiting {
     Nothing,
     Sync,
     /// With the words "that have arrived since issue".
@@ -38,12 +38,12 @@ pub struct Process<'t> {
     /// Unread words in order of arrival.
     pub inbox: VecDeque<Message>,
     pub hold_back: u8,
-    /// "takes and queued sends since its last sync was issued"
-    acts: u32,
+    /// "takes and queued sends since its last sync was issued". "A backed process has acts": of another none of the three is counted.
+    pub(super) acts: u32,
     /// W-204: "instructions done since its last sync was issued"
-    instructions: u32,
-    taken: [u32; 4],
-    waiting: Waiting,
+    pub(super) instructions: u32,
+    pub(super) taken: [u32; 4],
+    pub(super) waiting: Waiting,
     pub backup: Option<Backup>,
 }
 
@@ -133,8 +133,10 @@ impl<'t> Process<'t> {
     /// Removes an unread word.
     fn take(&mut self, at: usize) -> Message {
         let message = self.inbox.remove(at).expect("an unread word");
-        self.taken[message.slot as usize] += 1;
-        self.acts += 1;
+        if self.limited() {
+            self.taken[message.slot as usize] += 1;
+            self.acts += 1;
+        }
         message
     }
 
@@ -160,11 +162,11 @@ struct Wire {
 pub struct Cabinet<'t> {
     wires: Vec<Wire>,
     pub processes: Vec<Process<'t>>,
-    queues: Vec<VecDeque<Entry>>,
+    pub(super) queues: Vec<VecDeque<Entry>>,
     /// Unread and queued words of each channel together.
-    totals: Vec<u32>,
+    pub(super) totals: Vec<u32>,
     /// Which boards have crashed and not returned.
-    dead: Vec<bool>,
+    pub(super) dead: Vec<bool>,
 }
 
 impl<'t> Cabinet<'t> {
@@ -297,21 +299,22 @@ impl<'t> Cabinet<'t> {
                     }
                     self.queues[board].push_back(Entry::Word { channel, word, origin });
                     self.totals[channel as usize] += 1;
-                    self.processes[p].acts += 1;
+                    self.processes[p].acts += self.processes[p].limited() as u32;
                     Answer::new(2, channel, word)
                 }
             }
             Instruction::Jump { a, place } => {
                 if process.registers[a as usize] != 0 {
                     process.place = place;
-                    process.instructions += 1;
+                    process.instructions += process.limited() as u32;
                     return DONE;
                 }
                 DONE
             }
         };
-        self.processes[p].place += 1;
-        self.processes[p].instructions += 1;
+        let process = &mut self.processes[p];
+        process.place += 1;
+        process.instructions += process.limited() as u32;
         answer
     }
 

@@ -1,7 +1,7 @@
 //! How a run's time grows where records are taken back (W-214): ours alone, as the plain run has no move 8. Each run's number, answers, reasons,
 //! report and origins are those of the simulator.
-use crate::call::ks_run;
 use crate::mixes::Mix;
+use outside::call::ks_run;
 use outside::random::Random;
 use outside::rules::generate::encode_schedule;
 use outside::rules::lent::Lent;

@@ -3,14 +3,13 @@
 //! text in their name.
 mod back;
 mod baseline;
-#[path = "../cabinet/call.rs"]
-mod call;
 mod floor;
 mod mixes;
 mod tables;
 mod timing;
 
 use mixes::{claimed, others, Input, Mix, RECORDS};
+use outside::options::{number, option};
 use outside::random::Random;
 use outside::rules::generate::{encode_schedule, encode_table, schedule, table};
 use outside::rules::lent::Lent;
@@ -51,15 +50,6 @@ fn check_plain(random: &mut Random) {
         assert!(returned == wanted.outcome.returned() && returned as u8 == 0, "the plain run returns {returned:#x}");
         assert!(lent == wanted.lent, "the plain run is none");
     }
-}
-
-/// The value of an option, if it is given.
-fn option(name: &str) -> Option<String> {
-    std::env::args().skip_while(|argument| argument != name).nth(1)
-}
-
-fn number(name: &str) -> Option<u64> {
-    option(name).map(|value| value.parse().unwrap_or_else(|_| panic!("{name} takes a number")))
 }
 
 /// What is asked for: how many rounds are timed, by which seed, and of which mixes.

@@ -2,7 +2,8 @@
 //! outside the time taken, the lent buffers are filled with other bytes; after each, number, answers, reasons, report and origins of the proved
 //! and the plain run are compared.
 use crate::mixes::Input;
-use crate::{baseline, call, floor};
+use crate::{baseline, floor};
+use outside::call;
 use outside::rules::lent::Lent;
 use std::time::Instant;
 

@@ -1,10 +1,11 @@
-//! The proved sweep against the simulator: `sweep [--sweeps N] [--seed N]`, or `sweep --time`, which times it and compares nothing.
+//! The proved sweep against the simulator: `sweep_tests [--sweeps N] [--seed N]`, or `sweep_tests --time`, which times it and compares nothing.
 //!
 //! First the cases that document 02 names, at and over each limit; then random tables and schedules, with returns and resyncs in them, sound and
 //! damaged, until there are N sweeps, and each ending was met at least as often as there are sweeps.
-mod call;
 mod time;
 
+use outside::call::ks_sweep;
+use outside::options::number;
 use outside::random::Random;
 use outside::rules::damage::{damage_schedule, damage_table, DAMAGES};
 use outside::rules::generate::{continued, encode_schedule, encode_table};
@@ -30,7 +31,7 @@ struct Seen {
 /// One sweep by both, which must be the same.
 fn compare(seen: &mut Seen, kind: &str, table: &[u8], schedule: &[u8]) -> Swept {
     let wanted = sweep(table, schedule);
-    let given = call::ks_sweep(table, schedule);
+    let given = ks_sweep(table, schedule);
     assert_eq!(
         given,
         wanted.returned(),
@@ -118,18 +119,12 @@ fn random_sweep(seen: &mut Seen, random: &mut Random) {
     }
 }
 
-/// The value of an option, if it is given.
-fn option(name: &str) -> Option<u64> {
-    let mut arguments = std::env::args().skip_while(|argument| argument != name).skip(1);
-    arguments.next().map(|value| value.parse().unwrap_or_else(|_| panic!("{name} takes a number")))
-}
-
 fn main() {
     if std::env::args().nth(1).as_deref() == Some("--time") {
         return time::print();
     }
-    let sweeps = option("--sweeps").unwrap_or(SWEEPS);
-    let seed = option("--seed").unwrap_or(SEED);
+    let sweeps = number("--sweeps").unwrap_or(SWEEPS);
+    let seed = number("--seed").unwrap_or(SEED);
     println!("sweep: {sweeps} sweeps or more, seed {seed}");
     let (mut seen, mut random) = (Seen::default(), Random::new(seed));
     named(&mut seen);

@@ -1,5 +1,5 @@
 //! How long a sweep takes, and how that grows with the records.
-use crate::call::ks_sweep;
+use outside::call::ks_sweep;
 use outside::random::Random;
 use outside::rules::busy::busy;
 use outside::rules::generate::{continued, encode_schedule, encode_table};

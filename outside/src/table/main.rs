@@ -1,10 +1,11 @@
-//! The proved judging of tables, schedules and buffers against the reader: `table [--runs N] [--seed N]`.
+//! The proved judging of tables, schedules and buffers against the reader: `table_tests [--runs N] [--seed N] [--all-met]`.
 //!
 //! Document 01's sample, in either version, with every length field, every change of one byte and every shorter length; then random tables and schedules,
 //! sound and damaged, with buffers of lengths around what is enough, and with each set of them one byte under it.
-mod call;
 
-use call::ks_judge;
+use outside::call::ks_judge;
+use outside::met::all_met;
+use outside::options::number;
 use outside::random::Random;
 use outside::rules::damage::{damage_schedule, damage_table, Damage, DAMAGES};
 use outside::rules::generate::{encode_schedule, encode_table, largest, schedule, table};
@@ -135,24 +136,15 @@ fn round(random: &mut Random, seen: &mut Seen) {
     }
 }
 
-/// The value of an option, if it is given.
-fn option(name: &str) -> Option<u64> {
-    let mut arguments = std::env::args().skip_while(|argument| argument != name).skip(1);
-    arguments.next().map(|value| value.parse().unwrap_or_else(|_| panic!("{name} takes a number")))
-}
-
 fn main() {
-    let runs = option("--runs").map_or(RUNS, |runs| runs as u32);
-    let seed = option("--seed").unwrap_or(SEED);
+    let runs = number("--runs").map_or(RUNS, |runs| runs as u32);
+    let seed = number("--seed").unwrap_or(SEED);
     println!("table: {runs} random tables and schedules, seed {seed}");
     let mut random = Random::new(seed);
     let mut seen = Seen(Vec::new());
     sample(&mut seen);
     let each = 6 + (1 << BUFFERS) + 3 * (DAMAGES.len() as u32 - 1);
     (0..runs.div_ceil(each)).for_each(|_| round(&mut random, &mut seen));
-    if !seen.report() {
-        println!("table: FAILED, not everything was seen");
-        std::process::exit(1);
-    }
+    all_met("table", seen.report());
     println!("table: ok, every number as by the reader");
 }

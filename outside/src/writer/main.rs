@@ -1,4 +1,4 @@
-//! The proved writer of tables against one written from the documents: `writer [--runs N] [--seed N]`.
+//! The proved writer of tables against one written from the documents: `writer_tests [--runs N] [--seed N] [--all-met]`.
 //!
 //! Random sound lists and damaged ones, with buffers around what is enough; random tables, sound and damaged, taken apart into lists with
 //! room around what is enough; and whatever comes apart is written again.
@@ -7,6 +7,8 @@ mod lists;
 
 use call::{ks_table_apart, ks_table_write};
 use lists::Lists;
+use outside::met::all_met;
+use outside::options::number;
 use outside::random::Random;
 use outside::rules::damage::{damage_table, Damage};
 use outside::rules::generate::{encode_table, largest, table};
@@ -92,19 +94,8 @@ impl Seen {
 }
 
 fn main() {
-    let mut arguments = std::env::args().skip(1);
-    let (mut runs, mut seed) = (RUNS, SEED);
-    while let Some(name) = arguments.next() {
-        let value = arguments.next().and_then(|value| value.parse().ok());
-        match (name.as_str(), value) {
-            ("--runs", Some(value)) => runs = value as u32,
-            ("--seed", Some(value)) => seed = value,
-            _ => {
-                eprintln!("usage: writer [--runs N] [--seed N]");
-                std::process::exit(2);
-            }
-        }
-    }
+    let runs = number("--runs").map_or(RUNS, |runs| u32::try_from(runs).expect("--runs takes a smaller number"));
+    let seed = number("--seed").unwrap_or(SEED);
     println!("writer: seed {seed:#x}, {runs} runs");
     let mut random = Random::new(seed);
     let mut seen = Seen([[0; 48]; 2]);
@@ -137,13 +128,8 @@ fn main() {
             }
         }
     }
-    match seen.report() {
-        true => println!("writer: passed"),
-        false => {
-            println!("writer: FAILED: a number was never seen");
-            std::process::exit(1);
-        }
-    }
+    all_met("writer", seen.report());
+    println!("writer: ok, every number and every table as by the encoder");
 }
 
 /// The bytes of lists, written from documents 01 and 02, if they are accepted.

@@ -1,8 +1,9 @@
 use mathlib.Core.Path.{ap, _∙_}
 use Prim.Native.Nat.{ℕ, _-_, _<_}
-use Rattle.crash.specs.Recount.{unreadAt, lessBy, lessUnread}
+use Rattle.crash.specs.Recount.{unreadAt, lessUnread}
 use Rattle.crash.proofs.Passing.{Passing, passing-start, passing-on, passing-end}
-use Rattle.crash.proofs.Recounting.{less-by}
+use Rattle.state.specs.Queue.{lessBy}
+use Rattle.state.proofs.Popping.{less-by}
 use borrow.Author.Needs.{needs}
 use native.Mathlib.Omega.{arith}
 use Rattle.crash.proofs.recount.drop_unread.Statement.{statement}
