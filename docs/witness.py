@@ -11,7 +11,7 @@ plain run ends in the same places and registers with the same unread words, and 
 the run alone, and checks it from the start; a plain run that is given is checked likewise. It needs Python 3.9 and nothing else.
 
 A page has no origins: then a word on the bus is compared by channel, word and sender, and not by the place of its SEND. Of the unread
-words a run tells only how many there are. Exit codes: 0 all is as demand 3 says, 1 something is not, 2 the input can't be read.
+words a page tells only how many there are; `ks plain --json` has the words themselves. Exit codes: 0 all is as demand 3 says, 1 something is not, 2 the input can't be read.
 """
 import json
 import sys
@@ -105,10 +105,10 @@ class Plain:
 class Run:
     """What a run was given and told. Answers are (code, a, word, sender, place); sender and place are None where they are not told."""
 
-    def __init__(self, table, schedule, answers, report, quiet):
+    def __init__(self, table, schedule, answers, report, quiet, inboxes=None):
         self.table = Table(table)
         records = [(schedule[i], schedule[i + 1], number(schedule[i + 2:i + 6])) for i in range(3, len(schedule), 6)]
-        self.quiet, self.ends = quiet, [tuple(line) for line in report]
+        self.quiet, self.ends, self.inboxes = quiet, [tuple(line) for line in report], inboxes
         if len(records) != len(answers) or len(self.ends) != len(self.table.programs):
             raise ValueError("the answers or the report are of another run")
         stand = []                                      # W-214: a back takes back the last record that stands, and stands nowhere itself
@@ -163,6 +163,8 @@ def check(run, moves):
         ours, theirs = (place, registers, unread), (plain.places[process], plain.registers[process], len(plain.inboxes[process]))
         if ours != theirs:
             raise Fault(f"process {process} ends at {ours} in the run, at {theirs} in the plain run (place, registers, unread)")
+        if run.inboxes is not None and [tuple(word) for word in run.inboxes[process]] != plain.inboxes[process]:
+            raise Fault(f"process {process} has the unread words {run.inboxes[process]} in the run, {plain.inboxes[process]} in the plain run")
         if plain.step(process):
             raise Fault(f"process {process} could go on where the run is quiet")
     return sum(kind == "step" for kind, *_ in moves)
@@ -172,7 +174,8 @@ def from_json(text):
     """One run as `ks plain --json` prints it, and its plain run."""
     told = json.loads(text)
     data = bytes.fromhex(told["table"]), bytes.fromhex(told["schedule"])
-    return Run(*data, [tuple(answer) for answer in told["answers"]], told["report"], told["quiet"]), told.get("plain")
+    answers = [tuple(answer) for answer in told["answers"]]
+    return Run(*data, answers, told["report"], told["quiet"], told["inboxes"]), told.get("plain")
 
 
 def page_told(text, senders):

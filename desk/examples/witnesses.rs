@@ -30,10 +30,14 @@ fn some_run(random: &mut Random, i: usize) -> Input {
 fn damage(random: &mut Random, played: &mut Played, moves: &mut Vec<PlainMove>) -> bool {
     let on_the_bus: Vec<usize> = played.standing().filter(|&i| played.ran.answers[i].bus.is_some()).collect();
     let steps: Vec<usize> = (0..moves.len()).filter(|&i| matches!(moves[i], PlainMove::Step { .. })).collect();
-    match random.below(4) {
+    match random.below(5) {
         0 if played.ran.quiet => {
             let p = random.below(played.ran.ends.len() as u32) as usize;
             played.ran.ends[p].registers[3] ^= 1;
+        }
+        4 if played.ran.quiet && played.inboxes.iter().any(|inbox| !inbox.is_empty()) => {
+            let unread: Vec<usize> = (0..played.inboxes.len()).filter(|&p| !played.inboxes[p].is_empty()).collect();
+            played.inboxes[random.pick(&unread)][0].1 ^= 1;
         }
         1 if !steps.is_empty() => {
             moves.remove(random.pick(&steps));

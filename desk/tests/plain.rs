@@ -73,6 +73,7 @@ fn another_run() {
     assert_eq!(changed(&|played| bus(played, 18, fed)), (Some(Fault::NoSender(18)), Err(Fault::Bus(3))));
     assert_eq!(changed(&|played| played.ran.ends[0].place = 1), (None, Err(Fault::End(0))));
     assert_eq!(changed(&|played| played.ran.ends[0].unread = 1), (None, Err(Fault::End(0))));
+    assert_eq!(changed(&|played| played.inboxes[0].push((0, 7))), (None, Err(Fault::End(0))));
     assert_eq!(changed(&|played| played.ran.answers[5].bus = None), (None, Err(Fault::Bus(2))));
     let twice = changed(&|played| bus(played, 19, carried));
     let refused = Fault::Refused { at: 10, plain: PlainMove::Step { process: 0 }, why: Refused::NoWord };

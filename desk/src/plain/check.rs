@@ -2,7 +2,7 @@
 //! that channel, word, sender and place agree (W-212); what counts are the records that stand (W-214).
 use super::cabinet::{Machine, Plain, PlainMove, Refused};
 use crate::played::Played;
-use kunzeastylus::{BusWord, Code, Move, ProcessEnd};
+use kunzeastylus::{BusWord, Code, Move};
 use std::fmt;
 
 /// Why a list of feeds and steps doesn't explain a run. Records and moves are named from 0, and said from 1.
@@ -72,7 +72,7 @@ pub fn check(played: &Played, moves: &[PlainMove]) -> Result<Held, Fault> {
     differ(&fed, &fed_in(played)).map_or(Ok(()), |at| Err(Fault::Feeds(at)))?;
     differ(&cabinet.bus, &bus_order(played)).map_or(Ok(()), |at| Err(Fault::Bus(at)))?;
     if played.ran.quiet {
-        (0..).zip(&played.ran.ends).try_for_each(|(process, end)| ended(&mut cabinet, process, end))?;
+        (0..).zip(&played.ran.ends).try_for_each(|(process, _)| ended(&mut cabinet, process, played))?;
     }
     Ok(Held { feeds: fed.len(), steps: moves.len() - fed.len(), words: cabinet.bus.len(), quiet: played.ran.quiet })
 }
@@ -94,10 +94,13 @@ fn differ<T: PartialEq>(some: &[T], others: &[T]) -> Option<usize> {
     (shared < some.len().max(others.len())).then_some(shared)
 }
 
-/// The process ends as the report says, and "a step of any process would be refused". The report has how many words are unread.
-fn ended(cabinet: &mut Plain, process: u8, end: &ProcessEnd) -> Result<(), Fault> {
-    let Machine { place, registers, inbox } = &cabinet.machines[usize::from(process)];
-    if (*place, *registers, inbox.len()) != (end.place.into(), end.registers, end.unread.into()) {
+/// The process ends as the report says, with the unread words that the view has, "each inbox with channels and order", and "a step of any
+/// process would be refused".
+fn ended(cabinet: &mut Plain, process: u8, played: &Played) -> Result<(), Fault> {
+    let p = usize::from(process);
+    let (Machine { place, registers, inbox }, end) = (&cabinet.machines[p], &played.ran.ends[p]);
+    let same_end = (*place, *registers, inbox.len()) == (end.place.into(), end.registers, end.unread.into());
+    if !same_end || *inbox != played.inboxes[p] {
         return Err(Fault::End(process));
     }
     match cabinet.make(PlainMove::Step { process }) {

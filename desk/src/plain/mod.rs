@@ -18,7 +18,7 @@ pub enum Form {
     Words,
     /// `feed CHANNEL WORD` and `step PROCESS`, one a line.
     Moves,
-    /// One line of JSON: table, schedule, answers with origins, report, quiet, and the plain run.
+    /// One line of JSON: table, schedule, answers with origins, report, unread words, quiet, and the plain run.
     Json,
 }
 

@@ -94,7 +94,7 @@ fn ended(played: &Played, cabinet: &Plain) -> String {
 fn compared(held: &Held) -> String {
     let on_the_bus = words::many(held.words, "word", "words");
     let end = match held.quiet {
-        true => "at the quiet end, places, registers and how many\nwords are unread; and no process could step",
+        true => "at the quiet end, places, registers and unread\nwords; and no process could step",
         false => "the end is not quiet, so it\nis not compared",
     };
     format!("checked from nothing, and the same: {on_the_bus} on the bus, each with channel, word, sender\nand place; the feeds, in order; {end}\n")
@@ -124,16 +124,19 @@ pub fn json(played: &Played, moves: &[PlainMove]) -> String {
         let [r0, r1, r2, r3] = end.registers;
         format!("[{},{},{},{},{r0},{r1},{r2},{r3}]", end.board, end.place, end.unread, end.hold_back)
     });
+    let inboxes =
+        played.inboxes.iter().map(|inbox| list(inbox.iter().map(|(channel, word)| format!("[{channel},{word}]")).collect()));
     let moves = moves.iter().map(|plain| match plain {
         PlainMove::Feed { channel, word } => format!("[\"feed\",{channel},{word}]"),
         PlainMove::Step { process } => format!("[\"step\",{process}]"),
     });
     format!(
-        "{{\"table\":\"{}\",\"schedule\":\"{}\",\"answers\":{},\"report\":{},\"quiet\":{},\"plain\":{}}}\n",
+        "{{\"table\":\"{}\",\"schedule\":\"{}\",\"answers\":{},\"report\":{},\"inboxes\":{},\"quiet\":{},\"plain\":{}}}\n",
         hex(&played.bytes.table),
         hex(&played.bytes.schedule),
         list(answers.collect()),
         list(report.collect()),
+        list(inboxes.collect()),
         played.ran.quiet,
         list(moves.collect())
     )
