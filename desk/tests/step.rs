@@ -8,10 +8,10 @@ use desk::form::answers::Outcome;
 use desk::form::assemble::Step;
 use desk::form::names::Names;
 use desk::hex;
-use desk::output::Style;
+use desk::output::{wide, Style};
 use desk::proved;
 use desk::step::command::{parse, Command, Line, Where};
-use desk::step::{help, session, Front, Shown, Stays, Stepper, Went};
+use desk::step::{help, on_screen, session, Front, Shown, Stays, Stepper, Went};
 use kunzeastylus::{Code, Record, Table};
 use outside::random::Random;
 use outside::rules::generate::{encode_schedule, encode_table, schedule};
@@ -262,6 +262,39 @@ fn forward_and_back() {
             there_and_back(Input { table: encode_table(&table), schedule: encode_schedule(&records) });
         }
     }
+}
+
+/// Whatever there is to see, a screen is a screen: as many lines as it has rows but the one of the prompt, none of them wider, with the last
+/// record and the next one.
+#[test]
+fn one_screen() {
+    let mut random = Random::new(!SEED);
+    for _ in 0..12 {
+        let table = row(&mut random);
+        let records = schedule(&mut random, &table, 200);
+        let mut stepper = stepper_of(Input { table: encode_table(&table), schedule: encode_schedule(&records) });
+        let before = stepper.shown();
+        stepper.obey(&Command::Go(records.len() - 1)).expect("a further record");
+        let shown = stepper.shown();
+        for (rows, width) in [(10, 60), (24, 80), (40, 100), (70, 132), (200, 300)] {
+            let style = Style { colour: true, width };
+            let text = on_screen(stepper.sheet(style), &shown, Some(&before), &["a note".to_string()], rows);
+            assert!(text.starts_with("a note\n") && text.contains(&format!("\n{:>5}  ", records.len() - 1)), "{text}");
+            assert!(text.contains(&format!("\n  next is record {}: ", records.len())), "{text}");
+            assert_eq!(text.lines().count(), rows - 1, "{text}");
+            assert!(text.lines().all(|line| wide(line) <= width), "{width}\n{text}");
+        }
+    }
+}
+
+/// What is typed is not written back with its control characters.
+#[test]
+fn no_control_sequences() {
+    let text = printed(&mut stepper("sample"), "\x1b[2J\nfeed c0 \x07\nsave \x1bc\u{1}/\0\n", PIPE);
+    assert!(
+        text.contains("> \u{fffd}[2J\n\u{fffd}[2J: no such command") && !text.contains(|c: char| c.is_control() && c != '\n'),
+        "{text}"
+    );
 }
 
 /// Records of one's own stand between those of the file, and are taken back like them.

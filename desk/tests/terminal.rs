@@ -82,6 +82,7 @@ fn screens() {
         terminal.keys(&[line, "Enter"]);
         shown += &terminal.asks(wanted);
     }
+    assert!(!terminal.screen(&["-e"]).contains('\x1b'), "colour, and NO_COLOR is set");
     assert_eq!(shown, read("desk/tests/sessions/release.screens"), "shown:\n{shown}");
 }
 

@@ -16,7 +16,7 @@ const ROOMY: [(usize, usize); 5] = [(usize::MAX, usize::MAX), (15, 16), (9, 8), 
 const FACTS_LEAST: usize = 44;
 
 /// All of it in lines: a program stands below its facts.
-pub fn lines(sheet: Sheet, shown: &Shown, before: Option<&Shown>) -> String {
+pub fn in_lines(sheet: Sheet, shown: &Shown, before: Option<&Shown>) -> String {
     let mut lines: Vec<String> = shown.last.iter().map(|last| sheet.last(last)).collect();
     for panel in sheet.panels(shown, before) {
         lines.extend(below(&panel, PROGRAM_SHOWN));
@@ -28,7 +28,7 @@ pub fn lines(sheet: Sheet, shown: &Shown, before: Option<&Shown>) -> String {
 /// The same on one screen of so many rows, with the notes above: a program stands beside its facts. Where that is too high, less is shown of
 /// programs and lists; and then processes are in a line each, but for as many as there is room for, first those that something happened to.
 /// Blank lines make it a whole screen, so that all screens stand alike.
-pub fn screen(sheet: Sheet, shown: &Shown, before: Option<&Shown>, notes: &[String], rows: usize) -> String {
+pub fn on_screen(sheet: Sheet, shown: &Shown, before: Option<&Shown>, notes: &[String], rows: usize) -> String {
     // The last row is for what is typed.
     let room = rows.saturating_sub(1);
     let mut fitted = Vec::new();

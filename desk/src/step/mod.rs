@@ -18,7 +18,7 @@ use crate::form::names::Names;
 use crate::proved::{self, answers_from, run_records, Ran};
 use crate::records::RECORDS_MOST;
 use command::{Command, Where};
-pub use draw::{bus_so_far, lines, screen};
+pub use draw::{bus_so_far, in_lines, on_screen};
 use given::{Given, Source};
 use kunzeastylus::{Fate, Move, Operation, Record, Refusal, Table, View};
 pub use session::{help, session, Front};

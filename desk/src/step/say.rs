@@ -1,7 +1,8 @@
 //! The stepper's words: by the names of the cabinet, so that what is shown can be typed, and as it stands in a schedule that is saved.
-use super::Stepper;
+use super::{Sheet, Stepper};
 use crate::form::names::Names;
 use crate::form::print;
+use crate::output::Style;
 use crate::words::many;
 use kunzeastylus::{Answer, BackupState, BackupView, BusWord, Code, End, Entry, Operation, Reason, Record, Table};
 
@@ -17,6 +18,11 @@ pub struct Said<'s> {
 impl Stepper {
     pub(super) fn said(&self) -> Said<'_> {
         Said { table: &self.table, names: &self.names, most: usize::MAX }
+    }
+
+    /// What it is drawn on.
+    pub fn sheet(&self, style: Style) -> Sheet<'_> {
+        Sheet { said: self.said(), style }
     }
 }
 

@@ -2,11 +2,11 @@
 //! each screen is written below the last: whatever ends the session, there is nothing to put back.
 use super::command::{parse, Command, Line};
 use super::draw::program;
-use super::{bus_so_far, lines, screen, Sheet, Shown, Stays, Stepper, Went};
+use super::{bus_so_far, in_lines, on_screen, Sheet, Shown, Stays, Stepper, Went};
 use crate::output::{self, Style};
 use crate::words::{self, many};
 use std::fs::OpenOptions;
-use std::io::{BufRead, Result, Write};
+use std::io::{BufRead, Read, Result, Write};
 
 /// What the commands are, as `ks step --help` says it.
 pub fn help() -> &'static str {
@@ -16,6 +16,9 @@ pub fn help() -> &'static str {
 
 /// What a terminal is given before each line; where the lines don't come from one, they are printed with it, so that what comes out can be read.
 const PROMPT: &str = "> ";
+
+/// How many bytes of a line are read at once, so that an endless one ends.
+const LINE_MOST: u64 = 1 << 16;
 
 /// Whom a session is with.
 #[derive(Clone, Copy, Debug, PartialEq, Eq)]
@@ -49,12 +52,10 @@ pub fn session(stepper: &mut Stepper, mut lines: impl BufRead, out: &mut impl Wr
             write!(session.out, "{PROMPT}")?;
         }
         session.out.flush()?;
-        let mut bytes = Vec::new();
-        if lines.read_until(b'\n', &mut bytes)? == 0 {
+        let Some(text) = line(&mut lines)? else {
             // The line of the prompt is not left open.
             return if front.asks { writeln!(session.out) } else { Ok(()) };
-        }
-        let text = String::from_utf8_lossy(&bytes);
+        };
         if !front.asks {
             writeln!(session.out, "{}", format!("{PROMPT}{text}").trim_end())?;
         }
@@ -66,12 +67,24 @@ pub fn session(stepper: &mut Stepper, mut lines: impl BufRead, out: &mut impl Wr
     }
 }
 
+/// The next line; none where there is no more. What a line has of control characters is not written back.
+fn line(lines: &mut impl BufRead) -> Result<Option<String>> {
+    let mut bytes = Vec::new();
+    let read = lines.take(LINE_MOST).read_until(b'\n', &mut bytes)?;
+    let shown = |c: char| match c {
+        _ if c.is_whitespace() => ' ',
+        _ if c.is_control() => char::REPLACEMENT_CHARACTER,
+        _ => c,
+    };
+    Ok((read > 0).then(|| String::from_utf8_lossy(&bytes).chars().map(shown).collect()))
+}
+
 impl<W: Write> Session<'_, W> {
     fn line(&mut self, line: Line) -> Result<()> {
         match line {
             Line::Help => self.text(help()),
             Line::Show => {
-                let all = super::lines(self.sheet(), &self.shown, None);
+                let all = in_lines(self.sheet(), &self.shown, None);
                 self.text(&all)
             }
             Line::Bus => self.text(&bus_so_far(self.stepper.said(), &self.shown.bus)),
@@ -120,17 +133,17 @@ impl<W: Write> Session<'_, W> {
     }
 
     fn sheet(&self) -> Sheet<'_> {
-        Sheet { said: self.stepper.said(), style: self.style() }
+        self.stepper.sheet(self.style())
     }
 
     fn draw(&mut self, before: Option<&Shown>, notes: &[String]) -> Result<()> {
         let size = output::size().filter(|_| self.front.screen);
         if let Some((rows, _)) = size {
-            let text = screen(self.sheet(), &self.shown, before, notes, rows);
+            let text = on_screen(self.sheet(), &self.shown, before, notes, rows);
             return self.out.write_all(text.as_bytes());
         }
         let notes: String = notes.iter().map(|note| format!("{note}\n")).collect();
-        let text = format!("{notes}{}", lines(self.sheet(), &self.shown, before));
+        let text = format!("{notes}{}", in_lines(self.sheet(), &self.shown, before));
         self.text(&text)
     }
 

@@ -36,8 +36,8 @@ pub(super) struct Panel {
 impl Sheet<'_> {
     /// Text in a colour, word by word, so that a line can be folded anywhere.
     fn paint(&self, colour: Colour, text: &str) -> String {
-        let words: Vec<String> = text.split(' ').map(|word| self.style.paint(colour, word)).collect();
-        words.join(" ")
+        let one = |word: &str| if word.is_empty() { String::new() } else { self.style.paint(colour, word) };
+        text.split(' ').map(one).collect::<Vec<_>>().join(" ")
     }
 
     /// The mark of what changed, before it.
