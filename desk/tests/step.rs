@@ -3,7 +3,7 @@
 mod common;
 
 use common::read;
-use desk::explain::{explain, Asked, Input};
+use desk::explain::{Asked, Input};
 use desk::hex;
 use desk::step::command::{parse, Command, Kind, Line};
 use desk::step::{session, Stays, Stepper, View, Went, HELP};
@@ -145,19 +145,22 @@ fn cabinet(view: &View) -> View {
     View { last: None, ..view.clone() }
 }
 
+/// How wide the number of a record and the record itself are in a line.
+const RECORD: usize = 54;
+
 /// Forward through a run, with a step back and forth again behind each record: what was taken back is the same the second time.
 fn there_and_back(input: Input) {
-    let words = explain(&input, Asked { from: 1, to: usize::MAX, pull: None }).expect("a sound run");
+    let words = common::explained(&input, &[], Asked { all: true, ..Asked::default() });
     let own_backs = input.schedule[3..].chunks_exact(6).any(|record| record[0] == 8);
     let mut stepper = Stepper::new(input).expect("a sound run");
     let start = stepper.view();
     let mut before = start.clone();
-    for line in words.lines().skip(1).take(stepper.records()) {
+    for line in words.lines().skip(1).filter(|line| !line.starts_with("       ")).take(stepper.records()) {
         stepper.obey(Command::Next).expect("a further record");
         let view = stepper.view();
-        // In words as by ks explain, but for the mark of a record that a later one takes back.
+        // A record is in words as by ks explain, but for the mark of one that a later one takes back.
         let shown = desk::step::draw(&view, Some(&before));
-        assert_eq!(shown.lines().next().map(str::to_string), Some(line.replacen('~', " ", 1)));
+        assert_eq!(shown[..RECORD], line.replacen('~', " ", 1)[..RECORD]);
         // A back of the file's own is not what the next one takes back.
         if !own_backs {
             stepper.obey(Command::Back).expect("room for a back");
