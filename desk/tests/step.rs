@@ -3,15 +3,16 @@
 mod common;
 
 use common::read;
-use desk::explain::Input;
+use desk::explain::{Explaining, Given, Input};
 use desk::form::answers::Outcome;
 use desk::form::assemble::Step;
 use desk::form::names::Names;
 use desk::hex;
 use desk::output::{wide, Style};
-use desk::proved;
+use desk::played::Played;
 use desk::step::command::{parse, Command, Line, Where};
 use desk::step::{help, on_screen, session, Front, Shown, Stays, Stepper, Went};
+use desk::words::Spoken;
 use kunzeastylus::{Code, Record, Table};
 use outside::random::Random;
 use outside::rules::generate::{encode_schedule, encode_table, schedule};
@@ -216,8 +217,10 @@ fn cabinet(shown: &Shown) -> Shown {
 
 /// Forward through a run, with a step back and forth again behind each record: what was taken back is the same the second time.
 fn there_and_back(input: Input) {
-    let ran = proved::run(&input.table, &input.schedule).expect("a sound run");
-    let records = Record::read(&input.schedule).expect("a sound schedule");
+    let played = Played::of(input.clone()).expect("a sound run");
+    let (records, ran) = (&played.records, &played.ran);
+    let (given, names) = (Given::of(records, &[]), Names::made_up(&played.table));
+    let explaining = Explaining::new(&played, &given, Spoken::by(&names));
     let own_backs = records.contains(&Record::back());
     let mut stepper = stepper_of(input);
     let start = stepper.shown();
@@ -227,6 +230,8 @@ fn there_and_back(input: Input) {
         let shown = stepper.shown();
         let last = shown.last.clone().expect("a last record");
         assert_eq!((last.record, last.answer, last.name), (*record, ran.answers[i], (i + 1).to_string()));
+        // It is said of it what is said of it in the whole run.
+        assert_eq!(last.besides, explaining.beneath(i), "record {i}");
         // What a step would have answered before is what it answers.
         if record.code == 1 && record.word == 0 && usize::from(record.a) < before.would.len() {
             assert_eq!(before.would[usize::from(record.a)], Some(last.answer), "record {i}");
@@ -242,7 +247,7 @@ fn there_and_back(input: Input) {
         }
         before = shown;
     }
-    assert_eq!((before.bus, before.quiet), (ran.bus, ran.quiet));
+    assert_eq!((&before.bus, before.quiet), (&ran.bus, ran.quiet));
     stepper.obey(&Command::Go(0)).expect("the start");
     assert_eq!(stepper.shown(), start);
 }
@@ -306,13 +311,13 @@ fn typed() {
     let is_record = |line: &&str| line.starts_with("   ") && answers.iter().any(|answer| line.contains(answer));
     let records: Vec<&str> = text.lines().filter(is_record).filter(|line| !line.contains("a step would")).collect();
     let wanted = [
-        "    2  feed c0 7                               on the bus: fed (c0 7)",
-        "   t1  feed c0 9                               on the bus: fed (c0 9)",
+        "    2  feed c0 7                               on the bus: fed (c0, word 7, from outside)",
+        "   t1  feed c0 9                               on the bus: fed (c0, word 9, from outside)",
         "   t2  move 9 0 0                              refused 32, bad record: no such move",
         "    b  back                                    took back record t2",
         "    b  back                                    took back record t1",
         "    b  back                                    took back record 2",
-        "    2  feed c0 7                               on the bus: fed (c0 7)",
+        "    2  feed c0 7                               on the bus: fed (c0, word 7, from outside)",
     ];
     assert_eq!(records, wanted);
 }

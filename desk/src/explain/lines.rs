@@ -1,5 +1,5 @@
 //! The lines of records: which there are, equal refusals in a row as one, and what stands beneath each.
-use super::{done, refused, summary, Asked, Explaining};
+use super::{summary, Asked, Explaining};
 use crate::words;
 use kunzeastylus::{Code, Fate};
 use std::fmt::Write;
@@ -72,11 +72,7 @@ fn line(run: &Explaining, row: &Row, text: &mut String) {
     };
     let times = if count > 1 { format!(" ({count} times, up to record {})", name(last)) } else { String::new() };
     writeln!(text, "{}", words::line(&name(first), mark, &record, &format!("{}{times}", answer(run, first)))).unwrap();
-    let beneath = match run.played.ran.answers[first].code.refused() {
-        true => refused::helps(run, first),
-        false => done::did(run, first),
-    };
-    for what in beneath {
+    for what in run.beneath(first) {
         writeln!(text, "{BENEATH}{what}").unwrap();
     }
 }

@@ -98,6 +98,23 @@ impl<'e> Explaining<'e> {
         Explaining { played, given, spoken, spots }
     }
 
+    /// The same for what is said of its last record alone, whose process is here before it: nothing is followed.
+    pub fn of_last(played: &'e Played, given: &'e Given, spoken: Spoken<'e>, spot: Option<Spot>) -> Explaining<'e> {
+        let mut spots = vec![None; played.records.len()];
+        if let Some(last) = spots.last_mut() {
+            *last = spot;
+        }
+        Explaining { played, given, spoken, spots }
+    }
+
+    /// What a record did that its answer doesn't say, or what would help where it was refused, a line for each thing.
+    pub fn beneath(&self, record: usize) -> Vec<String> {
+        match self.played.ran.answers[record].code.refused() {
+            true => refused::helps(self, record),
+            false => done::did(self, record),
+        }
+    }
+
     /// The whole run in words.
     pub fn text(&self, asked: &Asked) -> String {
         let mut text = String::new();

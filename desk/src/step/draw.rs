@@ -17,7 +17,7 @@ const FACTS_LEAST: usize = 44;
 
 /// All of it in lines: a program stands below its facts.
 pub fn in_lines(sheet: Sheet, shown: &Shown, before: Option<&Shown>) -> String {
-    let mut lines: Vec<String> = shown.last.iter().map(|last| sheet.last(last)).collect();
+    let mut lines: Vec<String> = shown.last.iter().flat_map(|last| sheet.last(last)).collect();
     for panel in sheet.panels(shown, before) {
         lines.extend(below(&panel, PROGRAM_SHOWN));
     }
@@ -34,7 +34,7 @@ pub fn on_screen(sheet: Sheet, shown: &Shown, before: Option<&Shown>, notes: &[S
     let mut fitted = Vec::new();
     for (around, most) in ROOMY {
         let sheet = Sheet { said: Said { most, ..sheet.said }, ..sheet };
-        let head = notes.iter().cloned().chain(shown.last.iter().map(|last| sheet.last(last)));
+        let head = notes.iter().cloned().chain(shown.last.iter().flat_map(|last| sheet.last(last)));
         let head: Vec<String> = head.flat_map(|line| folded(&line, sheet.style)).collect();
         let rest: Vec<String> = sheet.rest(shown, before).iter().flat_map(|line| folded(line, sheet.style)).collect();
         let panels = sheet.panels(shown, before);

@@ -65,7 +65,7 @@ impl Stepper {
     /// Why an `until` or a `settle` did not get where it should.
     fn stuck(&self, stuck: &Stuck) -> String {
         match stuck {
-            Stuck::Refused { answer, .. } => format!("no further: the next would be {}", self.said().answer(*answer, None)),
+            Stuck::Refused { answer, .. } => format!("no further: the next would be {}", self.said().answer(*answer)),
             Stuck::Endless { records } => format!("no further: not there after {records} records"),
             Stuck::Unquiet { records, still, .. } => {
                 let how = if *still { "the cabinet stands still" } else { "it could go on" };

@@ -13,14 +13,17 @@ mod session;
 mod sheet;
 mod shown;
 
-use crate::explain::Input;
+use crate::explain::{self, Explaining, Input};
+use crate::follow::Spot;
 use crate::form::names::Names;
+use crate::played::Played;
 use crate::proved::{self, answers_from, run_records, Ran};
 use crate::records::RECORDS_MOST;
+use crate::words::Spoken;
 use command::{Command, Where};
 pub use draw::{bus_so_far, in_lines, on_screen};
 use given::{Given, Source};
-use kunzeastylus::{Fate, Move, Operation, Record, Refusal, Table, View};
+use kunzeastylus::{Fate, Move, Operation, ProcessView, Record, Refusal, Table, View};
 pub use session::{help, session, Front};
 pub use sheet::Sheet;
 pub use shown::{Last, Shown};
@@ -111,12 +114,34 @@ impl Stepper {
     fn last(&self, done: &[Record], ran: &Ran) -> Option<Last> {
         let (&Given { record, source }, _) = self.given.split_last()?;
         let last = done.len() - 1;
-        let found = self.found(record, &self.cabinet(&done[..last]));
+        let before = self.cabinet(&done[..last]);
+        let spot = |process: &ProcessView| Spot {
+            board: process.board as u8,
+            place: process.place as usize,
+            registers: process.registers,
+        };
+        let spot = before.processes().get(usize::from(record.a)).map(spot);
+        let found = self.found(record, &before).zip(spot);
         let taken = match ran.fates[last] {
             Fate::TookBack(taken) => Some(self.given[taken].source.name()),
             _ => None,
         };
-        Some(Last { name: source.name(), record, found, answer: ran.answers[last], taken })
+        Some(Last {
+            name: source.name(),
+            record,
+            found,
+            answer: ran.answers[last],
+            taken,
+            besides: self.besides(done, ran, spot),
+        })
+    }
+
+    /// What the last of these records did besides its answer, or what would help where it was refused.
+    fn besides(&self, done: &[Record], ran: &Ran, spot: Option<Spot>) -> Vec<String> {
+        let bytes = Input { table: self.bytes.clone(), schedule: Record::schedule(done) };
+        let played = Played { bytes, table: self.table.clone(), records: done.to_vec(), ran: ran.clone() };
+        let given = explain::Given::of(done, &[]);
+        Explaining::of_last(&played, &given, Spoken::by(&self.names), spot).beneath(done.len() - 1)
     }
 
     /// Does what a command asks for.

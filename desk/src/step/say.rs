@@ -1,10 +1,10 @@
 //! The stepper's words: by the names of the cabinet, so that what is shown can be typed, and as it stands in a schedule that is saved.
-use super::{Sheet, Stepper};
+use super::{Last, Sheet, Stepper};
 use crate::form::names::Names;
 use crate::form::print;
 use crate::output::Style;
-use crate::words::many;
-use kunzeastylus::{Answer, BackupState, BackupView, BusWord, Code, End, Entry, Operation, Reason, Record, Table};
+use crate::words::{many, Spoken};
+use kunzeastylus::{Answer, BackupState, BackupView, BusWord, End, Entry, Operation, Record, Table};
 
 /// A table and its names.
 #[derive(Clone, Copy)]
@@ -38,22 +38,17 @@ impl Said<'_> {
         format!("{} {word}", self.names.channel_name(channel))
     }
 
-    /// An answer with its reason and what it names; of a back the record that it took back, by its name.
-    pub fn answer(&self, answer: Answer, taken: Option<&str>) -> String {
-        let Answer { code, a, word, reason, bus } = answer;
-        let why = reason.words();
-        match (code, reason) {
-            (Code::TakenBack, _) => taken.map_or(why.to_string(), |taken| format!("took back record {taken}")),
-            (Code::Took | Code::Queued | Code::HeldBack | Code::OnTheBus, _) => {
-                let from = bus.and_then(|bus| self.sender(&bus)).map_or(String::new(), |from| format!(", from {from}"));
-                format!("{why} ({}{from})", self.word(a, word))
-            }
-            (_, Reason::SyncCarried) => {
-                format!("{why} ({}, {} dropped)", self.names.program_name(a), many(word as usize, "word", "words"))
-            }
-            (Code::SyncCarried | Code::SyncUnbacked, _) => format!("{why} ({})", self.names.program_name(a)),
-            _ if code.refused() => format!("refused {}, {why}", code.number()),
-            _ => why.to_string(),
+    /// An answer with its reason and what it names.
+    pub fn answer(&self, answer: Answer) -> String {
+        Spoken::by(self.names).answer(answer, None)
+    }
+
+    /// The same of the last record, with what it did to registers and place, or which record it took back.
+    pub fn outcome(&self, last: &Last) -> String {
+        let spoken = Spoken::by(self.names);
+        match &last.taken {
+            Some(taken) => spoken.answer(last.answer, Some(taken)),
+            None => spoken.outcome(last.record, last.answer, last.found.map(|(operation, spot)| (operation, spot.registers))),
         }
     }
 

@@ -49,12 +49,13 @@ impl Sheet<'_> {
         }
     }
 
-    /// The last record and its answer.
-    pub(super) fn last(&self, last: &Last) -> String {
-        let answer = self.said.answer(last.answer, last.taken.as_deref());
+    /// The last record and its answer, and what is to be said besides.
+    pub(super) fn last(&self, last: &Last) -> Vec<String> {
+        let answer = self.said.outcome(last);
         let colour = if last.answer.code.refused() { Colour::Red } else { Colour::Green };
-        let record = self.said.record(last.record, last.found);
-        format!("{:>5}  {record:<38}  {}", last.name, self.paint(colour, &answer))
+        let record = self.said.record(last.record, last.found.map(|(operation, _)| operation));
+        let line = format!("{:>5}  {record:<38}  {}", last.name, self.paint(colour, &answer));
+        std::iter::once(line).chain(last.besides.iter().map(|what| format!("       {what}"))).collect()
     }
 
     pub(super) fn panels(&self, shown: &Shown, before: Option<&Shown>) -> Vec<Panel> {
@@ -74,7 +75,7 @@ impl Sheet<'_> {
         let limit = self.said.table.processes[p].limit.unwrap_or(LIMIT);
         let owed = format!("acts {} of {limit}, instructions {} of {INSTRUCTIONS_MOST}", process.acts, process.instructions);
         let inbox = self.said.list(process.inbox().iter().map(|unread| self.said.word(unread.channel, unread.word)), "empty");
-        let would = shown.would[p].map_or("a run has no room for it".to_string(), |answer| self.said.answer(answer, None));
+        let would = shown.would[p].map_or("a run has no room for it".to_string(), |answer| self.said.answer(answer));
         let facts = vec![
             format!("{mark} {stands}{held}"),
             format!("    {}; {owed}", self.registers(process.registers, was.map(|was| was.registers))),
