@@ -8,12 +8,14 @@ use desk::explain::{Asked, Input, Put};
 use desk::follow::{Followed, Spot};
 use desk::hex;
 use desk::output::PLAIN;
-use kunzeastylus::{run, Buffers, BusWord, End, Move, Operation, Table};
+use desk::proved::run_records;
+use kunzeastylus::{run, Buffers, BusWord, Code, End, Move, Operation, Record, Table};
 use outside::random::Random;
 use outside::rules::generate::{encode_schedule, encode_table, schedule, table};
 use outside::rules::going_back::going_back;
 use outside::rules::lent::Lent;
 use outside::rules::loops::loops;
+use outside::rules::repairs::{crash_after_crash, row};
 
 const SEED: u64 = 0x94D0_49BB_1331_11EB;
 
@@ -125,7 +127,7 @@ fn pulled_in_vain() {
         assert_eq!((ended.status.code(), text.lines().collect::<Vec<_>>()), (Some(4), about.to_vec()), "{arguments:?}");
         String::from_utf8_lossy(&ended.stdout).lines().skip(1).take(2).map(squeezed).collect::<Vec<_>>()
     };
-    let help = "process 0 has no backup: return board 0, then resync process 0";
+    let help = "process 0 has no backup: return board 0, then resync process 0 and carry that";
     let refused = &format!("ks explain: --pull 1@21: refused 44, some process has no backup; {help}")[..];
     let last = said(&["--pull", "1@21", "--from", "20"], &[refused]);
     assert_eq!(last[0], "20 step process 0, JUMP to place 0 by register 0 done: calculated, jumped to place 0");
@@ -169,6 +171,70 @@ fn pulled_and_taken_back() {
     );
 }
 
+/// The records that a help names, each as often as it says.
+fn named(help: &str) -> Vec<Record> {
+    let part = |part: &str| -> Vec<Record> {
+        let words: Vec<&str> = part.split([' ', ',']).filter(|word| !word.is_empty()).collect();
+        let number = |word: &str| word.parse().unwrap_or_else(|_| panic!("{part}"));
+        match words[..] {
+            ["carry", "board", board] => vec![Record::carry(number(board))],
+            ["carry", "board", board, times, "times"] => vec![Record::carry(number(board)); number(times).into()],
+            ["return", "board", board, ..] => vec![Record::return_board(number(board))],
+            ["sync", "process", p] => vec![Record::sync(number(p))],
+            ["resync", "process", p, "and", "carry", "that"] => vec![Record::resync(number(p))],
+            _ => panic!("{part}"),
+        }
+    };
+    let told = help.rsplit(": ").next().expect("a help");
+    told.split(", then ").flat_map(part).collect()
+}
+
+/// Carries of each board until its queue is empty.
+fn all_carried(boards: u8) -> impl Iterator<Item = Record> {
+    (0..boards).flat_map(|board| [Record::carry(board); 33])
+}
+
+/// What would help helps: behind the records that it names, in that order, the same record isn't refused with that number any more.
+#[test]
+fn help_helps() {
+    let mut random = Random::new(SEED);
+    let mut helped = [0; 256];
+    for i in 0..120 {
+        let table = if i % 4 == 0 { table(&mut random) } else { row(&mut random) };
+        let records = match i % 2 {
+            0 => crash_after_crash(&mut random, &table, 2, 120),
+            _ => schedule(&mut random, &table, 120),
+        };
+        let input = Input { table: encode_table(&table), schedule: encode_schedule(&records) };
+        let records = Record::read(&input.schedule).expect("a sound schedule");
+        let ran = run_records(&input.table, &records).expect("a sound run");
+        for (n, answer) in ran.answers.iter().enumerate().filter(|(_, answer)| answer.code.refused()) {
+            let text = explained(&input, &[], Asked { from: n + 1, to: n + 1, all: true, ..Asked::default() });
+            let helps = || text.lines().skip(2).take_while(|line| line.starts_with("       ")).map(str::trim);
+            let done = match answer.code {
+                Code::NoWord => helps().find(|help| help.contains(" is in the queue of ")).map(named),
+                Code::BoardDead | Code::QueueFull | Code::SyncWaiting => helps().next().map(named),
+                Code::HasBackup => helps().find(|help| help.contains(" is dead")).map(named),
+                Code::OwesSync => helps().next().map(named),
+                // Once everything that waits is carried, too.
+                Code::NoBackup | Code::SomeUnbacked => Some(helps().flat_map(named).chain(all_carried(table.boards)).collect()),
+                _ => None,
+            };
+            let Some(done) = done else { continue };
+            let again = [&records[..n], &done, &records[n..=n]].concat();
+            let again = run_records(&input.table, &again).expect("a sound run").answers;
+            // What stops a sync or a resync that is named is told by an answer of its own.
+            let stopped = again[n..again.len() - 1].iter().any(|answer| matches!(answer.code, Code::QueueFull | Code::NotReady));
+            let same = again.last().map(|last| last.code) == Some(answer.code);
+            assert!(!same || stopped, "record {}: {text}", n + 1);
+            helped[usize::from(answer.code.number())] += usize::from(!same);
+        }
+    }
+    for (code, least) in [(34, 10), (36, 20), (37, 50), (38, 5), (40, 5), (41, 10), (44, 5), (50, 10)] {
+        assert!(helped[code] >= least, "{code}: {}", helped[code]);
+    }
+}
+
 #[test]
 fn complaints() {
     let sample = "samples/sample.hex";
@@ -208,14 +274,12 @@ fn complaints() {
     let limited = b"00 0A 02 02 01 01 FF 00 00 01 11 00";
     complains(&["-"], limited, 3, "refused 47\n", "standard input:1: process 0: its limit is 17, and 1 to 16 are wanted");
     // 10,000 records have no room for a crash.
-    let most =
-        [&[0, 9, 1, 2, 1, 1, 255, 0, 0, 1, 0][..], &kunzeastylus::Record::schedule(&[kunzeastylus::Record::step(0); 10_000])]
-            .concat();
+    let most = [&[0, 9, 1, 2, 1, 1, 255, 0, 0, 1, 0][..], &Record::schedule(&[Record::step(0); 10_000])].concat();
     complains(&["--pull", "0@1", "-"], &most, 3, "refused 9\n", "the schedule has 10001 records, and 10000 are the most");
     let folded = common::printed_wide(&["explain", "-"], &most);
     assert!(folded.lines().nth(1).is_some_and(|line| line.ends_with("refused 35, halted (10000 times, up to record 10000)")));
-    assert_eq!(folded.lines().count(), 1 + 1 + 2 + 2 + 1);
-    assert_eq!(common::printed_wide(&["explain", "--all", "-"], &most).lines().count(), 10_000 + 1 + 2 + 2 + 1);
+    assert_eq!(folded.lines().count(), 1 + 1 + 2 + 3 + 1);
+    assert_eq!(common::printed_wide(&["explain", "--all", "-"], &most).lines().count(), 1 + 10_000 + 2 + 3 + 1);
 }
 
 /// The two bytes that a word on the bus stands for, or that there was none. Where it was sent, a SEND to its channel stands at its place.
