@@ -1,5 +1,5 @@
 //! `ks explain`: four samples in words, as stored beside them; boards pulled and returned, processes resynced, also where records are taken
-//! back; what stands beneath a line; which lines there are; what is said where it can't; and that the places it follows are those of the
+//! back; which lines there are; what is said where it can't; and that the places it follows are those of the
 //! report, after every record of generated runs.
 mod common;
 
@@ -8,14 +8,12 @@ use desk::explain::{Asked, Input, Put};
 use desk::follow::{Followed, Spot};
 use desk::hex;
 use desk::output::PLAIN;
-use desk::proved::run_records;
-use kunzeastylus::{run, Buffers, BusWord, Code, End, Move, Operation, Record, Table};
+use kunzeastylus::{run, Buffers, BusWord, End, Move, Operation, Record, Table};
 use outside::random::Random;
 use outside::rules::generate::{encode_schedule, encode_table, schedule, table};
 use outside::rules::going_back::going_back;
 use outside::rules::lent::Lent;
 use outside::rules::loops::loops;
-use outside::rules::repairs::{crash_after_crash, row};
 
 const SEED: u64 = 0x94D0_49BB_1331_11EB;
 
@@ -169,70 +167,6 @@ fn pulled_and_taken_back() {
         pull("1@6")[..4],
         [queued, "pull crash board 1 done: board crashed", &format!("6~ {carried}"), "7 back took back record 6"]
     );
-}
-
-/// The records that a help names, each as often as it says.
-fn named(help: &str) -> Vec<Record> {
-    let part = |part: &str| -> Vec<Record> {
-        let words: Vec<&str> = part.split([' ', ',']).filter(|word| !word.is_empty()).collect();
-        let number = |word: &str| word.parse().unwrap_or_else(|_| panic!("{part}"));
-        match words[..] {
-            ["carry", "board", board] => vec![Record::carry(number(board))],
-            ["carry", "board", board, times, "times"] => vec![Record::carry(number(board)); number(times).into()],
-            ["return", "board", board, ..] => vec![Record::return_board(number(board))],
-            ["sync", "process", p] => vec![Record::sync(number(p))],
-            ["resync", "process", p, "and", "carry", "that"] => vec![Record::resync(number(p))],
-            _ => panic!("{part}"),
-        }
-    };
-    let told = help.rsplit(": ").next().expect("a help");
-    told.split(", then ").flat_map(part).collect()
-}
-
-/// Carries of each board until its queue is empty.
-fn all_carried(boards: u8) -> impl Iterator<Item = Record> {
-    (0..boards).flat_map(|board| [Record::carry(board); 33])
-}
-
-/// What would help helps: behind the records that it names, in that order, the same record isn't refused with that number any more.
-#[test]
-fn help_helps() {
-    let mut random = Random::new(SEED);
-    let mut helped = [0; 256];
-    for i in 0..120 {
-        let table = if i % 4 == 0 { table(&mut random) } else { row(&mut random) };
-        let records = match i % 2 {
-            0 => crash_after_crash(&mut random, &table, 2, 120),
-            _ => schedule(&mut random, &table, 120),
-        };
-        let input = Input { table: encode_table(&table), schedule: encode_schedule(&records) };
-        let records = Record::read(&input.schedule).expect("a sound schedule");
-        let ran = run_records(&input.table, &records).expect("a sound run");
-        for (n, answer) in ran.answers.iter().enumerate().filter(|(_, answer)| answer.code.refused()) {
-            let text = explained(&input, &[], Asked { from: n + 1, to: n + 1, all: true, ..Asked::default() });
-            let helps = || text.lines().skip(2).take_while(|line| line.starts_with("       ")).map(str::trim);
-            let done = match answer.code {
-                Code::NoWord => helps().find(|help| help.contains(" is in the queue of ")).map(named),
-                Code::BoardDead | Code::QueueFull | Code::SyncWaiting => helps().next().map(named),
-                Code::HasBackup => helps().find(|help| help.contains(" is dead")).map(named),
-                Code::OwesSync => helps().next().map(named),
-                // Once everything that waits is carried, too.
-                Code::NoBackup | Code::SomeUnbacked => Some(helps().flat_map(named).chain(all_carried(table.boards)).collect()),
-                _ => None,
-            };
-            let Some(done) = done else { continue };
-            let again = [&records[..n], &done, &records[n..=n]].concat();
-            let again = run_records(&input.table, &again).expect("a sound run").answers;
-            // What stops a sync or a resync that is named is told by an answer of its own.
-            let stopped = again[n..again.len() - 1].iter().any(|answer| matches!(answer.code, Code::QueueFull | Code::NotReady));
-            let same = again.last().map(|last| last.code) == Some(answer.code);
-            assert!(!same || stopped, "record {}: {text}", n + 1);
-            helped[usize::from(answer.code.number())] += usize::from(!same);
-        }
-    }
-    for (code, least) in [(34, 10), (36, 20), (37, 50), (38, 5), (40, 5), (41, 10), (44, 5), (50, 10)] {
-        assert!(helped[code] >= least, "{code}: {}", helped[code]);
-    }
 }
 
 #[test]
