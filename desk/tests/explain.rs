@@ -1,5 +1,5 @@
 //! `ks explain`: four samples in words, as stored beside them; boards pulled and returned, processes resynced, also where records are taken
-//! back; what stands beneath a line; which lines there are; what is said where it can't; and that the places it follows are those of the
+//! back; which lines there are; what is said where it can't; and that the places it follows are those of the
 //! report, after every record of generated runs.
 mod common;
 
@@ -8,7 +8,7 @@ use desk::explain::{Asked, Input, Put};
 use desk::follow::{Followed, Spot};
 use desk::hex;
 use desk::output::PLAIN;
-use kunzeastylus::{run, Buffers, BusWord, End, Move, Operation, Table};
+use kunzeastylus::{run, Buffers, BusWord, End, Move, Operation, Record, Table};
 use outside::random::Random;
 use outside::rules::generate::{encode_schedule, encode_table, schedule, table};
 use outside::rules::going_back::going_back;
@@ -125,7 +125,7 @@ fn pulled_in_vain() {
         assert_eq!((ended.status.code(), text.lines().collect::<Vec<_>>()), (Some(4), about.to_vec()), "{arguments:?}");
         String::from_utf8_lossy(&ended.stdout).lines().skip(1).take(2).map(squeezed).collect::<Vec<_>>()
     };
-    let help = "process 0 has no backup: return board 0, then resync process 0";
+    let help = "process 0 has no backup: return board 0, then resync process 0 and carry that";
     let refused = &format!("ks explain: --pull 1@21: refused 44, some process has no backup; {help}")[..];
     let last = said(&["--pull", "1@21", "--from", "20"], &[refused]);
     assert_eq!(last[0], "20 step process 0, JUMP to place 0 by register 0 done: calculated, jumped to place 0");
@@ -208,14 +208,12 @@ fn complaints() {
     let limited = b"00 0A 02 02 01 01 FF 00 00 01 11 00";
     complains(&["-"], limited, 3, "refused 47\n", "standard input:1: process 0: its limit is 17, and 1 to 16 are wanted");
     // 10,000 records have no room for a crash.
-    let most =
-        [&[0, 9, 1, 2, 1, 1, 255, 0, 0, 1, 0][..], &kunzeastylus::Record::schedule(&[kunzeastylus::Record::step(0); 10_000])]
-            .concat();
+    let most = [&[0, 9, 1, 2, 1, 1, 255, 0, 0, 1, 0][..], &Record::schedule(&[Record::step(0); 10_000])].concat();
     complains(&["--pull", "0@1", "-"], &most, 3, "refused 9\n", "the schedule has 10001 records, and 10000 are the most");
     let folded = common::printed_wide(&["explain", "-"], &most);
     assert!(folded.lines().nth(1).is_some_and(|line| line.ends_with("refused 35, halted (10000 times, up to record 10000)")));
-    assert_eq!(folded.lines().count(), 1 + 1 + 2 + 2 + 1);
-    assert_eq!(common::printed_wide(&["explain", "--all", "-"], &most).lines().count(), 10_000 + 1 + 2 + 2 + 1);
+    assert_eq!(folded.lines().count(), 1 + 1 + 2 + 3 + 1);
+    assert_eq!(common::printed_wide(&["explain", "--all", "-"], &most).lines().count(), 1 + 10_000 + 2 + 3 + 1);
 }
 
 /// The two bytes that a word on the bus stands for, or that there was none. Where it was sent, a SEND to its channel stands at its place.

@@ -1,7 +1,7 @@
 //! What a record did that its answer doesn't say: the whole cabinet behind it held against that before it.
 use super::Explaining;
 use crate::words::{holds, list, many};
-use kunzeastylus::{BackupState, BackupView, BoardView, Entry, Move, Operation, ProcessView, Reason, SavedWord, View};
+use kunzeastylus::{BackupState, BackupView, BoardView, Entry, Move, Operation, ProcessView, Reason, View};
 
 /// A line for each thing, of a record that was done.
 pub fn did(run: &Explaining, i: usize) -> Vec<String> {
@@ -164,27 +164,28 @@ fn resync(after: &View, p: usize) -> String {
 /// The state that a backup has.
 pub fn state(run: &Explaining, p: u32, backup: &BackupView) -> String {
     let [r0, r1, r2, r3] = backup.registers;
-    let saved = by_channel(run, p, backup.words());
-    format!("place {}, registers {r0} {r1} {r2} {r3}, {saved}", backup.place)
+    let slots = run.slots(p);
+    let saved = many(backup.words().len(), "saved word", "saved words");
+    let words: Vec<(u8, u32)> = backup.words().iter().map(|word| (slots[word.slot as usize], word.word)).collect();
+    let each = if words.is_empty() { String::new() } else { format!(" ({})", by_channel(run, &words)) };
+    format!("place {}, registers {r0} {r1} {r2} {r3}, {saved}{each}", backup.place)
 }
 
-/// Saved words by their channels.
-fn by_channel(run: &Explaining, p: u32, words: &[SavedWord]) -> String {
-    let saved = many(words.len(), "saved word", "saved words");
-    let each = run.slots(p).into_iter().zip(0u32..).filter_map(|(channel, slot)| {
-        let words: Vec<u32> = words.iter().filter(|word| word.slot == slot).map(|word| word.word).collect();
-        (!words.is_empty()).then(|| format!("{}: {}", run.spoken.channel(channel), numbers(&words)))
-    });
-    let each: Vec<String> = each.collect();
-    if each.is_empty() {
-        saved
-    } else {
-        format!("{saved} ({})", each.join("; "))
-    }
+/// Words in the order of their channels.
+pub fn by_channel(run: &Explaining, words: &[(u8, u32)]) -> String {
+    let mut channels: Vec<u8> = words.iter().map(|(channel, _)| *channel).collect();
+    channels.sort_unstable();
+    channels.dedup();
+    let of = |channel: u8| -> Vec<u32> { words.iter().filter(|(other, _)| *other == channel).map(|(_, word)| *word).collect() };
+    channels
+        .into_iter()
+        .map(|channel| format!("{}: {}", run.spoken.channel(channel), numbers(&of(channel))))
+        .collect::<Vec<_>>()
+        .join("; ")
 }
 
 /// Words as numbers in a row.
-pub fn numbers(words: &[u32]) -> String {
+fn numbers(words: &[u32]) -> String {
     words.iter().map(u32::to_string).collect::<Vec<_>>().join(" ")
 }
 

@@ -1,6 +1,7 @@
 //! The end of a run: each board, each process with what a step would answer now, and why the cabinet isn't quiet.
-use super::done::{numbers, queue, state};
+use super::done::{by_channel, queue, state};
 use super::{refused, waits, Explaining};
+use crate::records::RECORDS_MOST;
 use crate::words::{self, list, many};
 use kunzeastylus::{Answer, BackupState, Record, View};
 use std::fmt::Write;
@@ -15,8 +16,7 @@ pub fn end(run: &Explaining, text: &mut String) {
         writeln!(text, "{}", of_board(run, &view, board)).unwrap();
     }
     for (p, end) in run.played.ran.ends.iter().enumerate() {
-        let next = run.played.table.processes[p].program.get(usize::from(end.place)).copied();
-        writeln!(text, "{}", run.spoken.stands(p, *end, next)).unwrap();
+        writeln!(text, "{}", run.spoken.stands(p, *end, run.next(&view, p as u32))).unwrap();
         for line in of_process(run, &view, p, steps[p]) {
             writeln!(text, "{BENEATH}{line}").unwrap();
         }
@@ -47,28 +47,10 @@ fn of_board(run: &Explaining, view: &View, board: usize) -> String {
 /// What a step would answer now, the unread words by channel, and the backup.
 fn of_process(run: &Explaining, view: &View, p: usize, step: Option<Answer>) -> Vec<String> {
     let process = &view.processes()[p];
-    let mut lines = Vec::new();
-    if let Some(answer) = step {
-        let next = run.played.table.processes[p].program.get(process.place as usize).copied();
-        let mut now = format!(
-            "a step now: {}",
-            run.spoken.outcome(Record::step(p as u8), answer, next.map(|next| (next, process.registers)))
-        );
-        if answer.code.refused() {
-            for help in refused::why(run, view, Record::step(p as u8), answer, next) {
-                now += &format!("; {help}");
-            }
-        }
-        lines.push(now);
-    }
-    let unread = run.slots(p as u32).into_iter().filter_map(|channel| {
-        let inbox = process.inbox().iter().filter(|word| word.channel == u32::from(channel));
-        let words: Vec<u32> = inbox.map(|word| word.word).collect();
-        (!words.is_empty()).then(|| format!("{}: {}", run.spoken.channel(channel), numbers(&words)))
-    });
-    let unread: Vec<String> = unread.collect();
+    let mut lines = vec![step_now(run, view, p as u32, step)];
+    let unread: Vec<(u8, u32)> = process.inbox().iter().map(|word| (word.channel as u8, word.word)).collect();
     if !unread.is_empty() {
-        lines.push(format!("unread on {}", unread.join("; ")));
+        lines.push(format!("unread on {}", by_channel(run, &unread)));
     }
     let backup = &process.backup;
     lines.push(match backup.state() {
@@ -79,6 +61,18 @@ fn of_process(run: &Explaining, view: &View, p: usize, step: Option<Answer>) -> 
         _ => refused::unbacked(run, view, p as u32),
     });
     lines
+}
+
+/// What a step would answer now, and what would help where that is a refusal.
+fn step_now(run: &Explaining, view: &View, p: u32, step: Option<Answer>) -> String {
+    let Some(answer) = step else {
+        return format!("what a step would answer now can't be asked: a run has {RECORDS_MOST} records at most");
+    };
+    let (record, next) = (Record::step(p as u8), run.next(view, p));
+    let registers = view.processes()[p as usize].registers;
+    let words = run.spoken.outcome(record, answer, next.map(|next| (next, registers)));
+    let helps = if answer.code.refused() { refused::why(run, view, record, answer, next) } else { Vec::new() };
+    format!("a step now: {}", [vec![words], helps].concat().join("; "))
 }
 
 /// Whether the cabinet is quiet, and where it isn't, which of the reasons holds.

@@ -13,11 +13,14 @@ mod summary;
 
 use crate::follow::{Followed, Spot};
 use crate::played::Played;
+use crate::proved;
 use crate::records::{schedule_length, RECORDS_MOST};
 use crate::words::{self, Spoken};
 pub use asked::{Asked, Only};
 pub use given::{Given, Put, Source};
-use kunzeastylus::{Answer, Cabinet, Code, End, Lengths, Move, Operation, Process, ProcessView, Record, Refusal, Run, View};
+use kunzeastylus::{
+    Answer, Cabinet, Code, End, Fate, Lengths, Move, Operation, Process, ProcessView, Record, Refusal, Run, View,
+};
 use std::fmt::Write;
 
 /// A table and a schedule, as `./run` takes them one behind the other.
@@ -88,7 +91,8 @@ impl<'e> Explaining<'e> {
         let mut followed = Followed::new(&played.table);
         let mut spots = Vec::new();
         for (i, (record, answer)) in played.records.iter().zip(&played.ran.answers).enumerate() {
-            spots.push(followed.spot(record.a));
+            let of_process = matches!(record.kind(), Some(Move::Step | Move::Sync | Move::Resync));
+            spots.push(followed.spot(record.a).filter(|_| of_process));
             let report =
                 || played.bytes.run(i + 1).expect("a beginning of an accepted run").processes().map(Spot::from).collect();
             followed.record(record.kind(), record.a, *answer, report);
@@ -159,15 +163,17 @@ impl<'e> Explaining<'e> {
         process.board == board || process.backup.board == board
     }
 
-    /// What a step of a process would answer now; none where the run has no room for a record more.
+    /// What a step of a process would answer now. A run that has no room for a record more is asked without its records that changed nothing;
+    /// none where that is no shorter.
     fn step_now(&self, process: u8) -> Option<Answer> {
-        let records = &self.played.records;
-        if records.len() >= RECORDS_MOST {
-            return None;
-        }
-        let more = Record::schedule(&[&records[..], &[Record::step(process)]].concat());
-        let run = Cabinet::new(&self.played.bytes.table[..]).and_then(|cabinet| cabinet.run(&more)).expect("one record more");
-        run.answers().last()
+        let Played { records, ran, bytes, .. } = self.played;
+        let changed = |i: &usize| ran.fates[*i] == Fate::Stands && !ran.answers[*i].code.refused();
+        let mut more = match records.len() < RECORDS_MOST {
+            true => records.clone(),
+            false => (0..records.len()).filter(changed).map(|i| records[i]).collect(),
+        };
+        more.push(Record::step(process));
+        proved::answers_from(&bytes.table, &more, more.len() - 1).first().copied()
     }
 
     /// The process that sends on a channel; none where the outside does.
@@ -184,6 +190,12 @@ impl<'e> Explaining<'e> {
     fn other_board(&self, process: &ProcessView, p: u32) -> u32 {
         let Process { primary, backup, .. } = &self.played.table.processes[p as usize];
         u32::from(if process.board == u32::from(*primary) { *backup } else { *primary })
+    }
+
+    /// The instruction that a process of this cabinet does next; none where it has halted.
+    fn next(&self, view: &View, p: u32) -> Option<Operation> {
+        let place = view.processes()[p as usize].place;
+        self.played.table.processes[p as usize].program.get(place as usize).copied()
     }
 
     /// The channels that a process reads, by its slots.

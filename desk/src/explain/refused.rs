@@ -49,7 +49,7 @@ pub fn why(run: &Explaining, view: &View, record: Record, answer: Answer, operat
         }
         Code::NotReady => not_ready(run, process(), a),
         Code::HasBackup => vec![match process().backup.state() {
-            BackupState::None => format!("its other board, {}, is dead: return it first", run.other_board(process(), a)),
+            BackupState::None => format!("its other board is dead: return board {} first", run.other_board(process(), a)),
             _ => format!("it has its backup, on board {}", process().backup.board),
         }],
         _ => Vec::new(),
@@ -117,17 +117,19 @@ fn waiting(run: &Explaining, view: &View, p: u32) -> String {
 /// Where the words of a held channel are, and who has not read them.
 fn held(run: &Explaining, view: &View, channel: u32) -> String {
     let mut where_they_are = Vec::new();
-    if let Some(reader) = run.reader(channel) {
-        let unread = view.processes()[reader as usize].inbox().iter().filter(|word| word.channel == channel).count();
-        if unread > 0 {
-            where_they_are.push(format!("{unread} not read by {}", run.spoken.process(reader)));
-        }
-    }
     let is = |entry: &Entry| matches!(entry, Entry::Word { channel: other, .. } if *other == channel);
     for (board, b) in view.boards().iter().zip(0u32..) {
         let queued = board.queue().filter(is).count();
         if queued > 0 {
             where_they_are.push(format!("{queued} in the queue of board {b}"));
+        }
+    }
+    if let Some(reader) = run.reader(channel) {
+        let unread = view.processes()[reader as usize].inbox().iter().filter(|word| word.channel == channel).count();
+        if unread > 0 {
+            let next =
+                run.next(view, reader).map_or("has halted".to_string(), |next| format!("is at {}", run.spoken.instruction(next)));
+            where_they_are.push(format!("{unread} not read by {}, which {next}", run.spoken.process(reader)));
         }
     }
     let total = many(view.totals()[channel as usize] as usize, "word", "words");
@@ -143,7 +145,8 @@ pub fn unbacked(run: &Explaining, view: &View, p: u32) -> String {
         return format!("{name} has no backup yet, its resync is in the queue of board {board}: {carry}");
     }
     let dead = view.boards()[other as usize].is_dead().then(|| format!("return board {other}"));
-    let steps: Vec<String> = dead.into_iter().chain(waits.map(|(_, carry)| carry)).chain([format!("resync {name}")]).collect();
+    let steps: Vec<String> =
+        dead.into_iter().chain(waits.map(|(_, carry)| carry)).chain([format!("resync {name} and carry that")]).collect();
     format!("{name} has no backup: {}", steps.join(", then "))
 }
 
