@@ -3,6 +3,7 @@
 mod common;
 
 use common::{read, ROOT};
+use std::path::PathBuf;
 use std::process::{Command, Output};
 use std::thread::sleep;
 use std::time::{Duration, Instant};
@@ -12,14 +13,14 @@ const PATIENCE: Duration = Duration::from_secs(20);
 
 /// A terminal of its own, which ends with the test.
 struct Terminal {
-    name: String,
+    socket: PathBuf,
 }
 
 impl Terminal {
     /// One of so many columns and rows in which `ks step FILE` is run; none where there is no tmux. The settings of the terminal before and
     /// after it are compared, and that is said behind its end.
     fn with(name: &str, (columns, rows): (usize, usize), colour: bool, file: &str) -> Option<Terminal> {
-        let terminal = Terminal { name: format!("ks-{name}-{}", std::process::id()) };
+        let terminal = Terminal { socket: std::env::temp_dir().join(format!("ks-{name}-{}", std::process::id())) };
         let (program, plain) = (env!("CARGO_BIN_EXE_ks"), if colour { "" } else { "1" });
         let script = format!(
             "trap : INT; unset LINES COLUMNS; before=$(stty -a); NO_COLOR={plain} {program} step {file}; code=$?; \\
@@ -33,7 +34,7 @@ impl Terminal {
     }
 
     fn tmux(&self, arguments: &[&str]) -> Option<Output> {
-        let ended = Command::new("tmux").args(["-L", &self.name]).args(arguments).current_dir(ROOT).output();
+        let ended = Command::new("tmux").arg("-S").arg(&self.socket).args(arguments).current_dir(ROOT).output();
         ended.inspect_err(|error| eprintln!("there is no tmux, so nothing is tried: {error}")).ok()
     }
 
@@ -68,6 +69,8 @@ impl Terminal {
 impl Drop for Terminal {
     fn drop(&mut self) {
         self.tmux(&["kill-server"]);
+        // tmux leaves its socket behind; where there is no tmux there is none.
+        let _ = std::fs::remove_file(&self.socket);
     }
 }
 
