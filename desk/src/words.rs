@@ -51,6 +51,12 @@ impl<'n> Spoken<'n> {
         name.cloned().unwrap_or_else(|| format!("process {p}"))
     }
 
+    /// A process as it is typed: by its name, or its number alone.
+    pub fn typed(self, p: u8) -> String {
+        let name = self.names.and_then(|names| names.programs.get(usize::from(p)));
+        name.cloned().unwrap_or_else(|| p.to_string())
+    }
+
     pub fn channel(self, k: impl Into<u32>) -> String {
         let k = k.into();
         let name = self.names.and_then(|names| names.channels.get(k as usize));

@@ -4,7 +4,7 @@
 mod common;
 
 use common::{explained, sample};
-use desk::explain::{Asked, Input, Put};
+use desk::explain::{Asked, Input, Only, Put};
 use desk::follow::{Followed, Spot};
 use desk::hex;
 use desk::output::PLAIN;
@@ -167,6 +167,23 @@ fn pulled_and_taken_back() {
         pull("1@6")[..4],
         [queued, "pull crash board 1 done: board crashed", &format!("6~ {carried}"), "7 back took back record 6"]
     );
+}
+
+/// 10,000 records are a page, and what is asked for outright is shown.
+#[test]
+fn long() {
+    let round = [Record::feed(0, 1), Record::step(0), Record::sync(0), Record::carry(0)];
+    let records: Vec<Record> = round.into_iter().cycle().take(10_000).collect();
+    let input = Input { table: input("sample").table, schedule: Record::schedule(&records) };
+    let page = PLAIN.fold(&explained(&input, &[], Asked::default()));
+    assert!(page.lines().count() < 50 && page.contains("10000 records make "), "{page}");
+    let summary = PLAIN.fold(&explained(&input, &[], Asked { summary: true, ..Asked::default() }));
+    assert!(summary.lines().skip(1).eq(page.lines().skip(3)), "{page}");
+    let lines = |asked: Asked| explained(&input, &[], asked).lines().filter(|line| line.contains("  feed channel 0")).count();
+    assert_eq!(lines(Asked { all: true, ..Asked::default() }), 2_500);
+    assert_eq!(lines(Asked { from: 1_001, to: 3_000, ..Asked::default() }), 500);
+    let refused = lines(Asked { only: Some(Only::Refused), ..Asked::default() });
+    assert!(0 < refused && refused < 2_500, "{refused}");
 }
 
 #[test]

@@ -144,7 +144,7 @@ fn given(case: &Case, puts: &[Put]) -> Result<Given, Failure> {
         None => Ok(Given::of(&records, puts)),
         Some(put) => {
             let (n, last) = (records.len(), records.len() + 1);
-            Err(Failure::usage(format!("{}: the schedule has {n} records, so N is 1 to {last}", put.option())))
+            Err(Failure::usage(format!("{}: the schedule has {n} records, so N is 1 to {last}", put.option(case.spoken()))))
         }
     }
 }

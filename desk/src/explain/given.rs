@@ -2,6 +2,7 @@
 use crate::form::assemble::Step;
 use crate::form::syntax::At;
 use crate::settle::{unfold, Stuck};
+use crate::words::Spoken;
 use kunzeastylus::{Move, Record};
 
 /// A crash, a return or a resync that is put before record `before` of a schedule, from 1.
@@ -22,13 +23,13 @@ impl Put {
     }
 
     /// As it was asked for.
-    pub fn option(self) -> String {
-        let option = match self.kind {
-            Move::Return => "return",
-            Move::Resync => "resync",
-            _ => "pull",
+    pub fn option(self, spoken: Spoken) -> String {
+        let (option, of) = match self.kind {
+            Move::Return => ("return", self.a.to_string()),
+            Move::Resync => ("resync", spoken.typed(self.a)),
+            _ => ("pull", self.a.to_string()),
         };
-        format!("--{option} {}@{}", self.a, self.before)
+        format!("--{option} {of}@{}", self.before)
     }
 }
 

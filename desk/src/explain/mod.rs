@@ -140,7 +140,7 @@ impl<'e> Explaining<'e> {
         });
         let said = refused.map(|(i, put, answer)| {
             let why: Vec<String> = refused::helps(self, i).into_iter().map(|line| format!("; {line}")).collect();
-            format!("{}: {}{}", put.option(), self.spoken.answer(answer, None), why.concat())
+            format!("{}: {}{}", put.option(self.spoken), self.spoken.answer(answer, None), why.concat())
         });
         said.collect()
     }

@@ -27,7 +27,7 @@ pub fn why(run: &Explaining, view: &View, record: Record, answer: Answer, operat
     let process = || &view.processes()[a as usize];
     match answer.code {
         Code::BoardDead => vec![format!("return board {a} first")],
-        Code::NoWord => operation.map_or(Vec::new(), |operation| awaited(run, view, operation)),
+        Code::NoWord => operation.map_or(Vec::new(), |operation| awaited(run, view, process(), operation)),
         Code::OwesSync => vec![owes(run, view, a)],
         Code::QueueFull => {
             let board = process().board;
@@ -47,21 +47,23 @@ pub fn why(run: &Explaining, view: &View, record: Record, answer: Answer, operat
             let bare = view.processes().iter().zip(0u32..).filter(|(process, _)| process.backup.state() != BackupState::Complete);
             bare.map(|(_, p)| unbacked(run, view, p)).collect()
         }
-        Code::NotReady => not_ready(run, process(), a),
+        Code::NotReady => not_ready(run, view, a),
         Code::HasBackup => vec![match process().backup.state() {
             BackupState::None => format!("its other board is dead: return board {} first", run.other_board(process(), a)),
             _ => format!("it has its backup, on board {}", process().backup.board),
         }],
         _ => Vec::new(),
     }
-    .into_iter()
-    .chain(totals(run, view, answer, a))
-    .collect()
 }
 
-/// Where the words are that a TAKE or FIRST waits for: in whose queue, or nowhere.
-fn awaited(run: &Explaining, view: &View, operation: Operation) -> Vec<String> {
-    channels_of(reads(operation)).map(|channel| word_of(run, view, channel.into())).collect()
+/// Where the words are that a TAKE or FIRST waits for, in whose queue, or nowhere; and of which channels those are that it leaves unread.
+fn awaited(run: &Explaining, view: &View, process: &ProcessView, operation: Operation) -> Vec<String> {
+    let mut unread: Vec<u32> = process.inbox().iter().map(|word| word.channel).collect();
+    unread.sort_unstable();
+    unread.dedup();
+    let unread: Vec<String> = unread.into_iter().map(|channel| run.spoken.channel(channel)).collect();
+    let others = (!unread.is_empty()).then(|| format!("it leaves words of {} unread", list(&unread)));
+    channels_of(reads(operation)).map(|channel| word_of(run, view, channel.into())).chain(others).collect()
 }
 
 fn word_of(run: &Explaining, view: &View, channel: u32) -> String {
@@ -150,22 +152,11 @@ pub fn unbacked(run: &Explaining, view: &View, p: u32) -> String {
     format!("{name} has no backup: {}", steps.join(", then "))
 }
 
-/// Which of the two it is that a resync waits for.
-fn not_ready(run: &Explaining, process: &ProcessView, p: u32) -> Vec<String> {
-    match process.hold_back {
-        0 => Vec::new(),
-        held => {
-            let name = run.spoken.process(p);
-            vec![format!("{name} still holds back {}: step {name} until that is 0", many(held as usize, "send", "sends"))]
-        }
-    }
-}
-
-/// The channels with too many words for a resync.
-fn totals(run: &Explaining, view: &View, answer: Answer, p: u32) -> Vec<String> {
-    if answer.code != Code::NotReady {
-        return Vec::new();
-    }
+/// Which of the two it is that a resync waits for, or both: hold-back, and channels with over 8 words.
+fn not_ready(run: &Explaining, view: &View, p: u32) -> Vec<String> {
+    let (name, hold_back) = (run.spoken.process(p), view.processes()[p as usize].hold_back);
+    let sends = many(hold_back as usize, "send", "sends");
+    let holds = (hold_back > 0).then(|| format!("{name} still holds back {sends}: step {name} until that is 0"));
     let over = run.slots(p).into_iter().map(u32::from).filter(|channel| view.totals()[*channel as usize] > 8);
-    over.map(|channel| format!("over 8 words: {}", held(run, view, channel))).collect()
+    holds.into_iter().chain(over.map(|channel| format!("over 8 words: {}", held(run, view, channel)))).collect()
 }
