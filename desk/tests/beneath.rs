@@ -88,6 +88,39 @@ fn as_runs_say() {
     assert!(crashes > 50 && lost > 50 && dropped > 50, "{crashes} {lost} {dropped}");
 }
 
+/// Of an unquiet end the reasons are named that other runs find: a board has something to carry, a process neither has halted nor waits for
+/// a word.
+#[test]
+fn unquiet() {
+    let mut random = Random::new(SEED);
+    let (mut quiet, mut unquiet) = (0, 0);
+    for i in 0..200 {
+        let table = if i % 2 == 0 { table(&mut random) } else { row(&mut random) };
+        let records = random.pick(&[0, 5, 20, 60]);
+        let tried = Tried::new(&table, &schedule(&mut random, &table, records));
+        let n = tried.records.len();
+        let code = |record: Record| tried.ran(n, &[record]).answers[n].code;
+        let boards = (0..tried.input.table[3]).filter(|board| !code(Record::carry(*board)).refused());
+        let going = (0..tried.input.table[4]).filter(|p| !matches!(code(Record::step(*p)), Code::Halted | Code::NoWord));
+        let boards = boards.map(|board| format!("the queue of board {board} has "));
+        let wanted: Vec<String> = boards.chain(going.map(|p| format!("process {p} "))).collect();
+        let text = explained(&tried.input, &[], Asked { from: n + 1, ..Asked::default() });
+        let last = text.lines().last().expect("an end");
+        let is_quiet = (last.starts_with("quiet: "), tried.ran(n, &[]).quiet);
+        assert_eq!(is_quiet, (wanted.is_empty(), wanted.is_empty()), "{last}");
+        if let Some(reasons) = last.strip_prefix("not quiet: ") {
+            let named = reasons.split("; ").filter(|reason| !reason.starts_with("the cabinet stands still"));
+            let named: Vec<&str> = named.collect();
+            assert!(
+                named.len() == wanted.len() && named.iter().zip(&wanted).all(|(it, wanted)| it.starts_with(wanted)),
+                "{last}"
+            );
+        }
+        (quiet, unquiet) = (quiet + usize::from(wanted.is_empty()), unquiet + usize::from(!wanted.is_empty()));
+    }
+    assert!(quiet > 10 && unquiet > 50, "{quiet} {unquiet}");
+}
+
 /// How many entries a queue in words has.
 fn entries(queue: &str) -> usize {
     let each = queue.split(" and ").flat_map(|part| part.split(", "));
