@@ -156,12 +156,16 @@ fn all_carried(boards: u8) -> impl Iterator<Item = Record> {
 fn help_helps() {
     let mut random = Random::new(SEED);
     let mut helped = [0; 256];
-    for i in 0..300 {
+    for i in 0..200 {
         let table = if i % 4 == 0 { table(&mut random) } else { row(&mut random) };
         let records = match i % 2 {
             0 => crash_after_crash(&mut random, &table, 2, 120),
-            _ => schedule(&mut random, &table, 120),
+            _ => schedule(&mut random, &table, 200),
         };
+        // Where little is carried, queues fill.
+        let kept = |(n, record): &(usize, reader::Record)| i % 3 > 0 || record.kind != 3 || n % 9 == 0;
+        let records = records.into_iter().take(300).enumerate().filter(kept).map(|(_, record)| record);
+        let records: Vec<reader::Record> = records.collect();
         let tried = Tried::new(&table, &records);
         for (n, answer) in
             tried.ran(tried.records.len(), &[]).answers.iter().enumerate().filter(|(_, answer)| answer.code.refused())
@@ -186,7 +190,7 @@ fn help_helps() {
             helped[usize::from(answer.code.number())] += usize::from(!same);
         }
     }
-    for (code, least) in [(34, 10), (36, 20), (37, 50), (38, 1), (40, 5), (41, 10), (44, 5), (50, 10)] {
+    for (code, least) in [(34, 20), (36, 100), (37, 100), (38, 20), (40, 50), (41, 100), (44, 20), (50, 20)] {
         assert!(helped[code] >= least, "{code}: {}", helped[code]);
     }
 }
