@@ -46,9 +46,12 @@ fn lines(arguments: &[&str]) -> Vec<String> {
 
 /// The lines of records alone: neither what stands beneath them, nor the ends.
 fn records(arguments: &[&str]) -> Vec<String> {
-    let text = common::printed_wide(&[&["explain"], arguments].concat(), &[]);
-    let own = text.lines().skip(1).take_while(|line| !line.starts_with("board "));
-    own.filter(|line| !line.starts_with("       ")).map(squeezed).collect()
+    own(&common::printed_wide(&[&["explain"], arguments].concat(), &[])).into_iter().map(squeezed).collect()
+}
+
+fn own(text: &str) -> Vec<&str> {
+    let records = text.lines().skip(1).take_while(|line| !line.starts_with("board "));
+    records.filter(|line| !line.starts_with("       ")).collect()
 }
 
 fn squeezed(line: &str) -> String {
@@ -272,9 +275,7 @@ fn follows(table: &[u8], schedule: &[u8]) {
         let input = Input { table: table.to_vec(), schedule: schedule.to_vec() };
         let pull = Put { kind: Move::Crash, a: board, before: 1 + usize::from(board) * 7 % (records + 1) };
         let text = explained(&input, &[pull], Asked { all: true, ..Asked::default() });
-        let own =
-            text.lines().filter(|line| line.len() > 55 && line[..5].trim_start() != "" && !line.starts_with(char::is_alphabetic));
-        assert!(own.count() >= records, "{text}");
+        assert_eq!(own(&text).len(), records + 1, "{text}");
     }
 }
 

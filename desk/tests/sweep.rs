@@ -85,7 +85,10 @@ fn as_explained() {
     let open = printed(&["--list", "open", SWEPT], &[]);
     let place = open.lines().next().expect("a place");
     let explained = common::printed(&["explain", "--pull", place, SWEPT], &[]);
-    assert!(explained.lines().last().is_some_and(|line| line.starts_with("not quiet: ")), "{explained}");
+    assert!(
+        explained.lines().last().is_some_and(|line| line.starts_with("not quiet: ") && line.contains(" could go on")),
+        "{explained}"
+    );
 }
 
 #[test]

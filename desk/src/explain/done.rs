@@ -1,7 +1,7 @@
 //! What a record did that its answer doesn't say: the whole cabinet behind it held against that before it.
 use super::Explaining;
 use crate::words::{holds, list, many};
-use kunzeastylus::{BackupState, BackupView, BoardView, Entry, Move, Operation, ProcessView, Reason, View};
+use kunzeastylus::{BackupState, BackupView, BoardView, Entry, Move, ProcessView, Reason, View};
 
 /// A line for each thing, of a record that was done.
 pub fn did(run: &Explaining, i: usize) -> Vec<String> {
@@ -187,13 +187,4 @@ pub fn by_channel(run: &Explaining, words: &[(u8, u32)]) -> String {
 /// Words as numbers in a row.
 fn numbers(words: &[u32]) -> String {
     words.iter().map(u32::to_string).collect::<Vec<_>>().join(" ")
-}
-
-/// Whether an instruction waits for words of a channel.
-pub fn reads(operation: Operation) -> u32 {
-    match operation {
-        Operation::Take { channel, .. } => 1 << channel,
-        Operation::First { mask, .. } => mask,
-        _ => 0,
-    }
 }

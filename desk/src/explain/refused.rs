@@ -1,5 +1,5 @@
 //! What would help where a record is refused: what it waits for and where that is, by the whole cabinet before it.
-use super::done::{entry_words, reads};
+use super::done::entry_words;
 use super::Explaining;
 use crate::words::{channels_of, list, many};
 use kunzeastylus::{Answer, BackupState, Code, Entry, Operation, ProcessView, Record, View, LIMIT};
@@ -159,4 +159,13 @@ fn not_ready(run: &Explaining, view: &View, p: u32) -> Vec<String> {
     let holds = (hold_back > 0).then(|| format!("{name} still holds back {sends}: step {name} until that is 0"));
     let over = run.slots(p).into_iter().map(u32::from).filter(|channel| view.totals()[*channel as usize] > 8);
     holds.into_iter().chain(over.map(|channel| format!("over 8 words: {}", held(run, view, channel)))).collect()
+}
+
+/// The channels of whose words an instruction takes one, as a mask.
+fn reads(operation: Operation) -> u32 {
+    match operation {
+        Operation::Take { channel, .. } => 1 << channel,
+        Operation::First { mask, .. } => mask,
+        _ => 0,
+    }
 }
