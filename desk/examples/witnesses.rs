@@ -1,7 +1,7 @@
 //! Generated runs for `docs/witness.py`, one a line, as `ks plain --json` prints a run: `witnesses RUNS SEED`. With `damaged` behind
 //! them, one thing of each run is changed, so that no plain run explains it, or of the plain run, so that it doesn't.
 use desk::explain::Input;
-use desk::plain::{check, find, json, PlainMove};
+use desk::plain::{check, find, json, unread, Inboxes, PlainMove};
 use desk::played::Played;
 use kunzeastylus::{Answer, End};
 use outside::random::Random;
@@ -27,7 +27,7 @@ fn some_run(random: &mut Random, i: usize) -> Input {
 }
 
 /// Changes one thing that a plain run decides; false where the run has no such thing.
-fn damage(random: &mut Random, played: &mut Played, moves: &mut Vec<PlainMove>) -> bool {
+fn damage(random: &mut Random, played: &mut Played, inboxes: &mut Inboxes, moves: &mut Vec<PlainMove>) -> bool {
     let on_the_bus: Vec<usize> = played.standing().filter(|&i| played.ran.answers[i].bus.is_some()).collect();
     let steps: Vec<usize> = (0..moves.len()).filter(|&i| matches!(moves[i], PlainMove::Step { .. })).collect();
     match random.below(5) {
@@ -35,9 +35,9 @@ fn damage(random: &mut Random, played: &mut Played, moves: &mut Vec<PlainMove>) 
             let p = random.below(played.ran.ends.len() as u32) as usize;
             played.ran.ends[p].registers[3] ^= 1;
         }
-        4 if played.ran.quiet && played.inboxes.iter().any(|inbox| !inbox.is_empty()) => {
-            let unread: Vec<usize> = (0..played.inboxes.len()).filter(|&p| !played.inboxes[p].is_empty()).collect();
-            played.inboxes[random.pick(&unread)][0].1 ^= 1;
+        4 if played.ran.quiet && inboxes.iter().any(|inbox| !inbox.is_empty()) => {
+            let waiting: Vec<usize> = (0..inboxes.len()).filter(|&p| !inboxes[p].is_empty()).collect();
+            inboxes[random.pick(&waiting)][0].1 ^= 1;
         }
         1 if !steps.is_empty() => {
             moves.remove(random.pick(&steps));
@@ -67,12 +67,13 @@ fn main() {
         let input = some_run(&mut random, i);
         let mut played = Played::of(input).expect("a sound run");
         let mut moves: Vec<PlainMove> = find(&played).expect("a plain run").iter().map(|beside| beside.plain).collect();
-        check(&played, &moves).unwrap_or_else(|fault| panic!("run {i}: {fault}"));
+        let mut inboxes = unread(&played);
+        check(&played, &inboxes, &moves).unwrap_or_else(|fault| panic!("run {i}: {fault}"));
         if !damaged {
-            print!("{}", json(&played, &moves));
-        } else if damage(&mut random, &mut played, &mut moves) {
-            assert!(check(&played, &moves).is_err(), "run {i}: what was changed is not seen");
-            print!("{}", json(&played, &moves));
+            print!("{}", json(&played, &inboxes, &moves));
+        } else if damage(&mut random, &mut played, &mut inboxes, &mut moves) {
+            assert!(check(&played, &inboxes, &moves).is_err(), "run {i}: what was changed is not seen");
+            print!("{}", json(&played, &inboxes, &moves));
         }
     }
 }

@@ -11,6 +11,7 @@ use crate::input::{self, content, Content, Kind};
 use crate::place::{self, Called, Fault, Lines, Origin};
 use crate::proved;
 use crate::settle::{unfold, Unfolded};
+use crate::words::Spoken;
 use kunzeastylus::{Lists, Record, Table};
 
 /// The option that names a file for the table, where the schedule is in another.
@@ -275,6 +276,14 @@ impl Case {
     /// Table and schedule as bytes.
     pub fn input(&self) -> Input {
         Input { table: self.table.clone(), schedule: self.schedule.clone().unwrap_or_default() }
+    }
+
+    /// How its parts are spoken of: by their names where the table is in words, and otherwise by their numbers.
+    pub fn spoken(&self) -> Spoken<'_> {
+        match self.table_from.lines {
+            Lines::Table(_) => Spoken::by(&self.names),
+            _ => Spoken::NUMBERS,
+        }
     }
 
     /// The records of a schedule that was accepted.

@@ -1,21 +1,22 @@
 //! Where each process stands before each record of an accepted run, so that a step can be named by its instruction.
 //!
 //! Why it is right: a process's place and registers change with its own steps alone, by document 01's instructions, and what a step takes is in
-//! its answer; with every other record but a crash and a back both stay. After a crash they are those of the report of the run up to there;
-//! after a back, those before the record that it took back. At the end they must be those of the report. So a run costs one run more for each
+//! its answer; with every other record but a crash and a back they stay, and so does its board. After a crash all are those of the report of
+//! the run up to there; after a back, those before the record that it took back. At the end they must be those of the report. So a run costs one run more for each
 //! crash, and what the stand-bys hold is nobody's business here.
 use kunzeastylus::{Answer, Code, Move, Operation, ProcessEnd, Table};
 
-/// A process's place and registers.
+/// A process's board, place and registers.
 #[derive(Clone, Copy, Debug, Default, PartialEq, Eq)]
 pub struct Spot {
+    pub board: u8,
     pub place: usize,
     pub registers: [u32; 4],
 }
 
 impl From<ProcessEnd> for Spot {
     fn from(end: ProcessEnd) -> Spot {
-        Spot { place: end.place.into(), registers: end.registers }
+        Spot { board: end.board, place: end.place.into(), registers: end.registers }
     }
 }
 
@@ -50,19 +51,20 @@ pub struct Followed<'t> {
 }
 
 impl<'t> Followed<'t> {
-    /// All places and registers are 0 at first.
+    /// Each process on its first board; all places and registers are 0 at first.
     pub fn new(table: &'t Table) -> Followed<'t> {
-        Followed { table, spots: vec![Spot::default(); table.processes.len()], before: Vec::new() }
+        let spots = table.processes.iter().map(|process| Spot { board: process.primary, ..Spot::default() });
+        Followed { table, spots: spots.collect(), before: Vec::new() }
     }
 
-    /// Whether there is such a process.
-    pub fn has(&self, process: u8) -> bool {
-        usize::from(process) < self.spots.len()
+    /// Where a process is, if there is such a process.
+    pub fn spot(&self, process: u8) -> Option<Spot> {
+        self.spots.get(usize::from(process)).copied()
     }
 
     /// The instruction that a process does next; none where it has halted, or where there is no such process.
-    pub fn next(&self, process: u8) -> Option<Operation> {
-        let spot = self.spots.get(usize::from(process))?;
+    fn next(&self, process: u8) -> Option<Operation> {
+        let spot = self.spot(process)?;
         self.table.processes[usize::from(process)].program.get(spot.place).copied()
     }
 

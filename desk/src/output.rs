@@ -26,8 +26,8 @@ pub enum Colour {
 impl Style {
     /// The style of a stream, which may be a terminal. COLUMNS says outright how wide lines may be.
     fn of(terminal: bool) -> Style {
-        let said = std::env::var("COLUMNS").ok().and_then(|columns| columns.parse().ok()).filter(|&columns| columns > 0);
-        let width = said.or_else(|| terminal.then(columns).flatten()).unwrap_or(WIDTH);
+        let size = || terminal.then(size).flatten();
+        let width = said("COLUMNS").or_else(|| size().map(|(_, columns)| columns)).unwrap_or(WIDTH);
         let plain = std::env::var_os("NO_COLOR").is_some_and(|value| !value.is_empty());
         let dumb = std::env::var_os("TERM").is_some_and(|term| term == "dumb");
         Style { colour: terminal && !plain && !dumb, width }
@@ -46,14 +46,22 @@ impl Style {
     }
 }
 
-/// The columns of the terminal, as `stty` tells them.
-fn columns() -> Option<usize> {
+/// A size that the environment says outright.
+fn said(name: &str) -> Option<usize> {
+    std::env::var(name).ok()?.parse().ok().filter(|&size| size > 0)
+}
+
+/// The rows and columns of the terminal, as `stty` tells them, but for what LINES and COLUMNS say.
+pub fn size() -> Option<(usize, usize)> {
     let asked = Command::new("stty").arg("size").stdin(File::open("/dev/tty").ok()?).stderr(Stdio::null()).output().ok()?;
-    String::from_utf8(asked.stdout).ok()?.split_whitespace().nth(1)?.parse().ok().filter(|&columns| columns > 0)
+    let told = String::from_utf8(asked.stdout).ok()?;
+    let mut told = told.split_whitespace().map(|size| size.parse().ok().filter(|&size| size > 0));
+    let (rows, columns) = (told.next()?, told.next()?);
+    Some((said("LINES").or(rows)?, said("COLUMNS").or(columns)?))
 }
 
 /// How wide a text is on a terminal: colours take no room.
-fn wide(text: &str) -> usize {
+pub fn wide(text: &str) -> usize {
     let mut pieces = text.split("\x1b[");
     let first = pieces.next().map_or(0, |piece| piece.chars().count());
     first + pieces.map(|piece| piece.split_once('m').map_or(0, |(_, rest)| rest.chars().count())).sum::<usize>()

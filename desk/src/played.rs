@@ -1,7 +1,7 @@
 //! A run with what it was given: the table, the records, and what the proved call wrote. The plain run and the picture are made of it.
 use crate::explain::Input;
 use crate::proved::{self, Ran};
-use kunzeastylus::{view, Fate, Move, Record, Table, UnreadWord};
+use kunzeastylus::{Fate, Move, Record, Table};
 
 /// An accepted run.
 #[derive(Clone, Debug, PartialEq, Eq)]
@@ -10,8 +10,6 @@ pub struct Played {
     pub table: Table,
     pub records: Vec<Record>,
     pub ran: Ran,
-    /// The unread words of each process at the end, oldest first: channel and word.
-    pub inboxes: Vec<Vec<(u8, u32)>>,
 }
 
 impl Played {
@@ -20,8 +18,7 @@ impl Played {
         let ran = proved::run(&input.table, &input.schedule)?;
         let table = Table::of(&input.table).expect("the table of an accepted run");
         let records = Record::read(&input.schedule).expect("the schedule of an accepted run");
-        let inboxes = inboxes(&input);
-        Ok(Played { bytes: input, table, records, ran, inboxes })
+        Ok(Played { bytes: input, table, records, ran })
     }
 
     /// The move of a record, if it is one.
@@ -33,11 +30,4 @@ impl Played {
     pub fn standing(&self) -> impl Iterator<Item = usize> + '_ {
         (0..self.records.len()).filter(|&i| self.ran.fates[i] == Fate::Stands)
     }
-}
-
-/// The report says how many words are unread, the view which they are.
-fn inboxes(input: &Input) -> Vec<Vec<(u8, u32)>> {
-    let end = view(&input.table, &input.schedule).expect("a view of an accepted run");
-    let unread = |word: &UnreadWord| (word.channel as u8, word.word);
-    end.processes().iter().map(|process| process.inbox().iter().map(unread).collect()).collect()
 }

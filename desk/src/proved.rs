@@ -1,5 +1,5 @@
 //! The proved calls as the commands use them: the one place that knows how the bindings are called.
-use kunzeastylus::{Answer, BusWord, Cabinet, Fate, Lengths, Lists, ProcessEnd, Record, Refusal, Run};
+use kunzeastylus::{Answer, BusWord, Cabinet, Fate, Lengths, Lists, ProcessEnd, Record, Refusal, Run, View};
 
 /// What an accepted run wrote, kept.
 #[derive(Clone, Debug, PartialEq, Eq)]
@@ -36,6 +36,11 @@ pub fn run_records(table: &[u8], records: &[Record]) -> Result<Ran, u8> {
 /// The answers of a run from a record on; none where it is refused.
 pub fn answers_from(table: &[u8], records: &[Record], from: usize) -> Vec<Answer> {
     ran(table, &Record::schedule(records)).map_or(Vec::new(), |run| run.answers().skip(from).collect())
+}
+
+/// The whole cabinet behind these records, or the number by which their run is refused.
+pub fn view(table: &[u8], records: &[Record]) -> Result<Box<View>, u8> {
+    kunzeastylus::view(table, &Record::schedule(records)).map_err(Refusal::number)
 }
 
 /// The number by which a run of these is refused, whatever is lent.

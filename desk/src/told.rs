@@ -19,7 +19,8 @@ pub fn unmet_of(case: &Case, ran: &Ran) -> Vec<String> {
     all.into_iter().map(|(line, what)| format!("{file}:{line}: {what}")).collect()
 }
 
-fn stuck(case: &Case, stuck: &Stuck) -> String {
+/// Why an `until` or a `settle` did not get where it should.
+pub fn stuck(case: &Case, stuck: &Stuck) -> String {
     match stuck {
         Stuck::Refused { record, answer } => {
             format!("until: record {record} would be {}", words::answer(*answer, None))

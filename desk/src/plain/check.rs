@@ -2,7 +2,7 @@
 //! that channel, word, sender and place agree (W-212); what counts are the records that stand (W-214).
 use super::cabinet::{Machine, Plain, PlainMove, Refused};
 use crate::played::Played;
-use kunzeastylus::{BusWord, Code, Move};
+use kunzeastylus::{view, BusWord, Code, Move, ProcessEnd, UnreadWord};
 use std::fmt;
 
 /// Why a list of feeds and steps doesn't explain a run. Records and moves are named from 0, and said from 1.
@@ -58,8 +58,18 @@ pub struct Held {
     pub quiet: bool,
 }
 
+/// The unread words of each process at a run's end, oldest first: channel and word.
+pub type Inboxes = Vec<Vec<(u8, u32)>>;
+
+/// The report says how many words are unread, the view which they are.
+pub fn unread(played: &Played) -> Inboxes {
+    let end = view(&played.bytes.table, &played.bytes.schedule).expect("a view of an accepted run");
+    let word = |unread: &UnreadWord| (unread.channel as u8, unread.word);
+    end.processes().iter().map(|process| process.inbox().iter().map(word).collect()).collect()
+}
+
 /// Makes the moves from the start, and compares feeds, bus order and, at a quiet end, each process, which can't step any further.
-pub fn check(played: &Played, moves: &[PlainMove]) -> Result<Held, Fault> {
+pub fn check(played: &Played, inboxes: &Inboxes, moves: &[PlainMove]) -> Result<Held, Fault> {
     let mut cabinet = Plain::new(&played.table);
     for (at, &plain) in moves.iter().enumerate() {
         cabinet.make(plain).map_err(|why| Fault::Refused { at, plain, why })?;
@@ -72,7 +82,8 @@ pub fn check(played: &Played, moves: &[PlainMove]) -> Result<Held, Fault> {
     differ(&fed, &fed_in(played)).map_or(Ok(()), |at| Err(Fault::Feeds(at)))?;
     differ(&cabinet.bus, &bus_order(played)).map_or(Ok(()), |at| Err(Fault::Bus(at)))?;
     if played.ran.quiet {
-        (0..).zip(&played.ran.ends).try_for_each(|(process, _)| ended(&mut cabinet, process, played))?;
+        let ends = played.ran.ends.iter().zip(inboxes);
+        (0..).zip(ends).try_for_each(|(process, (end, inbox))| ended(&mut cabinet, process, end, inbox))?;
     }
     Ok(Held { feeds: fed.len(), steps: moves.len() - fed.len(), words: cabinet.bus.len(), quiet: played.ran.quiet })
 }
@@ -96,11 +107,10 @@ fn differ<T: PartialEq>(some: &[T], others: &[T]) -> Option<usize> {
 
 /// The process ends as the report says, with the unread words that the view has, "each inbox with channels and order", and "a step of any
 /// process would be refused".
-fn ended(cabinet: &mut Plain, process: u8, played: &Played) -> Result<(), Fault> {
-    let p = usize::from(process);
-    let (Machine { place, registers, inbox }, end) = (&cabinet.machines[p], &played.ran.ends[p]);
+fn ended(cabinet: &mut Plain, process: u8, end: &ProcessEnd, unread: &[(u8, u32)]) -> Result<(), Fault> {
+    let Machine { place, registers, inbox } = &cabinet.machines[usize::from(process)];
     let same_end = (*place, *registers, inbox.len()) == (end.place.into(), end.registers, end.unread.into());
-    if !same_end || *inbox != played.inboxes[p] {
+    if !same_end || inbox != unread {
         return Err(Fault::End(process));
     }
     match cabinet.make(PlainMove::Step { process }) {

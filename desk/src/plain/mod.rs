@@ -7,7 +7,7 @@ mod witness;
 
 use crate::played::Played;
 pub use cabinet::{Did, Machine, Plain, PlainMove, Refused};
-pub use check::{check, Fault, Held};
+pub use check::{check, unread, Fault, Held, Inboxes};
 pub use show::json;
 pub use witness::{find, Beside};
 
@@ -26,10 +26,11 @@ pub enum Form {
 pub fn plain(played: &Played, form: Form) -> Result<String, Fault> {
     let found = find(played)?;
     let moves: Vec<PlainMove> = found.iter().map(|beside| beside.plain).collect();
-    let held = check(played, &moves)?;
+    let inboxes = unread(played);
+    let held = check(played, &inboxes, &moves)?;
     Ok(match form {
         Form::Words => show::words(played, &found, &held),
         Form::Moves => show::moves(&moves),
-        Form::Json => json(played, &moves),
+        Form::Json => json(played, &inboxes, &moves),
     })
 }

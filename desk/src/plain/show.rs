@@ -1,6 +1,6 @@
 //! The plain run to look at: in words, as moves, as JSON.
 use super::cabinet::{Did, Plain, PlainMove};
-use super::check::Held;
+use super::check::{Held, Inboxes};
 use super::witness::Beside;
 use crate::played::Played;
 use crate::words;
@@ -110,7 +110,7 @@ pub fn moves(moves: &[PlainMove]) -> String {
 }
 
 /// All that `docs/witness.py` asks for, on one line.
-pub fn json(played: &Played, moves: &[PlainMove]) -> String {
+pub fn json(played: &Played, inboxes: &Inboxes, moves: &[PlainMove]) -> String {
     let hex = |bytes: &[u8]| bytes.iter().map(|byte| format!("{byte:02X}")).collect::<String>();
     let list = |items: Vec<String>| format!("[{}]", items.join(","));
     let answers = played.ran.answers.iter().map(|answer| {
@@ -124,8 +124,7 @@ pub fn json(played: &Played, moves: &[PlainMove]) -> String {
         let [r0, r1, r2, r3] = end.registers;
         format!("[{},{},{},{},{r0},{r1},{r2},{r3}]", end.board, end.place, end.unread, end.hold_back)
     });
-    let inboxes =
-        played.inboxes.iter().map(|inbox| list(inbox.iter().map(|(channel, word)| format!("[{channel},{word}]")).collect()));
+    let inboxes = inboxes.iter().map(|inbox| list(inbox.iter().map(|(channel, word)| format!("[{channel},{word}]")).collect()));
     let moves = moves.iter().map(|plain| match plain {
         PlainMove::Feed { channel, word } => format!("[\"feed\",{channel},{word}]"),
         PlainMove::Step { process } => format!("[\"step\",{process}]"),

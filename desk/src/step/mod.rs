@@ -1,57 +1,39 @@
 //! A run record by record, forward and back: a table, the records of a file, and the list of those given so far, which is run anew by the proved
-//! call whenever something of it is to be shown.
+//! calls whenever something of it is to be shown.
 //!
 //! Going back is a move 8 at the end of that list. The record of the file that it takes back is then the next one again: the cabinet is as it
 //! was before it. What was pushed out of the 64 records that are kept stays out, also where a file's own move 8s would reach further; going to
 //! a record that is behind begins from the start.
 pub mod command;
 mod draw;
+mod given;
+mod save;
+mod say;
 mod session;
-mod view;
+mod sheet;
+mod shown;
 
-use crate::explain::Input;
-use crate::proved::{run, Ran};
-use crate::records::{schedule_length, RECORDS_MOST};
-use command::{Command, Kind};
-pub use draw::{bus_so_far, draw};
-use kunzeastylus::{Fate, Move, Record, Refusal, Table};
-pub use session::{session, HELP};
-use view::seats;
-pub use view::{Last, Seat, View};
+use crate::explain::{self, Explaining, Input};
+use crate::follow::Spot;
+use crate::form::names::Names;
+use crate::played::Played;
+use crate::proved::{self, answers_from, run_records, Ran};
+use crate::records::RECORDS_MOST;
+use crate::words::Spoken;
+use command::{Command, Where};
+pub use draw::{bus_so_far, in_lines, on_screen};
+use given::{Given, Source};
+use kunzeastylus::{Fate, Move, Operation, ProcessView, Record, Refusal, Table, View};
+pub use session::{help, session, Front};
+pub use sheet::Sheet;
+pub use shown::{Last, Shown};
 
-/// A record of a schedule: move, a, word.
-pub type Bytes = [u8; 6];
-
-/// From where a record came: of the file by its number, from 1; typed, by how many were; or a key that goes back.
-#[derive(Clone, Copy, Debug, PartialEq, Eq)]
-enum Source {
-    File(usize),
-    Typed(usize),
-    Back,
-}
-
-impl Source {
-    /// What the record is called.
-    fn name(self) -> String {
-        match self {
-            Source::File(number) => number.to_string(),
-            Source::Typed(number) => format!("t{number}"),
-            Source::Back => "b".to_string(),
-        }
-    }
-}
-
-#[derive(Clone, Copy, Debug)]
-struct Given {
-    record: Bytes,
-    source: Source,
-}
-
-/// What a command did: how many records it gave, and whether from the start.
-#[derive(Clone, Copy, Debug, PartialEq, Eq)]
+/// What a command did: how many records it gave, whether from the start, and what else is to be said.
+#[derive(Clone, Debug, PartialEq, Eq)]
 pub struct Went {
     pub records: usize,
     pub anew: bool,
+    pub notes: Vec<String>,
 }
 
 /// Why nothing was done.
@@ -62,7 +44,8 @@ pub struct Stays(pub String);
 pub struct Stepper {
     bytes: Vec<u8>,
     table: Table,
-    file: Vec<Bytes>,
+    names: Names,
+    file: Vec<Record>,
     /// How many of the file's records are behind.
     at: usize,
     given: Vec<Given>,
@@ -71,15 +54,19 @@ pub struct Stepper {
 
 impl Stepper {
     /// At the start, with nothing given.
-    pub fn new(input: Input) -> Result<Stepper, Refusal> {
+    pub fn new(input: Input, names: Names) -> Result<Stepper, Refusal> {
         input.records()?;
         let table = Table::of(&input.table).expect("the table of an accepted run");
-        let file = input.schedule[3..].chunks_exact(6).map(|record| record.try_into().expect("six bytes")).collect();
-        Ok(Stepper { bytes: input.table, table, file, at: 0, given: Vec::new(), typed: 0 })
+        let file = Record::read(&input.schedule).expect("the schedule of an accepted run");
+        Ok(Stepper { bytes: input.table, table, names, file, at: 0, given: Vec::new(), typed: 0 })
     }
 
     pub fn table(&self) -> &Table {
         &self.table
+    }
+
+    pub fn names(&self) -> &Names {
+        &self.names
     }
 
     /// How many records the file has.
@@ -87,69 +74,96 @@ impl Stepper {
         self.file.len()
     }
 
+    /// The records given so far.
+    fn done(&self) -> Vec<Record> {
+        self.given.iter().map(|given| given.record).collect()
+    }
+
+    /// The run of those.
+    fn ran(&self) -> Ran {
+        run_records(&self.bytes, &self.done()).expect("a run of records on an accepted table")
+    }
+
+    /// The whole cabinet behind these records.
+    fn cabinet(&self, records: &[Record]) -> Box<View> {
+        proved::view(&self.bytes, records).expect("a view of records on an accepted table")
+    }
+
     /// What there is to see now.
-    pub fn view(&self) -> View {
-        let now = self.played(self.given.iter().map(|given| given.record));
-        View {
-            last: self.last(&now),
-            seats: seats(&now, &self.table),
-            coming: self.file.get(self.at).map(|&record| (self.at + 1, record)),
-            bus: now.bus,
-            quiet: now.quiet,
-        }
+    pub fn shown(&self) -> Shown {
+        let (done, ran) = (self.done(), self.ran());
+        let cabinet = self.cabinet(&done);
+        let coming = self.file.get(self.at).map(|&record| (self.at + 1, record, self.found(record, &cabinet)));
+        let would = (0..self.table.processes.len()).map(|p| self.would(&done, Record::step(p as u8))).collect();
+        Shown { last: self.last(&done, &ran), cabinet, would, bus: ran.bus, quiet: ran.quiet, coming }
+    }
+
+    /// What a record would answer behind those that were given.
+    fn would(&self, done: &[Record], record: Record) -> Option<kunzeastylus::Answer> {
+        answers_from(&self.bytes, &[done, &[record]].concat(), done.len()).first().copied()
+    }
+
+    /// The instruction that a step finds in a cabinet; none where the process has halted, and of other records.
+    fn found(&self, record: Record, cabinet: &View) -> Option<Operation> {
+        let step = record.kind() == Some(Move::Step);
+        let place = cabinet.processes().get(usize::from(record.a)).filter(|_| step)?.place;
+        self.table.processes[usize::from(record.a)].program.get(place as usize).copied()
     }
 
     /// The last of the records given, and its answer in the run of all of them.
-    fn last(&self, now: &Ran) -> Option<Last> {
-        let (&Given { record, source }, before) = self.given.split_last()?;
-        let before = seats(&self.played(before.iter().map(|given| given.record)), &self.table);
-        let taken = match now.fates[self.given.len() - 1] {
+    fn last(&self, done: &[Record], ran: &Ran) -> Option<Last> {
+        let (&Given { record, source }, _) = self.given.split_last()?;
+        let last = done.len() - 1;
+        let before = self.cabinet(&done[..last]);
+        let spot = |process: &ProcessView| Spot {
+            board: process.board as u8,
+            place: process.place as usize,
+            registers: process.registers,
+        };
+        let spot = before.processes().get(usize::from(record.a)).map(spot);
+        let found = self.found(record, &before).zip(spot);
+        let taken = match ran.fates[last] {
             Fate::TookBack(taken) => Some(self.given[taken].source.name()),
             _ => None,
         };
-        Some(Last { name: source.name(), record, before, answer: now.answers[self.given.len() - 1], taken })
+        Some(Last {
+            name: source.name(),
+            record,
+            found,
+            answer: ran.answers[last],
+            taken,
+            besides: self.besides(done, ran, spot),
+        })
     }
 
-    /// The run of these records.
-    fn played(&self, records: impl Iterator<Item = Bytes>) -> Ran {
-        let mut schedule = vec![0, 0, 1];
-        schedule.extend(records.flatten());
-        let length = schedule_length(schedule.len());
-        schedule[..2].copy_from_slice(&length);
-        run(&self.bytes, &schedule).expect("a run of records on an accepted table")
+    /// What the last of these records did besides its answer, or what would help where it was refused.
+    fn besides(&self, done: &[Record], ran: &Ran, spot: Option<Spot>) -> Vec<String> {
+        let bytes = Input { table: self.bytes.clone(), schedule: Record::schedule(done) };
+        let played = Played { bytes, table: self.table.clone(), records: done.to_vec(), ran: ran.clone() };
+        let given = explain::Given::of(done, &[]);
+        Explaining::of_last(&played, &given, Spoken::by(&self.names), spot).beneath(done.len() - 1)
     }
 
     /// Does what a command asks for.
-    pub fn obey(&mut self, command: Command) -> Result<Went, Stays> {
+    pub fn obey(&mut self, command: &Command) -> Result<Went, Stays> {
         let before = self.given.len();
+        let mut notes = Vec::new();
         match command {
             Command::Next => self.on(self.at + 1)?,
-            Command::Back => self.back()?,
-            Command::Go(to) if to < self.at => {
+            Command::Back => self.give(&[Record::back()], |_| Source::Back)?,
+            Command::Go(to) if *to < self.at => {
                 (self.at, self.typed) = (0, 0);
                 self.given.clear();
-                self.on(to)?;
-                return Ok(Went { records: to, anew: true });
+                self.on(*to)?;
+                return Ok(Went { records: *to, anew: true, notes });
             }
-            Command::Go(to) => self.on(to)?,
-            Command::Crash => self.on_to("crash", |record| Move::try_from(record[0]).ok() == Some(Move::Crash))?,
-            Command::Process(process) => self.on_to(&format!("record of process {process}"), |record| {
-                let of_a_process = matches!(Move::try_from(record[0]).ok(), Some(Move::Step | Move::Sync | Move::Resync));
-                of_a_process && record[1] == process
-            })?,
-            Command::Answer(kind) => self.on_to_answer(kind)?,
-            Command::Give(record) => {
-                self.give(record, Source::Typed(self.typed + 1))?;
-                self.typed += 1;
-            }
+            Command::Go(to) => self.on(*to)?,
+            Command::Run(Where::End) if self.at == self.file.len() => self.on(self.at + 1)?,
+            Command::Run(Where::End) => self.on(self.file.len())?,
+            Command::Run(to) => self.on_to(*to)?,
+            Command::Give(step) => notes = self.type_in(step)?,
         }
-        Ok(Went { records: self.given.len() - before, anew: false })
-    }
-
-    fn give(&mut self, record: Bytes, source: Source) -> Result<(), Stays> {
-        self.room(1)?;
-        self.given.push(Given { record, source });
-        Ok(())
+        Ok(Went { records: self.given.len() - before, anew: false, notes })
     }
 
     /// Whether so many records more make a run.
@@ -157,7 +171,8 @@ impl Stepper {
         match self.given.len() + more <= RECORDS_MOST {
             true => Ok(()),
             false => {
-                Err(Stays(format!("a run has at most {RECORDS_MOST} records, with those taken back; g N begins from the start")))
+                let most = format!("a run has at most {RECORDS_MOST} records, with those taken back");
+                Err(Stays(format!("{most}; `go N` to a record that is behind begins from the start")))
             }
         }
     }
@@ -175,29 +190,11 @@ impl Stepper {
         Ok(())
     }
 
-    /// Takes back the last record, by a move 8 behind all that was given.
-    fn back(&mut self) -> Result<(), Stays> {
-        self.give(Record::back().bytes(), Source::Back)?;
-        let fates = self.played(self.given.iter().map(|given| given.record)).fates;
-        if let Some(&Fate::TookBack(taken)) = fates.last() {
-            if let Source::File(number) = self.given[taken].source {
-                self.at = number - 1;
-            }
-        }
-        Ok(())
-    }
-
-    /// On to the file's next record of some kind.
-    fn on_to(&mut self, what: &str, is: impl Fn(&Bytes) -> bool) -> Result<(), Stays> {
-        let ahead = self.file[self.at..].iter().position(is);
-        self.on(self.at + 1 + ahead.ok_or_else(|| Stays(format!("no {what} is ahead")))?)
-    }
-
-    /// On to the file's next record with an answer of this kind: all that are ahead are run to find it.
-    fn on_to_answer(&mut self, kind: Kind) -> Result<(), Stays> {
-        let ahead = self.file[self.at..].iter().take(RECORDS_MOST - self.given.len());
-        let played = self.played(self.given.iter().map(|given| given.record).chain(ahead.copied()));
-        let found = played.answers[self.given.len()..].iter().position(|answer| kind.is(answer.code));
-        self.on(self.at + 1 + found.ok_or_else(|| Stays(format!("no {kind} is ahead")))?)
+    /// On to the file's next record of some kind: all that are ahead are run to find it.
+    fn on_to(&mut self, to: Where) -> Result<(), Stays> {
+        let ahead: Vec<Record> = self.file[self.at..].iter().take(RECORDS_MOST - self.given.len()).copied().collect();
+        let answers = answers_from(&self.bytes, &[self.done(), ahead.clone()].concat(), self.given.len());
+        let found = ahead.iter().zip(answers).position(|(record, answer)| to.is(*record, answer));
+        self.on(self.at + 1 + found.ok_or_else(|| Stays(format!("no {} is ahead", to.called(&self.names))))?)
     }
 }

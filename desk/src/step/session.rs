@@ -1,74 +1,175 @@
-//! Lines in, lines out: works in any terminal and in a pipe.
+//! Lines in, and what there is to see out: on one screen of a terminal, or in lines. The terminal stays as it is, in its own mode of lines, and
+//! each screen is written below the last: whatever ends the session, there is nothing to put back.
 use super::command::{parse, Command, Line};
-use super::{bus_so_far, draw, Stays, Stepper, View, Went};
-use crate::words;
-use std::io::{BufRead, Result, Write};
+use super::draw::program;
+use super::{bus_so_far, in_lines, on_screen, Sheet, Shown, Stays, Stepper, Went};
+use crate::output::{self, Style};
+use crate::words::{self, many};
+use std::fs::OpenOptions;
+use std::io::{BufRead, Read, Result, Write};
 
-pub const HELP: &str = "  n            the file's next record
-  b            back: takes back the last record not yet taken back, by a move 8; 64 are kept
-  g N          to record N of the file, 0 for the start; one that is behind is gone to from the start, without what was typed
-  c            to the next crash
-  a CODE       to the next answer with this code; 'a refused' to the next refusal
-  p N          to the next step, sync or resync of process N
-  step P, sync P, carry B, feed C WORD, crash B, return B, resync P, move KIND A WORD
-               a record of your own; those of the file come after it
-  s            shows it again; w, every word on the bus so far
-  Enter        the last command once more
-  h            this; q, the end
-A * is before a process that has moved. Records of your own are called t1, t2 and so on, and b is a back.
-";
+/// What the commands are, as `ks step --help` says it.
+pub fn help() -> &'static str {
+    let parts = include_str!("../../help/step.txt").split("\n\n");
+    parts.into_iter().find(|part| part.starts_with("  next")).expect("a part with the commands")
+}
 
 /// What a terminal is given before each line; where the lines don't come from one, they are printed with it, so that what comes out can be read.
 const PROMPT: &str = "> ";
 
+/// How many bytes of a line are read at once, so that an endless one ends.
+const LINE_MOST: u64 = 1 << 16;
+
+/// Whom a session is with.
+#[derive(Clone, Copy, Debug, PartialEq, Eq)]
+pub struct Front {
+    /// Lines are typed at a terminal.
+    pub asks: bool,
+    /// What is written goes to one that has a screen.
+    pub screen: bool,
+    pub style: Style,
+}
+
+/// A session as it goes.
+struct Session<'s, W: Write> {
+    stepper: &'s mut Stepper,
+    out: &'s mut W,
+    front: Front,
+    shown: Shown,
+    again: Command,
+    /// The files that were saved: they may be written again.
+    saved: Vec<String>,
+}
+
 /// Obeys line after line until there are no more, or until the end is asked for.
-pub fn session(stepper: &mut Stepper, mut lines: impl BufRead, out: &mut impl Write, terminal: bool) -> Result<()> {
-    let mut view = stepper.view();
-    write!(out, "{}; h for help\n{}", words::heading(stepper.records(), stepper.table()), draw(&view, None))?;
-    let mut again = Command::Next;
+pub fn session(stepper: &mut Stepper, mut lines: impl BufRead, out: &mut impl Write, front: Front) -> Result<()> {
+    let shown = stepper.shown();
+    let mut session = Session { stepper, out, front, shown, again: Command::Next, saved: Vec::new() };
+    let heading = words::heading(session.stepper.records(), session.stepper.table());
+    session.draw(None, &[format!("{heading}; h for help")])?;
     loop {
-        if terminal {
-            write!(out, "{PROMPT}")?;
-            out.flush()?;
+        if front.asks {
+            write!(session.out, "{PROMPT}")?;
         }
-        let mut bytes = Vec::new();
-        if lines.read_until(b'\n', &mut bytes)? == 0 {
-            return Ok(());
+        session.out.flush()?;
+        let Some(text) = line(&mut lines)? else {
+            // The line of the prompt is not left open.
+            return if front.asks { writeln!(session.out) } else { Ok(()) };
+        };
+        if !front.asks {
+            writeln!(session.out, "{}", format!("{PROMPT}{text}").trim_end())?;
         }
-        let text = String::from_utf8_lossy(&bytes);
-        if !terminal {
-            writeln!(out, "{}", format!("{PROMPT}{text}").trim_end())?;
-        }
-        match parse(&text) {
+        match parse(&text, session.stepper.names()) {
             Ok(Line::Quit) => return Ok(()),
-            Ok(Line::Help) => write!(out, "{HELP}")?,
-            Ok(Line::Show) => write!(out, "{}", draw(&view, None))?,
-            Ok(Line::Words) => write!(out, "{}", bus_so_far(&view.bus))?,
-            Ok(Line::Again) => obey(stepper, again, &mut view, out)?,
-            Ok(Line::Do(command)) => {
-                again = command;
-                obey(stepper, command, &mut view, out)?;
-            }
-            Err(wrong) => writeln!(out, "{wrong}")?,
+            Ok(line) => session.line(line)?,
+            Err(wrong) => session.text(&wrong)?,
         }
     }
 }
 
-/// Does what a command asks for and shows what there is to see then, or says why it was not done.
-fn obey(stepper: &mut Stepper, command: Command, view: &mut View, out: &mut impl Write) -> Result<()> {
-    match stepper.obey(command) {
-        Ok(Went { records, anew }) => {
-            let now = stepper.view();
-            let by = words::many(records, "record", "records");
-            match (anew, records) {
-                (true, _) => writeln!(out, "from the start again, by {by}")?,
-                (false, 1) => (),
-                (false, _) => writeln!(out, "on by {by}")?,
+/// The next line; none where there is no more. What a line has of control characters is not written back.
+fn line(lines: &mut impl BufRead) -> Result<Option<String>> {
+    let mut bytes = Vec::new();
+    let read = lines.take(LINE_MOST).read_until(b'\n', &mut bytes)?;
+    let shown = |c: char| match c {
+        _ if c.is_whitespace() => ' ',
+        _ if c.is_control() => char::REPLACEMENT_CHARACTER,
+        _ => c,
+    };
+    Ok((read > 0).then(|| String::from_utf8_lossy(&bytes).chars().map(shown).collect()))
+}
+
+impl<W: Write> Session<'_, W> {
+    fn line(&mut self, line: Line) -> Result<()> {
+        match line {
+            Line::Help => self.text(help()),
+            Line::Show => {
+                let all = in_lines(self.sheet(), &self.shown, None);
+                self.text(&all)
             }
-            write!(out, "{}", draw(&now, Some(view)))?;
-            *view = now;
-            Ok(())
+            Line::Bus => self.text(&bus_so_far(self.stepper.said(), &self.shown.bus)),
+            Line::List(one) => {
+                let programs = 0..self.stepper.table().processes.len();
+                let asked = programs.filter(|p| one.is_none_or(|one| usize::from(one) == *p));
+                let text: String = asked.map(|p| program(self.sheet(), &self.shown, p)).collect();
+                self.text(&text)
+            }
+            Line::Save(file) => {
+                let said = self.save(&file);
+                self.text(&said)
+            }
+            Line::Again => self.obey(self.again.clone()),
+            Line::Do(command) => self.obey(command),
+            Line::Quit => Ok(()),
         }
-        Err(Stays(why)) => writeln!(out, "{why}"),
+    }
+
+    /// Does what a command asks for and shows what there is to see then, or says why it was not done.
+    fn obey(&mut self, command: Command) -> Result<()> {
+        let went = self.stepper.obey(&command);
+        self.again = command;
+        let Went { records, anew, notes } = match went {
+            Ok(went) => went,
+            Err(Stays(why)) => return self.text(&why),
+        };
+        if records == 0 && !anew && !notes.is_empty() {
+            return self.text(&notes.join("\n"));
+        }
+        let by = many(records, "record", "records");
+        let how = match (anew, records) {
+            (true, _) => Some(format!("from the start again, by {by}")),
+            (false, 1) => None,
+            (false, _) => Some(format!("on by {by}")),
+        };
+        let notes: Vec<String> = how.into_iter().chain(notes).collect();
+        let before = std::mem::replace(&mut self.shown, self.stepper.shown());
+        self.draw(Some(&before), &notes)
+    }
+
+    /// How wide a line may be now: a terminal's width may change.
+    fn style(&self) -> Style {
+        let size = output::size().filter(|_| self.front.screen);
+        Style { width: size.map_or(self.front.style.width, |(_, columns)| columns), ..self.front.style }
+    }
+
+    fn sheet(&self) -> Sheet<'_> {
+        self.stepper.sheet(self.style())
+    }
+
+    fn draw(&mut self, before: Option<&Shown>, notes: &[String]) -> Result<()> {
+        let size = output::size().filter(|_| self.front.screen);
+        if let Some((rows, _)) = size {
+            let text = on_screen(self.sheet(), &self.shown, before, notes, rows);
+            return self.out.write_all(text.as_bytes());
+        }
+        let notes: String = notes.iter().map(|note| format!("{note}\n")).collect();
+        let text = format!("{notes}{}", in_lines(self.sheet(), &self.shown, before));
+        self.text(&text)
+    }
+
+    /// Text for people.
+    fn text(&mut self, text: &str) -> Result<()> {
+        let text = self.style().fold(&format!("{}\n", text.trim_end()));
+        self.out.write_all(text.as_bytes())
+    }
+
+    /// Writes what was done to a file, and says so. A file that was there before is nobody's to write over.
+    fn save(&mut self, file: &str) -> String {
+        let again = self.saved.iter().any(|saved| saved == file);
+        let mut options = OpenOptions::new();
+        options.write(true).truncate(again).create_new(!again);
+        let written = options.open(file).and_then(|mut open| open.write_all(self.stepper.schedule().as_bytes()));
+        match written {
+            Ok(()) => {
+                if !again {
+                    self.saved.push(file.to_string());
+                }
+                format!("saved in {file}: a schedule of {}", many(self.stepper.given.len(), "record", "records"))
+            }
+            Err(error) if error.kind() == std::io::ErrorKind::AlreadyExists => {
+                format!("{file} is there already, and stays as it is: name another file")
+            }
+            Err(error) => format!("{file} can't be written: {error}"),
+        }
     }
 }

@@ -1,5 +1,9 @@
 //! What the tests share: `ks` called as a user calls it.
 #![allow(dead_code)]
+use desk::explain::{Asked, Explaining, Given, Input, Put};
+use desk::played::Played;
+use desk::words::Spoken;
+use kunzeastylus::Record;
 use std::io::Write;
 use std::process::{Command, Output, Stdio};
 
@@ -60,4 +64,12 @@ pub fn read(path: &str) -> String {
 /// A file of samples/.
 pub fn sample(name: &str) -> String {
     read(&format!("samples/{name}"))
+}
+
+/// A run in words by numbers, with what is put in.
+pub fn explained(input: &Input, puts: &[Put], asked: Asked) -> String {
+    let given = Given::of(&Record::read(&input.schedule).expect("a sound schedule"), puts);
+    let schedule = Record::schedule(&given.records);
+    let played = Played::of(Input { table: input.table.clone(), schedule }).expect("a sound run");
+    Explaining::new(&played, &given, Spoken::NUMBERS).text(&asked)
 }
