@@ -134,5 +134,6 @@ fn in_no_time() {
     let took = begun.elapsed();
     std::fs::remove_file(&file).expect("a temporary file");
     assert_eq!(case.unfolded.records.len(), 9_000);
-    assert!(took.as_secs() < 5, "{took:?}");
+    // A second or two where nothing else runs; a run for each record would be minutes.
+    assert!(took.as_secs() < 30, "{took:?}");
 }
