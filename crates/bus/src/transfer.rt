@@ -7,7 +7,7 @@ use numbers::causes::RESYNC_CARRIED;
 use plan::PROCESSES;
 use process::row::ROW;
 use process::row::WAITS;
-use process::transfer::complete;
+use process::transfer::end_transfer;
 use state::moved::Answer;
 use words::index16;
 
@@ -15,7 +15,7 @@ pub fn transmit_transfer(rows: &mut [[u32; ROW]; PROCESSES], process: u32) -> An
     ensures { λ r. ⌜ Transfers (now (rows .entry)) process (now (rows .exit)) r ⌝ }
 {
     let p = index16(process);
-    complete(&mut rows[p]);
+    end_transfer(&mut rows[p]);
     rows[p][WAITS] = 0;
     Answer {
         code: SYNC_CARRIED,

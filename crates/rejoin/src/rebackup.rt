@@ -32,7 +32,7 @@ use process::row::ROW;
 use process::row::STANDBY;
 use process::row::SUPPRESS;
 use process::row::WAITS;
-use process::transfer::reback;
+use process::transfer::begin_transfer;
 use state::channel::OCCUPANCY;
 use state::moved::Answer;
 use state::moved::Moved;
@@ -111,7 +111,7 @@ pub fn rebackup(
     }
     let at = place(&queues[b], b);
     rows[p][WAITS] = 1;
-    reback(&mut rows[p], &mails[p], &mut logs[p], &mut heads[p], wires);
+    begin_transfer(&mut rows[p], &mails[p], &mut logs[p], &mut heads[p], wires);
     push(&mut queues[b]);
     Moved {
         answer: Answer {
