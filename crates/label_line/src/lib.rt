@@ -5,7 +5,7 @@ ghost use Prim.Native.Nat.{_≤_};
 ghost use Rattle.rules.specs.Run.{buffersOf};
 ghost use Rattle.label_line.specs.Line.{lineBytes};
 ghost use Rattle.label_line.specs.Puts.{frameBytes, instructionIn};
-ghost use Rattle.label_line.specs.Labels.{Makes, RunsLine};
+ghost use Rattle.label_line.specs.Labels.{MakesTable, RunsLine};
 use cabinet::run::Verdict;
 use cabinet::run::run;
 use numbers::runs::ACCEPTED;
@@ -85,7 +85,7 @@ fn line_bytes(first: u32) -> [u8; TABLE]
 
 // The table of a first serial.
 pub fn make_table(first: u32) -> MadeTable
-    ensures { λ r. ⌜ Makes first r ⌝ }
+    ensures { λ r. ⌜ MakesTable first r ⌝ }
 {
     if first > SERIAL_MOST {
         return MadeTable {
