@@ -7,6 +7,12 @@ use kunzeastylus::{
 
 const HEADER: &str = include_str!("../../include/kunzeastylus.h");
 const NUMBERS: &str = include_str!("../../docs/NUMBERS.md");
+const CODE: [(&str, &str); 3] = [
+    ("ks_answer", include_str!("../../crates/numbers/src/answers.rt")),
+    ("ks_refusal", include_str!("../../crates/numbers/src/runs.rt")),
+    ("ks_backup_reply", include_str!("../../crates/numbers/src/backup.rt")),
+];
+const CAUSES: &str = include_str!("../../crates/numbers/src/causes.rt");
 
 /// A process with no instructions, which reads a channel from the outside.
 const TABLE: [u8; 11] = [0, 9, 1, 2, 1, 1, 255, 0, 0, 1, 0];
@@ -55,6 +61,30 @@ fn numbers() {
     numbered!(Instruction, "ks_instruction", 1..=6);
     assert!(Code::ALL.iter().all(|code| code.refused() == (code.number() >= 32)));
     assert!(Reason::ALL.iter().all(|cause| cause.code().number() == cause.number() / 4));
+}
+
+/// The constants of a file of the proved code, with what the header puts before their names.
+fn coded(source: &str, before: &str) -> Vec<(String, u8)> {
+    let constant = |line: &str| {
+        let (name, rest) = line.strip_prefix("pub const ")?.split_once(": ")?;
+        Some((format!("{before}{name}"), rest.split_once(" = ")?.1.strip_suffix(';')?.parse().ok()?))
+    };
+    source.lines().filter_map(constant).collect()
+}
+
+/// The proved code names its numbers as the header does, in the same order; a cause as the reason that it is with its code, where it isn't 0 each.
+#[test]
+fn in_code() {
+    for (name, source) in CODE {
+        assert_eq!(
+            coded(source, "KS_"),
+            constants(name).map(|(constant, number)| (constant.to_string(), number)).collect::<Vec<_>>()
+        );
+    }
+    let causes = coded(CAUSES, "KS_REASON_");
+    let reasons: Vec<(String, u8)> = constants("ks_reason").map(|(constant, byte)| (constant.to_string(), byte % 4)).collect();
+    assert!(causes.iter().all(|cause| reasons.contains(cause)));
+    assert!(reasons.iter().all(|reason| reason.1 == 0 || causes.contains(reason)));
 }
 
 /// The lines of a section of docs/NUMBERS.md: a number, and the other columns, without backticks.

@@ -10,6 +10,8 @@ ghost use Rattle.rules.specs.Format.{versionIn, processesIn, validateTable};
 ghost use Rattle.rules.specs.Encode.{programIn, placementsIn, limitsIn, instructionsIn, apart};
 ghost use Rattle.apart.specs.Taken.{TakesApart, none, lent};
 ghost use Rattle.apart.specs.Taking.{Records, Room, roomFor, ListsTaken};
+use numbers::runs::ACCEPTED;
+use numbers::runs::NO_ROOM;
 use records::bytes::byte;
 use records::fetch::fetch;
 use records::head::VERSION;
@@ -235,11 +237,11 @@ pub fn take_apart(
         limits.len(),
         instructions.len(),
     ) {
-        return refused(45);
+        return refused(NO_ROOM);
     }
     take_lists(table, ends, placements, limits, instructions);
     Taken {
-        number: 0,
+        number: ACCEPTED,
         version: byte(table, VERSION),
         boards: byte(table, BOARDS_AT),
         processes: byte(table, PROCESSES_AT),

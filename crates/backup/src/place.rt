@@ -20,6 +20,12 @@ use crate::limits::PORTS;
 use crate::limits::SENT_MOST;
 use crate::pack::port_of;
 use crate::pack::word_of;
+use numbers::backup::BACKUP_BAD;
+use numbers::backup::BACKUP_COUNT;
+use numbers::backup::BACKUP_FULL;
+use numbers::backup::BACKUP_OK;
+use numbers::backup::BACKUP_TAKEN;
+use numbers::backup::BACKUP_UNFIT;
 use words::packed;
 use words::wide;
 
@@ -125,16 +131,16 @@ pub fn arrive_in(log: &mut [u64; LOG], head: &mut [u32; HEAD], port: u32, word: 
     ensures { λ r. ⌜ r ≡ arriveNumberIn (now (head .entry)) port ⌝ }
 {
     if port >= PORTS {
-        return 21;
+        return BACKUP_BAD;
     }
     let len = wide(head[LEN]);
     if len >= LOG {
-        return 22;
+        return BACKUP_FULL;
     }
     log[len] = packed(port, word);
     bump(head, LEN);
     bump(head, SAVED0 + wide(port));
-    0
+    BACKUP_OK
 }
 
 // A message of the process was transmitted: 0, or 24.
@@ -143,10 +149,10 @@ pub fn count_in(head: &mut [u32; HEAD]) -> u8
     ensures { λ r. ⌜ r ≡ countNumberIn (now (head .entry)) ⌝ }
 {
     if head[SENT] >= SENT_MOST {
-        return 24;
+        return BACKUP_COUNT;
     }
     bump(head, SENT);
-    0
+    BACKUP_OK
 }
 
 // Whether more was taken on some port than its tally says, from port 3 down.
@@ -170,15 +176,15 @@ fn sync_number(head: &[u32; HEAD], c: Checkpoint) -> u8
     ensures { λ r. ⌜ r ≡ syncNumberIn (now (head .entry)) c ⌝ }
 {
     if wide(head[LEN]) > LOG {
-        return 20;
+        return BACKUP_UNFIT;
     }
     if c.pc > PC_MOST {
-        return 21;
+        return BACKUP_BAD;
     }
     if lacks(head, c) {
-        return 23;
+        return BACKUP_TAKEN;
     }
-    0
+    BACKUP_OK
 }
 
 // The port of a message, below 4 whatever the number is.
@@ -305,7 +311,7 @@ fn report(head: &[u32; HEAD], c: Checkpoint, rounds: usize) -> Metered
 {
     Metered {
         landed: Landed {
-            number: 0,
+            number: BACKUP_OK,
             dropped: [c.t0, c.t1, c.t2, c.t3],
             remained: [head[SAVED0], head[SAVED1], head[SAVED2], head[SAVED3]],
         },

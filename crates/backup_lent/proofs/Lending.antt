@@ -20,7 +20,7 @@ use Rattle.backup.specs.ReportLaws.{syncReport-refused}
 use Rattle.backup.specs.declared.place.Checkpoint.{Checkpoint}
 use Rattle.backup.specs.declared.place.Landed.{Landed}
 use Rattle.backup_lent.specs.Lent.{lentLength, freshLent, Answered, HandsOver, told}
-use Rattle.backup_lent.specs.Steps.{Census, withinIn, Looks, Settled, frontOf}
+use Rattle.backup_lent.specs.Steps.{Census, withinIn, Looks, Settled, lentFront}
 use Rattle.backup_lent.specs.declared.Tallies.{Tallies}
 use Rattle.backup_lent.specs.declared.Looked.{Looked}
 use Rattle.backup.proofs.InPlace.{view-length}
@@ -120,7 +120,7 @@ module _ (saved head : List ℕ) where
 -- ---- what a call comes to
 
 -- the first seven numbers of a head in place say all of the value
-front-view : (saved head : List ℕ) → viewIn saved (frontOf head) ≡ viewIn saved head
+front-view : (saved head : List ℕ) → viewIn saved (lentFront head) ≡ viewIn saved head
 unfolding viewIn
 front-view saved head = refl
 
@@ -165,7 +165,7 @@ module _ (saved head : List ℕ) (l : Looked) (o : Looks saved head l) (call : R
 
       go : (k : ℕ) → number ≡ k → Answered saved head saved′ head′ n call
       go zero e =
-          let f : head′ ≡ frontOf left = s .accepted e in
+          let f : head′ ≡ lentFront left = s .accepted e in
           let v : viewIn saved′ head′ ≡ viewIn saved′ left = ap (viewIn saved′) f ∙ front-view saved′ left in
           record {
             number-is = number-so;

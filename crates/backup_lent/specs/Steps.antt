@@ -22,8 +22,8 @@ abbrev pub withinIn : List ℕ → Bool
 withinIn head = leb (headLen head) logMost && (leb (headSent head) sentMost && leb (headPc head) pcMost)
 
 -- the first seven numbers of a head in place
-abbrev pub frontOf : List ℕ → List ℕ
-frontOf head =
+abbrev pub lentFront : List ℕ → List ℕ
+lentFront head =
     headLen head ∷ headSent head ∷ headPc head ∷ headRegister head 0 ∷ headRegister head 1 ∷ headRegister head 2 ∷ headRegister head 3 ∷ []
 
 -- a record that was looked through: whether it is fit, and if so a head for the calls in place, with true tallies
@@ -32,10 +32,10 @@ pub record Looks (saved head : List ℕ) (r : Looked) : Type 0 where
   pub says : r .fits ≡ fit (viewIn saved head)
   pub sound : r .fits ≡ true → Sound saved (r .head)
   pub same : r .fits ≡ true → viewIn saved (r .head) ≡ viewIn saved head
-  pub front : r .fits ≡ true → frontOf (r .head) ≡ head
+  pub front : r .fits ≡ true → lentFront (r .head) ≡ head
 
 -- what a call in place left of a head, written unless it was refused
 pub record Settled (head : List ℕ) (number : ℕ) (left : List ℕ) (n : ℕ) (head′ : List ℕ) : Type 0 where
   pub number-is : n ≡ number
   pub refused : (number ≡ 0 → ⊥) → head′ ≡ head
-  pub accepted : number ≡ 0 → head′ ≡ frontOf left
+  pub accepted : number ≡ 0 → head′ ≡ lentFront left

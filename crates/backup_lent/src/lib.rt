@@ -29,6 +29,8 @@ use backup::place::SENT;
 use backup::place::arrive_in;
 use backup::place::count_in;
 use backup::place::metered_sync_in;
+use numbers::backup::BACKUP_OK;
+use numbers::backup::BACKUP_UNFIT;
 use words::wide;
 
 // How many numbers a lent head has: how many words are saved, count, place, four registers. They are the first of a head in place.
@@ -36,9 +38,6 @@ pub const LENT: usize = 7;
 
 // What a sync tells: for each port how many words were dropped, and then for each how many remain.
 pub const TOLD: usize = 8;
-
-// The number of a record that is not fit.
-const UNFIT: u8 = 20;
 
 // A sync's number, and the rounds of all its loops but the look for 20.
 pub struct Metered {
@@ -172,7 +171,7 @@ pub fn arrive(saved: &mut [u64; LOG], head: &mut [u32; LENT], port: u32, word: u
         let number = arrive_in(saved, &mut whole, port, word);
         return settle(head, number, whole);
     }
-    UNFIT
+    BACKUP_UNFIT
 }
 
 // A word of the process was carried: 0, or 20, 24.
@@ -185,7 +184,7 @@ pub fn count(saved: &[u64; LOG], head: &mut [u32; LENT]) -> u8
         let number = count_in(&mut whole);
         return settle(head, number, whole);
     }
-    UNFIT
+    BACKUP_UNFIT
 }
 
 // A sync lands, with its rounds counted: 0, or 20, 21, 23. The look through the words that tells 20 is not among them.
@@ -230,7 +229,7 @@ pub fn metered_sync(
     }
     *report = [0; TOLD];
     Metered {
-        number: UNFIT,
+        number: BACKUP_UNFIT,
         rounds: 0,
     }
 }
@@ -260,8 +259,8 @@ pub fn take_over(saved: &[u64; LOG], head: &[u32; LENT], handed: &mut [u32; LENT
     let looked = look(saved, head);
     if looked.fits {
         *handed = *head;
-        return 0;
+        return BACKUP_OK;
     }
     *handed = [0; LENT];
-    UNFIT
+    BACKUP_UNFIT
 }

@@ -6,7 +6,7 @@ use lib.ListN.{length, take}
 use Rattle.bench_input.specs.Wanted.{wantedOf}
 
 -- a part of a buffer is filled from its start, up to a place r, and what is in front of the part stays
-pub record Filled (buffer : List ℕ) (from to r : ℕ) (buffer′ : List ℕ) : Type 0 where
+pub record FilledPart (buffer : List ℕ) (from to r : ℕ) (buffer′ : List ℕ) : Type 0 where
   pub begins : from ≤ r
   pub ends : r ≤ to
   pub same-length : length buffer′ ≡ length buffer

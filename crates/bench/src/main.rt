@@ -7,7 +7,7 @@
 // only where the input ends, and go out as they are. A read that fails counts as the input's end. A write that fails ends the program quietly.
 ghost use Prim.Native.Nat.{_≤_};
 ghost use lib.ListN.{length};
-ghost use Rattle.bench.specs.Took.{Filled, Took};
+ghost use Rattle.bench.specs.Took.{FilledPart, Took};
 use bench_input::bench::PAGE_ROOM;
 use bench_input::bench::bench;
 use bench_input::wanted::INPUT_ROOM;
@@ -20,7 +20,7 @@ use words::least;
 fn read_part(input: &mut [u8], from: usize, to: usize) -> usize
     requires { ⌜ from ≤ to ⌝ }
     requires { ⌜ to ≤ length (now input) ⌝ }
-    ensures { λ r. ⌜ Filled (now (input .entry)) from to r (now (input .exit)) ⌝ }
+    ensures { λ r. ⌜ FilledPart (now (input .entry)) from to r (now (input .exit)) ⌝ }
 {
     from + io::read_full(STDIN_FILENO, &mut input[from..to])
 }

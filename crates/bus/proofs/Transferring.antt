@@ -8,7 +8,7 @@ use Rattle.process.specs.Change.{RowBecame}
 use Rattle.rules.specs.Table.{Table}
 use Rattle.rules.specs.Cabinet as rules
 use Rattle.rules.specs.Cabinet.{Cabinet, processAt, outboxAt}
-use Rattle.rules.specs.Moves.{numbers, withProcess, withOutbox, rebacked, transmitItem}
+use Rattle.rules.specs.Moves.{numbers, withProcess, withOutbox, endTransfer, transmitItem}
 use Rattle.rules.specs.Reasons.{causeOf}
 use Rattle.state.specs.declared.entry.Entry.{Entry}
 use Rattle.state.specs.Store.{Store, storeOf, Holds}
@@ -30,17 +30,17 @@ module _ {t : Table} {s : Store} {entries : List Entry} {c : Cabinet} (reach : R
   its-process : p < length (t .processes)
   its-process = transfer-owner reach b p rest oldest .0
 
-  transfer-holds : (row′ : List ℕ) → RowBecame (getD (s .rows) p []) row′ rebacked
+  transfer-holds : (row′ : List ℕ) → RowBecame (getD (s .rows) p []) row′ endTransfer
       → Holds t (storeOf (withFlag (set (s .rows) p row′) p 0) (s .mails) (s .logs) (s .heads) (set (s .queues) b queue′) (s .totals)) entries
-      (withProcess p (rebacked (processAt c p)) (withOutbox b rest c))
-  unfolding rebacked
+      (withProcess p (endTransfer (processAt c p)) (withOutbox b rest c))
+  unfolding endTransfer
   transfer-holds row′ became =
-      let first = row-changed h (reach .accepted .processes-high) p its-process row′ rebacked (became _ _ _ (h .kept p its-process)) refl refl in
-      waiter-leaves reach p (rebacked (processAt c p)) first b hb (rules.transfer p) (transfer-waits p) rest oldest its-process
+      let first = row-changed h (reach .accepted .processes-high) p its-process row′ endTransfer (became _ _ _ (h .kept p its-process)) refl refl in
+      waiter-leaves reach p (endTransfer (processAt c p)) first b hb (rules.transfer p) (transfer-waits p) rest oldest its-process
       (transfer-owner reach b p rest oldest .1) queue′ popped
 
 pub transfers-so : (rows : List (List ℕ)) (process p : ℕ) → (process < 16 → p ≡ process) → (row′ : List ℕ)
-    → RowBecame (getD rows p []) row′ rebacked → Transfers rows process (withFlag (set rows p row′) p 0) (answerOf 5 3 process 0)
+    → RowBecame (getD rows p []) row′ endTransfer → Transfers rows process (withFlag (set rows p row′) p 0) (answerOf 5 3 process 0)
 unfolding transmitItem numbers causeOf
 transfers-so rows process p is-p row′ became = record {
   answered = λ t mails logs heads queues totals entries c command b queue′ rest reach h hb popped oldest.
@@ -52,7 +52,7 @@ transfers-so rows process p is-p row′ became = record {
         answer-is = refl;
         cause-is = refl;
         holds = transfer-holds reach h b hb process rest oldest queue′ popped row′
-            (subst (λ (i : ℕ). RowBecame (getD rows i []) row′ rebacked) same became);
+            (subst (λ (i : ℕ). RowBecame (getD rows i []) row′ endTransfer) same became);
       });
   done = omega arith;
   same-length = length-set (set rows p row′) p _ ∙ length-set rows p row′;

@@ -3,6 +3,11 @@ ghost use Rattle.bus.specs.Injects.{Injects};
 use crate::delivery::deliver;
 use backup::limits::LOG;
 use backup::place::HEAD;
+use numbers::answers::CHANNEL_HELD;
+use numbers::answers::NOT_FROM_OUTSIDE;
+use numbers::answers::ON_THE_BUS;
+use numbers::causes::FED;
+use numbers::causes::HELD_FOR_FEED;
 use plan::CHANNELS;
 use plan::PROCESSES;
 use plan::WIRES;
@@ -30,16 +35,16 @@ pub fn inject(
 {
     let k = index32(a);
     if sender(wires, k) != ENVIRONMENT {
-        return refusal(43, 0, a);
+        return refusal(NOT_FROM_OUTSIDE, 0, a);
     }
     if full(reader(wires, k), totals[k]) {
-        return refusal(39, 1, a);
+        return refusal(CHANNEL_HELD, HELD_FOR_FEED, a);
     }
     deliver(wires, rows, mails, logs, heads, a, word);
     totals[k] = std::num::wrapping_add_u32(totals[k], 1);
     Answer {
-        code: 4,
-        cause: 1,
+        code: ON_THE_BUS,
+        cause: FED,
         a: a,
         word: word,
     }

@@ -3,6 +3,7 @@
 ghost use mathlib.Core.Path.{_≡_};
 ghost use Rattle.rules.specs.Moves.{noOrigin};
 ghost use Rattle.bus.specs.Origins.{originIn, fedFrom, CarriedFrom};
+use numbers::answers::ON_THE_BUS;
 use plan::ENVIRONMENT;
 use plan::WIRES;
 use plan::sender;
@@ -30,7 +31,7 @@ pub fn nowhere() -> Origin
 pub fn fed(code: u32) -> Origin
     ensures { λ r. ⌜ originIn r ≡ fedFrom code ⌝ }
 {
-    if code == 4 {
+    if code == ON_THE_BUS {
         return Origin {
             sender: ENVIRONMENT,
             place: 0,
@@ -43,7 +44,7 @@ pub fn fed(code: u32) -> Origin
 pub fn carried(wires: &[u32; WIRES], code: u32, oldest: Entry) -> Origin
     ensures { λ r. ⌜ CarriedFrom (now (wires .entry)) code oldest (originIn r) ⌝ }
 {
-    if code != 4 {
+    if code != ON_THE_BUS {
         return nowhere();
     }
     let item = oldest.item;

@@ -4,6 +4,8 @@ ghost use Rattle.bus.specs.Syncs.{Syncs};
 use backup::limits::LOG;
 use backup::place::Checkpoint;
 use backup::place::HEAD;
+use numbers::answers::SYNC_CARRIED;
+use numbers::answers::SYNC_UNBACKED;
 use plan::PROCESSES;
 use process::checkpoint::keep;
 use process::row::COMPLETE;
@@ -28,14 +30,14 @@ pub fn transmit_sync(
     rows[p][WAITS] = 0;
     if rows[p][PROTECTED] != COMPLETE {
         return Answer {
-            code: 6,
+            code: SYNC_UNBACKED,
             cause: 0,
             a: process,
             word: 0,
         };
     }
     Answer {
-        code: 5,
+        code: SYNC_CARRIED,
         cause: 0,
         a: process,
         word: dropped,

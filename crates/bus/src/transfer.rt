@@ -2,10 +2,12 @@
 // W-210: "When that entry is carried, its other table board holds a new record". "Its carry answers 5 with word 0"; "under 5 [..] a resync" has
 // cause 3.
 ghost use Rattle.bus.specs.Transfers.{Transfers};
+use numbers::answers::SYNC_CARRIED;
+use numbers::causes::RESYNC_CARRIED;
 use plan::PROCESSES;
 use process::row::ROW;
 use process::row::WAITS;
-use process::transfer::complete;
+use process::transfer::end_transfer;
 use state::moved::Answer;
 use words::index16;
 
@@ -13,11 +15,11 @@ pub fn transmit_transfer(rows: &mut [[u32; ROW]; PROCESSES], process: u32) -> An
     ensures { λ r. ⌜ Transfers (now (rows .entry)) process (now (rows .exit)) r ⌝ }
 {
     let p = index16(process);
-    complete(&mut rows[p]);
+    end_transfer(&mut rows[p]);
     rows[p][WAITS] = 0;
     Answer {
-        code: 5,
-        cause: 3,
+        code: SYNC_CARRIED,
+        cause: RESYNC_CARRIED,
         a: process,
         word: 0,
     }

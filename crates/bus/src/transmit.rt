@@ -5,6 +5,9 @@ use crate::transfer::transmit_transfer;
 use crate::word::transmit_word;
 use backup::limits::LOG;
 use backup::place::HEAD;
+use numbers::answers::BOARD_DEAD;
+use numbers::answers::QUEUE_EMPTY;
+use numbers::causes::CARRY_OF_DEAD;
 use plan::BOARDS;
 use plan::CHANNELS;
 use plan::PROCESSES;
@@ -39,10 +42,10 @@ pub fn transmit(
 {
     let b = index16(a);
     if queues[b][DEAD] != 0 {
-        return refusal(34, 0, a);
+        return refusal(BOARD_DEAD, CARRY_OF_DEAD, a);
     }
     let Front::Oldest { item } = peek(&queues[b], oldest) else {
-        return refusal(42, 0, a);
+        return refusal(QUEUE_EMPTY, 0, a);
     };
     pop(&mut queues[b]);
     if let Item::Word {
@@ -60,7 +63,7 @@ pub fn transmit(
     }
     // What is neither is a transfer: this else is never taken.
     let Item::Transfer { process } = item else {
-        return refusal(42, 0, a);
+        return refusal(QUEUE_EMPTY, 0, a);
     };
     transmit_transfer(rows, process)
 }

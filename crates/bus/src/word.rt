@@ -4,6 +4,8 @@ ghost use Rattle.bus.specs.Carries.{Carries};
 use crate::delivery::deliver;
 use backup::limits::LOG;
 use backup::place::HEAD;
+use numbers::answers::ON_THE_BUS;
+use numbers::causes::CARRIED;
 use plan::CHANNELS;
 use plan::PROCESSES;
 use plan::WIRES;
@@ -36,8 +38,8 @@ pub fn transmit_word(
     let p = index16(sender(wires, k));
     counts(&rows[p], &mut heads[p]);
     let answer = Answer {
-        code: 4,
-        cause: 0,
+        code: ON_THE_BUS,
+        cause: CARRIED,
         a: channel,
         word: word,
     };

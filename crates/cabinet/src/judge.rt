@@ -1,6 +1,10 @@
 // Whether a run is refused, and by which number, before any of it is made.
 ghost use mathlib.Core.Path.{_≡_};
 ghost use Rattle.cabinet.specs.Judged.{judgedRun};
+use numbers::runs::ACCEPTED;
+use numbers::runs::ANSWERS_SHORT;
+use numbers::runs::ORIGINS_SHORT;
+use numbers::runs::REPORT_SHORT;
 use records::schedule::Judged;
 
 // How long the lent buffers are.
@@ -30,16 +34,16 @@ pub fn judge_run(table_number: u8, processes: usize, schedule: Judged, lengths: 
         return schedule_number;
     }
     if answers / 6 < records {
-        return 11;
+        return ANSWERS_SHORT;
     }
     if reasons < records {
-        return 11;
+        return ANSWERS_SHORT;
     }
     if report / 20 < processes {
-        return 12;
+        return REPORT_SHORT;
     }
     if origins / 2 < records {
-        return 51;
+        return ORIGINS_SHORT;
     }
-    0
+    ACCEPTED
 }

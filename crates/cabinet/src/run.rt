@@ -9,6 +9,7 @@ use crate::judge::Lengths;
 use crate::judge::judge_run;
 use backup::limits::LOG;
 use backup::place::HEAD;
+use numbers::runs::ACCEPTED;
 use outcome::quiet::quiescent;
 use outcome::report::write_report;
 use plan::BOARDS;
@@ -111,7 +112,7 @@ pub fn run(
     }
     let quiet = conduct(table, schedule, plan, answers, reasons, report, origins);
     Verdict {
-        number: 0,
+        number: ACCEPTED,
         records: records,
         quiet: quiet,
     }

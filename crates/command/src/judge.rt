@@ -3,6 +3,13 @@ ghost use mathlib.Core.Path.{_≡_};
 ghost use Prim.Native.Nat.{_<_};
 ghost use Rattle.rules.specs.Moves.{moveOf};
 ghost use Rattle.command.specs.Judges.{beyondOf, numberOf, judgeOf, faultOf, causeBy};
+use numbers::answers::BAD_INDEX;
+use numbers::answers::BAD_RECORD;
+use numbers::causes::NO_SUCH_BOARD;
+use numbers::causes::NO_SUCH_CHANNEL;
+use numbers::causes::NO_SUCH_MOVE;
+use numbers::causes::NO_SUCH_PROCESS;
+use numbers::causes::WORD_NOT_ZERO;
 use plan::Counts;
 use records::schedule::Command;
 use words::byte_wide;
@@ -13,7 +20,7 @@ const FEED: u8 = 4;
 fn beyond(a: u8, most: usize) -> u32
     ensures { λ r. ⌜ r ≡ beyondOf a most ⌝ }
 {
-    if byte_wide(a) >= most { 33 } else { 0 }
+    if byte_wide(a) >= most { BAD_INDEX } else { 0 }
 }
 
 // "33 if a is no process, board or channel of this table", of moves from 4 on; 32 for an unknown one, and 0 for neither.
@@ -26,7 +33,7 @@ fn number_above_3(counts: Counts, mv: u8, a: u8) -> u32
         5 => beyond(a, counts.boards),
         6 => beyond(a, counts.boards),
         7 => beyond(a, counts.processes),
-        _ => 32,
+        _ => BAD_RECORD,
     }
 }
 
@@ -42,7 +49,7 @@ fn number(counts: Counts, mv: u8, a: u8) -> u32
         1 => beyond(a, counts.processes),
         2 => beyond(a, counts.processes),
         3 => beyond(a, counts.boards),
-        _ => 32,
+        _ => BAD_RECORD,
     }
 }
 
@@ -55,7 +62,7 @@ pub fn judge(counts: Counts, c: Command) -> u32
         return number(counts, FEED, c.a);
     }
     if c.word != 0 {
-        return 32;
+        return BAD_RECORD;
     }
     number(counts, c.mv, c.a)
 }
@@ -64,7 +71,11 @@ pub fn judge(counts: Counts, c: Command) -> u32
 fn fault(number: u32, of_33: u32) -> u32
     ensures { λ r. ⌜ r ≡ faultOf number of_33 ⌝ }
 {
-    if number == 32 { 1 } else { of_33 }
+    if number == BAD_RECORD {
+        WORD_NOT_ZERO
+    } else {
+        of_33
+    }
 }
 
 // The cause of a 32 or a 33, by the move: "Code 33: 1 for a board, 2 for a channel."
@@ -72,13 +83,13 @@ pub fn cause(number: u32, mv: u8) -> u32
     ensures { λ r. ⌜ r ≡ causeBy number (moveOf mv) ⌝ }
 {
     match mv {
-        1 => fault(number, 0),
-        2 => fault(number, 0),
-        3 => fault(number, 1),
-        4 => fault(number, 2),
-        5 => fault(number, 1),
-        6 => fault(number, 1),
-        7 => fault(number, 0),
-        _ => 0,
+        1 => fault(number, NO_SUCH_PROCESS),
+        2 => fault(number, NO_SUCH_PROCESS),
+        3 => fault(number, NO_SUCH_BOARD),
+        4 => fault(number, NO_SUCH_CHANNEL),
+        5 => fault(number, NO_SUCH_BOARD),
+        6 => fault(number, NO_SUCH_BOARD),
+        7 => fault(number, NO_SUCH_PROCESS),
+        _ => NO_SUCH_MOVE,
     }
 }

@@ -8,6 +8,11 @@ use crate::recount::add_unread;
 use crate::recount::drop_unread;
 use backup::limits::LOG;
 use backup::place::HEAD;
+use numbers::answers::BOARD_DEAD;
+use numbers::answers::DONE;
+use numbers::answers::SOME_UNBACKED;
+use numbers::causes::BOARD_CRASHED;
+use numbers::causes::CRASH_OF_DEAD;
 use plan::BOARDS;
 use plan::CHANNELS;
 use plan::Counts;
@@ -42,11 +47,11 @@ pub fn crash(
 {
     let b = index16(a);
     if queues[b][DEAD] != 0 {
-        return refusal(34, 1, a);
+        return refusal(BOARD_DEAD, CRASH_OF_DEAD, a);
     }
     let p = most16(counts.processes);
     if some_unbacked(p, rows) {
-        return refusal(44, 0, a);
+        return refusal(SOME_UNBACKED, 0, a);
     }
     let k = most32(counts.channels);
     drop_unread(k, wires, rows, mails, totals);
@@ -55,8 +60,8 @@ pub fn crash(
     add_unread(k, wires, rows, mails, totals);
     die(&mut queues[b]);
     Answer {
-        code: 0,
-        cause: 2,
+        code: DONE,
+        cause: BOARD_CRASHED,
         a: 0,
         word: 0,
     }

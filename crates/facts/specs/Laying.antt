@@ -16,6 +16,10 @@ sets-append l i [] b = ap (λ (n : ℕ). sets l n b) (omega arith)
 sets-append l i (x ∷ a) b =
     ap (λ (n : ℕ). sets (sets (set l i x) (suc i) a) n b) (omega arith) ∙ sets-append (set l i x) (suc i) a b
 
+-- the same, where the second's place is said by itself
+pub sets-more : (a b l : List ℕ) (n k : ℕ) → k ≡ n + length a → sets (sets l n a) k b ≡ sets l n (a ++ b)
+sets-more a b l n k e = ap (λ (i : ℕ). sets (sets l n a) i b) e ∙ sets-append l n a b
+
 -- at the front of a list: those numbers, then what stood behind them
 pub sets-front : (l new : List ℕ) → length new ≤ length l → sets l 0 new ≡ new ++ drop (length new) l
 sets-front l new h = let z : 0 + length new ≡ length new = omega arith in sets-eq new l 0 (omega arith) ∙ ap (λ (n : ℕ). new ++ drop n l) z

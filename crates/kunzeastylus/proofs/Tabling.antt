@@ -8,9 +8,9 @@ use Rattle.writer.specs.declared.write.Written.{Written}
 use Rattle.apart.specs.declared.Taken.{Taken}
 use Rattle.writer.specs.Writes.{Writes}
 use Rattle.apart.specs.Taken.{Lent, TakesApart}
-use Rattle.kunzeastylus.specs.Tables.{packedWritten, writtenIn, WritesPacked, packedTaken, takenIn, Small, TakesPacked}
+use Rattle.kunzeastylus.specs.Tables.{packedWritten, unpackedWritten, WritesPacked, packedTaken, unpackedTaken, Small, TakesPacked}
 
-writtenIn-packedWritten : (r : Written) → r .number < 256 → writtenIn (packedWritten r) ≡ r
+writtenIn-packedWritten : (r : Written) → r .number < 256 → unpackedWritten (packedWritten r) ≡ r
 writtenIn-packedWritten r h =
     let n = packedWritten r in
     let e0 : n % 256 ≡ r .number = omega arith in
@@ -19,10 +19,10 @@ writtenIn-packedWritten r h =
 
 pub writes-packed : (l : Lists) (out : List ℕ) (r : Written) (out′ : List ℕ) → Writes l out r out′ → (n : ℕ) → r .number < 256 → n ≡ packedWritten r → WritesPacked l out n out′
 writes-packed l out r out′ h n small e =
-    let same : writtenIn n ≡ r = ap writtenIn e ∙ writtenIn-packedWritten r small in
+    let same : unpackedWritten n ≡ r = ap unpackedWritten e ∙ writtenIn-packedWritten r small in
     record { exact = e ∙ ap packedWritten (sym same); writes = subst (λ w. Writes l out w out′) (sym same) h }
 
-takenIn-packedTaken : (r : Taken) → Small r → takenIn (packedTaken r) ≡ r
+takenIn-packedTaken : (r : Taken) → Small r → unpackedTaken (packedTaken r) ≡ r
 takenIn-packedTaken r h =
     let n = packedTaken r in
     let h0 = h .number-fits in
@@ -54,5 +54,5 @@ takenIn-packedTaken r h =
 pub takes-packed : (table : List ℕ) (before : Lent) (r : Taken) (after : Lent) → TakesApart table before r after → (n : ℕ) → Small r → n ≡ packedTaken r
     → TakesPacked table before n after
 takes-packed table before r after h n small e =
-    let same : takenIn n ≡ r = ap takenIn e ∙ takenIn-packedTaken r small in
+    let same : unpackedTaken n ≡ r = ap unpackedTaken e ∙ takenIn-packedTaken r small in
     record { exact = e ∙ ap packedTaken (sym same); takes = subst (λ w. TakesApart table before w after) (sym same) h }

@@ -4,13 +4,13 @@ use mathlib.Core.List.{List}
 use Prim.Native.Nat.{ℕ}
 use Rattle.rules.specs.Run.{Buffers}
 use Rattle.label_line.specs.Line.{lineNumber}
-use Rattle.label_line.specs.Labels.{Makes, RunsLine}
+use Rattle.label_line.specs.Labels.{MakesTable, RunsLine}
 use Rattle.kunzeastylus.specs.Packed.{Packed}
 
 -- The table of a first serial, in lent bytes. "46, [..] its only refusal; no table is then made".
 pub record MakesInto (first : ℕ) (before : List ℕ) (n : ℕ) (after : List ℕ) : Type 0 where
   pub number-is : n ≡ lineNumber first
-  pub made : n ≡ 0 → Makes first (record { number = n; bytes = after })
+  pub made : n ≡ 0 → MakesTable first (record { number = n; bytes = after })
   pub untouched : (n ≡ 0 → ⊥) → after ≡ before
 
 -- The run of a first serial and a schedule.

@@ -12,21 +12,21 @@ use Rattle.apart.specs.Taken.{Lent, TakesApart}
 abbrev pub packedWritten : Written → ℕ
 packedWritten r = r .number + 4294967296 * r .length
 
-abbrev pub writtenIn : ℕ → Written
-writtenIn n = record { number = n % 256; length = n / 4294967296 }
+abbrev pub unpackedWritten : ℕ → Written
+unpackedWritten n = record { number = n % 256; length = n / 4294967296 }
 
 -- of any lists, and a buffer of any length: so before it, and so after it
 pub record WritesPacked (l : Lists) (out : List ℕ) (n : ℕ) (out′ : List ℕ) : Type 0 where
-  pub exact : n ≡ packedWritten (writtenIn n)
-  pub writes : Writes l out (writtenIn n) out′
+  pub exact : n ≡ packedWritten (unpackedWritten n)
+  pub writes : Writes l out (unpackedWritten n) out′
 
 -- number, boards, processes and channels in eight bits each, instructions in sixteen, and the version from bit 48 on
 abbrev pub packedTaken : Taken → ℕ
 packedTaken r =
     r .number + 256 * r .boards + 65536 * r .processes + 16777216 * r .channels + 4294967296 * r .instructions + 281474976710656 * r .version
 
-abbrev pub takenIn : ℕ → Taken
-takenIn n = record {
+abbrev pub unpackedTaken : ℕ → Taken
+unpackedTaken n = record {
   number = n % 256;
   version = n / 281474976710656;
   boards = n / 256 % 256;
@@ -45,5 +45,5 @@ pub record Small (r : Taken) : Type 0 where
 
 -- of any bytes of a table, and lists of any length: these before it, those after it
 pub record TakesPacked (table : List ℕ) (before : Lent) (n : ℕ) (after : Lent) : Type 0 where
-  pub exact : n ≡ packedTaken (takenIn n)
-  pub takes : TakesApart table before (takenIn n) after
+  pub exact : n ≡ packedTaken (unpackedTaken n)
+  pub takes : TakesApart table before (unpackedTaken n) after

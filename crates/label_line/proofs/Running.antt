@@ -17,27 +17,27 @@ use Rattle.cabinet.specs.Runs.{ranBy, Runs}
 use Rattle.cabinet.specs.declared.run.Verdict.{Verdict}
 use Rattle.cabinet.proofs.Running.{run-few}
 use Rattle.label_line.specs.Line.{serialMost, lineNumber, lineTable, lineBytes}
-use Rattle.label_line.specs.Labels.{Makes, Labelled, lineRun, RunsLine}
+use Rattle.label_line.specs.Labels.{MakesTable, Labelled, lineRun, RunsLine}
 use Rattle.label_line.specs.declared.MadeTable.{MadeTable}
 use Rattle.label_line.proofs.Tables.{line-decoded}
 use Rattle.label_line.proofs.Labelling.{labelled}
 
 -- whether a table was made shows in the number
-low : (first : ℕ) (m : MadeTable) → Makes first m → m .number ≡ 0 → leb first serialMost ≡ true
+low : (first : ℕ) (m : MadeTable) → MakesTable first m → m .number ≡ 0 → leb first serialMost ≡ true
 low first m h z = go (leb first serialMost) refl (sym (h .number-is) ∙ z)
   where
     go : (b : Bool) → leb first serialMost ≡ b → cond {A = ℕ} b 0 46 ≡ 0 → leb first serialMost ≡ true
     go true e n = e
     go false e n = absurd (omega arith)
 
-high : (first : ℕ) (m : MadeTable) → Makes first m → (m .number ≡ 0 → ⊥) → leb first serialMost ≡ false
+high : (first : ℕ) (m : MadeTable) → MakesTable first m → (m .number ≡ 0 → ⊥) → leb first serialMost ≡ false
 high first m h z = go (leb first serialMost) refl (h .number-is)
   where
     go : (b : Bool) → leb first serialMost ≡ b → m .number ≡ cond {A = ℕ} b 0 46 → leb first serialMost ≡ false
     go true e n = absurd (z n)
     go false e n = e
 
-module _ (first : ℕ) (schedule : List ℕ) (before : Buffers) (m : MadeTable) (made : Makes first m) where
+module _ (first : ℕ) (schedule : List ℕ) (before : Buffers) (m : MadeTable) (made : MakesTable first m) where
   pub refused : (m .number ≡ 0 → ⊥) → RunsLine first schedule before (record { number = m .number; records = 0; quiet = false }) before
   unfolding lineRun
   refused z =

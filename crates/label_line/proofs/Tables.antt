@@ -12,7 +12,7 @@ use Rattle.rules.specs.Encode.{encode, validateLists}
 use Rattle.rules.proofs.ReadBack.{word-back}
 use Rattle.label_line.specs.Line.{serialMost, lineTable, lineLength, lineLists, lineBytes}
 use Rattle.label_line.specs.Puts.{frameBytes, instructionIn}
-use Rattle.label_line.specs.Labels.{Makes}
+use Rattle.label_line.specs.Labels.{MakesTable}
 use Rattle.label_line.proofs.Spacing.{takes-often}
 
 -- the two programs, instruction by instruction
@@ -46,7 +46,7 @@ line-valid first = refl
 
 -- ---- the call
 
-pub makes : (first : ℕ) → first < 2 ^ 32 → first ≤ serialMost → (bytes : List ℕ) → bytes ≡ lineBytes first → Makes first (record { number = 0; bytes = bytes })
+pub makes : (first : ℕ) → first < 2 ^ 32 → first ≤ serialMost → (bytes : List ℕ) → bytes ≡ lineBytes first → MakesTable first (record { number = 0; bytes = bytes })
 makes first word small bytes e =
     let within : leb first serialMost ≡ true = le-leb first serialMost small in
     let decoded : decodeTable bytes ≡ lineTable first = ap decodeTable e ∙ line-decoded first in
@@ -60,7 +60,7 @@ makes first word small bytes e =
       takes-often = λ _. rw decoded (takes-often first word);
     }
 
-pub refuses : (first : ℕ) → serialMost < first → Makes first (record { number = 46; bytes = replicate lineLength 0 })
+pub refuses : (first : ℕ) → serialMost < first → MakesTable first (record { number = 46; bytes = replicate lineLength 0 })
 refuses first high =
     let beyond : leb first serialMost ≡ false = lt-leb first serialMost high in
     record {

@@ -36,7 +36,7 @@ pub record Labelled (first : ℕ) (commands : List Command) (answers : List Numb
 -- ---- the table
 
 -- The table of any first serial: "46, a first serial above 4,294,957,295, its only refusal; no table is then made" (then it is all zeros).
-pub record Makes (first : ℕ) (r : MadeTable) : Type 0 where
+pub record MakesTable (first : ℕ) (r : MadeTable) : Type 0 where
   pub number-is : r .number ≡ lineNumber first
   pub bytes-are : r .bytes ≡ cond (leb first serialMost) (lineBytes first) (replicate lineLength 0)
   -- the writer of W-201 doesn't refuse its lists, and what it writes of them is made; the reader accepts that, and it says what the label

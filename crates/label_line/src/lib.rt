@@ -5,9 +5,11 @@ ghost use Prim.Native.Nat.{_≤_};
 ghost use Rattle.rules.specs.Run.{buffersOf};
 ghost use Rattle.label_line.specs.Line.{lineBytes};
 ghost use Rattle.label_line.specs.Puts.{frameBytes, instructionIn};
-ghost use Rattle.label_line.specs.Labels.{Makes, RunsLine};
+ghost use Rattle.label_line.specs.Labels.{MakesTable, RunsLine};
 use cabinet::run::Verdict;
 use cabinet::run::run;
+use numbers::runs::ACCEPTED;
+use numbers::runs::FIRST_SERIAL;
 use plan::ENVIRONMENT;
 use records::store::put_six;
 
@@ -16,9 +18,6 @@ pub const TABLE: usize = 84;
 
 // The last first serial that isn't refused: 10,000 serials from there on fit a word.
 pub const SERIAL_MOST: u32 = 4294957295;
-
-// "46, a first serial above 4,294,957,295"
-pub const SERIAL_HIGH: u8 = 46;
 
 // The instructions' codes.
 const SET: u8 = 1;
@@ -86,17 +85,17 @@ fn line_bytes(first: u32) -> [u8; TABLE]
 
 // The table of a first serial.
 pub fn make_table(first: u32) -> MadeTable
-    ensures { λ r. ⌜ Makes first r ⌝ }
+    ensures { λ r. ⌜ MakesTable first r ⌝ }
 {
     if first > SERIAL_MOST {
         return MadeTable {
-            number: SERIAL_HIGH,
+            number: FIRST_SERIAL,
             bytes: [0; TABLE],
         };
     }
     let bytes = line_bytes(first);
     MadeTable {
-        number: 0,
+        number: ACCEPTED,
         bytes: bytes,
     }
 }

@@ -19,18 +19,18 @@ use Rattle.state.specs.Store.{Store, Holds, processIn}
 use Rattle.state.specs.Moved.{Reachable}
 use Rattle.state.proofs.Reading.{at-process}
 use Rattle.state.proofs.Reaching.{bounds}
-use Rattle.outcome.specs.Reports.{headBytes, twentyBytes, LinePut, Reports}
+use Rattle.outcome.specs.Reports.{fourBytes, twentyBytes, LinePut, Reports}
 use Rattle.records.proofs.Writing.{four-put, written-more}
 
 -- ---- one line
 
 pub head-put : (row buffer : List ℕ) (n x0 x1 x2 x3 : ℕ)
     → x0 ≡ boardIn row % 256 → x1 ≡ pcIn row % 256 → x2 ≡ unreadIn row % 256 → x3 ≡ suppressIn row % 256
-    → set (set (set (set buffer n x0) (n + 1) x1) (n + 2) x2) (n + 3) x3 ≡ sets buffer n (headBytes row)
+    → set (set (set (set buffer n x0) (n + 1) x1) (n + 2) x2) (n + 3) x3 ≡ sets buffer n (fourBytes row)
 head-put row buffer n x0 x1 x2 x3 e0 e1 e2 e3 = four-put buffer n _ _ _ _ x0 x1 x2 x3 e0 e1 e2 e3
 
 -- four and sixteen more
-twenty-put : (row buffer b0 b1 b2 b3 b4 : List ℕ) (n : ℕ) → b0 ≡ sets buffer n (headBytes row) → b1 ≡ sets b0 (n + 4) (wordBytes (registerIn row 0))
+twenty-put : (row buffer b0 b1 b2 b3 b4 : List ℕ) (n : ℕ) → b0 ≡ sets buffer n (fourBytes row) → b1 ≡ sets b0 (n + 4) (wordBytes (registerIn row 0))
     → b2 ≡ sets b1 (n + 8) (wordBytes (registerIn row 1)) → b3 ≡ sets b2 (n + 12) (wordBytes (registerIn row 2)) → b4 ≡ sets b3 (n + 16) (wordBytes (registerIn row 3))
     → b4 ≡ sets buffer n (twentyBytes row)
 twenty-put row buffer b0 b1 b2 b3 b4 n e0 e1 e2 e3 e4 =
@@ -46,7 +46,7 @@ twenty-put row buffer b0 b1 b2 b3 b4 n e0 e1 e2 e3 e4 =
 pub line-none : (row buffer : List ℕ) (p : ℕ) → length buffer / 20 ≤ p → LinePut row buffer p buffer
 line-none row buffer p h = record { fits = λ l. absurd (omega arith); same-length = refl }
 
-pub line-put : (row buffer b0 b1 b2 b3 b4 : List ℕ) (p : ℕ) → b0 ≡ sets buffer (20 * p) (headBytes row) → b1 ≡ sets b0 (20 * p + 4) (wordBytes (registerIn row 0))
+pub line-put : (row buffer b0 b1 b2 b3 b4 : List ℕ) (p : ℕ) → b0 ≡ sets buffer (20 * p) (fourBytes row) → b1 ≡ sets b0 (20 * p + 4) (wordBytes (registerIn row 0))
     → b2 ≡ sets b1 (20 * p + 8) (wordBytes (registerIn row 1)) → b3 ≡ sets b2 (20 * p + 12) (wordBytes (registerIn row 2)) → b4 ≡ sets b3 (20 * p + 16) (wordBytes (registerIn row 3))
     → LinePut row buffer p b4
 line-put row buffer b0 b1 b2 b3 b4 p e0 e1 e2 e3 e4 =

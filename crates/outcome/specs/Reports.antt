@@ -15,12 +15,12 @@ use Rattle.state.specs.Store.{storeOf, Holds}
 use Rattle.state.specs.Moved.{Reachable}
 
 -- a line's first four bytes: "board, place, unread count and hold-back"
-abbrev pub headBytes : List ℕ → List ℕ
-headBytes row = boardIn row % 256 ∷ pcIn row % 256 ∷ unreadIn row % 256 ∷ suppressIn row % 256 ∷ []
+abbrev pub fourBytes : List ℕ → List ℕ
+fourBytes row = boardIn row % 256 ∷ pcIn row % 256 ∷ unreadIn row % 256 ∷ suppressIn row % 256 ∷ []
 
 -- all twenty: "then four registers"
 abbrev pub twentyBytes : List ℕ → List ℕ
-twentyBytes row = headBytes row ++ (wordBytes (registerIn row 0) ++ (wordBytes (registerIn row 1)
+twentyBytes row = fourBytes row ++ (wordBytes (registerIn row 0) ++ (wordBytes (registerIn row 1)
     ++ (wordBytes (registerIn row 2) ++ wordBytes (registerIn row 3))))
 
 -- the p-th line of a buffer, a row's; where the buffer has no room for it, nothing

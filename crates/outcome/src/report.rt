@@ -3,7 +3,7 @@ ghost use mathlib.Core.Path.{_≡_};
 ghost use Prim.Native.Nat.{_+_, _≤_};
 ghost use lib.ListN.{length};
 ghost use lib.Seq.{sets};
-ghost use Rattle.outcome.specs.Reports.{headBytes, LinePut, Reports};
+ghost use Rattle.outcome.specs.Reports.{fourBytes, LinePut, Reports};
 use plan::PROCESSES;
 use process::row::BOARD;
 use process::row::PC;
@@ -21,7 +21,7 @@ use words::most16;
 // A line's first four bytes.
 fn put_head(row: &[u32; ROW], report: &mut [u8], at: usize)
     requires { ⌜ at + 4 ≤ length (now report) ⌝ }
-    ensures { λ _. ⌜ now (report .exit) ≡ sets (now (report .entry)) at (headBytes (now (row .entry))) ⌝ }
+    ensures { λ _. ⌜ now (report .exit) ≡ sets (now (report .entry)) at (fourBytes (now (row .entry))) ⌝ }
 {
     report[at] = low_byte(row[BOARD]);
     report[at + 1] = low_byte(row[PC]);

@@ -49,9 +49,9 @@ fits-rejoined : Fits rejoinDone
 unfolding numbers
 fits-rejoined = record { code-small = omega arith; a-small = omega arith }
 
-fits-rebacked : Fits rebackupDone
+fits-rebackup : Fits rebackupDone
 unfolding numbers
-fits-rebacked = record { code-small = omega arith; a-small = omega arith }
+fits-rebackup = record { code-small = omega arith; a-small = omega arith }
 
 -- answers that name a channel
 fits-received : (x : Mail) → x .channel < 256 → Fits (received x)
@@ -124,7 +124,7 @@ module _ {t : Table} {c : Cabinet} (reach : Reachable t c) where
     injects = λ h _ _. fits-injected (fedMail r) (channel-small (r .a) h);
     crashes = λ _ _ _. fits-crashed;
     rejoins = λ _ _. fits-rejoined;
-    rebacks = λ _ _ _ _ _ _ _. fits-rebacked;
+    rebackups = λ _ _ _ _ _ _ _. fits-rebackup;
   }
 
   pub answer-fits : (r : Command) → r .a < 256 → Fits (turn t c r .answer)

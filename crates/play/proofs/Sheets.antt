@@ -4,7 +4,8 @@ use mathlib.Core.List.{List, [], _∷_, _++_, map, map-append, append-nil, appen
 use Prim.Native.Nat.{ℕ, zero, suc, _+_, _-_, _*_, _%_, _≤_, _<_}
 use native.Mathlib.Omega.{arith}
 use lib.ListN.{length, set, drop, length-map, length-set}
-use lib.Seq.{sets, sets-eq, length-sets, drop-drop}
+use lib.Seq.{sets, length-sets, drop-drop}
+use Rattle.facts.specs.Laying.{sets-more, sets-front}
 use Rattle.rules.specs.Bytes.{wordBytes, allBytes, written}
 use Rattle.rules.specs.Moves as rules
 use Rattle.rules.specs.Machine.{Origin}
@@ -19,11 +20,6 @@ use Rattle.play.specs.Plays.{Sheets, Roomy, RoomAt, AsLong, Writes, Wrot
 use Rattle.play.proofs.Answers.{Fits}
 
 -- ---- bytes
-
--- what is stored behind what was stored is stored with it
-sets-more : (new more buffer : List ℕ) (n m : ℕ) → m ≡ n + length new → sets (sets buffer n new) m more ≡ sets buffer n (new ++ more)
-sets-more [] more buffer n m e = let z : m ≡ n = omega arith in rw z
-sets-more (x ∷ new) more buffer n m e = sets-more new more (set buffer n x) (suc n) m (omega arith)
 
 bytes-more : {A : Type 0} (bytes : A → List ℕ) (l more : List A) → allBytes bytes (l ++ more) ≡ allBytes bytes l ++ allBytes bytes more
 bytes-more bytes [] more = refl
@@ -103,9 +99,7 @@ wrote-more {before} {i = i} {j = j} {xs = xs} {ys = ys} h k e =
 
 -- the answers to all records from the first on stand at the buffers' front
 at-front : (new buffer : List ℕ) → length new ≤ length buffer → sets buffer 0 new ≡ written new buffer
-at-front new buffer h =
-    let z : 0 + length new ≡ length new = omega arith in
-    sets-eq new buffer 0 (omega arith) ∙ ap (λ (n : ℕ). new ++ drop n buffer) z
+at-front new buffer h = sets-front buffer new h
 
 module _ {before after : Sheets} {xs : List rules.Answer} (w : Wrote before 0 xs after) (room : Roomy (length xs) before) where
   pub answers-front : after .answers ≡ written (bytesOf xs) (before .answers)

@@ -21,6 +21,7 @@ use bus::transmit::transmit;
 use command::judge::cause;
 use command::judge::judge;
 use crash::crash::crash;
+use numbers::answers::BAD_RECORD;
 use plan::BOARDS;
 use plan::CHANNELS;
 use plan::Counts;
@@ -227,7 +228,7 @@ pub fn play(
                 }
             }
             // Never reached: `judge` passes none but the seven moves above, and a match over numbers wants the rest.
-            _ => write(answers, reasons, origins, k, refusal(32, 0, a)),
+            _ => write(answers, reasons, origins, k, refusal(BAD_RECORD, 0, a)),
         }
     }
     Stretch {

@@ -4,4 +4,4 @@ pub mod Rows
 pub mod Backups
 pub mod Readdressing
 pub mod Promoting
-pub mod Rebacking
+pub mod Transferring

@@ -9,7 +9,7 @@ use Rattle.backup.specs.Replica.{Message, Replica}
 use Rattle.backup.specs.Place.{viewIn, Sound}
 use Rattle.rules.specs.Table.{Table, placementAt, portOf}
 use Rattle.rules.specs.Machine.{Mail}
-use Rattle.rules.specs.Moves.{rebacking}
+use Rattle.rules.specs.Moves.{beginTransfer}
 use Rattle.plan.specs.Plan.{portIn}
 use Rattle.rules.specs.Sizes.{channelsMost}
 use Rattle.process.specs.Row.{pcIn, unreadIn, mailIn, packedAt, mailsIn, mailAt, Kept, Seated}
@@ -40,8 +40,8 @@ OnPorts t p port row mail =
     (i : ℕ) → i < unreadIn row
     → (let x = mailAt row mail i in (portFor port x ≡ portOf t p (x .channel)) × (portOf t p (x .channel) < ports))
 
--- the process with a record being made, as the rules' `rebacking` has it
-abbrev pub Rebacks : List ℕ → List ℕ → List ℕ → List ℕ → List ℕ → List ℕ → List ℕ → List ℕ → Type 0
-Rebacks row mail log head port row′ log′ head′ =
+-- the process with a record being made, as the rules' `beginTransfer` has it
+abbrev pub BeginsTransfer : List ℕ → List ℕ → List ℕ → List ℕ → List ℕ → List ℕ → List ℕ → List ℕ → Type 0
+BeginsTransfer row mail log head port row′ log′ head′ =
     Kept row mail log head → (t : Table) (p : ℕ) → OnPorts t p port row mail → pcIn row ≤ pcMost
-    → Seated (placementAt t p .primary) (placementAt t p .standby) row → Became row mail log head row′ mail log′ head′ (rebacking t p)
+    → Seated (placementAt t p .primary) (placementAt t p .standby) row → Became row mail log head row′ mail log′ head′ (beginTransfer t p)

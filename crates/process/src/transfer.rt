@@ -4,9 +4,9 @@
 // log and its head are free: the new record is made there at issue, and from then on what arrives is saved in it.
 ghost use Prim.Native.Nat.{_≤_};
 ghost use Rattle.backup.specs.Limits.{logMost};
-ghost use Rattle.rules.specs.Moves.{rebacked};
+ghost use Rattle.rules.specs.Moves.{endTransfer};
 ghost use Rattle.process.specs.Change.{RowBecame};
-ghost use Rattle.process.specs.Transfer.{Copied, Rebacks};
+ghost use Rattle.process.specs.Transfer.{Copied, BeginsTransfer};
 use crate::checkpoint::issue;
 use crate::checkpoint::snapshot;
 use crate::mail::channel_of;
@@ -52,14 +52,14 @@ fn copy(
 
 // "Acts, instructions and takes per slot start from 0 at issue": so the snapshot has no takes, and a fresh record keeps it whole. No mailbox
 // has more words than a log; of one that says so nothing changes.
-pub fn reback(
+pub fn begin_transfer(
     row: &mut [u32; ROW],
     mail: &[u64; LOG],
     log: &mut [u64; LOG],
     head: &mut [u32; HEAD],
     wires: &[u32; WIRES],
 )
-    ensures { λ _. ⌜ Rebacks (now (row .entry)) (now (mail .entry)) (now (log .entry)) (now (head .entry)) (now (wires .entry))
+    ensures { λ _. ⌜ BeginsTransfer (now (row .entry)) (now (mail .entry)) (now (log .entry)) (now (head .entry)) (now (wires .entry))
         (now (row .exit)) (now (log .exit)) (now (head .exit)) ⌝ }
 {
     let first = wide(row[OLDEST]);
@@ -75,8 +75,8 @@ pub fn reback(
 }
 
 // The entry is carried: the record that was being made is a backup.
-pub fn complete(row: &mut [u32; ROW])
-    ensures { λ _. ⌜ RowBecame (now (row .entry)) (now (row .exit)) rebacked ⌝ }
+pub fn end_transfer(row: &mut [u32; ROW])
+    ensures { λ _. ⌜ RowBecame (now (row .entry)) (now (row .exit)) endTransfer ⌝ }
 {
     if row[PROTECTED] != 0 {
         row[PROTECTED] = COMPLETE;

@@ -16,7 +16,7 @@ use Rattle.rules.specs.Reference.{referenceStart, posted, withMachine, injectio
 use Rattle.rules.specs.Cabinet.{occupancyMost, Process, Item, message, checkpoint, transfer, Cabinet, nobody, processAt, outboxAt}
 use Rattle.rules.specs.Cabinet.{unreadOn, inFlight, occupancy, full, idle, quiescent}
 use Rattle.rules.specs.Moves.{Command, refused, numbers, refusalNumber, Refusal, outboxEmpty, Result, refuse, guard, issued, snapshot}
-use Rattle.rules.specs.Moves.{keeps, transmitOldest, transmit, rebacked, rebacking, stepMove, moveOf, perform, judged, settle, turn}
+use Rattle.rules.specs.Moves.{keeps, transmitOldest, transmit, endTransfer, beginTransfer, stepMove, moveOf, perform, judged, settle, turn}
 use Rattle.rules.specs.Moves.{runFrom}
 use Rattle.rules.specs.Judge.{Accepted}
 use Rattle.rules.specs.Transparent.{finished}
@@ -126,7 +126,7 @@ module _ {t : Table} {c : Cabinet} (empty : (b : ℕ) → outboxAt c b ≡ []) (
         omega arith
 
     done-still : (r : Command) → Done t d r (λ m e _. isOutside m ≡ false → Still e)
-    unfolding issued keeps rebacked rebacking
+    unfolding issued keeps endTransfer beginTransfer
     done-still r = record {
       computes = λ l m e _ _. absurd (no-way (let v = at-send (r .a) l m internal e .is in cc));
       takes = λ l m mail e _ _. absurd (no-way (let v = at-send (r .a) l m (took mail) e .is in cc));
@@ -146,7 +146,7 @@ module _ {t : Table} {c : Cabinet} (empty : (b : ℕ) → outboxAt c b ≡ []) (
         suppresses = h .suppresses;
         no-words = λ k. let j = flight-lost k (d .outboxes) (r .a) in let n = h .no-words k in omega arith;
       };
-      rebacks = λ _ _ _ _ _ _ _ _. changed (r .a) _ _ refl refl
+      rebackups = λ _ _ _ _ _ _ _ _. changed (r .a) _ _ refl refl
           (λ k. let j = flight-join k (d .outboxes) (processAt d (r .a) .board) (transfer (r .a)) in let n = h .no-words k in omega arith);
     }
 
@@ -167,7 +167,7 @@ module _ {t : Table} {c : Cabinet} (empty : (b : ℕ) → outboxAt c b ≡ []) (
       injects = λ _ _ _ e. absurd (no-way (cc));
       crashes = λ _ _ _ e. absurd (no-way (cc));
       rejoins = λ _ _ e. absurd (no-way (cc));
-      rebacks = λ _ _ _ _ _ _ _ e. absurd (no-way (cc));
+      rebackups = λ _ _ _ _ _ _ _ e. absurd (no-way (cc));
     } (λ _ why _. refused-not-done why p) refl
 
   run-still : (commands : List Command) → allInside commands ≡ true → {d : Cabinet} → Still d → Still (runFrom t d commands .cabinet)

@@ -5,6 +5,9 @@ ghost use Rattle.records.specs.Commands.{commandOf, ScheduleJudged};
 ghost use lib.ListN.{getD};
 use crate::head::VERSION;
 use crate::six::six_of;
+use numbers::runs::ACCEPTED;
+use numbers::runs::SCHEDULE_LENGTH;
+use numbers::runs::SCHEDULE_VERSION;
 use words::pair;
 
 // Where the commands begin: behind the length's two bytes and the version.
@@ -42,24 +45,27 @@ pub fn judge_schedule(schedule: &[u8]) -> Judged
 {
     let len = schedule.len();
     if len < FIRST_COMMAND {
-        return refused(9);
+        return refused(SCHEDULE_LENGTH);
     }
     let field = pair(schedule[0], schedule[1]);
     let version = schedule[VERSION];
     let records = (len - FIRST_COMMAND) / 6;
     if field + 2 != len {
-        return refused(9);
+        return refused(SCHEDULE_LENGTH);
     }
     if FIRST_COMMAND + 6 * records != len {
-        return refused(9);
+        return refused(SCHEDULE_LENGTH);
     }
     if records > COMMANDS_MOST {
-        return refused(9);
+        return refused(SCHEDULE_LENGTH);
     }
     if version != 1 {
-        return refused(10);
+        return refused(SCHEDULE_VERSION);
     }
-    Judged { number: 0, records }
+    Judged {
+        number: ACCEPTED,
+        records,
+    }
 }
 
 // The i-th command of a schedule; one of zeros from its end on.

@@ -1,3 +1,3 @@
 -- Moves 6 and 7 in the lists.
 pub mod Rejoining
-pub mod Rebacking
+pub mod BackingUp

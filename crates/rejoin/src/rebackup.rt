@@ -10,6 +10,14 @@ ghost use Rattle.rules.specs.Sizes.{processesMost};
 ghost use Rattle.rejoin.specs.Rebackups.{crowdedOn, Rebackups};
 use backup::limits::LOG;
 use backup::place::HEAD;
+use numbers::answers::DONE;
+use numbers::answers::HAS_BACKUP;
+use numbers::answers::NOT_READY;
+use numbers::answers::QUEUE_FULL;
+use numbers::answers::SYNC_WAITING;
+use numbers::causes::QUEUE_FULL_FOR_RESYNC;
+use numbers::causes::RESYNC_WAITING;
+use numbers::causes::RETURNED_OR_RESYNC;
 use plan::BOARDS;
 use plan::CHANNELS;
 use plan::PROCESSES;
@@ -24,7 +32,7 @@ use process::row::ROW;
 use process::row::STANDBY;
 use process::row::SUPPRESS;
 use process::row::WAITS;
-use process::transfer::reback;
+use process::transfer::begin_transfer;
 use state::channel::OCCUPANCY;
 use state::moved::Answer;
 use state::moved::Moved;
@@ -82,33 +90,33 @@ pub fn rebackup(
 {
     let p = index16(a);
     if rows[p][PROTECTED] == COMPLETE {
-        return refused(50, 0, a);
+        return refused(HAS_BACKUP, 0, a);
     }
     let other = index16(rows[p][STANDBY]);
     if queues[other][DEAD] != 0 {
-        return refused(50, 0, a);
+        return refused(HAS_BACKUP, 0, a);
     }
     if rows[p][SUPPRESS] != 0 {
-        return refused(49, 0, a);
+        return refused(NOT_READY, 0, a);
     }
     if crowded(programs, totals, p) {
-        return refused(49, 0, a);
+        return refused(NOT_READY, 0, a);
     }
     if rows[p][WAITS] != 0 {
-        return refused(41, 3, a);
+        return refused(SYNC_WAITING, RESYNC_WAITING, a);
     }
     let b = index16(rows[p][BOARD]);
     if queues[b][COUNT] >= QUEUE {
-        return refused(38, 3, a);
+        return refused(QUEUE_FULL, QUEUE_FULL_FOR_RESYNC, a);
     }
     let at = place(&queues[b], b);
     rows[p][WAITS] = 1;
-    reback(&mut rows[p], &mails[p], &mut logs[p], &mut heads[p], wires);
+    begin_transfer(&mut rows[p], &mails[p], &mut logs[p], &mut heads[p], wires);
     push(&mut queues[b]);
     Moved {
         answer: Answer {
-            code: 0,
-            cause: 3,
+            code: DONE,
+            cause: RETURNED_OR_RESYNC,
             a: 0,
             word: 0,
         },

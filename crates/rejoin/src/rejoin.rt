@@ -1,5 +1,8 @@
 // Move 6: "Move 6 returns board a with an empty queue; nothing runs there yet." "48, a return of a live board, after 33".
 ghost use Rattle.rejoin.specs.Rejoins.{Rejoins};
+use numbers::answers::BOARD_LIVE;
+use numbers::answers::DONE;
+use numbers::causes::RETURNED_OR_RESYNC;
 use plan::BOARDS;
 use state::moved::Answer;
 use state::moved::refusal;
@@ -13,12 +16,12 @@ pub fn rejoin(queues: &mut [[u32; QUEUE_ROW]; BOARDS], a: u32) -> Answer
 {
     let b = index16(a);
     if queues[b][DEAD] == 0 {
-        return refusal(48, 0, a);
+        return refusal(BOARD_LIVE, 0, a);
     }
     revive(&mut queues[b]);
     Answer {
-        code: 0,
-        cause: 3,
+        code: DONE,
+        cause: RETURNED_OR_RESYNC,
         a: 0,
         word: 0,
     }

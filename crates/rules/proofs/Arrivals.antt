@@ -18,7 +18,7 @@ use Rattle.rules.specs.Table.{Table, channelAt, portOf}
 use Rattle.rules.specs.Machine.{Mail}
 use Rattle.rules.specs.Reference.{Reference}
 use Rattle.rules.specs.Cabinet.{Standby, Process, Cabinet, nobody, processAt, outboxAt, isComplete, protected, otherBoard, waiting, started}
-use Rattle.rules.specs.Moves.{Command, Answer, numbers, syncKept, syncLost, droppedFrom, onBackup, advanced, issued, receive, deliver, counts, keeps, completed, rebacked, copied, rebacking, rebackup, rebackupDone, accept, guard, perform, judged, Turn, turn, runFrom}
+use Rattle.rules.specs.Moves.{Command, Answer, numbers, syncKept, syncLost, droppedFrom, onBackup, advanced, issued, receive, deliver, counts, keeps, completed, endTransfer, copied, beginTransfer, rebackup, rebackupDone, accept, guard, perform, judged, Turn, turn, runFrom}
 use Rattle.rules.specs.Judge.{Accepted}
 use Rattle.rules.specs.Transparent.{traceOf}
 use Rattle.rules.specs.Schedule.{command}
@@ -118,22 +118,22 @@ module _ {t : Table} (ok : Accepted t) {c : Cabinet} {s : Reference} (inv : Inva
       standby-after q (keeps v (processAt c q)) (λ e. ap (λ (i : ℕ). onBackup (λ r. sync r v) (processAt c i .standby)) e ∙ not-called (λ r. sync r v) has made ∙ sym has)
 
   -- the carry of its own resync
-  completed-then : (q : ℕ) → getD (set (c .processes) q (rebacked (processAt c q))) p nobody .standby
+  completed-then : (q : ℕ) → getD (set (c .processes) q (endTransfer (processAt c q))) p nobody .standby
       ≡ some (grown t p k [] (eqb p q))
-  unfolding rebacked
+  unfolding endTransfer
   completed-then q =
       by-eq q p
-      (λ e. let now : getD (set (c .processes) q (rebacked (processAt c q))) p nobody ≡ rebacked (processAt c p) =
-      subst (λ (i : ℕ). getD (set (c .processes) i (rebacked (processAt c i))) p nobody ≡ rebacked (processAt c p)) (sym e)
-      (getD-set-same (c .processes) p (rebacked (processAt c p)) nobody hp) in
+      (λ e. let now : getD (set (c .processes) q (endTransfer (processAt c q))) p nobody ≡ endTransfer (processAt c p) =
+      subst (λ (i : ℕ). getD (set (c .processes) i (endTransfer (processAt c i))) p nobody ≡ endTransfer (processAt c p)) (sym e)
+      (getD-set-same (c .processes) p (endTransfer (processAt c p)) nobody hp) in
       rw (eq-eqb p q (sym e)) (none-added t p k true (ap (λ (x : Process). x .standby) now ∙ ap completed has)))
       (λ n. rw (ne-eqb p q (λ f. n (sym f)))
       (none-added t p k false (ap (λ (x : Process). x .standby) (getD-set-other (c .processes) q p _ nobody (λ f. n (sym f))) ∙ has
       ∙ ap (λ (b : Bool). some (record { board = k .board; replica = k .replica; complete = b })) made)))
 
   -- another resync of it is refused with 41
-  rebacked-then : (q : ℕ) → waiting q (outboxAt c (processAt c q .board)) ≡ false → getD (set (c .processes) q (rebacking t q (processAt c q))) p nobody .standby ≡ some k
-  rebacked-then q none-waits =
+  beginTransfer-then : (q : ℕ) → waiting q (outboxAt c (processAt c q .board)) ≡ false → getD (set (c .processes) q (beginTransfer t q (processAt c q))) p nobody .standby ≡ some k
+  beginTransfer-then q none-waits =
       standby-after q _ (λ e. absurd (no-way (let a = made-waits inv p hp k has made in
       let b : waiting p (outboxAt c (processAt c p .board)) ≡ false = subst (λ (i : ℕ). waiting i (outboxAt c (processAt c i .board)) ≡ false) e none-waits in cc)))
 
@@ -157,7 +157,7 @@ module _ {t : Table} (ok : Accepted t) {c : Cabinet} {s : Reference} (inv : Inva
       injects = λ _ outside free. word-added (c .processes) (fedMail r) refl has (room-here (r .a) (room .for-feed (r .a) outside free));
       crashes = λ _ _ safe. absurd (no-way (let a = all-backed c safe p hp in let b = ap isComplete has in cc));
       rejoins = λ _ _. same-made has;
-      rebacks = λ _ _ _ _ _ none-waits _. same-made (rebacked-then (r .a) none-waits);
+      rebackups = λ _ _ _ _ _ none-waits _. same-made (beginTransfer-then (r .a) none-waits);
     }
 
     pub turn-grows : Grown t p k (busWords (turn t c r .answer)) (completesFor p (turn t c r .answer)) (turn t c r .cabinet)
@@ -207,12 +207,12 @@ run-grows {t} ok c s inv rm p hp k has made (r ∷ rs) none-yet =
 -- what an accepted resync leaves
 opens : (t : Table) (c : Cabinet) (p : ℕ) → p < length (c .processes) → {d : Cabinet} {a : Answer} → rebackup t c p ≡ accept d a
     → processAt d p .standby ≡ some (record { board = otherBoard t p (processAt c p); replica = copied t p (processAt c p .machine); complete = false })
-unfolding rebackup rebacking
+unfolding rebackup beginTransfer
 opens t c p hp {d} {a} e =
     let made : accept (rebackupBy t p c) rebackupDone ≡ accept d a = guard-accepted _ _ _ (guard-accepted _ _ _ (guard-accepted _ _ _ (guard-accepted _ _ _ e))) in
     let same : rebackupBy t p c ≡ d = cc in
     ap (λ (x : Cabinet). processAt x p .standby) (sym same)
-    ∙ ap (λ (x : Process). x .standby) (getD-set-same (c .processes) p (rebacking t p (processAt c p)) nobody hp)
+    ∙ ap (λ (x : Process). x .standby) (getD-set-same (c .processes) p (beginTransfer t p (processAt c p)) nobody hp)
 
 -- the command that does it
 turn-rebackup : (t : Table) (c : Cabinet) (p : ℕ) → p < length (t .processes) → {d : Cabinet} {a : Answer} → rebackup t c p ≡ accept d a

@@ -66,7 +66,7 @@ module _ (t : Table) (n : ℕ) (c : Cabinet) (h : Many n c) where
     completes = λ _ _ p rest e. one p _;
     crashes = λ _ _ _. crash-length t (r .a) 0 (c .processes) ∙ h;
     rejoins = λ _ _. h;
-    rebacks = λ _ _ _ _ _ _ _. one (r .a) _;
+    rebackups = λ _ _ _ _ _ _ _. one (r .a) _;
   }
 
 pub processes-stay : (t : Table) (commands : List Command) → length (finished t commands .processes) ≡ length (t .processes)

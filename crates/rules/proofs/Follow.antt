@@ -15,7 +15,7 @@ use Rattle.rules.specs.Table.{Table, channelAt, placementAt, codeOf, lim
 use Rattle.rules.specs.Machine.{Mail, BusWord, Machine, booted, Act, internal, took, sent, moved, localStep}
 use Rattle.rules.specs.Reference.{Reference, Action, referenceRun, injections}
 use Rattle.rules.specs.Cabinet.{instructionsMost, Standby, Process, Item, message, checkpoint, transfer, Cabinet, processAt, outboxAt, deadAt, protected, limited, otherBoard, exhausted, overrun, owing, waiting}
-use Rattle.rules.specs.Moves.{withProcess, withOutbox, enqueue, advanced, counting, oneDone, oneSent, oneTaken, issued, snapshot, copied, rebacking}
+use Rattle.rules.specs.Moves.{withProcess, withOutbox, enqueue, advanced, counting, oneDone, oneSent, oneTaken, issued, snapshot, copied, beginTransfer}
 use Rattle.rules.specs.Judge.{Accepted}
 use Rattle.rules.proofs.Runs.{busy1, Allows}
 use Rattle.rules.proofs.Tables.{step-own, primary-ok, standby-ok, apart-ok}
@@ -23,7 +23,7 @@ use Rattle.rules.proofs.Ahead.{checkpoints}
 use Rattle.rules.proofs.Good.{Good}
 use Rattle.rules.proofs.GoodMoves.{good-silent, good-suppressed, good-send, good-issued}
 use Rattle.rules.proofs.Copies.{copied-state, copied-kept}
-use Rattle.rules.proofs.Transfers.{good-rebacking}
+use Rattle.rules.proofs.Transfers.{good-beginTransfer}
 use Rattle.rules.proofs.Invariant.{ownerOf, mine, machineAt, Live, Seated, Invariant, in-table, its-outbox, Copyable}
 use Rattle.rules.proofs.Frame.{SameSeat, same-boards, seated-same, changed, OthersStay, change, join-others, join-own}
 use Rattle.rules.proofs.References.{run-append, injections-append}
@@ -189,12 +189,12 @@ module _ {t : Table} (ok : Accepted t) {c : Cabinet} {s : Reference} (inv : Inva
   -- ---- resync
 
   -- its record is being made on its other board
-  rebacking-seated : deadAt c (otherBoard t p (processAt c p)) ≡ false → Seated t (c .dead) (rebacking t p (processAt c p))
-  unfolding rebacking
-  rebacking-seated alive =
+  beginTransfer-seated : deadAt c (otherBoard t p (processAt c p)) ≡ false → Seated t (c .dead) (beginTransfer t p (processAt c p))
+  unfolding beginTransfer
+  beginTransfer-seated alive =
       let x : Process = processAt c p in
       let o = other-board t ok p (in-table inv hp) x in
-      let only : (k : Standby) → rebacking t p x .standby ≡ some k → otherBoard t p x ≡ k .board =
+      let only : (k : Standby) → beginTransfer t p x .standby ≡ some k → otherBoard t p x ≡ k .board =
       λ k e. (let same : record { board = otherBoard t p x; replica = copied t p (x .machine); complete = false } ≡ k = cc in ap (λ (z : Standby). z .board) same) in
       record {
         at = inv .seated p hp .at;
@@ -204,10 +204,10 @@ module _ {t : Table} (ok : Accepted t) {c : Cabinet} {s : Reference} (inv : Inva
 
   pub follow-rebackup : Copyable t c p → protected (processAt c p) ≡ false → deadAt c (otherBoard t p (processAt c p)) ≡ false
       → processAt c p .suppress ≡ 0 → waiting p (outboxAt c (processAt c p .board)) ≡ false
-      → Follows t (withProcess p (rebacking t p (processAt c p)) (enqueue (processAt c p .board) (transfer p) c)) s [] []
-  unfolding rebacking
+      → Follows t (withProcess p (beginTransfer t p (processAt c p)) (enqueue (processAt c p .board) (transfer p) c)) s [] []
+  unfolding beginTransfer
   follow-rebackup copies bare alive settled none-there =
       let m : Machine = processAt c p .machine in
-      wait-joined (rebacking t p (processAt c p)) (transfer p) refl (rebacking-seated alive) refl
-      (good-rebacking (copied-kept t ok p (in-table inv hp) m (copies .own) (copies .short)) (copied-state t ok p (in-table inv hp) m (copies .own))
+      wait-joined (beginTransfer t p (processAt c p)) (transfer p) refl (beginTransfer-seated alive) refl
+      (good-beginTransfer (copied-kept t ok p (in-table inv hp) m (copies .own) (copies .short)) (copied-state t ok p (in-table inv hp) m (copies .own))
       (none-waits t p (outboxAt c (processAt c p .board)) none-there) (inv .good p hp) bare settled)

@@ -12,7 +12,7 @@ use Rattle.backup.specs.Replica.{Checkpoint}
 use Rattle.rules.specs.Table.{Table, environment, channelAt, codeOf, limitOf, portOf}
 use Rattle.rules.specs.Machine.{Mail, Machine, internal, took, sent, Outcome, halted, noMail, moved, sentFrom, localStep}
 use Rattle.rules.specs.Cabinet.{outboxMost, Process, Item, message, checkpoint, transfer, Cabinet, processAt, outboxAt, deadAt, protected, otherBoard, someUnbacked, overrun, owing, full, crowded, waiting}
-use Rattle.rules.specs.Moves.{Command, Refusal, Answer, stepDone, issueDone, crashDone, rejoinDone, rebackupDone, transferKept, received, queued, suppressed, transmitted, injected, refused, Result, refuse, accept, guard, withProcess, withOutbox, enqueue, advanced, counting, oneDone, oneSent, oneTaken, send, stepFrom, step, issued, snapshot, issue, deliver, counts, keeps, rebacked, landed, transmitItem, transmitOldest, transmit, inject, allAfterCrash, crash, rejoin, rebacking, rebackup, Move, stepMove, issueMove, transmitMove, injectMove, crashMove, rejoinMove, rebackupMove, unknown, moveOf, perform, judged, settle, turn, runFrom}
+use Rattle.rules.specs.Moves.{Command, Refusal, Answer, stepDone, issueDone, crashDone, rejoinDone, rebackupDone, transferKept, received, queued, suppressed, transmitted, injected, refused, Result, refuse, accept, guard, withProcess, withOutbox, enqueue, advanced, counting, oneDone, oneSent, oneTaken, send, stepFrom, step, issued, snapshot, issue, deliver, counts, keeps, endTransfer, landed, transmitItem, transmitOldest, transmit, inject, allAfterCrash, crash, rejoin, beginTransfer, rebackup, Move, stepMove, issueMove, transmitMove, injectMove, crashMove, rejoinMove, rebackupMove, unknown, moveOf, perform, judged, settle, turn, runFrom}
 
 -- ---- what each move can do
 
@@ -30,7 +30,7 @@ rejoinedBy b c = record { processes = c .processes; outboxes = set (c .outboxes)
 
 -- the cabinet after a resync of process p
 abbrev pub rebackupBy : Table → ℕ → Cabinet → Cabinet
-rebackupBy t p c = withProcess p (rebacking t p (processAt c p)) (enqueue (processAt c p .board) (transfer p) c)
+rebackupBy t p c = withProcess p (beginTransfer t p (processAt c p)) (enqueue (processAt c p .board) (transfer p) c)
 
 -- what a command does in cabinet c, by its move, with the cabinet and the answer afterwards
 module _ (t : Table) (c : Cabinet) (r : Command) (P : Move → Cabinet → Answer → Type 0) where
@@ -68,13 +68,13 @@ module _ (t : Table) (c : Cabinet) (r : Command) (P : Move → Cabinet → Answe
         → P transmitMove (withProcess p (keeps s (processAt c p)) (withOutbox (r .a) rest c)) (landed p s (processAt c p))
     -- a resync is carried
     pub completes : r .a < t .boards → deadAt c (r .a) ≡ false → (p : ℕ) (rest : List Item) → outboxAt c (r .a) ≡ transfer p ∷ rest
-        → P transmitMove (withProcess p (rebacked (processAt c p)) (withOutbox (r .a) rest c)) (transferKept p)
+        → P transmitMove (withProcess p (endTransfer (processAt c p)) (withOutbox (r .a) rest c)) (transferKept p)
     pub injects : r .a < length (t .channels) → channelAt t (r .a) .sender ≡ environment → full t c (r .a) ≡ false
         → P injectMove (deliver t (fedMail r) c) (injected (fedMail r))
     pub crashes : r .a < t .boards → deadAt c (r .a) ≡ false → someUnbacked c ≡ false → P crashMove (crashedBy t (r .a) c) crashDone
     pub rejoins : r .a < t .boards → deadAt c (r .a) ≡ true → P rejoinMove (rejoinedBy (r .a) c) rejoinDone
     -- a resync
-    pub rebacks : r .a < length (t .processes) → protected x ≡ false → deadAt c (otherBoard t (r .a) x) ≡ false → x .suppress ≡ 0 → crowded t c (r .a) ≡ false
+    pub rebackups : r .a < length (t .processes) → protected x ≡ false → deadAt c (otherBoard t (r .a) x) ≡ false → x .suppress ≡ 0 → crowded t c (r .a) ≡ false
         → waiting (r .a) (outboxAt c (x .board)) ≡ false → leb outboxMost (length (outboxAt c (x .board))) ≡ false
         → P rebackupMove (rebackupBy t (r .a) c) rebackupDone
 
@@ -131,7 +131,7 @@ module _ (t : Table) (c : Cabinet) (r : Command) (P : Move → Cabinet → Answe
         after-guard _ _ _ λ _. after-guard _ _ _ λ h. after-guard _ _ _ λ fallen. leaves (d .rejoins (leb-false _ _ h) (not-false _ fallen))
     by-move rebackupMove =
         after-guard _ _ _ λ _. after-guard _ _ _ λ h. after-guard _ _ _ λ bare. after-guard _ _ _ λ ready. after-guard _ _ _ λ none-waits. after-guard _ _ _ λ free.
-        leaves (d .rebacks (leb-false _ _ h) (or-left (protected x) (deadAt c (otherBoard t (r .a) x)) bare) (or-right (protected x) (deadAt c (otherBoard t (r .a) x)) bare)
+        leaves (d .rebackups (leb-false _ _ h) (or-left (protected x) (deadAt c (otherBoard t (r .a) x)) bare) (or-right (protected x) (deadAt c (otherBoard t (r .a) x)) bare)
         (eqb-true _ _ (not-false _ (or-left (not (eqb (x .suppress) 0)) (crowded t c (r .a)) ready)))
         (or-right (not (eqb (x .suppress) 0)) (crowded t c (r .a)) ready) none-waits free)
     by-move unknown = unmoved

@@ -16,7 +16,7 @@ use Rattle.backup.specs.Replica.{Checkpoint, initial, arrive, count, sync}
 use Rattle.rules.specs.Table.{Table, placementAt, channelAt, portOf}
 use Rattle.rules.specs.Machine.{Mail}
 use Rattle.rules.specs.Cabinet.{Standby, Process, Cabinet, nobody, processAt, otherBoard, placed, started}
-use Rattle.rules.specs.Moves.{Command, advanced, issued, receive, deliver, counts, keeps, rebacked, copied, rebacking, promoted, unprotected, afterCrash, runFrom}
+use Rattle.rules.specs.Moves.{Command, advanced, issued, receive, deliver, counts, keeps, endTransfer, copied, beginTransfer, promoted, unprotected, afterCrash, runFrom}
 use Rattle.rules.specs.Rebackup.{Home}
 use Rattle.rules.proofs.Frame.{SameSeat, same-boards, same-beside, called-board, called-backup-board, completed-board}
 use Rattle.rules.proofs.Crashed.{crash-length, crash-at}
@@ -102,13 +102,13 @@ module _ (t : Table) (c : Cabinet) (h : AtHome t c) where
   unfolding keeps
   home-keeps p k = home-stays t (c .processes) p _ h (record { board = refl; standby = called-backup-board (λ r. sync r k) (processAt c p .standby) })
 
-  home-rebacked : (p : ℕ) → AllHome t (set (c .processes) p (rebacked (processAt c p)))
-  unfolding rebacked
-  home-rebacked p = home-stays t (c .processes) p _ h (record { board = refl; standby = completed-board (processAt c p .standby) })
+  home-endTransfer : (p : ℕ) → AllHome t (set (c .processes) p (endTransfer (processAt c p)))
+  unfolding endTransfer
+  home-endTransfer p = home-stays t (c .processes) p _ h (record { board = refl; standby = completed-board (processAt c p .standby) })
 
-  home-rebacking : (p : ℕ) → AllHome t (set (c .processes) p (rebacking t p (processAt c p)))
-  unfolding rebacking
-  home-rebacking p =
+  home-beginTransfer : (p : ℕ) → AllHome t (set (c .processes) p (beginTransfer t p (processAt c p)))
+  unfolding beginTransfer
+  home-beginTransfer p =
       home-set t (c .processes) p _ h
       (λ hp. record {
         runs = h p hp .runs;
@@ -136,13 +136,13 @@ module _ (t : Table) (c : Cabinet) (h : AtHome t c) where
     issues = λ _ _ _ _. home-stays t (c .processes) (r .a) _ h (same-boards refl refl);
     transmits = λ _ _ mail _ _ _. home-carried mail;
     syncs = λ _ _ p k _ _. home-keeps p k;
-    completes = λ _ _ p _ _. home-rebacked p;
+    completes = λ _ _ p _ _. home-endTransfer p;
     injects = λ _ _ _. home-deliver t (c .processes) _ h;
     crashes = λ _ _ _ p hp.
         let l : p < length (c .processes) = rw (crash-length t (r .a) 0 (c .processes)) at hp in
         subst (Home t p) (sym (crash-at t (r .a) (c .processes) p l)) (home-after t (r .a) p (processAt c p) (h p l));
     rejoins = λ _ _. h;
-    rebacks = λ _ _ _ _ _ _ _. home-rebacking (r .a);
+    rebackups = λ _ _ _ _ _ _ _. home-beginTransfer (r .a);
   }
 
 start-home : (t : Table) → AtHome t (started t)

@@ -16,7 +16,7 @@ use Rattle.backup.specs.Replica.{Checkpoint, count, sync}
 use Rattle.rules.specs.Table.{Table, environment, channelAt, codeOf, limitOf, nowhere}
 use Rattle.rules.specs.Machine.{Mail, Machine, Act, sent, moved, localStep, booted}
 use Rattle.rules.specs.Cabinet.{occupancyMost, Standby, Since, Process, Item, message, checkpoint, transfer, Cabinet, nobody, processAt, outboxAt, limited, isSome, full, unreadOn, inFlight, placed, started}
-use Rattle.rules.specs.Moves.{withProcess, withOutbox, enqueue, advanced, issued, snapshot, deliver, counts, keeps, rebacked, promoted, unprotected, afterCrash, rebacking}
+use Rattle.rules.specs.Moves.{withProcess, withOutbox, enqueue, advanced, issued, snapshot, deliver, counts, keeps, endTransfer, promoted, unprotected, afterCrash, beginTransfer}
 use Rattle.rules.proofs.Counting.{weight, step-unread, flight-join, flight-leave, flight-lost, flight-none}
 use Rattle.rules.proofs.Steps.{Steps}
 use Rattle.rules.proofs.Room.{Roomed, Room, change-by, change-room, admit, deliver-room, backup-some, completed-some}
@@ -106,10 +106,10 @@ module _ (t : Table) (c : Cabinet) (small : length (c .processes) ≤ environmen
       called-room b p (checkpoint p s) rest [] e (λ k. omega arith) (keeps s (processAt c p)) refl (backup-some (λ r. sync r s) (processAt c p .standby))
 
   pub transfer-room : (b p : ℕ) (rest : List Item) → outboxAt c b ≡ transfer p ∷ rest
-      → Room t [] (withProcess p (rebacked (processAt c p)) (withOutbox b rest c))
-  unfolding rebacked
+      → Room t [] (withProcess p (endTransfer (processAt c p)) (withOutbox b rest c))
+  unfolding endTransfer
   transfer-room b p rest e =
-      called-room b p (transfer p) rest [] e (λ k. omega arith) (rebacked (processAt c p)) refl (completed-some (processAt c p .standby))
+      called-room b p (transfer p) rest [] e (λ k. omega arith) (endTransfer (processAt c p)) refl (completed-some (processAt c p .standby))
 
   -- ---- return
 
@@ -129,14 +129,14 @@ module _ (t : Table) (c : Cabinet) (small : length (c .processes) ≤ environmen
   -- no channel is crowded, so that nothing is there again
   pub rebackup-room : (p : ℕ)
       → ((k : ℕ) → channelAt t k .reader ≡ p → unreadOn k (processAt c p .machine .mailbox) + inFlight k (c .outboxes) ≤ occupancyMost)
-      → Room t [] (withProcess p (rebacking t p (processAt c p)) (enqueue (processAt c p .board) (transfer p) c))
-  unfolding rebacking
+      → Room t [] (withProcess p (beginTransfer t p (processAt c p)) (enqueue (processAt c p .board) (transfer p) c))
+  unfolding beginTransfer
   rebackup-room p few =
       let joins : (k : ℕ) → inFlight k (set (c .outboxes) (processAt c p .board) (outboxAt c (processAt c p .board) ++ (transfer p ∷ []))) ≤ inFlight k (c .outboxes) =
       λ k. (let j = flight-join k (c .outboxes) (processAt c p .board) (transfer p) in omega arith) in
-      change-by t [] [] c rm p (rebacking t p (processAt c p)) _
+      change-by t [] [] c rm p (beginTransfer t p (processAt c p)) _
       (λ k. let j = joins k in omega arith)
-      (λ hp. let e = getD-set-same (c .processes) p (rebacking t p (processAt c p)) nobody hp in
+      (λ hp. let e = getD-set-same (c .processes) p (beginTransfer t p (processAt c p)) nobody hp in
       record {
         again = [];
         few = omega arith;

@@ -72,5 +72,5 @@ module _ (t : Table) (ok : Accepted t) (c : Cabinet) (s : Reference) (inv : Inva
         completes = λ _ _ p rest e. transfer-room t c small rm (r .a) p rest e;
         crashes = λ _ _ _. crash-room t c rm behind (r .a);
         rejoins = λ _ _. rejoin-room t c small rm (r .a);
-        rebacks = λ h _ _ _ free _ _. rebackup-room t c small rm (r .a) (uncrowded (r .a) h free);
+        rebackups = λ h _ _ _ free _ _. rebackup-room t c small rm (r .a) (uncrowded (r .a) h free);
       })

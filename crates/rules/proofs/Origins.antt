@@ -37,7 +37,7 @@ module _ (t : Table) (c : Cabinet) (r : Command) where
     injects = λ _ _ _. refl;
     crashes = λ _ _ _. refl;
     rejoins = λ _ _. refl;
-    rebacks = λ _ _ _ _ _ _ _. refl;
+    rebackups = λ _ _ _ _ _ _ _. refl;
   }
 
   refused-told : (m : Move) (why : Refusal) → Told m c (refused why (r .a))
@@ -72,7 +72,7 @@ module _ (t : Table) (c : Cabinet) (r : Command) where
     injects = λ _ _ _ m _ _. no-way (cc);
     crashes = λ _ _ _ m _ _. no-way (cc);
     rejoins = λ _ _ m _ _. no-way (cc);
-    rebacks = λ _ _ _ _ _ _ _ m _ _. no-way (cc);
+    rebackups = λ _ _ _ _ _ _ _ m _ _. no-way (cc);
   }
 
   refused-waited : (m : Move) (why : Refusal) → Waited m c (refused why (r .a))

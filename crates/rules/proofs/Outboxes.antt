@@ -51,7 +51,7 @@ module _ (t : Table) (c : Cabinet) (h : OutboxBounds c) where
     completes = λ _ _ p rest e. left (r .a) (transfer p) rest e;
     crashes = λ _ _ _. replaced (c .outboxes) (r .a) [] h (omega arith);
     rejoins = λ _ _. replaced (c .outboxes) (r .a) [] h (omega arith);
-    rebacks = λ _ _ _ _ _ _ free. joined (processAt c (r .a) .board) (transfer (r .a)) free;
+    rebackups = λ _ _ _ _ _ _ free. joined (processAt c (r .a) .board) (transfer (r .a)) free;
   }
 
 start-short : (t : Table) → OutboxBounds (started t)

@@ -75,7 +75,7 @@ module _ (t : Table) (c : Cabinet) (r : Command) where
     injects = λ _ _ _ _. (refl, λ h. h);
     crashes = λ _ _ _ e. absurd (no-way (cc));
     rejoins = λ _ _ _. (refl, λ h. returned-live (c .dead) (r .a) h);
-    rebacks = λ _ _ _ _ _ _ _ _. (refl, λ h. h);
+    rebackups = λ _ _ _ _ _ _ _ _. (refl, λ h. h);
   }
 
   turn-unhurt : eqb (r .move) 5 ≡ false → (isCrash (turn t c r .answer) ≡ false) × (AllLive c → AllLive (turn t c r .cabinet))

@@ -15,7 +15,7 @@ use Rattle.rules.specs.Table.{Table, channelAt, portOf}
 use Rattle.rules.specs.Machine.{Mail}
 use Rattle.rules.specs.Reference.{Reference, referenceStart}
 use Rattle.rules.specs.Cabinet.{Standby, Process, Cabinet, nobody, processAt, deadAt, isComplete, protected, someUnbacked}
-use Rattle.rules.specs.Moves.{Command, Answer, crashDone, accept, guard, withProcess, withOutbox, onReplica, onBackup, advanced, issued, receive, deliver, counts, keeps, completed, rebacked, rebacking, syncKept, syncLost, crash, turn, runFrom}
+use Rattle.rules.specs.Moves.{Command, Answer, crashDone, accept, guard, withProcess, withOutbox, onReplica, onBackup, advanced, issued, receive, deliver, counts, keeps, completed, endTransfer, beginTransfer, syncKept, syncLost, crash, turn, runFrom}
 use Rattle.rules.specs.Judge.{Accepted}
 use Rattle.rules.specs.Transparent.{finished}
 use Rattle.rules.specs.Rebackup.{completesFor, anyCompletes, BeingMade}
@@ -94,17 +94,17 @@ module _ {t : Table} {c : Cabinet} {s : Reference} (inv : Invariant t c s) (r : 
   landed-kept q dropped false d h _ p hp e = h p e
 
   completed-kept : (q : ℕ) → BeingMade c q → (p : ℕ) → p < length (c .processes) → protected (processAt c p) || eqb p q ≡ true
-      → protected (getD (set (c .processes) q (rebacked (processAt c q))) p nobody) ≡ true
-  unfolding rebacked
+      → protected (getD (set (c .processes) q (endTransfer (processAt c q))) p nobody) ≡ true
+  unfolding endTransfer
   completed-kept q m p hp e =
-      let now : protected (rebacked (processAt c q)) ≡ true = ap (λ (o : Option Standby). isComplete (completed o)) (m .is-standby) in
+      let now : protected (endTransfer (processAt c q)) ≡ true = ap (λ (o : Option Standby). isComplete (completed o)) (m .is-standby) in
       by-eq p q
-      (λ f. subst (λ (i : ℕ). protected (getD (set (c .processes) q (rebacked (processAt c q))) i nobody) ≡ true) (sym f)
-      (ap protected (getD-set-same (c .processes) q (rebacked (processAt c q)) nobody (rw f at hp)) ∙ now))
-      (λ n. backed-set (c .processes) q (rebacked (processAt c q)) (λ _. now) p (either (protected (processAt c p)) (eqb p q) e (ne-eqb p q n)))
+      (λ f. subst (λ (i : ℕ). protected (getD (set (c .processes) q (endTransfer (processAt c q))) i nobody) ≡ true) (sym f)
+      (ap protected (getD-set-same (c .processes) q (endTransfer (processAt c q)) nobody (rw f at hp)) ∙ now))
+      (λ n. backed-set (c .processes) q (endTransfer (processAt c q)) (λ _. now) p (either (protected (processAt c p)) (eqb p q) e (ne-eqb p q n)))
 
   keeps-backups : Done t c r (λ _ d a. StaysBacked d a)
-  unfolding deliver advanced issued rebacking
+  unfolding deliver advanced issued beginTransfer
   keeps-backups = record {
     computes = λ _ _ _ _ _ p _ e. change-kept (r .a) _ (λ h. h) p e;
     takes = λ _ _ _ _ _ _ p _ e. change-kept (r .a) _ (λ h. h) p e;
@@ -119,7 +119,7 @@ module _ {t : Table} {c : Cabinet} {s : Reference} (inv : Invariant t c s) (r : 
     injects = λ _ _ _ _ p _ e. receive-kept (c .processes) (channelAt t (r .a) .reader) (fedMail r) p (known (protected (processAt c p)) e);
     crashes = λ _ _ _ none-crashed. absurd (no-way (cc));
     rejoins = λ _ _ _ p _ e. known (protected (processAt c p)) e;
-    rebacks = λ _ bare _ _ _ _ _ _ p _ e. change-kept (r .a) _ (λ h. absurd (no-way (cc))) p e;
+    rebackups = λ _ bare _ _ _ _ _ _ p _ e. change-kept (r .a) _ (λ h. absurd (no-way (cc))) p e;
   }
 
   turn-kept : StaysBacked (turn t c r .cabinet) (turn t c r .answer)

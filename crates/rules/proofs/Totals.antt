@@ -9,7 +9,7 @@ use Rattle.facts.specs.Tests.{by-eq, by-lt}
 use Rattle.rules.specs.Table.{Table, channelAt}
 use Rattle.rules.specs.Machine.{Machine}
 use Rattle.rules.specs.Cabinet.{Process, Item, transfer, Cabinet, nobody, processAt, outboxAt, unreadOn, inFlight, occupancy}
-use Rattle.rules.specs.Moves.{Answer, accept, withProcess, withOutbox, rebackupDone, rebacked, rebacking, rebackup}
+use Rattle.rules.specs.Moves.{Answer, accept, withProcess, withOutbox, rebackupDone, endTransfer, beginTransfer, rebackup}
 use Rattle.rules.specs.Rebackup.{SameTotals}
 use Rattle.rules.proofs.Counting.{flight-joined, flight-leave}
 use Rattle.rules.proofs.Guards.{rebackupBy, guard-accepted}
@@ -33,20 +33,20 @@ same-totals t c p y qs e f k =
     omega arith
 
 pub resync-uncounted : (t : Table) (c : Cabinet) (p : ℕ) (d : Cabinet) (a : Answer) → rebackup t c p ≡ accept d a → SameTotals t c d
-unfolding rebackup rebacking
+unfolding rebackup beginTransfer
 resync-uncounted t c p d a e =
     let made : accept (rebackupBy t p c) rebackupDone ≡ accept d a = guard-accepted _ _ _ (guard-accepted _ _ _ (guard-accepted _ _ _ (guard-accepted _ _ _ e))) in
     let same : rebackupBy t p c ≡ d = cc in
     let B : ℕ = processAt c p .board in
     let q : List Item = outboxAt c B ++ (transfer p ∷ []) in
     subst (SameTotals t c) same
-    (same-totals t c p (rebacking t p (processAt c p)) (set (c .outboxes) B q) refl
+    (same-totals t c p (beginTransfer t p (processAt c p)) (set (c .outboxes) B q) refl
     (λ k. by-lt B (length (c .outboxes))
     (λ h. let j = flight-joined k (c .outboxes) B (transfer p) h in omega arith)
     (λ h. ap (inFlight k) (set-out (c .outboxes) B q h))))
 
 pub carry-uncounted : (t : Table) (c : Cabinet) (b p : ℕ) (rest : List Item) → outboxAt c b ≡ transfer p ∷ rest
-    → SameTotals t c (withProcess p (rebacked (processAt c p)) (withOutbox b rest c))
-unfolding rebacked
+    → SameTotals t c (withProcess p (endTransfer (processAt c p)) (withOutbox b rest c))
+unfolding endTransfer
 carry-uncounted t c b p rest e =
-    same-totals t c p (rebacked (processAt c p)) (set (c .outboxes) b rest) refl (λ k. let l = flight-leave k (c .outboxes) b (transfer p) rest e in omega arith)
+    same-totals t c p (endTransfer (processAt c p)) (set (c .outboxes) b rest) refl (λ k. let l = flight-leave k (c .outboxes) b (transfer p) rest e in omega arith)

@@ -9,7 +9,7 @@ use Rattle.facts.specs.Tests.{no-way}
 use Rattle.rules.specs.Table.{Table, codeOf}
 use Rattle.rules.specs.Machine.{Machine, Act}
 use Rattle.rules.specs.Cabinet.{Standby, Process, Item, transfer, isComplete, protected}
-use Rattle.rules.specs.Moves.{completed, rebacked, copied, rebacking}
+use Rattle.rules.specs.Moves.{completed, endTransfer, copied, beginTransfer}
 use Rattle.rules.proofs.Ahead.{Ahead, level, checkpoints, checkpoints-append, no-transfer, up-to-end}
 use Rattle.rules.proofs.Good.{stateOf, Kept, Replay, Coming, Link, trailing, coming, Backed, Alone, Good, backed, alone, late}
 use Rattle.rules.proofs.Replays.{replay-none}
@@ -29,9 +29,9 @@ module _ {t : Table} {p : ℕ} {items : List Item} {x : Process} {m : Machine} w
   -- the record that is being made has the process's own state
   module _ (kept : x .machine .pc ≤ length (codeOf t p) → Kept t p (copied t p (x .machine))) (same : stateOf t p (copied t p (x .machine)) ≡ x .machine)
       (none-waits : checkpoints items ≡ 0) where
-    alone-rebacking : Alone t p items x m → Backed t p (items ++ (transfer p ∷ [])) (rebacking t p x) m
-    unfolding rebacking copied
-    alone-rebacking h =
+    alone-beginTransfer : Alone t p items x m → Backed t p (items ++ (transfer p ∷ [])) (beginTransfer t p x) m
+    unfolding beginTransfer copied
+    alone-beginTransfer h =
         record {
           standby = _;
           is-standby = refl;
@@ -54,21 +54,21 @@ module _ {t : Table} {p : ℕ} {items : List Item} {x : Process} {m : Machine} w
           few = record { instructions = omega arith; events = omega arith };
         }
 
-    pub good-rebacking : Good t p items x m → protected x ≡ false → x .suppress ≡ 0 → Good t p (items ++ (transfer p ∷ [])) (rebacking t p x) m
-    good-rebacking (backed h) bare z = absurd (no-way (let a = link-complete none-waits (h .link) in let b = ap isComplete (h .is-standby) in cc))
-    good-rebacking (alone h) bare z = backed (alone-rebacking h)
-    good-rebacking (late h) bare z = backed (alone-rebacking (alone-of-late z h))
+    pub good-beginTransfer : Good t p items x m → protected x ≡ false → x .suppress ≡ 0 → Good t p (items ++ (transfer p ∷ [])) (beginTransfer t p x) m
+    good-beginTransfer (backed h) bare z = absurd (no-way (let a = link-complete none-waits (h .link) in let b = ap isComplete (h .is-standby) in cc))
+    good-beginTransfer (alone h) bare z = backed (alone-beginTransfer h)
+    good-beginTransfer (late h) bare z = backed (alone-beginTransfer (alone-of-late z h))
 
 -- ---- its transfer is carried
 
 -- the reference machine goes on to the record's state, and the record is a backup
 module _ {t : Table} {p : ℕ} {items : List Item} {x : Process} {m : Machine} where
-  completes : (h : Backed t p (transfer p ∷ items) x m) → Coming t p (h .standby) (transfer p ∷ items) m (h .since) (x .machine) → Synced t p items (rebacked x) m
-  unfolding rebacked
+  completes : (h : Backed t p (transfer p ∷ items) x m) → Coming t p (h .standby) (transfer p ∷ items) m (h .since) (x .machine) → Synced t p items (endTransfer x) m
+  unfolding endTransfer
   completes h l = go (l .old) (l .is-items) (l .to-snapshot)
     where
       go : (old : List Item) → transfer p ∷ items ≡ old ++ (transfer p ∷ l .new) → Ahead t p (l .before) m old (l .until) (stateOf t p (h .standby .replica))
-          → Synced t p items (rebacked x) m
+          → Synced t p items (endTransfer x) m
       go (y ∷ old) e a =
           let same : y ≡ transfer p = cc in
           absurd (no-transfer (subst (λ (i : Item). Ahead t p (l .before) m (i ∷ old) (l .until) (stateOf t p (h .standby .replica))) same a))
@@ -96,11 +96,11 @@ module _ {t : Table} {p : ℕ} {items : List Item} {x : Process} {m : Machine} w
             };
           }
 
-  pub good-rebacked : Good t p (transfer p ∷ items) x m → Synced t p items (rebacked x) m
-  good-rebacked (backed h) = go (h .link)
+  pub good-endTransfer : Good t p (transfer p ∷ items) x m → Synced t p items (endTransfer x) m
+  good-endTransfer (backed h) = go (h .link)
     where
-      go : Link t p (h .standby) (transfer p ∷ items) m (h .since) (x .machine) → Synced t p items (rebacked x) m
+      go : Link t p (h .standby) (transfer p ∷ items) m (h .since) (x .machine) → Synced t p items (endTransfer x) m
       go (trailing l) = absurd (no-transfer (l .ahead))
       go (coming l) = completes h l
-  good-rebacked (alone h) = absurd (no-transfer (h .ahead))
-  good-rebacked (late h) = absurd (no-way (let e = h .no-items in cc))
+  good-endTransfer (alone h) = absurd (no-transfer (h .ahead))
+  good-endTransfer (late h) = absurd (no-way (let e = h .no-items in cc))

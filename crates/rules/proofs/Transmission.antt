@@ -14,12 +14,12 @@ use Rattle.rules.specs.Table.{Table, environment, channelAt, codeOf}
 use Rattle.rules.specs.Machine.{Mail, sentFrom, fromOutside, Machine, sent}
 use Rattle.rules.specs.Reference.{Reference, Action, posted, withMachine, act, injections}
 use Rattle.rules.specs.Cabinet.{Standby, Process, Item, message, checkpoint, transfer, isComplete, Cabinet, nobody, processAt, outboxAt, full}
-use Rattle.rules.specs.Moves.{withProcess, withOutbox, onReplica, onBackup, counts, keeps, rebacked, deliver}
+use Rattle.rules.specs.Moves.{withProcess, withOutbox, onReplica, onBackup, counts, keeps, endTransfer, deliver}
 use Rattle.rules.specs.Judge.{Accepted}
 use Rattle.rules.proofs.Steps.{Steps}
 use Rattle.rules.proofs.Good.{Good}
 use Rattle.rules.proofs.Carried.{Transmitted, Synced, good-counts, good-keeps}
-use Rattle.rules.proofs.Transfers.{good-rebacked}
+use Rattle.rules.proofs.Transfers.{good-endTransfer}
 use Rattle.rules.proofs.Invariant.{ownerOf, mine, machineAt, Seated, Invariant, in-table, in-reference, its-outbox, RoomFor, Roomy, owner}
 use Rattle.rules.proofs.Frame.{SameSeat, called-backup-board, completed-board, seated-same, OthersStay, change, change-same, deliver-keeps, leave-others, leave-own}
 use Rattle.rules.proofs.References.{run-append, run-one, injections-append, steps, injections-steps, act-sent, put-put, put-get, put-length, run-silent}
@@ -138,12 +138,12 @@ module _ {t : Table} (ok : Accepted t) {c : Cabinet} {s : Reference} (inv : Inva
 
   -- a transfer is one
   follow-completed : (rest : List Item) → outboxAt c (processAt c p .board) ≡ transfer p ∷ rest
-      → Synced t p (mine t p (getD (set (c .outboxes) (processAt c p .board) rest) (processAt c p .board) [])) (rebacked (processAt c p)) (machineAt s p)
-      → Follows t (withProcess p (rebacked (processAt c p)) (withOutbox (processAt c p .board) rest c)) s [] []
-  unfolding rebacked
+      → Synced t p (mine t p (getD (set (c .outboxes) (processAt c p .board) rest) (processAt c p .board) [])) (endTransfer (processAt c p)) (machineAt s p)
+      → Follows t (withProcess p (endTransfer (processAt c p)) (withOutbox (processAt c p .board) rest c)) s [] []
+  unfolding endTransfer
   follow-completed rest oldest v =
-      let seat : SameSeat (rebacked (processAt c p)) (processAt c p) = record { board = refl; standby = completed-board (processAt c p .standby) } in
-      follow-synced (transfer p) refl (rebacked (processAt c p)) refl (seated-same seat (inv .seated p hp)) rest oldest v
+      let seat : SameSeat (endTransfer (processAt c p)) (processAt c p) = record { board = refl; standby = completed-board (processAt c p .standby) } in
+      follow-synced (transfer p) refl (endTransfer (processAt c p)) refl (seated-same seat (inv .seated p hp)) rest oldest v
 
   -- ---- each, from the board that p runs on
 
@@ -164,10 +164,10 @@ module _ {t : Table} (ok : Accepted t) {c : Cabinet} {s : Reference} (inv : Inva
       (subst (λ (l : List Item). Good t p l (processAt c p) (machineAt s p)) (items (checkpoint p k) refl rest oldest) (inv .good p hp))))
 
   transmits-transfer : (b : ℕ) (rest : List Item) → processAt c p .board ≡ b → outboxAt c b ≡ transfer p ∷ rest
-      → Follows t (withProcess p (rebacked (processAt c p)) (withOutbox b rest c)) s [] []
+      → Follows t (withProcess p (endTransfer (processAt c p)) (withOutbox b rest c)) s [] []
   transmits-transfer b rest runs =
-      subst (λ (B : ℕ). outboxAt c B ≡ transfer p ∷ rest → Follows t (withProcess p (rebacked (processAt c p)) (withOutbox B rest c)) s [] []) runs
-      (λ oldest. follow-completed rest oldest (good-rebacked
+      subst (λ (B : ℕ). outboxAt c B ≡ transfer p ∷ rest → Follows t (withProcess p (endTransfer (processAt c p)) (withOutbox B rest c)) s [] []) runs
+      (λ oldest. follow-completed rest oldest (good-endTransfer
       (subst (λ (l : List Item). Good t p l (processAt c p) (machineAt s p)) (items (transfer p) refl rest oldest) (inv .good p hp))))
 
 module _ {t : Table} (ok : Accepted t) {c : Cabinet} {s : Reference} (inv : Invariant t c s) where
@@ -185,7 +185,7 @@ module _ {t : Table} (ok : Accepted t) {c : Cabinet} {s : Reference} (inv : Inva
       transmits-checkpoint ok inv p (o .there) b k rest (o .runs) oldest
 
   pub follow-transfer : (b p : ℕ) (rest : List Item) → outboxAt c b ≡ transfer p ∷ rest
-      → Follows t (withProcess p (rebacked (processAt c p)) (withOutbox b rest c)) s [] []
+      → Follows t (withProcess p (endTransfer (processAt c p)) (withOutbox b rest c)) s [] []
   follow-transfer b p rest oldest =
       let o = owner t c s b (transfer p) rest inv oldest in
       transmits-transfer ok inv p (o .there) b rest (o .runs) oldest

@@ -78,7 +78,7 @@ module _ {t : Table} (ok : Accepted t) {c : Cabinet} {s : Reference} (inv : Inva
     injects = λ h outside free. follow-inject ok inv room (fedMail r) h outside free;
     crashes = λ _ _ safe. follow-crash ok inv (r .a) safe;
     rejoins = λ h fallen. follow-rejoin inv (r .a) h fallen;
-    rebacks = λ h bare alive settled _ none-waits _. follow-rebackup ok inv (r .a) (there h) (room .for-copies (r .a) (there h)) bare alive settled none-waits;
+    rebackups = λ h bare alive settled _ none-waits _. follow-rebackup ok inv (r .a) (there h) (room .for-copies (r .a) (there h)) bare alive settled none-waits;
   }
 
   pub turn-follows : Follows t (turn t c r .cabinet) s (onBus (turn t c r .answer)) (fedBy (moveOf (r .move)) r (turn t c r .answer))

@@ -191,18 +191,18 @@ abbrev pub completed : Option Standby → Option Standby
 completed none = none
 completed (some s) = some (record { board = s .board; replica = s .replica; complete = true })
 
-unfoldable pub rebacked : Process → Process
-rebacked x = withStandby (completed (x .standby)) x
+unfoldable pub endTransfer : Process → Process
+endTransfer x = withStandby (completed (x .standby)) x
 
 -- "A word goes, in one move, to the reader's inbox, the reader's backup record, and the sender's backup record."
 unfoldable pub transmitItem : Table → Cabinet → Item → Result
-unfolding deliver counts keeps rebacked nobody
+unfolding deliver counts keeps endTransfer nobody
 transmitItem t c (message mail pc) =
     let sender = channelAt t (mail .channel) .sender in
     accept (deliver t mail (withProcess sender (counts (processAt c sender)) c)) (transmitted (sentFrom sender pc mail))
 transmitItem t c (checkpoint p s) =
     accept (withProcess p (keeps s (processAt c p)) c) (landed p s (processAt c p))
-transmitItem t c (transfer p) = accept (withProcess p (rebacked (processAt c p)) c) (transferKept p)
+transmitItem t c (transfer p) = accept (withProcess p (endTransfer (processAt c p)) c) (transferKept p)
 
 -- "Carry looks at the oldest entry; with none the answer is 42."
 unfoldable pub transmitOldest : Table → Cabinet → ℕ → List Item → Result
@@ -288,9 +288,9 @@ copied t p m = record {
 }
 
 -- "Acts, instructions and takes per slot start from 0 at issue". The new record is on "its other table board".
-unfoldable pub rebacking : Table → ℕ → Process → Process
+unfoldable pub beginTransfer : Table → ℕ → Process → Process
 unfolding copied
-rebacking t p x = record {
+beginTransfer t p x = record {
   machine = x .machine;
   board = x .board;
   suppress = x .suppress;
@@ -302,14 +302,14 @@ rebacking t p x = record {
 -- above 0 or, on one channel it reads, more than 8 words unread and in queues together; 50, the process has a backup or its other table board
 -- is dead."
 unfoldable pub rebackup : Table → Cabinet → ℕ → Result
-unfolding rebacking crowded nobody
+unfolding beginTransfer crowded nobody
 rebackup t c p =
     let x = processAt c p in
     guard (protected x || deadAt c (otherBoard t p x)) hasBackup
     (guard (not (eqb (x .suppress) 0) || crowded t c p) unready
     (guard (waiting p (outboxAt c (x .board))) rebackupWaits
     (guard (leb outboxMost (length (outboxAt c (x .board)))) rebackupBlocked
-    (accept (withProcess p (rebacking t p x) (enqueue (x .board) (transfer p) c)) rebackupDone))))
+    (accept (withProcess p (beginTransfer t p x) (enqueue (x .board) (transfer p) c)) rebackupDone))))
 
 -- ---- one command
 

@@ -3,6 +3,10 @@
 ghost use Rattle.step.specs.Parts.{Calculates};
 use crate::guards::overrun;
 use instruction::instruction::compute;
+use numbers::answers::DONE;
+use numbers::answers::OWES_SYNC;
+use numbers::causes::CALCULATED;
+use numbers::causes::OWES_FOR_INSTRUCTIONS;
 use process::row::ROW;
 use state::moved::Answer;
 use state::moved::Moved;
@@ -14,12 +18,12 @@ pub fn calculate(row: &mut [u32; ROW], a: u32, code: u8, register: u32, operand:
     ensures { λ r. ⌜ Calculates (now (row .entry)) a code register operand (now (row .exit)) r ⌝ }
 {
     if overrun(row) {
-        return refused(37, 1, a);
+        return refused(OWES_SYNC, OWES_FOR_INSTRUCTIONS, a);
     }
     compute(row, code, register, operand);
     alone(Answer {
-        code: 0,
-        cause: 0,
+        code: DONE,
+        cause: CALCULATED,
         a: 0,
         word: 0,
     })

@@ -2,6 +2,8 @@
 // 64 instructions done since its last sync was issued."
 ghost use mathlib.Core.Path.{_≡_};
 ghost use Rattle.step.specs.Parts.{exhaustedIn, overrunIn, owingIn, blameIn};
+use numbers::causes::OWES_FOR_ACTS;
+use numbers::causes::OWES_FOR_INSTRUCTIONS;
 use process::row::EVENTS;
 use process::row::INSTRUCTIONS;
 use process::row::PROTECTED;
@@ -35,5 +37,9 @@ pub fn owing(row: &[u32; ROW], limit: u32) -> bool
 pub fn blame(row: &[u32; ROW], limit: u32) -> u32
     ensures { λ r. ⌜ r ≡ blameIn limit (now (row .entry)) ⌝ }
 {
-    if exhausted(row, limit) { 0 } else { 1 }
+    if exhausted(row, limit) {
+        OWES_FOR_ACTS
+    } else {
+        OWES_FOR_INSTRUCTIONS
+    }
 }

@@ -1,6 +1,12 @@
 // Move 2: a process's checkpoint joins its board's queue. The loop makes the entry, of the row as it was before. "Sync: 40 no backup, 41
 // one waiting, 38 queue full."
 ghost use Rattle.step.specs.Issues.{Issues};
+use numbers::answers::DONE;
+use numbers::answers::NO_BACKUP;
+use numbers::answers::QUEUE_FULL;
+use numbers::answers::SYNC_WAITING;
+use numbers::causes::QUEUE_FULL_FOR_SYNC;
+use numbers::causes::SYNC_ISSUED;
 use plan::BOARDS;
 use plan::PROCESSES;
 use process::checkpoint;
@@ -28,14 +34,14 @@ pub fn issue(
 {
     let p = index16(a);
     if rows[p][PROTECTED] != COMPLETE {
-        return refused(40, 0, a);
+        return refused(NO_BACKUP, 0, a);
     }
     if rows[p][WAITS] != 0 {
-        return refused(41, 0, a);
+        return refused(SYNC_WAITING, 0, a);
     }
     let b = index16(rows[p][BOARD]);
     if queues[b][COUNT] >= QUEUE {
-        return refused(38, 1, a);
+        return refused(QUEUE_FULL, QUEUE_FULL_FOR_SYNC, a);
     }
     let at = place(&queues[b], b);
     rows[p][WAITS] = 1;
@@ -43,8 +49,8 @@ pub fn issue(
     push(&mut queues[b]);
     Moved {
         answer: Answer {
-            code: 0,
-            cause: 1,
+            code: DONE,
+            cause: SYNC_ISSUED,
             a: 0,
             word: 0,
         },

@@ -5,6 +5,13 @@ use crate::guards::blame;
 use crate::guards::owing;
 use instruction::instruction::queue_send;
 use instruction::instruction::suppress_send;
+use numbers::answers::CHANNEL_HELD;
+use numbers::answers::HELD_BACK;
+use numbers::answers::OWES_SYNC;
+use numbers::answers::QUEUE_FULL;
+use numbers::answers::QUEUED;
+use numbers::causes::HELD_FOR_SEND;
+use numbers::causes::QUEUE_FULL_FOR_SEND;
 use plan::BOARDS;
 use plan::CHANNELS;
 use plan::PROCESSES;
@@ -44,22 +51,22 @@ pub fn send(
     if rows[p][SUPPRESS] > 0 {
         suppress_send(&mut rows[p]);
         return alone(Answer {
-            code: 3,
+            code: HELD_BACK,
             cause: 0,
             a: channel,
             word: word,
         });
     }
     if owing(&rows[p], limit) {
-        return refused(37, blame(&rows[p], limit), a);
+        return refused(OWES_SYNC, blame(&rows[p], limit), a);
     }
     let b = index16(rows[p][BOARD]);
     if queues[b][COUNT] >= QUEUE {
-        return refused(38, 0, a);
+        return refused(QUEUE_FULL, QUEUE_FULL_FOR_SEND, a);
     }
     let k = index32(channel);
     if full(reader(wires, k), totals[k]) {
-        return refused(39, 0, a);
+        return refused(CHANNEL_HELD, HELD_FOR_SEND, a);
     }
     let at = place(&queues[b], b);
     queue_send(&mut rows[p]);
@@ -67,7 +74,7 @@ pub fn send(
     totals[k] = std::num::wrapping_add_u32(totals[k], 1);
     Moved {
         answer: Answer {
-            code: 2,
+            code: QUEUED,
             cause: 0,
             a: channel,
             word: word,

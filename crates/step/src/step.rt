@@ -8,6 +8,10 @@ use crate::take::take;
 use backup::limits::LOG;
 use instruction::instruction::Intent;
 use instruction::instruction::examine;
+use numbers::answers::HALTED;
+use numbers::answers::NO_WORD;
+use numbers::causes::NO_WORD_FOR_FIRST;
+use numbers::causes::NO_WORD_FOR_TAKE;
 use plan::BOARDS;
 use plan::CHANNELS;
 use plan::PROCESSES;
@@ -29,7 +33,11 @@ use words::wide;
 fn missing(code: u8) -> u32
     ensures { λ r. ⌜ r ≡ missingOf code ⌝ }
 {
-    if code == 4 { 1 } else { 0 }
+    if code == 4 {
+        NO_WORD_FOR_FIRST
+    } else {
+        NO_WORD_FOR_TAKE
+    }
 }
 
 pub fn step(
@@ -57,8 +65,8 @@ pub fn step(
         i.a,
         i.operand,
     ) {
-        Intent::Halted => refused(35, 0, a),
-        Intent::NoMail => refused(36, missing(i.code), a),
+        Intent::Halted => refused(HALTED, 0, a),
+        Intent::NoMail => refused(NO_WORD, missing(i.code), a),
         Intent::Internal => calculate(&mut rows[p], a, i.code, i.a, i.operand),
         Intent::Take { at } => take(wires, rows, mails, totals, limit, a, i.code, i.a, at),
         Intent::Send { channel, word } => send(

@@ -5,6 +5,8 @@ use crate::guards::blame;
 use crate::guards::owing;
 use backup::limits::LOG;
 use instruction::instruction::take_word;
+use numbers::answers::OWES_SYNC;
+use numbers::answers::TOOK;
 use plan::CHANNELS;
 use plan::PROCESSES;
 use plan::WIRES;
@@ -37,7 +39,7 @@ pub fn take(
 {
     let p = index16(a);
     if owing(&rows[p], limit) {
-        return refused(37, blame(&rows[p], limit), a);
+        return refused(OWES_SYNC, blame(&rows[p], limit), a);
     }
     let x = word_at(&rows[p], &mails[p], at);
     let channel = channel_of(x);
@@ -52,7 +54,7 @@ pub fn take(
     );
     totals[k] = std::num::wrapping_sub_u32(totals[k], 1);
     alone(Answer {
-        code: 1,
+        code: TOOK,
         cause: 0,
         a: channel,
         word: word_of(x),

@@ -27,7 +27,7 @@ use Rattle.cabinet.specs.Runs.{Runs}
 use Rattle.cabinet.specs.declared.run.Verdict.{Verdict}
 use Rattle.plan.specs.declared.Counts.{Counts}
 use Rattle.sweep.specs.Pulled.{pulledBytes, HasPlace}
-use Rattle.sweep.specs.Counted.{Counted, countOne, heldIn, Ends, Admitted}
+use Rattle.sweep.specs.Counted.{Counted, countOne, someHeldIn, Ends, Admitted}
 use Rattle.sweep.specs.declared.tally.Tally.{Tally}
 use Rattle.sweep.proofs.Pulling.{has-place, length-pulled, pulled-count, pulled-valid, pulled-decoded, front-is}
 use Rattle.sweep.proofs.Admitting.{table-sound, schedule-sound, records-few}
@@ -45,7 +45,7 @@ held-byte (x ∷ l) rest (suc p) h =
     ∙ getD-append-add (reportBytes x) (allBytes reportBytes l ++ rest) (20 * p + 3) 0
     ∙ held-byte l rest p (le-of-suc-le-suc h)
 
-held-report : (c : Cabinet) (buffer : List ℕ) (n : ℕ) → n ≡ length (c .processes) → heldIn (written (allBytes reportBytes (c .processes)) buffer) n ≡ someHeld c
+held-report : (c : Cabinet) (buffer : List ℕ) (n : ℕ) → n ≡ length (c .processes) → someHeldIn (written (allBytes reportBytes (c .processes)) buffer) n ≡ someHeld c
 unfolding someHeld
 held-report c buffer n e =
     rw e
@@ -63,16 +63,16 @@ some-such f n j l e = go (anyBelow f n) refl
 
 module _ (report : List ℕ) where
   pub held-found : (n processes p : ℕ) → (processes ≤ 16 → n ≡ processes) → p < n → (byteAt report (20 * p + 3) ≡ 0 → ⊥)
-      → processes ≤ 16 → true ≡ heldIn report processes
+      → processes ≤ 16 → true ≡ someHeldIn report processes
   held-found n processes p same l other low =
       let e = same low in
       sym (some-such (λ q. not (eqb (byteAt report (20 * q + 3)) 0)) processes p (omega arith) (ap not (ne-eqb (byteAt report (20 * p + 3)) 0 other)))
 
-  pub held-on : (p : ℕ) → heldIn report p ≡ false → byteAt report (20 * p + 3) ≡ 0 → heldIn report (p + 1) ≡ false
+  pub held-on : (p : ℕ) → someHeldIn report p ≡ false → byteAt report (20 * p + 3) ≡ 0 → someHeldIn report (p + 1) ≡ false
   held-on p none e = rw (add-one, eq-eqb (byteAt report (20 * p + 3)) 0 e) none
 
-  pub held-none : (n processes p : ℕ) → (processes ≤ 16 → n ≡ processes) → p ≤ n → heldIn report p ≡ false → n ≤ p → processes ≤ 16
-      → false ≡ heldIn report processes
+  pub held-none : (n processes p : ℕ) → (processes ≤ 16 → n ≡ processes) → p ≤ n → someHeldIn report p ≡ false → n ≤ p → processes ≤ 16
+      → false ≡ someHeldIn report processes
   held-none n processes p same l none end low = let e = same low in let f : p ≡ processes = omega arith in sym (rw f at none)
 
 -- ---- a run that is accepted
@@ -101,7 +101,7 @@ module _ (table schedule : List ℕ) (before : Buffers) (fit : 6 * suc sweepMost
     reported = ap (λ (x : Ran). x .buffers .report) (runs .ran ∙ run-is table schedule before runs-through)
 
     pub ended-so : (processes : ℕ) → processes ≡ length (decodeTable table .processes)
-        → endingOf (decodeTable table) end ≡ cond (r .quiet) quietEnd (cond (heldIn (after .report) processes) heldEnd freeEnd)
+        → endingOf (decodeTable table) end ≡ cond (r .quiet) quietEnd (cond (someHeldIn (after .report) processes) heldEnd freeEnd)
     unfolding endingOf
     ended-so processes e =
         let many : processes ≡ length (end .processes) = e ∙ sym (processes-end (decodeTable table) (decodeSchedule schedule)) in
@@ -121,7 +121,7 @@ abbrev buffers : Buffers
 buffers = buffersOf (zeros 3006) (zeros 501) (zeros 320) (zeros 1002)
 
 module _ (table schedule : List ℕ) (processes : ℕ) (r : Verdict) (after : Buffers) (runs : Runs table schedule buffers r after) where
-  ends-so : (e : Ending) → (processes ≤ processesMost → cond (r .quiet) quietEnd (cond (heldIn (after .report) processes) heldEnd freeEnd) ≡ e)
+  ends-so : (e : Ending) → (processes ≤ processesMost → cond (r .quiet) quietEnd (cond (someHeldIn (after .report) processes) heldEnd freeEnd) ≡ e)
       → (tally : Tally) → Counted (countOne e) tally → Ends table schedule processes tally
   ends-so e same tally counted = record {
     ends = λ valid sound few many.
@@ -136,7 +136,7 @@ module _ (table schedule : List ℕ) (processes : ℕ) (r : Verdict) (after : Bu
   pub quiet-ends : r .quiet ≡ true → Ends table schedule processes (record { quiet = 1; held = 0; free = 0 })
   quiet-ends q = ends-so quietEnd (λ _. rw q) _ (record { quiet-is = refl; held-is = refl; free-is = refl })
 
-  module _ (unquiet : r .quiet ≡ false) (held : Bool) (is-held : processes ≤ processesMost → held ≡ heldIn (after .report) processes) where
+  module _ (unquiet : r .quiet ≡ false) (held : Bool) (is-held : processes ≤ processesMost → held ≡ someHeldIn (after .report) processes) where
     pub held-ends : held ≡ true → Ends table schedule processes (record { quiet = 0; held = 1; free = 0 })
     held-ends h = ends-so heldEnd (λ low. rw (unquiet, ← is-held low, h)) _ (record { quiet-is = refl; held-is = refl; free-is = refl })
 

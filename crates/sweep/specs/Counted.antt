@@ -38,8 +38,8 @@ abbrev pub countPlaces : Table → List Command → ℕ → (Ending → Bool) �
 countPlaces t commands n test = sumBelow (λ place. countBoards t commands place (t .boards) test) n
 
 -- one of so many processes has hold-back left, by its byte of the report ("board, place, unread count and hold-back, a byte each")
-abbrev pub heldIn : List ℕ → ℕ → Bool
-heldIn report processes = anyBelow (λ p. not (eqb (byteAt report (20 * p + 3)) 0)) processes
+abbrev pub someHeldIn : List ℕ → ℕ → Bool
+someHeldIn report processes = anyBelow (λ p. not (eqb (byteAt report (20 * p + 3)) 0)) processes
 
 -- the run of a schedule as it stands, on a table with so many processes
 pub record Ends (table schedule : List ℕ) (processes : ℕ) (r : Tally) : Type 0 where

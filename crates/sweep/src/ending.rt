@@ -5,7 +5,7 @@ ghost use Rattle.rules.specs.Sizes.{processesMost};
 ghost use Rattle.rules.specs.Schedule.{commandsIn, decodeSchedule};
 ghost use Rattle.rules.specs.Format.{decodeTable};
 ghost use Rattle.rules.specs.Sweep.{endingAt};
-ghost use Rattle.sweep.specs.Counted.{heldIn, countOne, Counted, Ends, Admitted};
+ghost use Rattle.sweep.specs.Counted.{someHeldIn, countOne, Counted, Ends, Admitted};
 use crate::judge::SWEEP_MOST;
 use crate::pulled::PULLED;
 use crate::pulled::put_in;
@@ -31,7 +31,7 @@ const HOLD_BACK: usize = 3;
 
 // Whether one of so many processes has hold-back left.
 fn some_held(report: &[u8; REPORT], processes: usize) -> bool
-    ensures { λ r. ⌜ (processes ≤ processesMost → r ≡ heldIn (now (report .entry)) processes) ⌝ }
+    ensures { λ r. ⌜ (processes ≤ processesMost → r ≡ someHeldIn (now (report .entry)) processes) ⌝ }
 {
     let n = most16(processes);
     let mut p = 0;

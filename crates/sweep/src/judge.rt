@@ -4,6 +4,8 @@ ghost use mathlib.Core.Path.{_≡_};
 ghost use Rattle.rules.specs.Schedule.{commandsIn, decodeSchedule};
 ghost use Rattle.rules.specs.Sweep.{anyBarred};
 ghost use Rattle.sweep.specs.Judged.{judgedSweep};
+use numbers::runs::ACCEPTED;
+use numbers::runs::UNSWEPT;
 use records::schedule::Judged;
 use records::schedule::UNDO;
 use records::schedule::command_at;
@@ -45,10 +47,10 @@ pub fn judge_sweep(table_number: u8, judged: Judged, schedule: &[u8]) -> u8
         return schedule_number;
     }
     if records > SWEEP_MOST {
-        return 52;
+        return UNSWEPT;
     }
     if any_barred(schedule, records) {
-        return 52;
+        return UNSWEPT;
     }
-    0
+    ACCEPTED
 }

@@ -10,6 +10,7 @@ mod tally;
 
 use crate::count::count_all;
 use crate::judge::judge_sweep;
+use numbers::runs::ACCEPTED;
 use records::schedule::judge_schedule;
 use table::decode;
 
@@ -42,7 +43,7 @@ pub fn sweep(table: &[u8], schedule: &[u8]) -> Swept
     }
     let all = count_all(table, schedule, counts, records);
     Swept {
-        number: 0,
+        number: ACCEPTED,
         quiet: all.quiet,
         held: all.held,
         free: all.free,

@@ -12,7 +12,7 @@ use Rattle.facts.specs.Tests.{and-right}
 use Rattle.backup.specs.Limits.{pcMost}
 use Rattle.rules.specs.Cabinet.{isEmpty}
 use Rattle.rules.specs.Format.{lengthField, tableMost, versionIn, versionOk, processesIn, programLength, recordLength, recordsStart, recordBytes, orNumber, lengthOk, countsOk, recordsOk, extentOk}
-use Rattle.table.specs.Parts.{recordOk, recordIn, framing}
+use Rattle.table.specs.Parts.{recordFits, recordIn, framing}
 
 -- ---- number 1
 
@@ -44,17 +44,17 @@ module _ (v : ℕ) (rest : List ℕ) where
     record-whole h = rw (le-leb (programLength v rest) pcMost few, le-leb (recordLength v rest) (length rest) (omega arith)) e
 
   -- a record's length is never 0
-  record-passed : (size : ℕ) → size ≡ recordIn v rest → (size ≡ 0 → ⊥) → recordOk v rest ≡ true
-  record-passed size e h = go (recordOk v rest) refl
+  record-passed : (size : ℕ) → size ≡ recordIn v rest → (size ≡ 0 → ⊥) → recordFits v rest ≡ true
+  record-passed size e h = go (recordFits v rest) refl
     where
-      go : (b : Bool) → recordOk v rest ≡ b → recordOk v rest ≡ true
+      go : (b : Bool) → recordFits v rest ≡ b → recordFits v rest ≡ true
       go true k = k
       go false k = absurd (h (e ∙ ap (λ (t : Bool). cond t (recordLength v rest) 0) k))
 
-  record-failed : 0 ≡ recordIn v rest → recordOk v rest ≡ false
-  record-failed e = go (recordOk v rest) refl
+  record-failed : 0 ≡ recordIn v rest → recordFits v rest ≡ false
+  record-failed e = go (recordFits v rest) refl
     where
-      go : (b : Bool) → recordOk v rest ≡ b → recordOk v rest ≡ false
+      go : (b : Bool) → recordFits v rest ≡ b → recordFits v rest ≡ false
       go false k = k
       go true k = absurd (let a : 0 ≡ recordLength v rest = e ∙ ap (λ (t : Bool). cond t (recordLength v rest) 0) k in omega arith)
 
@@ -81,7 +81,7 @@ module _ (bytes : List ℕ) (n : ℕ) where
 
   module _ (at p size : ℕ) (x : Extending bytes n at p) (h : p < n) (e : size ≡ recordIn (versionIn bytes) (drop at bytes)) where
     -- the next record, and then those behind it
-    next : recordsOk (versionIn bytes) n (recordBytes bytes) ≡ (recordOk (versionIn bytes) (drop at bytes) && recordsOk (versionIn bytes) (n - (p + 1)) (drop (recordLength (versionIn bytes) (drop at bytes)) (drop at bytes)))
+    next : recordsOk (versionIn bytes) n (recordBytes bytes) ≡ (recordFits (versionIn bytes) (drop at bytes) && recordsOk (versionIn bytes) (n - (p + 1)) (drop (recordLength (versionIn bytes) (drop at bytes)) (drop at bytes)))
     next =
         x .left ∙ ap (λ (m : ℕ). recordsOk (versionIn bytes) m (drop at bytes)) (let z : n - p ≡ suc (n - (p + 1)) = omega arith in z)
         ∙ sym (and-assoc (leb (programLength (versionIn bytes) (drop at bytes)) pcMost) (leb (recordLength (versionIn bytes) (drop at bytes)) (length (drop at bytes))) _)

@@ -44,12 +44,12 @@ abbrev pub countsIn : List ℕ → Counts
 countsIn bytes = record { boards = boardsIn bytes; processes = processesIn bytes; channels = channelsIn bytes }
 
 -- of the record that begins a rest, in a table of a version: at most 64 instructions, and all of them there
-abbrev pub recordOk : ℕ → List ℕ → Bool
-recordOk version rest = leb (programLength version rest) pcMost && leb (recordLength version rest) (length rest)
+abbrev pub recordFits : ℕ → List ℕ → Bool
+recordFits version rest = leb (programLength version rest) pcMost && leb (recordLength version rest) (length rest)
 
 -- its length, or 0
 abbrev pub recordIn : ℕ → List ℕ → ℕ
-recordIn version rest = cond (recordOk version rest) (recordLength version rest) 0
+recordIn version rest = cond (recordFits version rest) (recordLength version rest) 0
 
 -- 0, or the lowest of the four that refuses the table
 unfoldable pub framing : List ℕ → ℕ

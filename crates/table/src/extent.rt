@@ -13,6 +13,11 @@ use crate::format::TABLE_MOST;
 use crate::record::program_length;
 use crate::record::record_length;
 use crate::record::version_of;
+use numbers::runs::ACCEPTED;
+use numbers::runs::TABLE_COUNTS;
+use numbers::runs::TABLE_EXTENT;
+use numbers::runs::TABLE_LENGTH;
+use numbers::runs::TABLE_VERSION;
 use records::bytes::byte;
 use words::byte_wide;
 use words::pair;
@@ -87,16 +92,16 @@ pub fn judge_extent(table: &[u8]) -> u8
     ensures { λ r. ⌜ r ≡ framing (now (table .entry)) ⌝ }
 {
     if !length_ok(table) {
-        return 1;
+        return TABLE_LENGTH;
     }
     if !version_ok(version_of(table)) {
-        return 2;
+        return TABLE_VERSION;
     }
     if !counts_ok(table) {
-        return 3;
+        return TABLE_COUNTS;
     }
     if !extent_ok(table) {
-        return 4;
+        return TABLE_EXTENT;
     }
-    0
+    ACCEPTED
 }

@@ -21,6 +21,12 @@ use crate::ends::ends_ok;
 use crate::ends::judge_ports;
 use crate::extent::judge_extent;
 use crate::instructions::instructions_ok;
+use numbers::runs::ACCEPTED;
+use numbers::runs::BOARDS;
+use numbers::runs::CHANNEL_ENDS;
+use numbers::runs::CHANNELS_READ;
+use numbers::runs::INSTRUCTION;
+use numbers::runs::LIMIT;
 use plan::Counts;
 use plan::PROCESSES;
 use plan::PROGRAMS;
@@ -70,7 +76,7 @@ fn accepted(counts: Counts, w: Ports, b: Placements) -> Decoded
     let primary = b.primary;
     let standby = b.standby;
     Decoded {
-        number: 0,
+        number: ACCEPTED,
         plan: Plan {
             counts: counts,
             programs: programs,
@@ -90,24 +96,24 @@ pub fn decode(table: &[u8]) -> Decoded
         return refused(number);
     }
     if !ends_ok(table) {
-        return refused(5);
+        return refused(CHANNEL_ENDS);
     }
     let w = judge_ports(table);
     if !w.ok {
-        return refused(6);
+        return refused(CHANNELS_READ);
     }
     let rows = w.programs;
     let b = judge_boards(table, rows);
     if !b.ok {
-        return refused(7);
+        return refused(BOARDS);
     }
     if !instructions_ok(table) {
-        return refused(8);
+        return refused(INSTRUCTION);
     }
     let counts = counts_of(table);
     let programs = b.programs;
     if !limits_ok(&programs, counts.processes) {
-        return refused(47);
+        return refused(LIMIT);
     }
     accepted(counts, w, b)
 }

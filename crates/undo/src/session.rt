@@ -14,6 +14,10 @@ use crate::replay::follow;
 use crate::replay::replay;
 use backup::limits::LOG;
 use backup::place::HEAD;
+use numbers::answers::BAD_RECORD;
+use numbers::answers::NONE_KEPT;
+use numbers::answers::TAKEN_BACK;
+use numbers::causes::WORD_NOT_ZERO;
 use plan::BOARDS;
 use plan::CHANNELS;
 use plan::Counts;
@@ -36,8 +40,6 @@ use state::queue::QUEUE_ROW;
 use words::byte_word;
 use words::least;
 
-const TAKEN_BACK: u32 = 7;
-
 // What a move 8 is answered where so many records are kept: "with a and word 0 (else 32, cause 1)"; "53, no record is kept to go back to". (Its a
 // is a byte.)
 fn undo_answer(c: Command, kept: usize) -> Answer
@@ -45,13 +47,13 @@ fn undo_answer(c: Command, kept: usize) -> Answer
 {
     let a = byte_word(c.a);
     if c.a != 0 {
-        return refusal(32, 1, a);
+        return refusal(BAD_RECORD, WORD_NOT_ZERO, a);
     }
     if c.word != 0 {
-        return refusal(32, 1, a);
+        return refusal(BAD_RECORD, WORD_NOT_ZERO, a);
     }
     if kept == 0 {
-        return refusal(53, 0, a);
+        return refusal(NONE_KEPT, 0, a);
     }
     refusal(TAKEN_BACK, 0, 0)
 }

@@ -7,6 +7,7 @@ use native.Mathlib.Omega.{arith}
 use lib.Dec.{eqb}
 use lib.ListN.{length, getD, length-append}
 use lib.Seq.{sets}
+use Rattle.facts.specs.Laying.{sets-more}
 use Rattle.backup.specs.Limits.{logMost}
 use Rattle.rules.specs.Sizes.{outboxMost}
 use Rattle.state.specs.declared.entry.Entry.{Entry}
@@ -14,24 +15,24 @@ use Rattle.state.specs.declared.entry.Item.the-variants.{Word}
 use Rattle.state.specs.Queue.{queueCount, queueDead}
 use Rattle.state.specs.Store.{blankEntry}
 use Rattle.view.specs.View.{each}
-use Rattle.view.specs.Lists.{rowFor, queueFor, machineIn, unreadAt, backupIn, savedAt, processNumbersIn, entryPlace, entryAt, boardNumbersIn}
+use Rattle.view.specs.Lists.{rowFor, queueFor, machineIn, inboxAt, backupIn, savedAt, processNumbersIn, entryPlace, entryAt, boardNumbersIn}
 use Rattle.view.specs.Lists.{processBlock, boardBlock}
-use Rattle.view.proofs.Laying.{sets-more, each-length}
+use Rattle.view.proofs.Laying.{each-length}
 use Rattle.view.proofs.Widths.{unread-two, saved-two, backup-nine, entry-thirteen}
 
 -- ---- a process
 
 module _ (row mail log head out₀ : List ℕ) (at : ℕ) where
   pub process-laid : (out₁ out₂ out₃ out₄ m b : List ℕ) → m ≡ machineIn row → out₁ ≡ sets out₀ at m
-      → out₂ ≡ sets out₁ (at + 14) (each (unreadAt row mail) logMost)
+      → out₂ ≡ sets out₁ (at + 14) (each (inboxAt row mail) logMost)
       → b ≡ backupIn row head → out₃ ≡ sets out₂ (at + 142) b
       → out₄ ≡ sets out₃ (at + 151) (each (savedAt row log head) logMost)
       → out₄ ≡ sets out₀ at (processNumbersIn row mail log head)
   unfolding processNumbersIn
   process-laid out₁ out₂ out₃ out₄ m b is-m e₁ e₂ is-b e₃ e₄ =
-      let inbox : List ℕ = each (unreadAt row mail) logMost in
+      let inbox : List ℕ = each (inboxAt row mail) logMost in
       let saved : List ℕ = each (savedAt row log head) logMost in
-      let i : length inbox ≡ 128 = each-length (unreadAt row mail) 2 logMost (unread-two row mail) in
+      let i : length inbox ≡ 128 = each-length (inboxAt row mail) 2 logMost (unread-two row mail) in
       let n : length (backupIn row head) ≡ 9 = backup-nine row head in
       let f₁ = e₁ ∙ ap (λ (x : List ℕ). sets out₀ at x) is-m in
       let f₃ = e₃ ∙ ap (λ (x : List ℕ). sets out₂ (at + 142) x) is-b in
@@ -47,9 +48,9 @@ module _ (row mail log head out₀ : List ℕ) (at : ℕ) where
   pub process-wide : length (processNumbersIn row mail log head) ≡ 279
   unfolding processNumbersIn
   process-wide =
-      let inbox : List ℕ = each (unreadAt row mail) logMost in
+      let inbox : List ℕ = each (inboxAt row mail) logMost in
       let saved : List ℕ = each (savedAt row log head) logMost in
-      let i : length inbox ≡ 128 = each-length (unreadAt row mail) 2 logMost (unread-two row mail) in
+      let i : length inbox ≡ 128 = each-length (inboxAt row mail) 2 logMost (unread-two row mail) in
       let s : length saved ≡ 128 = each-length (savedAt row log head) 2 logMost (saved-two row log head) in
       let n : length (backupIn row head) ≡ 9 = backup-nine row head in
       let a = length-append (machineIn row) (inbox ++ (backupIn row head ++ saved)) in

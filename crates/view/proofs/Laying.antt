@@ -6,15 +6,8 @@ use native.Mathlib.Omega.{arith}
 use native.Mathlib.Numerals.{add-one}
 use lib.ListN.{length, getD, take, set, length-append}
 use lib.Seq.{sets, length-sets, length-take-le, take-suc, take-all}
+use Rattle.facts.specs.Laying.{sets-more}
 use Rattle.view.specs.View.{each}
-
--- what is laid behind what was laid is laid with it
-pub sets-more : (a b l : List ℕ) (n k : ℕ) → k ≡ n + length a → sets (sets l n a) k b ≡ sets l n (a ++ b)
-sets-more [] b l n k e = ap (λ (i : ℕ). sets l i b) (omega arith)
-sets-more (x ∷ a) b l n k e = sets-more a b (set l n x) (suc n) k (omega arith)
-
-pub sets-long : (l l′ : List ℕ) (n : ℕ) (v : List ℕ) → l′ ≡ sets l n v → length l′ ≡ length l
-sets-long l l′ n v e = ap (λ (x : List ℕ). length x) e ∙ length-sets l n v
 
 -- ---- a list
 

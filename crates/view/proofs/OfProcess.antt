@@ -19,7 +19,7 @@ use Rattle.process.specs.Row.{mailAt, machineOf, standbyOf, processOf}
 use Rattle.rules.specs.Machine.{booted}
 use Rattle.rules.specs.Cabinet.{Standby, nobody}
 use Rattle.view.specs.View.{each, machineNumbers, mailNumbers, noMail, inboxNumbers, backupNumbers, savedWord, noMessage, logOf, savedNumbers, processNumbers}
-use Rattle.view.specs.Lists.{machineIn, behindState, backupIn, unreadAt, savedAt, processNumbersIn}
+use Rattle.view.specs.Lists.{machineIn, behindState, backupIn, inboxAt, savedAt, processNumbersIn}
 use Rattle.view.proofs.Laying.{each-same}
 
 -- ---- an element of a list given by a function of the place, or what stands for none
@@ -41,7 +41,7 @@ module _ (row mail log head : List ℕ) where
       ap (λ (n : ℕ). boardIn row ∷ pcIn row ∷ (registersIn row ++ (suppressIn row ∷ eventsIn row ∷ instructionsIn row ∷ (takenIn row ++ (n ∷ [])))))
       (sym (listed-length (mailAt row mail) (unreadIn row)))
 
-  inbox-is : each (unreadAt row mail) logMost ≡ inboxNumbers (machineOf row mail .mailbox)
+  inbox-is : each (inboxAt row mail) logMost ≡ inboxNumbers (machineOf row mail .mailbox)
   unfolding inboxNumbers machineOf
   inbox-is = each-same _ _ logMost (λ i l. getD-chosen mailNumbers (mailAt row mail) (unreadIn row) i noMail)
 

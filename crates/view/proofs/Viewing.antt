@@ -28,7 +28,7 @@ use Rattle.state.specs.Store.{Store}
 use Rattle.play.specs.Plays.{Sheets, sheetsOf, Roomy}
 use Rattle.undo.specs.Sessions.{PlaysAll}
 use Rattle.view.specs.View.{viewMost, viewedOf, view, validateView, viewed}
-use Rattle.view.specs.Lists.{viewIn}
+use Rattle.view.specs.Lists.{viewOf}
 use Rattle.view.specs.Judged.{judgedView}
 use Rattle.view.specs.Shows.{Shows}
 use Rattle.view.specs.Views.{Views}
@@ -85,7 +85,7 @@ front v out h =
 
 module _ (table schedule : List ℕ) (plan : Plan) (before after : List ℕ) (s : Store) (entries : List Entry) (sheets sheets′ : Sheets)
     (plays : PlaysAll (planOf table (plan .counts) (plan .programs) (plan .wires)) schedule (plan .primary) (plan .standby) sheets s entries sheets′)
-    (laid : after ≡ sets before 0 (viewIn (plan .counts) s entries)) where
+    (laid : after ≡ sets before 0 (viewOf (plan .counts) s entries)) where
   pub shows : Shows table schedule plan before after
   shows = record {
     shown = λ ok plans.
@@ -95,7 +95,7 @@ module _ (table schedule : List ℕ) (plan : Plan) (before after : List ℕ) (s 
         let placed : Placed t (plan .primary) (plan .standby) (plan .counts .processes) =
         record { processes-is = planned .processes-is; primary-at = plans .primary-at; standby-at = plans .standby-at } in
         let shown = plays .shown t at planned placed in
-        let is : viewIn (plan .counts) s entries ≡ view t (ended t (decodeSchedule schedule)) = view-is at planned (shown .holds) in
+        let is : viewOf (plan .counts) s entries ≡ view t (ended t (decodeSchedule schedule)) = view-is at planned (shown .holds) in
         let long : length (view t (ended t (decodeSchedule schedule))) ≡ viewMost = sym (ap (λ (x : List ℕ). length x) is) ∙ view-long (plan .counts) s entries in
         let room = room-enough table schedule (length before) ok in
         laid ∙ ap (λ (x : List ℕ). sets before 0 x) is ∙ front (view t (ended t (decodeSchedule schedule))) before (omega arith);

@@ -9,6 +9,7 @@ use lib.Seq.{sets}
 use borrow.Author.Tests.{lt-ltb, le-ltb}
 use Rattle.facts.specs.Tests.{by-lt}
 use Rattle.facts.specs.Rings.{listed-length}
+use Rattle.facts.specs.Laying.{sets-more}
 use Rattle.plan.specs.declared.Counts.{Counts}
 use Rattle.plan.specs.Plan.{Plan, Planned}
 use Rattle.process.specs.Row.{rowLength}
@@ -21,8 +22,8 @@ use Rattle.state.specs.Queue.{queueLength, deadIn}
 use Rattle.state.specs.Store.{Store, Holds, outboxIn}
 use Rattle.state.proofs.Reading.{at-process, at-outbox, at-dead, how-many, how-many-boards}
 use Rattle.view.specs.View.{each, processNumbers, boardNumbers, totalNumber, processesNumbers, boardsNumbers, totalsNumbers, view, viewMost}
-use Rattle.view.specs.Lists.{short, processBlock, boardBlock, totalBlock, viewIn, processNumbersIn, boardNumbersIn}
-use Rattle.view.proofs.Laying.{sets-more, each-length, each-same}
+use Rattle.view.specs.Lists.{short, processBlock, boardBlock, totalBlock, viewOf, processNumbersIn, boardNumbersIn}
+use Rattle.view.proofs.Laying.{each-length, each-same}
 use Rattle.view.proofs.Blocks.{process-block-wide, board-block-wide}
 use Rattle.view.proofs.OfProcess.{process-is, nobody-is}
 use Rattle.view.proofs.OfBoard.{queueOf, board-is, no-board-is}
@@ -41,8 +42,8 @@ module _ (counts : Counts) (s : Store) (entries : List Entry) (out₀ : List ℕ
 
   pub view-laid : (out₁ out₂ out₃ out₄ : List ℕ) (x y z : ℕ) → x ≡ short (counts .boards) → y ≡ short (counts .processes) → z ≡ short (counts .channels)
       → out₁ ≡ sets out₀ 0 (x ∷ y ∷ z ∷ []) → out₂ ≡ sets out₁ 3 processesIn → out₃ ≡ sets out₂ 4467 boardsIn → out₄ ≡ sets out₃ 11155 totalsIn
-      → out₄ ≡ sets out₀ 0 (viewIn counts s entries)
-  unfolding viewIn
+      → out₄ ≡ sets out₀ 0 (viewOf counts s entries)
+  unfolding viewOf
   view-laid out₁ out₂ out₃ out₄ x y z is-x is-y is-z e₁ e₂ e₃ e₄ =
       let p : length processesIn ≡ 4464 = each-length (processBlock (counts .processes) (s .rows) (s .mails) (s .logs) (s .heads)) 279 processesMost
       (process-block-wide (counts .processes) (s .rows) (s .mails) (s .logs) (s .heads)) in
@@ -57,8 +58,8 @@ module _ (counts : Counts) (s : Store) (entries : List Entry) (out₀ : List ℕ
       ∙ sets-more (short (counts .boards) ∷ short (counts .processes) ∷ short (counts .channels) ∷ []) (processesIn ++ (boardsIn ++ totalsIn)) out₀ 0 3 refl
 
 -- how long it is
-pub view-long : (counts : Counts) (s : Store) (entries : List Entry) → length (viewIn counts s entries) ≡ viewMost
-unfolding viewIn
+pub view-long : (counts : Counts) (s : Store) (entries : List Entry) → length (viewOf counts s entries) ≡ viewMost
+unfolding viewOf
 view-long counts s entries =
     let ps : List ℕ = processesIn counts s entries [] in
     let bs : List ℕ = boardsIn counts s entries [] in
@@ -115,8 +116,8 @@ module _ {t : Table} {l : Plan} {s : Store} {entries : List Entry} {c : Cabinet}
       (λ m. rw (planned .channels-is, lt-ltb k (length (t .channels)) m) (ap (λ (n : ℕ). n ∷ []) (h .totalled .total-is k m)))
       (λ m. rw (planned .channels-is, le-ltb k (length (t .channels)) m))
 
-  pub view-is : viewIn (l .counts) s entries ≡ view t c
-  unfolding viewIn view processesNumbers boardsNumbers totalsNumbers
+  pub view-is : viewOf (l .counts) s entries ≡ view t c
+  unfolding viewOf view processesNumbers boardsNumbers totalsNumbers
   view-is =
       let b : short (l .counts .boards) ≡ t .boards = (let e = planned .boards-is in let f = ok .boards-high in omega arith) in
       let p : short (l .counts .processes) ≡ length (t .processes) = (let e = planned .processes-is in let f = ok .processes-high in omega arith) in

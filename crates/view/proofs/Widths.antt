@@ -11,13 +11,13 @@ use Rattle.state.specs.declared.entry.Entry.{Entry}
 use Rattle.state.specs.Queue.{queueCount}
 use Rattle.state.specs.Store.{itemOf}
 use Rattle.view.specs.View.{itemNumbers}
-use Rattle.view.specs.Lists.{savedCount, unreadAt, savedAt, backupIn, entryAt}
+use Rattle.view.specs.Lists.{savedCount, inboxAt, savedAt, backupIn, entryAt}
 
 either-long : (b : Bool) (x y : List ℕ) (w : ℕ) → length x ≡ w → length y ≡ w → length (cond b x y) ≡ w
 either-long true x y w e f = e
 either-long false x y w e f = f
 
-pub unread-two : (row mail : List ℕ) (i : ℕ) → length (unreadAt row mail i) ≡ 2
+pub unread-two : (row mail : List ℕ) (i : ℕ) → length (inboxAt row mail i) ≡ 2
 unread-two row mail i = either-long (ltb i (unreadIn row)) _ _ 2 refl refl
 
 pub saved-two : (row log head : List ℕ) (i : ℕ) → length (savedAt row log head i) ≡ 2

@@ -61,8 +61,8 @@ abbrev pub savedCount : List ℕ → List ℕ → ℕ
 savedCount row head = cond (eqb (flagIn row) 0) 0 (headLen head)
 
 -- word i of the inbox
-abbrev pub unreadAt : List ℕ → List ℕ → ℕ → List ℕ
-unreadAt row mail i = cond (ltb i (unreadIn row)) (mailNumbers (mailAt row mail i)) (0 ∷ 0 ∷ [])
+abbrev pub inboxAt : List ℕ → List ℕ → ℕ → List ℕ
+inboxAt row mail i = cond (ltb i (unreadIn row)) (mailNumbers (mailAt row mail i)) (0 ∷ 0 ∷ [])
 
 -- saved word i
 abbrev pub savedAt : List ℕ → List ℕ → List ℕ → ℕ → List ℕ
@@ -71,7 +71,7 @@ savedAt row log head i = cond (ltb i (savedCount row head)) (savedWord (unpack (
 unfoldable pub processNumbersIn : List ℕ → List ℕ → List ℕ → List ℕ → List ℕ
 unfolding each
 processNumbersIn row mail log head =
-    machineIn row ++ (each (unreadAt row mail) logMost ++ (backupIn row head ++ each (savedAt row log head) logMost))
+    machineIn row ++ (each (inboxAt row mail) logMost ++ (backupIn row head ++ each (savedAt row log head) logMost))
 
 -- ---- a board
 
@@ -109,9 +109,9 @@ totalBlock channels totals k = totalFor totals channels k ∷ []
 abbrev pub short : ℕ → ℕ
 short n = n % 2 ^ 32
 
-unfoldable pub viewIn : Counts → Store → List Entry → List ℕ
+unfoldable pub viewOf : Counts → Store → List Entry → List ℕ
 unfolding each processBlock boardBlock
-viewIn counts s entries =
+viewOf counts s entries =
     (short (counts .boards) ∷ short (counts .processes) ∷ short (counts .channels) ∷ [])
     ++ (each (processBlock (counts .processes) (s .rows) (s .mails) (s .logs) (s .heads)) processesMost
     ++ (each (boardBlock (counts .boards) (s .queues) entries) boardsMost

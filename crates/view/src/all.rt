@@ -6,7 +6,7 @@ ghost use lib.Seq.{sets};
 ghost use Rattle.rules.specs.Sizes.{processesMost, boardsMost, channelsMost};
 ghost use Rattle.state.specs.Store.{storeOf};
 ghost use Rattle.view.specs.View.{each, viewMost};
-ghost use Rattle.view.specs.Lists.{rowFor, queueFor, totalFor, processBlock, boardBlock, totalBlock, viewIn};
+ghost use Rattle.view.specs.Lists.{rowFor, queueFor, totalFor, processBlock, boardBlock, totalBlock, viewOf};
 use crate::boards::BOARD;
 use crate::boards::put_board;
 use crate::lay::lay;
@@ -140,7 +140,7 @@ pub fn put_view(
     out: &mut [u32],
 )
     requires { ⌜ viewMost ≤ length (now out) ⌝ }
-    ensures { λ _. ⌜ now (out .exit) ≡ sets (now (out .entry)) 0 (viewIn counts (storeOf (now (rows .entry)) (now (mails .entry))
+    ensures { λ _. ⌜ now (out .exit) ≡ sets (now (out .entry)) 0 (viewOf counts (storeOf (now (rows .entry)) (now (mails .entry))
         (now (logs .entry)) (now (heads .entry)) (now (queues .entry)) (now (totals .entry))) entries) ⌝ }
 {
     let head = [

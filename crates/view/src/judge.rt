@@ -2,6 +2,8 @@
 ghost use mathlib.Core.Path.{_≡_};
 ghost use Rattle.view.specs.Judged.{judgedView};
 use crate::all::VIEW;
+use numbers::runs::ACCEPTED;
+use numbers::runs::VIEW_SHORT;
 use records::schedule::Judged;
 
 pub fn judge_view(table_number: u8, judged: Judged, room: usize) -> u8
@@ -15,7 +17,7 @@ pub fn judge_view(table_number: u8, judged: Judged, room: usize) -> u8
         return schedule_number;
     }
     if room < VIEW {
-        return 54;
+        return VIEW_SHORT;
     }
-    0
+    ACCEPTED
 }

@@ -18,6 +18,7 @@ use crate::all::put_view;
 use crate::judge::judge_view;
 use backup::limits::LOG;
 use backup::place::HEAD;
+use numbers::runs::ACCEPTED;
 use plan::BOARDS;
 use plan::CHANNELS;
 use plan::PROCESSES;
@@ -109,7 +110,7 @@ pub fn view(table: &[u8], schedule: &[u8], out: &mut [u32]) -> u8
         &mut origins,
         out,
     );
-    0
+    ACCEPTED
 }
 
 // Six bytes and two for each record of the longest schedule.

@@ -5,7 +5,7 @@ ghost use lib.ListN.{length};
 ghost use lib.Seq.{sets};
 ghost use Rattle.backup.specs.Limits.{logMost};
 ghost use Rattle.view.specs.View.{each};
-ghost use Rattle.view.specs.Lists.{machineIn, backupIn, savedCount, unreadAt, savedAt, processNumbersIn};
+ghost use Rattle.view.specs.Lists.{machineIn, backupIn, savedCount, inboxAt, savedAt, processNumbersIn};
 use crate::lay::lay;
 use backup::limits::LOG;
 use backup::pack::port_of;
@@ -69,7 +69,7 @@ fn machine(row: &[u32; ROW]) -> [u32; INBOX]
 
 // Word i of the inbox, the oldest at 0: its channel, and the word.
 fn unread(row: &[u32; ROW], mail: &[u64; LOG], i: usize) -> [u32; 2]
-    ensures { λ r. ⌜ r ≡ unreadAt (now (row .entry)) (now (mail .entry)) i ⌝ }
+    ensures { λ r. ⌜ r ≡ inboxAt (now (row .entry)) (now (mail .entry)) i ⌝ }
 {
     if i >= wide(row[UNREAD]) {
         return [0, 0];
@@ -80,7 +80,7 @@ fn unread(row: &[u32; ROW], mail: &[u64; LOG], i: usize) -> [u32; 2]
 
 fn put_inbox(row: &[u32; ROW], mail: &[u64; LOG], out: &mut [u32], at: usize)
     requires { ⌜ at + 128 ≤ length (now out) ⌝ }
-    ensures { λ _. ⌜ now (out .exit) ≡ sets (now (out .entry)) at (each (unreadAt (now (row .entry)) (now (mail .entry))) logMost) ⌝ }
+    ensures { λ _. ⌜ now (out .exit) ≡ sets (now (out .entry)) at (each (inboxAt (now (row .entry)) (now (mail .entry))) logMost) ⌝ }
 {
     let mut i = 0;
     while i < LOG {

@@ -7,6 +7,10 @@ ghost use Rattle.rules.specs.Format.{countsFit};
 ghost use Rattle.rules.specs.Encode.{listsOk};
 ghost use Rattle.writer.specs.Given.{given, framing};
 use crate::write::Head;
+use numbers::runs::ACCEPTED;
+use numbers::runs::TABLE_COUNTS;
+use numbers::runs::TABLE_EXTENT;
+use numbers::runs::TABLE_VERSION;
 use table::counts::counts_fit;
 use table::counts::version_ok;
 use table::format::PROGRAM_MOST;
@@ -68,13 +72,13 @@ pub fn judge_lists(
         ≡ framing (given head (now (ends .entry)) (now (placements .entry)) (now (limits .entry)) (now (instructions .entry))) ⌝ }
 {
     if !version_ok(head.version) {
-        return 2;
+        return TABLE_VERSION;
     }
     if !counts_fit(wide(head.boards), wide(head.processes), wide(head.channels)) {
-        return 3;
+        return TABLE_COUNTS;
     }
     if !lists_ok(head, ends, placements, limits, instructions) {
-        return 4;
+        return TABLE_EXTENT;
     }
-    0
+    ACCEPTED
 }

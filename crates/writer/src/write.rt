@@ -10,6 +10,8 @@ ghost use Rattle.writer.specs.Writes.{Writes, nothing};
 use crate::lay::lay;
 use crate::lay::table_length;
 use crate::lists::judge_lists;
+use numbers::runs::ACCEPTED;
+use numbers::runs::NO_ROOM;
 use table::decode;
 use table::format::TABLE_MOST;
 
@@ -99,11 +101,11 @@ pub fn write(
         return refused(number);
     }
     if total > out.len() {
-        return refused(45);
+        return refused(NO_ROOM);
     }
     lay(out, total, head, ends, placements, limits, instructions);
     Written {
-        number: 0,
+        number: ACCEPTED,
         length: total as u32,
     }
 }

@@ -5,20 +5,20 @@ use Rattle.bus.proofs.transfer.transmit_transfer.Statement.{statement}
 use Rattle.bus.proofs.transfer.transmit_transfer.Tie as tie
 use Rattle.bus.proofs.transfer.transmit_transfer.Reads as reads
 use Rattle.bus.proofs.transfer.transmit_transfer.Lts as lts
-use Rattle.process.proofs.transfer.complete.Reads as complete-reads
+use Rattle.process.proofs.transfer.end_transfer.Reads as end-transfer-reads
 use Rattle.words.proofs.index16.Reads as index16-reads
 
 index16-requires : tie.Need-index16-requires
 index16-requires c κs = search needs
 
-mul-complete : tie.Need-mul-complete
-mul-complete c = search needs
+mul-end-transfer : tie.Need-mul-end-transfer
+mul-end-transfer c = search needs
 
-index-1-complete : tie.Need-index-1-complete
-index-1-complete c = search needs
+index-1-end-transfer : tie.Need-index-1-end-transfer
+index-1-end-transfer c = search needs
 
-complete-requires : tie.Need-complete-requires
-complete-requires c κs = search needs
+end-transfer-requires : tie.Need-end-transfer-requires
+end-transfer-requires c κs = search needs
 
 mul-rows : tie.Need-mul-rows
 mul-rows c = search needs
@@ -33,16 +33,16 @@ returns : tie.Need-returns
 returns c =
     let s = c .before .before .before .args in
     let p = c .before .before .index16 in
-    transfers-so (s .rows .now) (s .process) (p .result) (p .ensures .1) (c .complete .last .0) (c .complete .ensures)
+    transfers-so (s .rows .now) (s .process) (p .result) (p .ensures .1) (c .end-transfer .last .0) (c .end-transfer .ensures)
 
 pub transmit-transfer-spec : {M : Type 1} → statement M
 transmit-transfer-spec =
     tie.close
     (tie.spec
     index16-requires
-    mul-complete
-    index-1-complete
-    complete-requires
+    mul-end-transfer
+    index-1-end-transfer
+    end-transfer-requires
     mul-rows
     index-1-rows
     index-2-rows

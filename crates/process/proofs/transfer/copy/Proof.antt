@@ -5,7 +5,7 @@ use Rattle.backup.specs.Replica.{arrive}
 use Rattle.backup.specs.Place.{Called}
 use Rattle.plan.specs.Plan.{portIn}
 use Rattle.process.specs.Row.{mailIn, packedAt}
-use Rattle.process.proofs.Rebacking.{Copying, copying-start, copying-on, copying-end}
+use Rattle.process.proofs.Transferring.{Copying, copying-start, copying-on, copying-end}
 use borrow.Author.Needs.{needs}
 use native.Mathlib.Omega.{arith}
 use Rattle.process.proofs.transfer.copy.Statement.{statement}

@@ -1,12 +1,12 @@
 use mathlib.Core.Path.{refl}
-use Rattle.rejoin.proofs.Rebacking.{rebackups-50, rebackups-50-dead, rebackups-49-held, rebackups-49-full, rebackups-41, rebackups-38, rebackups-done}
+use Rattle.rejoin.proofs.BackingUp.{rebackups-50, rebackups-50-dead, rebackups-49-held, rebackups-49-full, rebackups-41, rebackups-38, rebackups-done}
 use native.Mathlib.Omega.{arith}
 use borrow.Author.Needs.{needs}
 use Rattle.rejoin.proofs.rebackup.rebackup.Statement.{statement}
 use Rattle.rejoin.proofs.rebackup.rebackup.Tie as tie
 use Rattle.rejoin.proofs.rebackup.rebackup.Reads as reads
 use Rattle.rejoin.proofs.rebackup.rebackup.Lts as lts
-use Rattle.process.proofs.transfer.reback.Reads as reback-reads
+use Rattle.process.proofs.transfer.begin_transfer.Reads as begin-transfer-reads
 use Rattle.rejoin.proofs.rebackup.crowded.Reads as crowded-reads
 use Rattle.state.proofs.moved.refused.Reads as refused-reads
 use Rattle.state.proofs.queue.place.Reads as place-reads
@@ -201,32 +201,32 @@ index-1-rows c = search needs
 index-2-rows : tie.Need-index-2-rows
 index-2-rows c = search needs
 
-mul-reback : tie.Need-mul-reback
-mul-reback c = search needs
+mul-begin-transfer : tie.Need-mul-begin-transfer
+mul-begin-transfer c = search needs
 
-index-1-reback : tie.Need-index-1-reback
-index-1-reback c = search needs
+index-1-begin-transfer : tie.Need-index-1-begin-transfer
+index-1-begin-transfer c = search needs
 
-mul-reback-2 : tie.Need-mul-reback-2
-mul-reback-2 c = search needs
+mul-begin-transfer-2 : tie.Need-mul-begin-transfer-2
+mul-begin-transfer-2 c = search needs
 
-index-1-reback-2 : tie.Need-index-1-reback-2
-index-1-reback-2 c = search needs
+index-1-begin-transfer-2 : tie.Need-index-1-begin-transfer-2
+index-1-begin-transfer-2 c = search needs
 
-mul-reback-3 : tie.Need-mul-reback-3
-mul-reback-3 c = search needs
+mul-begin-transfer-3 : tie.Need-mul-begin-transfer-3
+mul-begin-transfer-3 c = search needs
 
-index-1-reback-3 : tie.Need-index-1-reback-3
-index-1-reback-3 c = search needs
+index-1-begin-transfer-3 : tie.Need-index-1-begin-transfer-3
+index-1-begin-transfer-3 c = search needs
 
-mul-reback-4 : tie.Need-mul-reback-4
-mul-reback-4 c = search needs
+mul-begin-transfer-4 : tie.Need-mul-begin-transfer-4
+mul-begin-transfer-4 c = search needs
 
-index-1-reback-4 : tie.Need-index-1-reback-4
-index-1-reback-4 c = search needs
+index-1-begin-transfer-4 : tie.Need-index-1-begin-transfer-4
+index-1-begin-transfer-4 c = search needs
 
-reback-requires : tie.Need-reback-requires
-reback-requires c κs = search needs
+begin-transfer-requires : tie.Need-begin-transfer-requires
+begin-transfer-requires c κs = search needs
 
 mul-push : tie.Need-mul-push
 mul-push c = search needs
@@ -252,7 +252,7 @@ returns-7 c =
     let bare = o .before .before in
     let p = bare .before .before in
     let a = p .before .args in
-    let k = made .reback in
+    let k = made .begin-transfer in
     rebackups-done (a .programs .now) (a .wires .now) (a .rows .now) (a .mails .now) (a .logs .now) (a .heads .now) (a .queues .now) (a .totals .now)
     (p .index16 .result) (a .a) (p .index16 .ensures .1) _
     (bare .if1 .left) (o .index162 .result) (o .index162 .ensures .1) (live .if2 .left) (free .if3 .left) (u .crowded .result) (u .crowded .ensures) (few .if4 .left)
@@ -307,15 +307,15 @@ rebackup-spec =
     mul-rows
     index-1-rows
     index-2-rows
-    mul-reback
-    index-1-reback
-    mul-reback-2
-    index-1-reback-2
-    mul-reback-3
-    index-1-reback-3
-    mul-reback-4
-    index-1-reback-4
-    reback-requires
+    mul-begin-transfer
+    index-1-begin-transfer
+    mul-begin-transfer-2
+    index-1-begin-transfer-2
+    mul-begin-transfer-3
+    index-1-begin-transfer-3
+    mul-begin-transfer-4
+    index-1-begin-transfer-4
+    begin-transfer-requires
     mul-push
     index-1-push
     push-requires

@@ -1,7 +1,7 @@
 use mathlib.Core.Path.{_≡_, refl}
 use mathlib.Core.Bool.{false}
 use Prim.Native.Nat.{_-_, _≤_}
-use Rattle.sweep.specs.Counted.{heldIn}
+use Rattle.sweep.specs.Counted.{someHeldIn}
 use Rattle.sweep.proofs.Endings.{held-found, held-on, held-none}
 use borrow.Author.Needs.{needs}
 use native.Mathlib.Omega.{arith}
@@ -12,7 +12,7 @@ use Rattle.sweep.proofs.ending.some_held.Lts as lts
 use Rattle.words.proofs.most16.Reads as most16-reads
 
 abbrev Inv-loop : tie.InvT-loop
-Inv-loop report processes n p₀ p = (n ≤ 16) × (p ≤ n) × (heldIn report p ≡ false)
+Inv-loop report processes n p₀ p = (n ≤ 16) × (p ≤ n) × (someHeldIn report p ≡ false)
 
 abbrev μ-loop : tie.MeasureT-loop
 μ-loop report processes n p₀ p = n - p

@@ -1,9 +1,10 @@
 use mathlib.Core.Path.{refl, _∙_}
 use mathlib.Core.List.{[], _∷_}
 use Prim.Native.Nat.{_+_, _-_}
+use Rattle.facts.specs.Laying.{laid-length}
 use Rattle.state.specs.Queue.{queueCount}
 use Rattle.rules.specs.Sizes.{outboxMost}
-use Rattle.view.proofs.Laying.{sets-long, EachLaid, each-start, each-on, each-end}
+use Rattle.view.proofs.Laying.{EachLaid, each-start, each-on, each-end}
 use Rattle.view.proofs.Blocks.{entryIn, entry-wide, entry-is, board-laid}
 use borrow.Author.Needs.{needs}
 use native.Mathlib.Omega.{arith}
@@ -102,7 +103,7 @@ same-length c =
     let x = c .before .before .before .before in
     let s = x .before .before .before .before .before .before .args in
     c .before .loop .inv .same-length
-    ∙ sets-long (s .out .now) (x .lay .last .1 .0) (s .at) (x .before .before .before .before .dead .result ∷ queueCount (s .queue .now) ∷ []) (x .lay .ensures)
+    ∙ laid-length (s .out .now) (x .lay .last .1 .0) (s .at) (x .before .before .before .before .dead .result ∷ queueCount (s .queue .now) ∷ []) (x .lay .ensures)
 
 -- src/boards.rt:106:1
 returns : tie.Need-returns Inv-loop μ-loop

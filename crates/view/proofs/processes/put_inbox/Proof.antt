@@ -1,7 +1,7 @@
 use mathlib.Core.Path.{refl}
 use Prim.Native.Nat.{_-_}
 use Rattle.backup.specs.Limits.{logMost}
-use Rattle.view.specs.Lists.{unreadAt}
+use Rattle.view.specs.Lists.{inboxAt}
 use Rattle.view.proofs.Laying.{EachLaid, each-start, each-on, each-end}
 use Rattle.view.proofs.Widths.{unread-two}
 use borrow.Author.Needs.{needs}
@@ -14,7 +14,7 @@ use Rattle.view.proofs.lay.lay.Reads as lay-reads
 use Rattle.view.proofs.processes.unread.Reads as unread-reads
 
 abbrev Inv-loop : tie.InvT-loop
-Inv-loop row mail out₀ at i₀ out i = EachLaid (unreadAt row mail) 2 logMost out₀ at out i
+Inv-loop row mail out₀ at i₀ out i = EachLaid (inboxAt row mail) 2 logMost out₀ at out i
 
 abbrev μ-loop : tie.MeasureT-loop
 μ-loop row mail out₀ at i₀ out i = logMost - i
@@ -23,7 +23,7 @@ abbrev μ-loop : tie.MeasureT-loop
 loop-holds : tie.Need-loop-holds Inv-loop μ-loop
 loop-holds c =
     let s = c .before .args in
-    each-start (unreadAt (s .row .now) (s .mail .now)) 2 logMost (unread-two (s .row .now) (s .mail .now)) (s .out .now) (s .at)
+    each-start (inboxAt (s .row .now) (s .mail .now)) 2 logMost (unread-two (s .row .now) (s .mail .now)) (s .out .now) (s .at)
 
 -- src/processes.rt:87:17
 unread-requires : tie.Need-unread-requires Inv-loop μ-loop
@@ -59,7 +59,7 @@ loop-again c =
     let test = c .before .before .before .before .before .before in
     let l = test .before .loop in
     let s = test .before .before .before .args in
-    each-on (unreadAt (s .row .now) (s .mail .now)) 2 logMost (unread-two (s .row .now) (s .mail .now)) (s .out .now) (s .at) _ _ _ (l .i) _ (l .inv) (test .loop-test .taken) refl
+    each-on (inboxAt (s .row .now) (s .mail .now)) 2 logMost (unread-two (s .row .now) (s .mail .now)) (s .out .now) (s .at) _ _ _ (l .i) _ (l .inv) (test .loop-test .taken) refl
     (c .before .before .before .before .before .unread .ensures) (c .before .before .lay .ensures)
 
 -- src/processes.rt:81:1
@@ -71,7 +71,7 @@ returns : tie.Need-returns Inv-loop μ-loop
 returns c =
     let l = c .before .loop in
     let s = c .before .before .before .args in
-    each-end (unreadAt (s .row .now) (s .mail .now)) 2 logMost (unread-two (s .row .now) (s .mail .now)) (s .out .now) (s .at) _ (l .i) (l .inv) (c .loop-test .left)
+    each-end (inboxAt (s .row .now) (s .mail .now)) 2 logMost (unread-two (s .row .now) (s .mail .now)) (s .out .now) (s .at) _ (l .i) (l .inv) (c .loop-test .left)
 
 pub put-inbox-spec : {M : Type 1} → statement M
 put-inbox-spec =

@@ -1,10 +1,10 @@
-use Rattle.process.proofs.Rebacking.{rebacks-none, rebacks-so}
+use Rattle.process.proofs.Transferring.{begins-transfer-none, begins-transfer-so}
 use native.Mathlib.Omega.{arith}
 use borrow.Author.Needs.{needs}
-use Rattle.process.proofs.transfer.reback.Statement.{statement}
-use Rattle.process.proofs.transfer.reback.Tie as tie
-use Rattle.process.proofs.transfer.reback.Reads as reads
-use Rattle.process.proofs.transfer.reback.Lts as lts
+use Rattle.process.proofs.transfer.begin_transfer.Statement.{statement}
+use Rattle.process.proofs.transfer.begin_transfer.Tie as tie
+use Rattle.process.proofs.transfer.begin_transfer.Reads as reads
+use Rattle.process.proofs.transfer.begin_transfer.Lts as lts
 use Rattle.backup.proofs.place.new_in.Reads as new-in-reads
 use Rattle.backup.proofs.place.sync_in.Reads as sync-in-reads
 use Rattle.process.proofs.checkpoint.issue.Reads as issue-reads
@@ -27,7 +27,7 @@ wide-requires-2 c κs = search needs
 returns : tie.Need-returns
 returns c =
     let a = c .before .before .before .before .before .args in
-    rebacks-none (a .row .now) (a .mail .now) (a .log .now) (a .head .now) (a .wires .now) (let w = c .before .wide2 .ensures .0 in let t = c .if1 .taken in omega arith)
+    begins-transfer-none (a .row .now) (a .mail .now) (a .log .now) (a .head .now) (a .wires .now) (let w = c .before .wide2 .ensures .0 in let t = c .if1 .taken in omega arith)
 
 issue-requires : tie.Need-issue-requires
 issue-requires c κs = search needs
@@ -57,12 +57,12 @@ returns-2 c =
     let k = c .before .before .before .before .snapshot in
     let s = c .before .before .before .sync-in in
     let q = c .copy in
-    rebacks-so (a .row .now) (a .mail .now) (a .log .now) (a .head .now) (a .wires .now) (i .last .0) (i .ensures) (n .last .0) (λ l h. n .ensures .1 (a .log .now) l h)
+    begins-transfer-so (a .row .now) (a .mail .now) (a .log .now) (a .head .now) (a .wires .now) (i .last .0) (i .ensures) (n .last .0) (λ l h. n .ensures .1 (a .log .now) l h)
     (k .result) (k .ensures) (s .result .number) (s .last .0) (s .last .1 .0) (s .ensures .0) (q .last .1 .1 .1 .1 .0) (q .last .1 .1 .1 .1 .1 .0)
     (rw (← y .wide2 .ensures .0, ← y .before .before .wide .ensures .0) (q .ensures))
 
-pub reback-spec : {M : Type 1} → statement M
-reback-spec =
+pub begin-transfer-spec : {M : Type 1} → statement M
+begin-transfer-spec =
     tie.close
     (tie.spec
     element-copy-out-wide

@@ -19,10 +19,10 @@ use Rattle.backup.specs.declared.place.Checkpoint as code
 use Rattle.rules.specs.Table.{Table, placementAt, portOf}
 use Rattle.rules.specs.Machine.{Mail}
 use Rattle.rules.specs.Cabinet.{Process, noTakes, noneSince, otherBoard}
-use Rattle.rules.specs.Moves.{withStandby, issued, snapshot, copied, rebacking, rebacked}
+use Rattle.rules.specs.Moves.{withStandby, issued, snapshot, copied, beginTransfer, endTransfer}
 use Rattle.process.specs.Row.{pcIn, flagIn, standbyBoardIn, unreadIn, oldestIn, checkpointIn, mailIn, packedAt, mailsIn, mailAt, machineOf, standbyOf, processOf, Kept, Seated}
 use Rattle.process.specs.Change.{RowBecame}
-use Rattle.process.specs.Transfer.{portFor, copyOf, withMore, Copied, OnPorts, Rebacks}
+use Rattle.process.specs.Transfer.{portFor, copyOf, withMore, Copied, OnPorts, BeginsTransfer}
 use Rattle.process.proofs.Rows.{stored, spelled, seated-cell, waits-cell, checkpoint-is}
 
 -- ---- the copies
@@ -100,8 +100,8 @@ kept-whole c e l =
 -- ---- the process
 
 module _ (row mail log head port : List ℕ) where
-  pub rebacks-none : logMost < unreadIn row → Rebacks row mail log head port row log head
-  rebacks-none h k t p on low s = absurd (let u = k .unread in omega arith)
+  pub begins-transfer-none : logMost < unreadIn row → BeginsTransfer row mail log head port row log head
+  begins-transfer-none h k t p on low s = absurd (let u = k .unread in omega arith)
 
   module _ (row₁ : List ℕ) (became : RowBecame row row₁ issued) (head₁ : List ℕ) (fresh : length log ≡ logMost → length head ≡ 11 → Fresh log head₁)
       (c : code.Checkpoint) (snap : c ≡ checkpointIn row₁)
@@ -141,9 +141,9 @@ module _ (row mail log head port : List ℕ) where
           became mail log head k .seated-again (placementAt t p .primary) (placementAt t p .standby) s .other-is
           ∙ ap (λ (y : Process). otherBoard t p y) is-issued
 
-    pub rebacks-so : Rebacks row mail log head port (set row₁ 12 2) log₃ head₃
-    unfolding processOf machineOf standbyOf issued rebacking
-    rebacks-so k t p on low s =
+    pub begins-transfer-so : BeginsTransfer row mail log head port (set row₁ 12 2) log₃ head₃
+    unfolding processOf machineOf standbyOf issued beginTransfer
+    begins-transfer-so k t p on low s =
         let z = became mail log head k .kept-again .row-length in
         let y : Process = processOf row mail log head in
         let b = other-there k t p on low s in
@@ -168,13 +168,13 @@ module _ (row mail log head port : List ℕ) where
 
 -- ---- the carry
 
-pub completed-none : (row : List ℕ) → flagIn row ≡ 0 → RowBecame row row rebacked
-unfolding processOf machineOf standbyOf rebacked
-completed-none row z mail log head k = record { process-is = rw (eq-eqb (flagIn row) 0 z); kept-again = k; seated-again = λ x y s. s; waits-again = refl }
+pub ends-transfer-none : (row : List ℕ) → flagIn row ≡ 0 → RowBecame row row endTransfer
+unfolding processOf machineOf standbyOf endTransfer
+ends-transfer-none row z mail log head k = record { process-is = rw (eq-eqb (flagIn row) 0 z); kept-again = k; seated-again = λ x y s. s; waits-again = refl }
 
-pub completed-so : (row : List ℕ) → (flagIn row ≡ 0 → ⊥) → RowBecame row (set row 12 1) rebacked
-unfolding processOf machineOf standbyOf rebacked
-completed-so row n mail log head k =
+pub ends-transfer-so : (row : List ℕ) → (flagIn row ≡ 0 → ⊥) → RowBecame row (set row 12 1) endTransfer
+unfolding processOf machineOf standbyOf endTransfer
+ends-transfer-so row n mail log head k =
     let z = k .row-length in
     record {
       process-is = rw (ne-eqb (flagIn row) 0 n) (spelled row (λ (r : List ℕ). processOf (set r 12 1) mail log head) z);

@@ -16,12 +16,12 @@ use Rattle.backup.specs.Limits.{ports, pcMost}
 use Rattle.plan.specs.declared.Counts.{Counts}
 use Rattle.plan.specs.Plan.{Plan, Planned, planOf, arityIn, portIn}
 use Rattle.process.specs.Row.{boardIn, pcIn, suppressIn, flagIn, standbyBoardIn, unreadIn, waitsIn, mailAt, machineOf, processOf}
-use Rattle.process.specs.Transfer.{OnPorts, Rebacks}
+use Rattle.process.specs.Transfer.{OnPorts, BeginsTransfer}
 use Rattle.rules.specs.Table.{Table, channelAt, placementAt, inputs, portOf, channelOn}
 use Rattle.rules.specs.Machine.{Mail}
 use Rattle.rules.specs.Cabinet as rules
 use Rattle.rules.specs.Cabinet.{Cabinet, Process, outboxMost, occupancyMost, processAt, outboxAt, deadAt, protected, otherBoard, unreadOn, occupancy, crowded}
-use Rattle.rules.specs.Moves.{Refusal, refuse, accept, guard, hasBackup, unready, rebackupWaits, rebackupBlocked, rebackupDone, refusalNumber, withProcess, enqueue, rebacking, rebackup, numbers}
+use Rattle.rules.specs.Moves.{Refusal, refuse, accept, guard, hasBackup, unready, rebackupWaits, rebackupBlocked, rebackupDone, refusalNumber, withProcess, enqueue, beginTransfer, rebackup, numbers}
 use Rattle.rules.specs.Reasons.{refusalCause, causeOf}
 use Rattle.rules.proofs.Tables.{input, few-ports, primary-ok, standby-ok}
 use Rattle.rules.proofs.Inputs.{input-reader}
@@ -172,7 +172,7 @@ module _ {t : Table} {l : Plan} {s : Store} {entries : List Entry} {c : Cabinet}
                 rw (unbacked, alive, released, crowded-is ∙ few, waits-off reach h p hp none, le-leb outboxMost (length queue) (rw (queue-has reach h p hp) many))
 
             accepted-so : countIn (s .queues) (boardIn row) < outboxMost
-                → rebackup t c p ≡ accept (withProcess p (rebacking t p (processAt c p)) (enqueue (processAt c p .board) (rules.transfer p) c)) rebackupDone
+                → rebackup t c p ≡ accept (withProcess p (beginTransfer t p (processAt c p)) (enqueue (processAt c p .board) (rules.transfer p) c)) rebackupDone
             unfolding rebackup guard
             accepted-so room =
                 rw (unbacked, alive, released, crowded-is ∙ few, waits-off reach h p hp none, lt-leb outboxMost (length queue) (rw (queue-has reach h p hp) room))
@@ -206,16 +206,16 @@ module _ {t : Table} {l : Plan} {s : Store} {entries : List Entry} {c : Cabinet}
 
     -- and its new record is made
     rebackup-holds : (row′ log′ head′ : List ℕ)
-        → Rebacks (getD rows₁ p []) (getD (s .mails) p []) (getD (s .logs) p []) (getD (s .heads) p []) (l .wires) row′ log′ head′
+        → BeginsTransfer (getD rows₁ p []) (getD (s .mails) p []) (getD (s .logs) p []) (getD (s .heads) p []) (l .wires) row′ log′ head′
         → Holds t (storeOf (set rows₁ p row′) (s .mails) (set (s .logs) p log′) (set (s .heads) p head′) queues′ (s .totals)) entries′
-        (withProcess p (rebacking t p (processAt c p)) d)
-    unfolding rebacking
-    rebackup-holds row′ log′ head′ rebacks =
+        (withProcess p (beginTransfer t p (processAt c p)) d)
+    unfolding beginTransfer
+    rebackup-holds row′ log′ head′ begins =
         let mail : List ℕ = getD (s .mails) p [] in
         let at = at-process first p hp in
-        let became = rebacks (first .kept p hp) t p (on-ports reach s₁ p hp at plan) (low reach s₁ p hp at) (first .seated p hp) in
+        let became = begins (first .kept p hp) t p (on-ports reach s₁ p hp at plan) (low reach s₁ p hp at) (first .seated p hp) in
         let x : Process = processOf row′ mail log′ head′ in
-        let is : x ≡ rebacking t p (processAt c p) = became .process-is ∙ ap (rebacking t p) (sym at) in
+        let is : x ≡ beginTransfer t p (processAt c p) = became .process-is ∙ ap (beginTransfer t p) (sym at) in
         let u : Totalled t (s .totals) (withProcess p x d) =
         totalled-same (first .totalled) (occupancy-mailbox t d p (rw (how-many first) hp) x (ap (λ (y : Process). y .machine .mailbox) is)) in
         let whole = changed first (reach .accepted .processes-high) p hp row′ mail log′ head′ (s .totals) (became .kept-again) (became .seated-again)
@@ -295,12 +295,12 @@ module _ (programs wires : List ℕ) (rows mails logs heads queues : List (List 
                 refused-38 reach plan h p hp bare (alive-there reach plan h hp) free (sym is-found ∙ few) none (rw (← the-board reach h hp) many))
 
             pub rebackups-done : (row′ log′ head′ queue : List ℕ) (at : ℕ) → countIn queues b < outboxMost
-                → Rebacks (getD (withFlag rows p 1) p []) (getD mails p []) (getD logs p []) (getD heads p []) wires row′ log′ head′
+                → BeginsTransfer (getD (withFlag rows p 1) p []) (getD mails p []) (getD logs p []) (getD heads p []) wires row′ log′ head′
                 → queue ≡ pushedIn (getD queues b []) → at < 512 → at ≡ placeOf (getD queues b []) b → r ≡ movedOf (answerOf 0 3 0 0) at
                 → Rebackups programs wires rows mails logs heads queues totals a
                 (set (withFlag rows p 1) p row′) (set logs p log′) (set heads p head′) (set queues b queue) r
             unfolding numbers causeOf
-            rebackups-done row′ log′ head′ queue at room rebacks is-queue below is-at e table counts =
+            rebackups-done row′ log′ head′ queue at room begins is-queue below is-at e table counts =
                 makes-joined (answerOf 0 3 0 0) (omega arith)
                 (record {
                   rows-same = simp length-set;
@@ -317,4 +317,4 @@ module _ (programs wires : List ℕ) (rows mails logs heads queues : List (List 
                 let its = the-board reach h hp in
                 let room′ : countIn queues (boardIn (getD rows p [])) < outboxMost = rw (← its) room in
                 answered _ rebackupDone (accepted-so reach plan h p hp bare (alive-there reach plan h hp) free (sym is-found ∙ few) none room′) refl refl
-                (rw (is-queue, is-at, its, board-is reach h p hp) (rebackup-holds reach plan h p hp room′ row′ log′ head′ rebacks))))
+                (rw (is-queue, is-at, its, board-is reach h p hp) (rebackup-holds reach plan h p hp room′ row′ log′ head′ begins))))
