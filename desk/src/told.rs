@@ -2,7 +2,6 @@
 use crate::case::Case;
 use crate::expect::unmet;
 use crate::failure::Failure;
-use crate::form::print;
 use crate::proved::Ran;
 use crate::settle::Stuck;
 use crate::words;
@@ -13,7 +12,7 @@ pub fn unmet_of(case: &Case, ran: &Ran) -> Vec<String> {
     let file = &case.schedule_from.file;
     let records = case.records();
     let stuck = case.unfolded.stuck.iter().map(|at| (at.line, stuck(case, &at.it)));
-    let unmet = unmet(&case.table, &case.names, &records, ran, &case.unfolded.checks);
+    let unmet = unmet(&case.table, case.spoken(), &records, ran, &case.unfolded.checks);
     let mut all: Vec<(usize, String)> = stuck.chain(unmet.into_iter().map(|unmet| (unmet.line, unmet.what))).collect();
     all.sort_by_key(|(line, _)| *line);
     all.into_iter().map(|(line, what)| format!("{file}:{line}: {what}")).collect()
@@ -23,7 +22,7 @@ pub fn unmet_of(case: &Case, ran: &Ran) -> Vec<String> {
 pub fn stuck(case: &Case, stuck: &Stuck) -> String {
     match stuck {
         Stuck::Refused { record, answer } => {
-            format!("until: record {record} would be {}", words::answer(*answer, None))
+            format!("until: record {record} would be {}", case.spoken().answer(*answer, None))
         }
         Stuck::Endless { records } => format!("until: not there after {records} records of the schedule"),
         Stuck::Unquiet { records, still, programs } => {
@@ -37,10 +36,11 @@ pub fn stuck(case: &Case, stuck: &Stuck) -> String {
 
 /// Where a program stands, what it would do next, and what a step of it would answer.
 fn stands(case: &Case, p: usize, (place, answer): (u8, Answer)) -> String {
-    let name = case.names.program_name(p as u32);
+    let spoken = case.spoken();
+    let name = spoken.process(p as u32);
     let table = Table::of(&case.table).expect("an accepted table");
     let next = table.processes[p].program.get(usize::from(place));
-    let next = next.map_or("halted".to_string(), |operation| format!("`{}`", print::instruction(*operation, p, &case.names)));
+    let next = next.map_or("halted".to_string(), |operation| spoken.written(p, *operation));
     match answer.code.refused() {
         true => format!("{name} at place {place}, {next}: {}, {}", answer.code.number(), answer.reason.words()),
         false => format!("{name} at place {place}, {next}, could step"),

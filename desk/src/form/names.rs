@@ -70,8 +70,13 @@ impl Names {
     /// What a place of a program is called: by its label, or by its number.
     pub fn place_name(&self, program: usize, place: impl Into<u32>) -> String {
         let place = place.into();
-        let label = self.labels.get(program).and_then(|labels| labels.iter().find(|(_, other)| *other == place));
-        label.map_or(place.to_string(), |(label, _)| label.clone())
+        self.label(program, place).map_or(place.to_string(), str::to_string)
+    }
+
+    /// The first label of a place of a program.
+    pub fn label(&self, program: usize, place: u32) -> Option<&str> {
+        let (label, _) = self.labels.get(program)?.iter().find(|(_, other)| *other == place)?;
+        Some(label)
     }
 
     /// What a program is called; one that isn't there, by its number.

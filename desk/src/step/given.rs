@@ -4,7 +4,7 @@ use crate::expect::unmet;
 use crate::form::assemble::Step;
 use crate::form::syntax::At;
 use crate::settle::{unfold, Stuck};
-use crate::words::many;
+use crate::words::{many, Spoken};
 use kunzeastylus::{Fate, Record};
 
 /// From where a record came: of the file by its number, from 1; typed, by how many were; or a key that goes back.
@@ -57,7 +57,7 @@ impl Stepper {
         let typed = self.typed;
         self.give(&made.records[before..], |i| Source::Typed(typed + 1 + i))?;
         self.typed += made.records.len() - before;
-        let unmet = unmet(&self.bytes, &self.names, &made.records, &self.ran(), &made.checks);
+        let unmet = unmet(&self.bytes, Spoken::by(&self.names), &made.records, &self.ran(), &made.checks);
         let met = (!made.checks.is_empty() && unmet.is_empty()).then(|| "as expected".to_string());
         Ok(stuck.into_iter().chain(met).chain(unmet.into_iter().map(|unmet| unmet.what)).collect())
     }
