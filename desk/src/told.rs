@@ -26,12 +26,16 @@ pub fn stuck(case: &Case, stuck: &Stuck) -> String {
         }
         Stuck::Endless { records } => format!("until: not there after {records} records of the schedule"),
         Stuck::Unquiet { records, still, programs } => {
-            let after = words::many(*records, "record", "records");
-            let how = if *still { "the cabinet stands still" } else { "it could go on" };
             let who: Vec<String> = programs.iter().enumerate().map(|(p, now)| stands(case, p, *now)).collect();
-            format!("settle: not quiet after {after}, and {how}: {}", who.join("; "))
+            format!("settle: {}: {}", unquiet(*records, *still), who.join("; "))
         }
     }
+}
+
+/// That a `settle` of so many records is not quiet, and whether anything can be done.
+pub fn unquiet(records: usize, still: bool) -> String {
+    let how = if still { "the cabinet stands still" } else { "it could go on" };
+    format!("not quiet after {}, and {how}", words::many(records, "record", "records"))
 }
 
 /// Where a program stands, what it would do next, and what a step of it would answer.

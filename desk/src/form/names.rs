@@ -1,7 +1,7 @@
 //! What channels, programs and places are called: by the names of a text, or by names that are made up.
 use super::lexer::Wrong;
 use super::syntax::{At, Ref, Text};
-use kunzeastylus::{Operation, Table};
+use kunzeastylus::{End, Operation, Table};
 
 /// The names of a table's parts, in the order of their numbers.
 #[derive(Clone, Debug, Default, PartialEq, Eq)]
@@ -89,6 +89,14 @@ impl Names {
     pub fn channel_name(&self, number: impl Into<u32>) -> String {
         let number = number.into();
         self.channels.get(number as usize).cloned().unwrap_or(number.to_string())
+    }
+
+    /// What an end of a channel is called.
+    pub fn end_name(&self, end: End) -> String {
+        match end {
+            End::Outside => "outside".to_string(),
+            End::Process(p) => self.program_name(p),
+        }
     }
 }
 

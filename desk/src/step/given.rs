@@ -4,7 +4,8 @@ use crate::expect::unmet;
 use crate::form::assemble::Step;
 use crate::form::syntax::At;
 use crate::settle::{unfold, Stuck};
-use crate::words::{many, Spoken};
+use crate::told;
+use crate::words::Spoken;
 use kunzeastylus::{Fate, Record};
 
 /// From where a record came: of the file by its number, from 1; typed, by how many were; or a key that goes back.
@@ -67,10 +68,7 @@ impl Stepper {
         match stuck {
             Stuck::Refused { answer, .. } => format!("no further: the next would be {}", self.said().answer(*answer)),
             Stuck::Endless { records } => format!("no further: not there after {records} records"),
-            Stuck::Unquiet { records, still, .. } => {
-                let how = if *still { "the cabinet stands still" } else { "it could go on" };
-                format!("not quiet after {}, and {how}", many(*records, "record", "records"))
-            }
+            Stuck::Unquiet { records, still, .. } => told::unquiet(*records, *still),
         }
     }
 }
