@@ -1,10 +1,9 @@
 //! Expectations, held against a run: of a record's answer, and of the cabinet as it is behind a record.
 use crate::form::answers::{name, Outcome};
 use crate::form::assemble::Want;
-use crate::form::names::Names;
 use crate::form::syntax::{Expected, Fact, Ref};
 use crate::proved::{run_records, Ran};
-use crate::words::{self, many};
+use crate::words::{self, many, Spoken};
 use kunzeastylus::{Answer, ProcessEnd, Reason, Record, Table};
 
 /// Something that is expected, with its line.
@@ -32,20 +31,20 @@ pub struct Unmet {
 }
 
 /// The expectations that fail, in their order. The run is that of all records.
-pub fn unmet(table: &[u8], names: &Names, records: &[Record], ran: &Ran, checks: &[Check]) -> Vec<Unmet> {
+pub fn unmet(table: &[u8], spoken: Spoken, records: &[Record], ran: &Ran, checks: &[Check]) -> Vec<Unmet> {
     let decoded = Table::of(table).expect("the table of an accepted run");
     let mut unmet = Vec::new();
     let mut beginning: Option<(usize, Ran)> = None;
     for check in checks {
         let what = match check {
-            Check::Answer { record, expected, .. } => answer(*record, *expected, ran.answers[*record]),
-            Check::Cabinet { after, want, .. } if *after == records.len() => cabinet(&decoded, names, ran, want),
+            Check::Answer { record, expected, .. } => answer(spoken, *record, *expected, ran.answers[*record]),
+            Check::Cabinet { after, want, .. } if *after == records.len() => cabinet(&decoded, spoken, ran, want),
             Check::Cabinet { after, want, .. } => {
                 if beginning.as_ref().is_none_or(|(records, _)| records != after) {
                     let ran = run_records(table, &records[..*after]).expect("a beginning of an accepted run");
                     beginning = Some((*after, ran));
                 }
-                beginning.as_ref().and_then(|(_, ran)| cabinet(&decoded, names, ran, want))
+                beginning.as_ref().and_then(|(_, ran)| cabinet(&decoded, spoken, ran, want))
             }
         };
         unmet.extend(what.map(|what| Unmet { line: check.line(), what }));
@@ -54,15 +53,15 @@ pub fn unmet(table: &[u8], names: &Names, records: &[Record], ran: &Ran, checks:
 }
 
 /// What an answer is, in words with its code.
-fn told(answer: Answer) -> String {
+fn told(spoken: Spoken, answer: Answer) -> String {
     match answer.code.refused() {
-        true => words::answer(answer, None),
-        false => format!("{}, {}", answer.code.number(), words::answer(answer, None)),
+        true => spoken.answer(answer, None),
+        false => format!("{}, {}", answer.code.number(), spoken.answer(answer, None)),
     }
 }
 
-fn answer(record: usize, expected: Expected, found: Answer) -> Option<String> {
-    let found_is = format!("record {} answered {}", record + 1, told(found));
+fn answer(spoken: Spoken, record: usize, expected: Expected, found: Answer) -> Option<String> {
+    let found_is = format!("record {} answered {}", record + 1, told(spoken, found));
     if !expected.outcome.is(found) {
         return Some(format!("expected {}; {found_is}", outcome(expected.outcome)));
     }
@@ -82,33 +81,30 @@ fn outcome(outcome: Outcome) -> String {
 }
 
 /// What of the cabinet is not as it is wanted.
-fn cabinet(table: &Table, names: &Names, ran: &Ran, want: &Want) -> Option<String> {
+fn cabinet(table: &Table, spoken: Spoken, ran: &Ran, want: &Want) -> Option<String> {
     match want {
         Want::Quiet(quiet) if ran.quiet == *quiet => None,
         Want::Quiet(true) => Some(format!("expected quiet; found {}", words::quiet(false))),
         Want::Quiet(false) => Some(format!("expected not quiet; found {}", words::quiet(true))),
         Want::Program(p, facts) => {
             let halt = table.processes[*p].program.len();
-            let unmet = facts.iter().filter_map(|fact| program(names, *p, halt, ran.ends[*p], fact));
+            let unmet = facts.iter().filter_map(|fact| program(spoken, *p, halt, ran.ends[*p], fact));
             let (wanted, found): (Vec<String>, Vec<String>) = unmet.unzip();
-            let name = &names.programs[*p];
+            let name = spoken.process(*p as u32);
             (!wanted.is_empty()).then(|| format!("expected {name} {}; found {}", wanted.join(", "), found.join(", ")))
         }
         Want::Channel(channel, wanted) => {
             let found: Vec<u32> = ran.bus.iter().filter(|word| word.channel == *channel).map(|word| word.word).collect();
-            channel_words(&names.channel_name(*channel), wanted, &found)
+            channel_words(&spoken.channel(*channel), wanted, &found)
         }
     }
 }
 
 /// What was wanted and what was found instead, if it was.
-fn program(names: &Names, p: usize, halt: usize, end: ProcessEnd, fact: &Fact) -> Option<(String, String)> {
+fn program(spoken: Spoken, p: usize, halt: usize, end: ProcessEnd, fact: &Fact) -> Option<(String, String)> {
     let place = |place: u32| match place as usize == halt {
         true => format!("halted at place {place}"),
-        false => match names.place_name(p, place) {
-            name if name == place.to_string() => format!("at place {place}"),
-            name => format!("at {name}, place {place}"),
-        },
+        false => format!("at {}", spoken.place(p, place)),
     };
     let (met, wanted, found) = match fact {
         Fact::On(board) => (u32::from(end.board) == *board, format!("on {board}"), format!("on {}", end.board)),

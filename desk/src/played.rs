@@ -1,4 +1,5 @@
-//! A run with what it was given: the table, the records, and what the proved call wrote. The plain run and the picture are made of it.
+//! A run with what it was given: the table, the records, and what the proved call wrote. The explanation, the plain run and the picture are made
+//! of it; what asks only for what was written has that alone, a `Ran`.
 use crate::explain::Input;
 use crate::proved::{self, Ran};
 use kunzeastylus::{Fate, Move, Record, Table};

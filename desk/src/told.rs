@@ -2,7 +2,6 @@
 use crate::case::Case;
 use crate::expect::unmet;
 use crate::failure::Failure;
-use crate::form::print;
 use crate::proved::Ran;
 use crate::settle::Stuck;
 use crate::words;
@@ -13,7 +12,7 @@ pub fn unmet_of(case: &Case, ran: &Ran) -> Vec<String> {
     let file = &case.schedule_from.file;
     let records = case.records();
     let stuck = case.unfolded.stuck.iter().map(|at| (at.line, stuck(case, &at.it)));
-    let unmet = unmet(&case.table, &case.names, &records, ran, &case.unfolded.checks);
+    let unmet = unmet(&case.table, case.spoken(), &records, ran, &case.unfolded.checks);
     let mut all: Vec<(usize, String)> = stuck.chain(unmet.into_iter().map(|unmet| (unmet.line, unmet.what))).collect();
     all.sort_by_key(|(line, _)| *line);
     all.into_iter().map(|(line, what)| format!("{file}:{line}: {what}")).collect()
@@ -23,24 +22,29 @@ pub fn unmet_of(case: &Case, ran: &Ran) -> Vec<String> {
 pub fn stuck(case: &Case, stuck: &Stuck) -> String {
     match stuck {
         Stuck::Refused { record, answer } => {
-            format!("until: record {record} would be {}", words::answer(*answer, None))
+            format!("until: record {record} would be {}", case.spoken().answer(*answer, None))
         }
         Stuck::Endless { records } => format!("until: not there after {records} records of the schedule"),
         Stuck::Unquiet { records, still, programs } => {
-            let after = words::many(*records, "record", "records");
-            let how = if *still { "the cabinet stands still" } else { "it could go on" };
             let who: Vec<String> = programs.iter().enumerate().map(|(p, now)| stands(case, p, *now)).collect();
-            format!("settle: not quiet after {after}, and {how}: {}", who.join("; "))
+            format!("settle: {}: {}", unquiet(*records, *still), who.join("; "))
         }
     }
 }
 
+/// That a `settle` of so many records is not quiet, and whether anything can be done.
+pub fn unquiet(records: usize, still: bool) -> String {
+    let how = if still { "the cabinet stands still" } else { "it could go on" };
+    format!("not quiet after {}, and {how}", words::many(records, "record", "records"))
+}
+
 /// Where a program stands, what it would do next, and what a step of it would answer.
 fn stands(case: &Case, p: usize, (place, answer): (u8, Answer)) -> String {
-    let name = case.names.program_name(p as u32);
+    let spoken = case.spoken();
+    let name = spoken.process(p as u32);
     let table = Table::of(&case.table).expect("an accepted table");
     let next = table.processes[p].program.get(usize::from(place));
-    let next = next.map_or("halted".to_string(), |operation| format!("`{}`", print::instruction(*operation, p, &case.names)));
+    let next = next.map_or("halted".to_string(), |operation| spoken.written(p, *operation));
     match answer.code.refused() {
         true => format!("{name} at place {place}, {next}: {}, {}", answer.code.number(), answer.reason.words()),
         false => format!("{name} at place {place}, {next}, could step"),

@@ -1,5 +1,6 @@
 //! The words of the fronts: for a record, its answer, an instruction, a process and the whole cabinet; by numbers, or by the names of a file.
 use crate::form::names::Names;
+use crate::form::print;
 use kunzeastylus::{Answer, BusWord, Code, End, Move, Operation, ProcessEnd, Reason, Record, Table};
 
 /// What stands behind the number of a record that a later one takes back.
@@ -63,6 +64,15 @@ impl<'n> Spoken<'n> {
         name.cloned().unwrap_or_else(|| format!("channel {k}"))
     }
 
+    /// A place of a process, with its label where it has one.
+    pub fn place(self, p: usize, place: impl Into<u32>) -> String {
+        let place = place.into();
+        match self.names.and_then(|names| names.label(p, place)) {
+            Some(label) => format!("{label}, place {place}"),
+            None => format!("place {place}"),
+        }
+    }
+
     /// A record; of a step, what the process does by it, where there is such a process.
     pub fn record(self, bytes: &[u8], does: impl FnOnce(u8) -> Option<String>) -> String {
         let (a, word) = (bytes[1], u32::from_be_bytes([bytes[2], bytes[3], bytes[4], bytes[5]]));
@@ -104,6 +114,14 @@ impl<'n> Spoken<'n> {
             }
             Operation::Send { channel, .. } => format!("SEND {}", self.channel(channel)),
             Operation::Jump { register, place } => format!("JUMP to place {place} by register {register}"),
+        }
+    }
+
+    /// An instruction of a process as it stands in the file, where that has names; otherwise in words.
+    pub fn written(self, p: usize, operation: Operation) -> String {
+        match self.names {
+            Some(names) => format!("`{}`", print::instruction(operation, p, names)),
+            None => self.instruction(operation),
         }
     }
 

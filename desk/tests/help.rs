@@ -66,7 +66,8 @@ fn version_of_the_package() {
 /// While something is proved, each crate is said with how many are left; those that stand already are only counted.
 #[test]
 fn how_many_are_left() {
-    let lines = "rt: facts proved (unchanged since it was last proved)\nfn words::a: proved\nrt: words proved (4 s)\nrt: backup proved (21 s)\n";
+    let stands = |name: &str| format!("rt: {name} proved (unchanged since it was last proved)\n");
+    let lines = stands("facts") + &stands("numbers") + "fn words::a: proved\nrt: words proved (4 s)\nrt: backup proved (21 s)\n";
     let script = format!("root=. name=ks; source tools/build.sh; printf '{lines}' | countdown \"$(below backup)\"");
     let ended = Command::new("bash").args(["-c", &script]).current_dir(ROOT).output().expect("bash");
     let said = String::from_utf8(ended.stdout).expect("text");

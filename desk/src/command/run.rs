@@ -5,7 +5,7 @@ use crate::failure::Failure;
 use crate::output::Outputs;
 use crate::proved::{self, Ran};
 use crate::{bench, input, json, told};
-use kunzeastylus::End;
+use kunzeastylus::BusWord;
 
 const OPTIONS: [args::Known; 5] = [flag("--json"), flag("--bus"), flag("--strict"), TABLE, input::AS];
 
@@ -46,12 +46,9 @@ fn ended(said: &Said, case: &Case, ran: &Ran) -> Result<(), Failure> {
 
 /// The bus order, a line for each word: channel, word, sender and place.
 fn bus(case: &Case, ran: &Ran) -> String {
-    let sender = |sender: End| match sender {
-        End::Outside => "outside".to_string(),
-        End::Process(p) => case.names.program_name(p),
-    };
-    let line = |word: &kunzeastylus::BusWord| {
-        format!("{} {} {} {}\n", case.names.channel_name(word.channel), word.word, sender(word.sender), word.place)
+    let names = &case.names;
+    let line = |word: &BusWord| {
+        format!("{} {} {} {}\n", names.channel_name(word.channel), word.word, names.end_name(word.sender), word.place)
     };
     ran.bus.iter().map(line).collect()
 }

@@ -1,7 +1,7 @@
 //! What channels, programs and places are called: by the names of a text, or by names that are made up.
 use super::lexer::Wrong;
 use super::syntax::{At, Ref, Text};
-use kunzeastylus::{Operation, Table};
+use kunzeastylus::{End, Operation, Table};
 
 /// The names of a table's parts, in the order of their numbers.
 #[derive(Clone, Debug, Default, PartialEq, Eq)]
@@ -70,8 +70,13 @@ impl Names {
     /// What a place of a program is called: by its label, or by its number.
     pub fn place_name(&self, program: usize, place: impl Into<u32>) -> String {
         let place = place.into();
-        let label = self.labels.get(program).and_then(|labels| labels.iter().find(|(_, other)| *other == place));
-        label.map_or(place.to_string(), |(label, _)| label.clone())
+        self.label(program, place).map_or(place.to_string(), str::to_string)
+    }
+
+    /// The first label of a place of a program.
+    pub fn label(&self, program: usize, place: u32) -> Option<&str> {
+        let (label, _) = self.labels.get(program)?.iter().find(|(_, other)| *other == place)?;
+        Some(label)
     }
 
     /// What a program is called; one that isn't there, by its number.
@@ -84,6 +89,14 @@ impl Names {
     pub fn channel_name(&self, number: impl Into<u32>) -> String {
         let number = number.into();
         self.channels.get(number as usize).cloned().unwrap_or(number.to_string())
+    }
+
+    /// What an end of a channel is called.
+    pub fn end_name(&self, end: End) -> String {
+        match end {
+            End::Outside => "outside".to_string(),
+            End::Process(p) => self.program_name(p),
+        }
     }
 }
 

@@ -1,6 +1,6 @@
 //! A cabinet and a schedule, printed in words: what is read back gives the same bytes.
 use super::names::Names;
-use kunzeastylus::{End, Move, Operation, Process, Record, Table};
+use kunzeastylus::{Move, Operation, Process, Record, Table};
 use std::fmt::Write;
 
 /// The table.
@@ -12,19 +12,12 @@ pub fn table(table: &Table, names: &Names) -> String {
     writeln!(text, "boards {}", table.boards).unwrap();
     let wide = names.channels.iter().map(|name| name.chars().count()).max().unwrap_or(0);
     for ((sender, reader), name) in table.channels.iter().zip(&names.channels) {
-        writeln!(text, "channel {name:<wide$}  {} -> {}", end(*sender, names), end(*reader, names)).unwrap();
+        writeln!(text, "channel {name:<wide$}  {} -> {}", names.end_name(*sender), names.end_name(*reader)).unwrap();
     }
     for (p, process) in table.processes.iter().enumerate() {
         program(p, process, names, &mut text);
     }
     text
-}
-
-fn end(end: End, names: &Names) -> String {
-    match end {
-        End::Outside => "outside".to_string(),
-        End::Process(p) => names.program_name(p),
-    }
 }
 
 fn program(p: usize, process: &Process, names: &Names, text: &mut String) {

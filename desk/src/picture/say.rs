@@ -6,12 +6,12 @@ use kunzeastylus::{End, Fate, Move, Operation, Record};
 
 /// What a process is called: by its name, or by its number.
 pub fn program(story: &Story, process: u8) -> String {
-    story.names.as_ref().map_or_else(|| format!("process {process}"), |names| names.program_name(process))
+    story.spoken().process(process)
 }
 
 /// What a channel is called.
 fn channel(story: &Story, channel: u8) -> String {
-    story.names.as_ref().map_or_else(|| format!("channel {channel}"), |names| names.channel_name(channel))
+    story.spoken().channel(channel)
 }
 
 /// Which name stands for which number, where there are names.

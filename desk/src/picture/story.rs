@@ -5,6 +5,7 @@ use crate::follow::Spot;
 use crate::form::names::Names;
 use crate::played::Played;
 use crate::proved;
+use crate::words::Spoken;
 use kunzeastylus::{Answer, Code, End, Fate, Move, Reason};
 
 /// What a record did.
@@ -133,6 +134,11 @@ impl Story {
     pub fn named(self, names: &Names) -> Story {
         let own = *names != Names::made_up(&self.played.table);
         Story { names: own.then(|| names.clone()), ..self }
+    }
+
+    /// How programs and channels are spoken of: by those names, or by their numbers.
+    pub fn spoken(&self) -> Spoken<'_> {
+        self.names.as_ref().map_or(Spoken::NUMBERS, Spoken::by)
     }
 
     /// The cabinet before a record, from 0.

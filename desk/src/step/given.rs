@@ -4,7 +4,8 @@ use crate::expect::unmet;
 use crate::form::assemble::Step;
 use crate::form::syntax::At;
 use crate::settle::{unfold, Stuck};
-use crate::words::many;
+use crate::told;
+use crate::words::Spoken;
 use kunzeastylus::{Fate, Record};
 
 /// From where a record came: of the file by its number, from 1; typed, by how many were; or a key that goes back.
@@ -57,7 +58,7 @@ impl Stepper {
         let typed = self.typed;
         self.give(&made.records[before..], |i| Source::Typed(typed + 1 + i))?;
         self.typed += made.records.len() - before;
-        let unmet = unmet(&self.bytes, &self.names, &made.records, &self.ran(), &made.checks);
+        let unmet = unmet(&self.bytes, Spoken::by(&self.names), &made.records, &self.ran(), &made.checks);
         let met = (!made.checks.is_empty() && unmet.is_empty()).then(|| "as expected".to_string());
         Ok(stuck.into_iter().chain(met).chain(unmet.into_iter().map(|unmet| unmet.what)).collect())
     }
@@ -67,10 +68,7 @@ impl Stepper {
         match stuck {
             Stuck::Refused { answer, .. } => format!("no further: the next would be {}", self.said().answer(*answer)),
             Stuck::Endless { records } => format!("no further: not there after {records} records"),
-            Stuck::Unquiet { records, still, .. } => {
-                let how = if *still { "the cabinet stands still" } else { "it could go on" };
-                format!("not quiet after {}, and {how}", many(*records, "record", "records"))
-            }
+            Stuck::Unquiet { records, still, .. } => told::unquiet(*records, *still),
         }
     }
 }

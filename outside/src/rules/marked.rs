@@ -97,13 +97,17 @@ fn m13() {
     assert_eq!(page(&input), PAGE);
 }
 
+/// The sample's table with a loop for ever of one instruction, on register 1 and with word 0.
+fn looping(code: u8) -> Vec<u8> {
+    let mut table = SAMPLE.to_vec();
+    table[13..31].copy_from_slice(&[1, 0, 0, 0, 0, 1, code, 1, 0, 0, 0, 0, 6, 0, 0, 0, 0, 1]);
+    table
+}
+
 #[test]
 fn eight_acts_pass() {
     // A process that takes for ever: eight takes pass, the ninth is 37 with a word there, 36 with none.
-    let mut table = SAMPLE.to_vec();
-    table[13..19].copy_from_slice(&[1, 0, 0, 0, 0, 1]);
-    table[19..25].copy_from_slice(&[3, 1, 0, 0, 0, 0]);
-    table[25..31].copy_from_slice(&[6, 0, 0, 0, 0, 1]);
+    let table = looping(3);
     let mut records = vec![step(0)];
     for _ in 0..8 {
         records.extend([feed(0, 9), step(0), step(0)]);
@@ -117,10 +121,7 @@ fn eight_acts_pass() {
 #[test]
 fn sixty_four_instructions_pass() {
     // W-204: a loop that neither reads nor sends stops at the 65th, goes on after a sync, and without a backup owes nothing.
-    let mut table = SAMPLE.to_vec();
-    table[13..19].copy_from_slice(&[1, 0, 0, 0, 0, 1]);
-    table[19..25].copy_from_slice(&[2, 1, 0, 0, 0, 0]);
-    table[25..31].copy_from_slice(&[6, 0, 0, 0, 0, 1]);
+    let table = looping(2);
     let mut records = vec![step(0); 66];
     records.push(sync(0));
     records.extend(vec![step(0); 65]);
