@@ -96,9 +96,8 @@ pub fn count(schedule: &[u8]) -> usize
     (len - FIRST_COMMAND) / 6
 }
 
-// A stretch of a schedule's records, on lists that hold any cabinet that commands reach. It ends before a move 8, too. What is returned is what is
-// left of the stretch: the next record's number, and the entries then. The buffers have room for all records before `to`. The schedule's records
-// are counted here, so that the compiler knows that each of them is there.
+// A stretch of a schedule's records, on lists that hold any cabinet that commands reach. It ends before a move 8, and with the schedule. What is
+// returned is what is left of the stretch: the next record's number, and the entries then. The buffers have room for all records before `to`.
 pub fn play(
     table: &[u8],
     schedule: &[u8],
