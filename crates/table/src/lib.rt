@@ -22,7 +22,7 @@ use crate::ends::judge_ports;
 use crate::extent::judge_extent;
 use crate::instructions::instructions_ok;
 use numbers::runs::ACCEPTED;
-use numbers::runs::BOARDS;
+use numbers::runs::BOARDS as BOARDS_BAD;
 use numbers::runs::CHANNEL_ENDS;
 use numbers::runs::CHANNELS_READ;
 use numbers::runs::INSTRUCTION;
@@ -105,7 +105,7 @@ pub fn decode(table: &[u8]) -> Decoded
     let rows = w.programs;
     let b = judge_boards(table, rows);
     if !b.ok {
-        return refused(BOARDS);
+        return refused(BOARDS_BAD);
     }
     if !instructions_ok(table) {
         return refused(INSTRUCTION);

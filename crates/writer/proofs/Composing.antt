@@ -21,7 +21,8 @@ use Rattle.writer.specs.Fitted.{fitByte, fitThrees, fitted, headBytes, r
 use Rattle.writer.specs.Writes.{nothing, Writes}
 use Rattle.facts.specs.Laying.{sets-append, sets-front}
 use Rattle.writer.proofs.Pieces.{fit-same}
-use Rattle.writer.proofs.Fitting.{length-fitThrees, long-fitted, validate-laid, fitted-same}
+use Rattle.writer.proofs.Fitting.{length-fitThrees, long-fitted, validate-laid}
+use Rattle.writer.proofs.FittedSame.{fitted-same}
 
 -- ---- the whole table laid out
 

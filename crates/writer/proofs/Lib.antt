@@ -4,4 +4,5 @@ pub mod Storing
 pub mod Walking
 pub mod Lengths
 pub mod Fitting
+pub mod FittedSame
 pub mod Composing

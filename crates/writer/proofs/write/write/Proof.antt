@@ -3,7 +3,7 @@ use lib.ListN.{length}
 use Rattle.rules.specs.Encode.{encode}
 use Rattle.writer.specs.Given.{given}
 use Rattle.writer.proofs.Lengths.{fitting}
-use Rattle.writer.proofs.Fitting.{fitted-same}
+use Rattle.writer.proofs.FittedSame.{fitted-same}
 use Rattle.writer.proofs.Composing.{refused-lists, refused-framing, refused-room, writes-nothing, writes-table}
 use native.Mathlib.Omega.{arith}
 use borrow.Author.Needs.{needs}

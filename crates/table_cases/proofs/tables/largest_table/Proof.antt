@@ -4,11 +4,11 @@ use mathlib.Core.Path.{_≡_}
 use lib.ListN.{length}
 use borrow.Author.Needs.{needs}
 use native.Mathlib.Omega.{arith}
-use Rattle.table_cases.proofs.largest_table.Statement.{statement}
-use Rattle.table_cases.proofs.largest_table.Tie as tie
-use Rattle.table_cases.proofs.largest_table.Reads as reads
-use Rattle.table_cases.proofs.largest_table.Lts as lts
-use Rattle.table_cases.proofs.largest_byte.Reads as largest-byte-reads
+use Rattle.table_cases.proofs.tables.largest_table.Statement.{statement}
+use Rattle.table_cases.proofs.tables.largest_table.Tie as tie
+use Rattle.table_cases.proofs.tables.largest_table.Reads as reads
+use Rattle.table_cases.proofs.tables.largest_table.Lts as lts
+use Rattle.table_cases.proofs.tables.largest_byte.Reads as largest-byte-reads
 
 abbrev Inv-loop : tie.InvT-loop
 Inv-loop version t₀ i₀ t i = (i ≤ 6300) × (length t ≡ 6300)
