@@ -27,12 +27,12 @@ use Rattle.state.specs.declared.entry.Entry.{Entry}
 use Rattle.state.specs.Store.{Store}
 use Rattle.play.specs.Plays.{Sheets, sheetsOf, Roomy}
 use Rattle.undo.specs.Sessions.{PlaysAll}
-use Rattle.view.specs.View.{viewMost, viewedOf, view, validateView, viewed}
-use Rattle.view.specs.Lists.{viewOf}
+use Rattle.layout.specs.View.{viewMost, viewedOf, view, validateView, viewed}
+use Rattle.layout.specs.Lists.{viewOf}
 use Rattle.view.specs.Judged.{judgedView}
 use Rattle.view.specs.Shows.{Shows}
 use Rattle.view.specs.Views.{Views}
-use Rattle.view.proofs.Whole.{view-is, view-long}
+use Rattle.layout.proofs.Whole.{view-is, view-long}
 
 -- ---- the number
 

@@ -3,7 +3,7 @@ use Prim.Native.Nat.{ℕ}
 use lib.Dec.{eqb, leb}
 use Rattle.rules.specs.Format.{orNumber}
 use Rattle.records.specs.declared.schedule.Judged.{Judged}
-use Rattle.view.specs.View.{viewMost}
+use Rattle.layout.specs.View.{viewMost}
 
 -- (proofs/Viewing.antt: of the table and the schedule that were judged it is the rules' `validateView`.)
 unfoldable pub judgedView : ℕ → Judged → ℕ → ℕ

@@ -1,6 +1,4 @@
--- The whole cabinet as numbers: read View, the definition, and Views, the call's promise. Lists, Judged and Shows are of private steps.
-pub mod View
-pub mod Lists
+-- The view of a run: read Views, the call's promise; `layout` has the definition. Judged and Shows are of private steps.
 pub mod Judged
 pub mod Shows
 pub mod Views

@@ -9,7 +9,7 @@ use Rattle.rules.specs.Bytes.{written}
 use Rattle.rules.specs.Transparent.{ended}
 use Rattle.rules.specs.Format.{decodeTable}
 use Rattle.rules.specs.Schedule.{decodeSchedule}
-use Rattle.view.specs.View.{validateView, view}
+use Rattle.layout.specs.View.{validateView, view}
 
 pub record Shows (table schedule : List ℕ) (plan : Plan) (before after : List ℕ) : Type 0 where
   pub shown : validateView table schedule (length before) ≡ 0 → Plans table plan

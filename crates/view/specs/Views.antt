@@ -2,7 +2,7 @@
 use mathlib.Core.Path.{_≡_}
 use mathlib.Core.List.{List}
 use Prim.Native.Nat.{ℕ}
-use Rattle.view.specs.View.{viewedOf, viewed}
+use Rattle.layout.specs.View.{viewedOf, viewed}
 
 -- A view of any bytes of a table and a schedule, to a list of any length: this before it, that after it. Refused with the lowest number that
 -- applies and nothing written, or 0 and the view at the list's front, the numbers beyond it untouched.

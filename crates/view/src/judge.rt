@@ -1,7 +1,7 @@
 // The number of a view: those of the table and of the schedule, as for a run, then 54 for a list that is shorter than a view.
 ghost use mathlib.Core.Path.{_≡_};
 ghost use Rattle.view.specs.Judged.{judgedView};
-use crate::all::VIEW;
+use layout::all::VIEW;
 use numbers::runs::ACCEPTED;
 use numbers::runs::VIEW_SHORT;
 use records::schedule::Judged;

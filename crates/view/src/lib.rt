@@ -4,20 +4,16 @@ ghost use Rattle.rules.specs.Schedule.{commandsIn};
 ghost use Rattle.play.specs.Plays.{Roomy, sheetsOf};
 ghost use Prim.Native.Nat.{_≤_};
 ghost use lib.ListN.{length};
-ghost use Rattle.view.specs.View.{viewMost};
+ghost use Rattle.layout.specs.View.{viewMost};
 ghost use Rattle.view.specs.Shows.{Shows};
 ghost use Rattle.view.specs.Views.{Views};
 
-mod all;
-mod boards;
 mod judge;
-mod lay;
-mod processes;
 
-use crate::all::put_view;
 use crate::judge::judge_view;
 use backup::limits::LOG;
 use backup::place::HEAD;
+use layout::all::put_view;
 use numbers::runs::ACCEPTED;
 use plan::BOARDS;
 use plan::CHANNELS;

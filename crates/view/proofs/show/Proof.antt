@@ -6,7 +6,7 @@ use Rattle.view.proofs.show.Tie as tie
 use Rattle.view.proofs.show.Reads as reads
 use Rattle.view.proofs.show.Lts as lts
 use Rattle.undo.proofs.all.play_all.Reads as play-all-reads
-use Rattle.view.proofs.all.put_view.Reads as put-view-reads
+use Rattle.layout.proofs.all.put_view.Reads as put-view-reads
 
 -- src/lib.rt:56:9
 play-all-requires : tie.Need-play-all-requires
