@@ -4,6 +4,8 @@ use Prim.Native.Nat.{ℕ}
 use lib.Dec.{eqb, leb}
 use Rattle.plan.specs.declared.Counts.{Counts}
 use Rattle.records.specs.declared.schedule.Command.{Command}
+use Rattle.state.specs.declared.moved.Answer.{Answer}
+use Rattle.state.specs.Moved.{refusalOf}
 use Rattle.rules.specs.Moves.{Move, stepMove, issueMove, transmitMove, injectMove, crashMove, rejoinMove, rebackupMove, unknown, moveOf}
 
 -- 33, or 0
@@ -46,3 +48,7 @@ causeBy number crashMove = faultOf number 1
 causeBy number rejoinMove = faultOf number 1
 causeBy number rebackupMove = faultOf number 0
 causeBy number unknown = 0
+
+-- the answer to a record with a number: "A refusal repeats a", with its cause
+abbrev pub turnedAway : ℕ → ℕ → ℕ → Answer
+turnedAway number mv a = refusalOf number (causeBy number (moveOf mv)) a

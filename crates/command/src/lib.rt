@@ -1,2 +1,3 @@
 // One record of a schedule, judged before its move is made.
-pub mod judge;
+pub mod due;
+mod judge;

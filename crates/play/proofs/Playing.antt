@@ -26,13 +26,18 @@ use Rattle.rules.proofs.Scheduled.{commands-counted}
 use Rattle.state.specs.declared.entry.Entry.{Entry}
 use Rattle.state.specs.declared.moved.Answer.{Answer}
 use Rattle.state.specs.declared.moved.Moved.{Moved}
-use Rattle.state.specs.Store.{Store, Holds}
-use Rattle.state.specs.Moved.{Reachable, Answered, Makes, joined, refusalOf}
-use Rattle.command.specs.Judges.{numberOf, wordedOf, judgeOf, causeBy}
+use Rattle.state.specs.Store.{Store, storeOf, Holds}
+use Rattle.state.specs.Moved.{Reachable, Answered, Makes, joined}
+use Rattle.command.specs.declared.due.Due.{Due}
+use Rattle.command.specs.Judges.{numberOf, wordedOf, judgeOf, turnedAway}
+use Rattle.command.specs.Dues.{commandIn, DueAt}
 use Rattle.command.proofs.Judging.{ruleOf, mostOf, passes, made, refused, refused-origin, known}
+use Rattle.facts.specs.Tests.{by-eq}
 use Rattle.plan.specs.declared.Counts.{Counts}
 use Rattle.plan.specs.Plan.{Plan, Planned}
 use Rattle.play.specs.declared.play.Stretch.{Stretch}
+use Rattle.rejoin.specs.Rebackups.{transferEntry}
+use Rattle.play.specs.Mends.{Mends}
 use Rattle.play.specs.Plays.{Sheets, AsLong, Writes, between, Suited, Played, Plays}
 use Rattle.play.proofs.Answers.{answer-fits}
 use Rattle.play.proofs.Sheets.{wrote-none, wrote-one, wrote-more, as-long, still-long}
@@ -160,38 +165,58 @@ at-first l schedule from end s entries sheets =
       played = λ t c u. rw none (played-none sheets from (u .holds));
     }
 
--- In a round record i is judged: c is the code's command of it, a its a as a word, n the judging's number.
+-- In a round record i is read and judged: d is what came of that.
 pub record Round (l : Plan) (schedule : List ℕ) (from end : ℕ) (s₀ : Store) (entries₀ : List Entry) (sheets₀ : Sheets)
-    (i : ℕ) (s : Store) (entries : List Entry) (sheets : Sheets) (c : code.Command) (a n : ℕ) : Type 0 where
+    (i : ℕ) (s : Store) (entries : List Entry) (sheets : Sheets) (d : Due) : Type 0 where
   pub so-far : Playing l schedule from end s₀ entries₀ sheets₀ i s entries sheets
   pub few : end ≤ commandsIn schedule
   pub below : i < end
-  pub is-c : commandOf c ≡ getD (decodeSchedule schedule) i (command 0 0 0)
-  pub is-a : a ≡ c .a
-  pub small : a < 256
-  pub is-n : n ≡ judgeOf (l .counts) c
+  pub due : DueAt schedule (l .counts) i d
+
+-- What that record, on lists s and these entries, comes to: the rules' answer r and origin o, and lists that hold the cabinet which it leaves.
+pub record Turned (l : Plan) (s : Store) (entries : List Entry) (d : Due) (s′ : Store) (entries′ : List Entry) (r : Answer) (o : Origin) : Type 0 where
+  pub no-undo : eqb (d .mv) 8 ≡ false
+  pub answered : (t : Table) (now : Cabinet) → Suited t l now s entries
+      → Answered t s′ entries′ now (commandOf (commandIn d)) (judged t now (commandOf (commandIn d))) r
+  pub comes : (t : Table) (now : Cabinet) → Suited t l now s entries → originOf (turn t now (commandOf (commandIn d)) .answer) ≡ o
+
+-- on lists that are the same
+pub turned-same : {l : Plan} {s : Store} {entries : List Entry} {d : Due} {o : Origin} {s₁ s₂ : Store} {entries₁ entries₂ : List Entry} {r₁ r₂ : Answer}
+    → s₁ ≡ s₂ → entries₁ ≡ entries₂ → r₁ ≡ r₂ → Turned l s entries d s₂ entries₂ r₂ o → Turned l s entries d s₁ entries₁ r₁ o
+turned-same {l} {s} {entries} {d} {o} {s₁} {s₂} {entries₁} {entries₂} {r₁} {r₂} e f g h =
+    subst (λ (x : Store). Turned l s entries d x entries₁ r₁ o) (sym e)
+    (subst (λ (x : List Entry). Turned l s entries d s₂ x r₁ o) (sym f) (subst (λ (x : Answer). Turned l s entries d s₂ entries₂ x o) (sym g) h))
+
+-- list by list
+pub turned-lists : {l : Plan} {s : Store} {entries : List Entry} {d : Due} {o : Origin} {rows₁ rows₂ mails₁ mails₂ logs₁ logs₂ heads₁ heads₂ queues₁ queues₂ : List (List ℕ)}
+    {totals₁ totals₂ : List ℕ} {entries₁ entries₂ : List Entry} {r₁ r₂ : Answer}
+    → rows₁ ≡ rows₂ → mails₁ ≡ mails₂ → logs₁ ≡ logs₂ → heads₁ ≡ heads₂ → queues₁ ≡ queues₂ → totals₁ ≡ totals₂ → entries₁ ≡ entries₂ → r₁ ≡ r₂
+    → Turned l s entries d (storeOf rows₂ mails₂ logs₂ heads₂ queues₂ totals₂) entries₂ r₂ o
+    → Turned l s entries d (storeOf rows₁ mails₁ logs₁ heads₁ queues₁ totals₁) entries₁ r₁ o
+turned-lists a b c d e f g h = turned-same (λ i. storeOf (a i) (b i) (c i) (d i) (e i) (f i)) g h
 
 module _ {l : Plan} {schedule : List ℕ} {from end : ℕ} {s₀ : Store} {entries₀ : List Entry} {sheets₀ : Sheets}
-    {i : ℕ} {s : Store} {entries : List Entry} {sheets : Sheets} {c : code.Command} {a n : ℕ}
-    (p : Round l schedule from end s₀ entries₀ sheets₀ i s entries sheets c a n) where
-  abbrev Next : Store → List Entry → Sheets → Type 0
-  Next s′ entries′ sheets′ = Playing l schedule from end s₀ entries₀ sheets₀ (i + 1) s′ entries′ sheets′
+    {i : ℕ} {s : Store} {entries : List Entry} {sheets : Sheets} {d : Due}
+    (p : Round l schedule from end s₀ entries₀ sheets₀ i s entries sheets d) where
+  abbrev it : code.Command
+  it = commandIn d
+
+  abbrev Comes : Store → List Entry → Answer → Origin → Type 0
+  Comes = Turned l s entries d
 
   -- those before the record, and it
-  with-it : between schedule from (i + 1) ≡ between schedule from i ++ (commandOf c ∷ [])
+  with-it : between schedule from (i + 1) ≡ between schedule from i ++ (commandOf it ∷ [])
   with-it =
       let forward = p .so-far .forward in
       let below = p .below in
       let few = p .few in
       between-parts schedule from i (i + 1) forward (omega arith)
-      ∙ ap (λ (r : List Command). between schedule from i ++ r) (between-one schedule i (omega arith) ∙ ap (λ (y : Command). y ∷ []) (sym (p .is-c)))
+      ∙ ap (λ (r : List Command). between schedule from i ++ r) (between-one schedule i (omega arith) ∙ ap (λ (y : Command). y ∷ []) (sym (p .due .command-is)))
 
-  -- what the rules make of the record, which is no move 8, is played with those before it
-  on : eqb (c .mv) 8 ≡ false → (s′ : Store) (entries′ : List Entry) (sheets′ : Sheets) (r : Answer) (o : Origin) → Writes sheets i r o sheets′
-      → ((t : Table) (now : Cabinet) → Suited t l now s entries → Answered t s′ entries′ now (commandOf c) (judged t now (commandOf c)) r)
-      → ((t : Table) (now : Cabinet) → Suited t l now s entries → originOf (turn t now (commandOf c) .answer) ≡ o)
-      → Next s′ entries′ sheets′
-  on other s′ entries′ sheets′ r o w answers comes =
+  -- Once it is written, it is played with those before it.
+  pub on : {s′ : Store} {entries′ : List Entry} {sheets′ : Sheets} {r : Answer} {o : Origin} → Comes s′ entries′ r o → Writes sheets i r o sheets′
+      → Playing l schedule from end s₀ entries₀ sheets₀ (i + 1) s′ entries′ sheets′
+  on {s′} {entries′} {sheets′} h w =
       let before = p .so-far in
       let below = p .below in
       let few = p .few in
@@ -199,69 +224,82 @@ module _ {l : Plan} {schedule : List ℕ} {from end : ℕ} {s₀ : Store} {entri
       record {
         forward = omega arith;
         inside = λ n h k. omega arith;
-        no-undo = rw (with-it, anyUndo-parts (between schedule from i) (commandOf c ∷ []), before .no-undo, other);
+        no-undo = rw (with-it, anyUndo-parts (between schedule from i) (commandOf it ∷ []), before .no-undo, h .no-undo);
         long = still-long (before .long) w;
         played = λ t start u.
             let done = before .played t start u in
             let fit = suited-on u done in
-            let x : Command = commandOf c in
-            let low : x .a < 256 = (let e = p .is-a in let f = p .small in omega arith) in
-            let one = played-one (fit .reached) x low (answers t _ fit) (comes t _ fit) w in
+            let one = played-one (fit .reached) (commandOf it) (p .due .a-small) (h .answered t _ fit) (h .comes t _ fit) w in
             let so-many = between-length schedule from i (omega arith) in
             subst (λ (l : List Command). Played t start l s′ entries′ sheets₀ from sheets′) (sym with-it) (played-parts done one (omega arith));
       }
 
   -- a record that is refused before its move is looked at
-  pub on-refused : (n ≡ 0 → ⊥) → (c .mv ≡ 8 → ⊥) → {cause : ℕ} → cause ≡ causeBy n (moveOf (c .mv)) → {r : Answer} → r ≡ refusalOf n cause a → {sheets′ : Sheets}
-      → Writes sheets i r noOrigin sheets′ → Next s entries sheets′
-  on-refused z other {cause} e {r} f {sheets′} w =
-      on (ne-eqb (c .mv) 8 other) s entries sheets′ r noOrigin w (λ t now u. refused (u .planned) c n (p .is-n) now a (p .is-a) cause (u .holds) z e f)
-      (λ t now u. refused-origin (u .planned) c n (p .is-n) now a (p .is-a) z)
+  pub comes-refused : (d .number ≡ 0 → ⊥) → (d .mv ≡ 8 → ⊥) → {r : Answer} → r ≡ turnedAway (d .number) (d .mv) (d .a) → Comes s entries r noOrigin
+  comes-refused z other e = record {
+    no-undo = ne-eqb (d .mv) 8 other;
+    answered = λ t now u. refused (u .planned) it (d .number) (p .due .number-is) now (d .a) refl _ (u .holds) z refl e;
+    comes = λ t now u. refused-origin (u .planned) it (d .number) (p .due .number-is) now (d .a) refl z;
+  }
 
   -- What tells the origin of the word that move k puts on the bus is o, where the move has what it asks. A word that is carried was waiting.
   abbrev Told : (Table → List Entry → Type 0) → ℕ → Moved → Origin → Type 0
   Told asks k m o =
-      (t : Table) (now : Cabinet) → Suited t l now s entries → a < mostOf (moveOf k) t → asks t entries
-      → (moveOf k ≡ transmitMove → m .answer .code ≡ 4 → outboxAt now a ≡ [] → ⊥) → toldBy t (outboxAt now a) (m .answer .code) (moveOf k) ≡ o
+      (t : Table) (now : Cabinet) → Suited t l now s entries → d .a < mostOf (moveOf k) t → asks t entries
+      → (moveOf k ≡ transmitMove → m .answer .code ≡ 4 → outboxAt now (d .a) ≡ [] → ⊥) → toldBy t (outboxAt now (d .a)) (m .answer .code) (moveOf k) ≡ o
 
-  told-by : (asks : Table → List Entry → Type 0) (k : ℕ) → c .mv ≡ k → (m : Moved) (o : Origin) → Told asks k m o
-      → (t : Table) (now : Cabinet) → Suited t l now s entries → a < mostOf (moveOf k) t → asks t entries
-      → numbers (turn t now (commandOf c) .answer) .code ≡ m .answer .code → originOf (turn t now (commandOf c) .answer) ≡ o
+  told-by : (asks : Table → List Entry → Type 0) (k : ℕ) → d .mv ≡ k → (m : Moved) (o : Origin) → Told asks k m o
+      → (t : Table) (now : Cabinet) → Suited t l now s entries → d .a < mostOf (moveOf k) t → asks t entries
+      → numbers (turn t now (commandOf it) .answer) .code ≡ m .answer .code → originOf (turn t now (commandOf it) .answer) ≡ o
   told-by asks k is-k m o tells t now u inside asked code-is =
-      let x : Command = commandOf c in
+      let x : Command = commandOf it in
       origin-told t now x
-      ∙ ap (λ (j : ℕ). toldBy t (outboxAt now (c .a)) j (moveOf (c .mv))) code-is
-      ∙ ap (λ (b : ℕ). toldBy t (outboxAt now b) (m .answer .code) (moveOf (c .mv))) (sym (p .is-a))
-      ∙ ap (λ (j : ℕ). toldBy t (outboxAt now a) (m .answer .code) (moveOf j)) is-k
-      ∙ tells t now u inside asked (λ e f g. carried-waited t now x (ap moveOf is-k ∙ e) (code-is ∙ f) (ap (outboxAt now) (sym (p .is-a)) ∙ g))
+      ∙ ap (λ (j : ℕ). toldBy t (outboxAt now (d .a)) j (moveOf (d .mv))) code-is
+      ∙ ap (λ (j : ℕ). toldBy t (outboxAt now (d .a)) (m .answer .code) (moveOf j)) is-k
+      ∙ tells t now u inside asked (λ e f g. carried-waited t now x (ap moveOf is-k ∙ e) (code-is ∙ f) g)
 
   -- one that is its move: what the rules call the move of number k
-  pub on-made : n ≡ 0 → (k : ℕ) → eqb k 8 ≡ false → c .mv ≡ k → {asks : Table → List Entry → Type 0} {joins : ℕ} {entry : Entry} {s′ : Store} {entries′ : List Entry}
-      {sheets′ : Sheets} {m : Moved} {o : Origin} → Writes sheets i (m .answer) o sheets′
-      → Makes (ruleOf (moveOf k) (c .word)) asks joins l s a entry s′ m
-      → ((t : Table) (now : Cabinet) → Accepted t → Holds t s entries now → a < mostOf (moveOf k) t → asks t entries × (entries′ ≡ joined entries (m .at) entry))
-      → Told asks k m o → Next s′ entries′ sheets′
+  pub comes-made : d .number ≡ 0 → (k : ℕ) → eqb k 8 ≡ false → d .mv ≡ k → {asks : Table → List Entry → Type 0} {joins : ℕ} {entry : Entry} {s′ : Store}
+      {entries′ : List Entry} {m : Moved} {o : Origin} → Makes (ruleOf (moveOf k) (d .word)) asks joins l s (d .a) entry s′ m
+      → ((t : Table) (now : Cabinet) → Accepted t → Holds t s entries now → d .a < mostOf (moveOf k) t → asks t entries × (entries′ ≡ joined entries (m .at) entry))
+      → Told asks k m o → Comes s′ entries′ (m .answer) o
   unfolding turn
-  on-made z k other is-k {asks = asks} {entry = entry} {s′ = s′} {entries′ = entries′} {sheets′ = sheets′} {m = m} {o = o} w h given tells =
-      let inside : (t : Table) (now : Cabinet) → Suited t l now s entries → a < mostOf (moveOf k) t =
-      λ t now u. passes (u .planned) c n (p .is-n) now a (p .is-a) k is-k z .a-inside in
+  comes-made z k other is-k {asks = asks} {entry = entry} {s′ = s′} {entries′ = entries′} {m = m} {o = o} h given tells =
+      let x : Command = commandOf it in
+      let inside : (t : Table) (now : Cabinet) → Suited t l now s entries → d .a < mostOf (moveOf k) t =
+      λ t now u. passes (u .planned) it (d .number) (p .due .number-is) now (d .a) refl k is-k z .a-inside in
       let there : (t : Table) (now : Cabinet) → Suited t l now s entries → asks t entries × (entries′ ≡ joined entries (m .at) entry) =
       λ t now u. given t now (u .reached .accepted) (u .holds) (inside t now u) in
-      let answers : (t : Table) (now : Cabinet) → Suited t l now s entries
-      → Answered t s′ entries′ now (commandOf c) (judged t now (commandOf c)) (m .answer) =
+      let answers : (t : Table) (now : Cabinet) → Suited t l now s entries → Answered t s′ entries′ now x (judged t now x) (m .answer) =
       λ t now u.
-      subst (λ (l : List Entry). Answered t s′ l now (commandOf c) (judged t now (commandOf c)) (m .answer)) (sym (there t now u .1))
-      (made (u .planned) c n (p .is-n) now a (p .is-a) k is-k z
-      (h .made t entries now (commandOf c) (u .reached) (u .planned) (u .holds) (sym (p .is-a)) (there t now u .0))) in
-      on (ap (λ (m : ℕ). eqb m 8) is-k ∙ other) s′ entries′ sheets′ (m .answer) o w answers (λ t now u.
-      told-by asks k is-k m o tells t now u (inside t now u) (there t now u .0) (ap (λ (y : Numbers). y .code) (answers t now u .answer-is)))
+      subst (λ (l : List Entry). Answered t s′ l now x (judged t now x) (m .answer)) (sym (there t now u .1))
+      (made (u .planned) it (d .number) (p .due .number-is) now (d .a) refl k is-k z
+      (h .made t entries now x (u .reached) (u .planned) (u .holds) refl (there t now u .0))) in
+      record {
+        no-undo = ap (λ (m : ℕ). eqb m 8) is-k ∙ other;
+        answered = answers;
+        comes = λ t now u. told-by asks k is-k m o tells t now u (inside t now u) (there t now u .0) (ap (λ (y : Numbers). y .code) (answers t now u .answer-is));
+      }
 
-  -- and no other passes
-  pub on-unknown : n ≡ 0 → (c .mv ≡ 1 → ⊥) → (c .mv ≡ 2 → ⊥) → (c .mv ≡ 3 → ⊥) → (c .mv ≡ 4 → ⊥) → (c .mv ≡ 5 → ⊥) → (c .mv ≡ 6 → ⊥) → (c .mv ≡ 7 → ⊥)
-      → {r : Answer} {sheets′ : Sheets} → Writes sheets i r noOrigin sheets′ → Next s entries sheets′
-  on-unknown z h1 h2 h3 h4 h5 h6 h7 {r} {sheets′} w =
-      on (ne-eqb (c .mv) 8 (λ e. let a = judgeOf-undo (l .counts) c e in let b = p .is-n in omega arith)) s entries sheets′ r noOrigin w (λ t now u. absurd (known (u .planned) c n (p .is-n) now a (p .is-a) z h1 h2 h3 h4 h5 h6 h7))
-      (λ t now u. absurd (known (u .planned) c n (p .is-n) now a (p .is-a) z h1 h2 h3 h4 h5 h6 h7))
+  -- one of moves 5 to 7: no other passes but those that the loop makes itself
+  pub comes-mended : d .number ≡ 0 → (d .mv ≡ 1 → ⊥) → (d .mv ≡ 2 → ⊥) → (d .mv ≡ 3 → ⊥) → (d .mv ≡ 4 → ⊥) → {s′ : Store} {entries′ : List Entry} {m : Moved}
+      → Mends (l .counts) (l .programs) (l .wires) (d .mv) (d .a) s s′ m → entries′ ≡ joined entries (m .at) (transferEntry (d .a))
+      → Comes s′ entries′ (m .answer) noOrigin
+  comes-mended z h1 h2 h3 h4 {s′} {entries′} {m} h e =
+      by-eq (d .mv) 5
+      (λ is. comes-made z 5 refl is (h .crashes is (l .table)) (λ t now ok holds b. (b, e)) (λ t now u b asked w. refl))
+      (λ h5. by-eq (d .mv) 6
+      (λ is. comes-made z 6 refl is (h .rejoins is (l .table)) (λ t now ok holds b. (b, e)) (λ t now u b asked w. refl))
+      (λ h6. by-eq (d .mv) 7
+      (λ is. comes-made z 7 refl is (h .rebackups is (l .table)) (λ t now ok holds b. (b, e)) (λ t now u b asked w. refl))
+      (λ h7.
+      let none : (t : Table) (now : Cabinet) → Suited t l now s entries → ⊥ =
+      λ t now u. known (u .planned) it (d .number) (p .due .number-is) now (d .a) refl z h1 h2 h3 h4 h5 h6 h7 in
+      record {
+        no-undo = ne-eqb (d .mv) 8 (λ e. let a = judgeOf-undo (l .counts) it e in let b = p .due .number-is in omega arith);
+        answered = λ t now u. absurd (none t now u);
+        comes = λ t now u. absurd (none t now u);
+      })))
 
 -- ---- where the stretch ends
 
@@ -286,7 +324,7 @@ module _ {l : Plan} {schedule : List ℕ} {stretch : Stretch} {end : ℕ} {s₀ 
   at-last e p z = ends e p (λ h. absurd (z h))
 
   -- the next record is a move 8
-  pub at-undo : {c : code.Command} {a n : ℕ} → end ≡ min (stretch .to) (commandsIn schedule)
-      → Round l schedule (stretch .from) end s₀ (stretch .entries) sheets₀ i s entries sheets c a n → c .mv ≡ 8
+  pub at-undo : {d : Due} → end ≡ min (stretch .to) (commandsIn schedule)
+      → Round l schedule (stretch .from) end s₀ (stretch .entries) sheets₀ i s entries sheets d → d .mv ≡ 8
       → Plays l schedule stretch s₀ sheets₀ (record { from = i; to = stretch .to; entries = entries }) s sheets
-  at-undo {c} e p z = ends e (p .so-far) (λ h. ap isUndo (sym (p .is-c)) ∙ eq-eqb (c .mv) 8 z)
+  at-undo {d} e p z = ends e (p .so-far) (λ h. ap isUndo (sym (p .due .command-is)) ∙ eq-eqb (d .mv) 8 z)

@@ -1,6 +1,7 @@
 // The loop over a schedule's records: each is judged, its move made, and its answer written. The loop alone holds the entries of all queues, one
 // flat array: it hands a carry the oldest entry of a board, and makes the entry by which a step, a sync or a resync ends.
 ghost use mathlib.Core.Path.{_≡_};
+ghost use Prim.Native.Nat.{min};
 ghost use Rattle.rules.specs.Schedule.{commandsIn};
 ghost use Rattle.rules.specs.Moves.{noOrigin};
 ghost use Rattle.plan.specs.Plan.{planOf};
@@ -10,45 +11,39 @@ ghost use Rattle.play.specs.Plays.{sheetsOf, RoomAt, Writes, Roomy, Play
 use crate::answer::put;
 use crate::answer::put_origin;
 use crate::answer::put_reason;
+use crate::mend::mend;
 use backup::limits::LOG;
 use backup::place::HEAD;
 use bus::inject::inject;
+use bus::oldest::oldest_of;
 use bus::origin::Origin;
 use bus::origin::carried;
 use bus::origin::fed;
 use bus::origin::nowhere;
 use bus::transmit::transmit;
-use command::judge::cause;
-use command::judge::judge;
-use crash::crash::crash;
-use numbers::answers::BAD_RECORD;
+use command::due::due_at;
+use command::due::turned_away;
 use plan::BOARDS;
 use plan::CHANNELS;
 use plan::Counts;
 use plan::PROCESSES;
 use plan::PROGRAMS;
 use plan::WIRES;
-use process::checkpoint::snapshot;
-use process::row::PC;
 use process::row::ROW;
 use records::schedule::FIRST_COMMAND;
 use records::schedule::UNDO;
-use records::schedule::command_at;
-use rejoin::rebackup::rebackup;
-use rejoin::rejoin::rejoin;
+use rejoin::rebackup::transfer_entry;
 use state::entry::Entry;
-use state::entry::Item;
 use state::moved::Answer;
-use state::moved::refusal;
 use state::queue::ENTRIES;
 use state::queue::QUEUE_ROW;
-use state::queue::oldest;
+use step::entry::checkpoint_of;
+use step::entry::place_of;
+use step::entry::sync_entry;
+use step::entry::word_entry;
 use step::issue::issue;
 use step::step::step;
-use words::byte_word;
-use words::index16;
 use words::least;
-use words::low_byte;
 
 // Records of a schedule that are to be played: those from number `from` on, before number `to` and before the schedule's end. `entries` are those
 // of all queues, as they are before the first of them.
@@ -96,6 +91,13 @@ pub fn count(schedule: &[u8]) -> usize
     (len - FIRST_COMMAND) / 6
 }
 
+// The number of the first record that is not to be played: `to`, or how many there are.
+fn last(schedule: &[u8], to: usize) -> usize
+    ensures { λ r. ⌜ r ≡ min to (commandsIn (now (schedule .entry))) ⌝ }
+{
+    least(to, count(schedule))
+}
+
 // A stretch of a schedule's records, on lists that hold any cabinet that commands reach. It ends before a move 8, and with the schedule. What is
 // returned is what is left of the stretch: the next record's number, and the entries then. The buffers have room for all records before `to`.
 pub fn play(
@@ -123,18 +125,16 @@ pub fn play(
         (sheetsOf (now (answers .exit)) (now (reasons .exit)) (now (origins .exit))) ⌝ }
 {
     let to = stretch.to;
-    let end = least(to, count(schedule));
+    let end = last(schedule, to);
     let mut entries = stretch.entries;
     let mut i = stretch.from;
     while i < end {
         let k = i;
         i += 1;
-        let c = command_at(schedule, k);
-        let mv = c.mv;
-        let word = c.word;
-        let a = byte_word(c.a);
-        let number = judge(counts, c);
-        if number != 0 {
+        let d = due_at(schedule, counts, k);
+        let mv = d.mv;
+        let a = d.a;
+        let r = if d.number != 0 {
             if mv == UNDO {
                 return Stretch {
                     from: k,
@@ -142,93 +142,64 @@ pub fn play(
                     entries: entries,
                 };
             }
-            write(
-                answers,
-                reasons,
-                origins,
-                k,
-                refusal(number, cause(number, mv), a),
-            );
-            continue;
-        }
-        match mv {
-            1 => {
-                let p = index16(a);
-                let place = low_byte(rows[p][PC]);
-                let m = step(table, programs, wires, rows, mails, queues, totals, a);
-                let at = m.at;
-                let r = m.answer;
-                write(answers, reasons, origins, k, r);
-                if at < ENTRIES {
-                    entries[at] = Entry {
-                        item: Item::Word {
-                            channel: r.a,
-                            word: r.word,
-                            place: place,
-                        },
-                    };
+            turned_away(d)
+        } else {
+            match mv {
+                1 => {
+                    let place = place_of(rows, a);
+                    let m = step(table, programs, wires, rows, mails, queues, totals, a);
+                    let at = m.at;
+                    write(answers, reasons, origins, k, m.answer);
+                    if at < ENTRIES {
+                        entries[at] = word_entry(m.answer, place);
+                    }
+                    continue;
+                }
+                2 => {
+                    let checkpoint = checkpoint_of(rows, a);
+                    let m = issue(rows, queues, a);
+                    let at = m.at;
+                    if at < ENTRIES {
+                        entries[at] = sync_entry(a, checkpoint);
+                    }
+                    m.answer
+                }
+                3 => {
+                    let at = oldest_of(queues, a);
+                    let e = entries[at];
+                    let r = transmit(wires, rows, mails, logs, heads, queues, totals, a, e);
+                    let o = carried(wires, r.code, e);
+                    write_from(answers, reasons, origins, k, r, o);
+                    continue;
+                }
+                4 => {
+                    let r = inject(wires, rows, mails, logs, heads, totals, a, d.word);
+                    write_from(answers, reasons, origins, k, r, fed(r.code));
+                    continue;
+                }
+                _ => {
+                    let m = mend(
+                        counts,
+                        programs,
+                        wires,
+                        rows,
+                        mails,
+                        logs,
+                        heads,
+                        queues,
+                        totals,
+                        mv,
+                        a,
+                    );
+                    let at = m.at;
+                    if at < ENTRIES {
+                        entries[at] = transfer_entry(a);
+                    }
+                    m.answer
                 }
             }
-            2 => {
-                let p = index16(a);
-                let checkpoint = snapshot(&rows[p]);
-                let m = issue(rows, queues, a);
-                let at = m.at;
-                let r = m.answer;
-                write(answers, reasons, origins, k, r);
-                if at < ENTRIES {
-                    entries[at] = Entry {
-                        item: Item::Sync {
-                            process: a,
-                            checkpoint: checkpoint,
-                        },
-                    };
-                }
-            }
-            3 => {
-                let b = index16(a);
-                let e = entries[oldest(&queues[b], b)];
-                let r = transmit(wires, rows, mails, logs, heads, queues, totals, a, e);
-                let o = carried(wires, r.code, e);
-                write_from(answers, reasons, origins, k, r, o);
-            }
-            4 => {
-                let r = inject(wires, rows, mails, logs, heads, totals, a, word);
-                write_from(answers, reasons, origins, k, r, fed(r.code));
-            }
-            5 => {
-                let r = crash(
-                    counts,
-                    programs,
-                    wires,
-                    rows,
-                    mails,
-                    logs,
-                    heads,
-                    queues,
-                    totals,
-                    a,
-                );
-                write(answers, reasons, origins, k, r);
-            }
-            6 => {
-                let r = rejoin(queues, a);
-                write(answers, reasons, origins, k, r);
-            }
-            7 => {
-                let m = rebackup(programs, wires, rows, mails, logs, heads, queues, totals, a);
-                let at = m.at;
-                let r = m.answer;
-                write(answers, reasons, origins, k, r);
-                if at < ENTRIES {
-                    entries[at] = Entry {
-                        item: Item::Transfer { process: a },
-                    };
-                }
-            }
-            // Never reached: `judge` passes none but the seven moves above, and a match over numbers wants the rest.
-            _ => write(answers, reasons, origins, k, refusal(BAD_RECORD, 0, a)),
-        }
+        };
+        write(answers, reasons, origins, k, r);
     }
     Stretch {
         from: i,

@@ -7,7 +7,7 @@ ghost use Rattle.facts.specs.Tests.{anyBelow};
 ghost use Rattle.backup.specs.Limits.{ports};
 ghost use Rattle.plan.specs.Plan.{arityIn};
 ghost use Rattle.rules.specs.Sizes.{processesMost};
-ghost use Rattle.rejoin.specs.Rebackups.{crowdedOn, Rebackups};
+ghost use Rattle.rejoin.specs.Rebackups.{crowdedOn, transferEntry, Rebackups};
 use backup::limits::LOG;
 use backup::place::HEAD;
 use numbers::answers::DONE;
@@ -34,6 +34,8 @@ use process::row::SUPPRESS;
 use process::row::WAITS;
 use process::transfer::begin_transfer;
 use state::channel::OCCUPANCY;
+use state::entry::Entry;
+use state::entry::Item;
 use state::moved::Answer;
 use state::moved::Moved;
 use state::moved::refused;
@@ -121,5 +123,14 @@ pub fn rebackup(
             word: 0,
         },
         at: at,
+    }
+}
+
+// The entry that joins.
+pub fn transfer_entry(process: u32) -> Entry
+    ensures { λ r. ⌜ r ≡ transferEntry process ⌝ }
+{
+    Entry {
+        item: Item::Transfer { process: process },
     }
 }

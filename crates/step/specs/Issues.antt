@@ -2,6 +2,7 @@
 use mathlib.Core.List.{List, []}
 use Prim.Native.Nat.{ℕ}
 use lib.ListN.{getD}
+use Rattle.backup.specs.declared.place.Checkpoint.{Checkpoint}
 use Rattle.plan.specs.Plan.{Plan}
 use Rattle.process.specs.Row.{checkpointIn}
 use Rattle.rules.specs.Moves.{issue}
@@ -11,9 +12,13 @@ use Rattle.state.specs.declared.moved.Moved.{Moved}
 use Rattle.state.specs.Store.{storeOf}
 use Rattle.state.specs.Moved.{Makes, aProcess}
 
--- the entry that joins: the process as a checkpoint, of its row before the move
+-- the entry that joins: the process as a checkpoint,
+abbrev pub syncedAs : ℕ → Checkpoint → Entry
+syncedAs a checkpoint = record { item = Sync a checkpoint }
+
+-- that of its row before the move
 abbrev pub syncEntry : List (List ℕ) → ℕ → Entry
-syncEntry rows a = record { item = Sync a (checkpointIn (getD rows a [])) }
+syncEntry rows a = syncedAs a (checkpointIn (getD rows a []))
 
 -- whatever the plan and the lists are that it isn't lent; done, it answers 0
 abbrev pub Issues : List (List ℕ) → List (List ℕ) → ℕ → List (List ℕ) → List (List ℕ) → Moved → Type 0

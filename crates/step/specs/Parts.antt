@@ -43,10 +43,13 @@ blameIn limit row = cond (exhaustedIn limit row) 0 1
 abbrev pub missingOf : ℕ → ℕ
 missingOf code = cond (eqb code 4) 1 0
 
--- The entry that joins: a queued word, which the answer shows, and "the place of its SEND" (W-212), of the process's row before the step. A place
--- is at most 64 and fits a byte.
+-- The entry that joins: a queued word, which the answer shows, and "the place of its SEND" (W-212),
+abbrev pub sentAs : Answer → ℕ → Entry
+sentAs answer place = record { item = Word (answer .a) (answer .word) place }
+
+-- that of the process's row before the step. A place is at most 64 and fits a byte.
 abbrev pub wordEntry : List (List ℕ) → ℕ → Answer → Entry
-wordEntry rows a answer = record { item = Word (answer .a) (answer .word) (pcIn (getD rows a []) % 256) }
+wordEntry rows a answer = sentAs answer (pcIn (getD rows a []) % 256)
 
 -- what a part of a step is given: process a is one of the table's, its limit is this one, and the instruction at its place has this intent
 pub record Intending (t : Table) (limit a : ℕ) (row mail : List ℕ) (n code register operand : ℕ) (intent : Intent) : Type 0 where
