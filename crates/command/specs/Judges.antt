@@ -49,6 +49,6 @@ causeBy number rejoinMove = faultOf number 1
 causeBy number rebackupMove = faultOf number 0
 causeBy number unknown = 0
 
--- the answer to a record with a number: "A refusal repeats a", with its cause
+-- the answer to a record with a number: a refusal repeats a, with its cause
 abbrev pub turnedAway : ℕ → ℕ → ℕ → Answer
 turnedAway number mv a = refusalOf number (causeBy number (moveOf mv)) a

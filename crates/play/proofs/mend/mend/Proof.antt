@@ -1,4 +1,5 @@
 -- `mend`: by the number of the move. Where no entry joins, any entry may be named as the one that would.
+use mathlib.Core.Path.{refl}
 use native.Mathlib.Omega.{arith}
 use Rattle.play.proofs.Mending.{any-entry}
 use borrow.Author.Needs.{needs}
@@ -37,6 +38,7 @@ returns c =
       crashes = λ _ table. any-entry (c .alone .ensures) (c .before .crash .ensures table);
       rejoins = λ e. absurd (omega arith);
       rebackups = λ e. absurd (omega arith);
+      others = λ n _ _. absurd (n is);
     }
 
 returns-2 : tie.Need-returns-2
@@ -46,6 +48,7 @@ returns-2 c =
       crashes = λ e. absurd (omega arith);
       rejoins = λ _ table. any-entry (c .alone2 .ensures) (c .before .rejoin .ensures _ _ _ _ _ _);
       rebackups = λ e. absurd (omega arith);
+      others = λ _ n _. absurd (n is);
     }
 
 returns-3 : tie.Need-returns-3
@@ -55,12 +58,18 @@ returns-3 c =
       crashes = λ e. absurd (omega arith);
       rejoins = λ e. absurd (omega arith);
       rebackups = λ _ table. c .rebackup .ensures table _;
+      others = λ _ _ n. absurd (n is);
     }
 
 returns-4 : tie.Need-returns-4
 returns-4 c =
     let m = c .before .match .rest in
-    record { crashes = λ e. absurd (m .0 .0 .1 e); rejoins = λ e. absurd (m .0 .1 e); rebackups = λ e. absurd (m .1 e) }
+    record {
+      crashes = λ e. absurd (m .0 .0 .1 e);
+      rejoins = λ e. absurd (m .0 .1 e);
+      rebackups = λ e. absurd (m .1 e);
+      others = λ _ _ _. (refl, c .refused .ensures);
+    }
 
 pub mend-spec : {M : Type 1} → statement M
 mend-spec =
