@@ -10,10 +10,10 @@ use Rattle.words.specs.Words.{pack, highIn, lowIn}
 use Rattle.facts.specs.Tests.{anyBelow}
 use Rattle.facts.specs.Lists.{prefix}
 use Rattle.backup.specs.Limits.{logMost, ports, sentMost, pcMost}
-use Rattle.backup.specs.Replica.{Message, Replica, Reply, FailOver, initial, fit, onPorts, savedOn, takenOn, remaining, lacking}
+use Rattle.backup.specs.Replica.{Message, Replica, Reply, FailOver, initial, sync, fit, onPorts, savedOn, takenOn, remaining, lacking}
 use Rattle.backup.specs.Replica as value
 use Rattle.backup.specs.Rounds.{allTaken}
-use Rattle.backup.specs.Report.{Report, noneByPort, noReport, syncReport}
+use Rattle.backup.specs.Report.{Report, noneByPort, noReport, syncReport, totalDropped}
 use Rattle.backup.specs.declared.place.Checkpoint.{Checkpoint}
 use Rattle.backup.specs.declared.place.Promotion.{Promotion}
 use Rattle.backup.specs.declared.place.Landed.{Landed}
@@ -157,6 +157,13 @@ landedIn head c rounds = record {
 pub record Reports (log head : List ℕ) (c : Checkpoint) (r : Landed) : Type 0 where
   pub refused-none : (r .number ≡ 0 → ⊥) → reportOf r ≡ noReport
   pub report-is : Sound log head → reportOf r ≡ syncReport (viewIn log head) (checkpointOf c)
+
+-- a sync in place that says only how many messages it dropped, on all ports together: there is a report, and n is its total
+pub record Totals (log head : List ℕ) (c : Checkpoint) (log′ head′ : List ℕ) (n : ℕ) : Type 0 where
+  pub landed : Landed
+  pub called : Called log head log′ head′ (landed .number) (λ v. sync v (checkpointOf c))
+  pub reports : Reports log head c landed
+  pub total-is : n ≡ totalDropped (reportOf landed) % 2 ^ 32
 
 -- ---- take over in place
 

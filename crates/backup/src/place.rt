@@ -4,15 +4,15 @@
 // look through the log for 20, since a sound one is fit; only a sync answers it, for a length over its array. What an unsound one comes to beside
 // its number is only safe.
 ghost use mathlib.Core.Path.{_≡_};
+ghost use mathlib.Core.Bool.{true, false};
 ghost use mathlib.Core.List.{List, [], _∷_};
 ghost use Prim.Native.Nat.{ℕ, _+_, _-_, _%_, _^_, _≤_, _<_};
 ghost use lib.ListN.{length, getD, set};
 ghost use Rattle.backup.specs.Limits.{logMost};
 ghost use Rattle.backup.specs.Replica.{arrive, count, sync, failOver};
 ghost use Rattle.backup.specs.Place.{Called, Sound, headLength, portIn, wordIn, checkpointOf, takenOf, lacksIn, restatedIn, Dropped};
-ghost use Rattle.backup.specs.Place.{promotionIn, viewIn, Reports, reportOf, refusedOf, landedIn, headLen};
+ghost use Rattle.backup.specs.Place.{promotionIn, viewIn, Reports, Totals, refusedOf, landedIn, headLen};
 ghost use Rattle.backup.specs.Place.{Fresh, freshHead, arriveNumberIn, countNumberIn, syncNumberIn, handedOver, messageAt};
-ghost use Rattle.backup.specs.Report.{totalDropped};
 ghost use Rattle.backup.specs.Rounds.{allTaken, syncRounds, OnePass};
 use crate::limits::LOG;
 use crate::limits::PC_MOST;
@@ -347,12 +347,33 @@ pub fn sync_in(log: &mut [u64; LOG], head: &mut [u32; HEAD], c: Checkpoint) -> L
     m.landed
 }
 
-// How many messages a sync dropped, on all ports together, in 32 bits.
-pub fn total_dropped(r: Landed) -> u32
-    ensures { λ n. ⌜ n ≡ totalDropped (reportOf r) % 2 ^ 32 ⌝ }
+// Whether some of len messages go and some stay, in one test.
+fn some_stay(all: usize, len: usize) -> bool
+    ensures { λ r. ⌜ (r ≡ true → (0 < all) × (all < len)) × (r ≡ false → 0 < all → len ≤ all) ⌝ }
 {
-    let d = r.dropped;
-    (together(d[0], d[1], d[2], d[3]) % 4294967296) as u32
+    if std::num::wrapping_sub_usize(all, 1) < less(len, 1) {
+        true
+    } else {
+        false
+    }
+}
+
+// A checkpoint lands, for a caller that asks only how many messages that dropped, on all ports together, modulo 2^32. It is a sync in place that
+// makes no report: a carried sync of a run needs none.
+pub fn sync_total(log: &mut [u64; LOG], head: &mut [u32; HEAD], c: Checkpoint) -> u32
+    ensures { λ r. ⌜ Totals (now (log .entry)) (now (head .entry)) c (now (log .exit)) (now (head .exit)) r ⌝ }
+{
+    if sync_number(head, c) > 0 {
+        return 0;
+    }
+    restate(head, c);
+    let all = together(c.t0, c.t1, c.t2, c.t3);
+    let len = wide(head[LEN]);
+    head[LEN] = less(len, all) as u32;
+    if some_stay(all, len) {
+        compact(log, len, [c.t0, c.t1, c.t2, c.t3], all);
+    }
+    (all % 4294967296) as u32
 }
 
 // The backup takes over: what its process goes on from. The log holds the messages.

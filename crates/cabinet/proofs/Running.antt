@@ -29,8 +29,8 @@ use Rattle.state.specs.declared.entry.Entry.{Entry}
 use Rattle.state.specs.Store.{Store}
 use Rattle.state.specs.Moved.{Reachable}
 use Rattle.plan.specs.Plan.{planOf}
-use Rattle.play.specs.Plays.{sheetsOf, Roomy}
-use Rattle.play.proofs.Sheets.{answers-front, reasons-front, origins-front}
+use Rattle.stretch.specs.Plays.{sheetsOf, Roomy}
+use Rattle.stretch.proofs.Sheets.{answers-front, reasons-front, origins-front}
 use Rattle.rules.proofs.Scheduled.{commands-counted, scheduled}
 use Rattle.undo.specs.Sessions.{PlaysAll}
 use Rattle.outcome.specs.Starts.{Placed}

@@ -13,7 +13,7 @@ use Rattle.table.specs.declared.Plan.{Plan}
 use Rattle.plan.specs.Plan.{planOf}
 use Rattle.state.specs.declared.entry.Entry.{Entry}
 use Rattle.state.specs.Store.{Store}
-use Rattle.play.specs.Plays.{Sheets}
+use Rattle.stretch.specs.Plays.{Sheets}
 use Rattle.undo.specs.Sessions.{PlaysAll}
 
 -- the bytes of a schedule up to its first n records

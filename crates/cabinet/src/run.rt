@@ -3,7 +3,7 @@
 ghost use Rattle.rules.specs.Schedule.{commandsIn};
 ghost use Rattle.rules.specs.Run.{buffersOf};
 ghost use Rattle.cabinet.specs.Conducts.{Conducts};
-ghost use Rattle.play.specs.Plays.{Roomy, sheetsOf};
+ghost use Rattle.stretch.specs.Plays.{Roomy, sheetsOf};
 ghost use Rattle.cabinet.specs.Runs.{Runs};
 use crate::judge::Lengths;
 use crate::judge::judge_run;

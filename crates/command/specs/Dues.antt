@@ -14,6 +14,12 @@ use Rattle.command.specs.Judges.{judgeOf}
 abbrev pub commandIn : Due → Command
 commandIn d = record { mv = d .mv; a = d .a; word = d .word }
 
+-- d is this command, with the number that the judging answers of it
+pub record DueOf (counts : Counts) (c : Command) (d : Due) : Type 0 where
+  pub command-is : commandOf (commandIn d) ≡ commandOf c
+  pub a-small : d .a < 256
+  pub number-is : d .number ≡ judgeOf counts (commandIn d)
+
 -- d is the i-th record of a schedule, with the number that the judging answers of it
 pub record DueAt (schedule : List ℕ) (counts : Counts) (i : ℕ) (d : Due) : Type 0 where
   pub command-is : commandOf (commandIn d) ≡ getD (decodeSchedule schedule) i (command 0 0 0)

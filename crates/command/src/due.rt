@@ -1,11 +1,11 @@
 // A schedule's record, read and judged before its move is made; and what it is answered where that refuses it.
 ghost use mathlib.Core.Path.{_≡_};
 ghost use Rattle.command.specs.Judges.{turnedAway};
-ghost use Rattle.command.specs.Dues.{DueAt};
+ghost use Rattle.command.specs.Dues.{DueOf};
 use crate::judge::cause;
 use crate::judge::judge;
 use plan::Counts;
-use records::schedule::command_at;
+use records::schedule::Command;
 use state::moved::Answer;
 use state::moved::refusal;
 use words::byte_word;
@@ -18,11 +18,10 @@ pub struct Due {
     pub word: u32,
 }
 
-// The i-th record.
-pub fn due_at(schedule: &[u8], counts: Counts, i: usize) -> Due
-    ensures { λ r. ⌜ DueAt (now (schedule .entry)) counts i r ⌝ }
+// A record that was read.
+pub fn due_of(counts: Counts, c: Command) -> Due
+    ensures { λ r. ⌜ DueOf counts c r ⌝ }
 {
-    let c = command_at(schedule, i);
     Due {
         number: judge(counts, c),
         mv: c.mv,

@@ -42,14 +42,17 @@ fn number_above_3(counts: Counts, mv: u8, a: u8) -> u32
 fn number(counts: Counts, mv: u8, a: u8) -> u32
     ensures { λ r. ⌜ r ≡ numberOf counts a (moveOf mv) ⌝ }
 {
-    if mv > 3 {
-        return number_above_3(counts, mv, a);
-    }
     match mv {
         1 => beyond(a, counts.processes),
         2 => beyond(a, counts.processes),
         3 => beyond(a, counts.boards),
-        _ => BAD_RECORD,
+        _ => {
+            if mv > 3 {
+                number_above_3(counts, mv, a)
+            } else {
+                BAD_RECORD
+            }
+        }
     }
 }
 

@@ -23,8 +23,7 @@ use crate::row::T3;
 use backup::limits::LOG;
 use backup::place::Checkpoint;
 use backup::place::HEAD;
-use backup::place::sync_in;
-use backup::place::total_dropped;
+use backup::place::sync_total;
 
 // The process as a checkpoint.
 pub fn snapshot(row: &[u32; ROW]) -> Checkpoint
@@ -62,8 +61,7 @@ pub fn keep(row: &[u32; ROW], log: &mut [u64; LOG], head: &mut [u32; HEAD], c: C
     ensures { λ r. ⌜ Drops (now (row .entry)) (now (log .entry)) (now (head .entry)) (checkpointOf c) r ⌝ }
 {
     if row[PROTECTED] == COMPLETE {
-        let landed = sync_in(log, head, c);
-        return total_dropped(landed);
+        return sync_total(log, head, c);
     }
     0
 }

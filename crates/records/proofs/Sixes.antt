@@ -9,7 +9,7 @@ use lib.Seq.{getD-drop}
 use Rattle.facts.specs.Lists.{part-rest}
 use Rattle.rules.specs.Bytes.{byteAt, number32, sixes}
 use Rattle.rules.proofs.Valid.{length-sixes}
-use Rattle.records.specs.Six.{six, sixOf}
+use Rattle.records.specs.Six.{six, sixOf, sixAt}
 use Rattle.records.specs.declared.six.Six.{Six}
 
 module _ {A : Type 0} (make : ℕ → ℕ → ℕ → A) where
@@ -62,8 +62,6 @@ pub no-six : (l : List ℕ) (k : ℕ) → length l / 6 ≤ k → six 0 0 0 ≡ s
 unfolding sixOf
 no-six l k h = sym (six-past six (length l / 6) l k (six 0 0 0) h)
 
-pub whole-six : (l : List ℕ) (k w : ℕ) → k < length l / 6
-    → w ≡ number32 (byteAt l (6 * k + 2)) (byteAt l (6 * k + 3)) (byteAt l (6 * k + 4)) (byteAt l (6 * k + 5))
-    → six (byteAt l (6 * k)) (byteAt l (6 * k + 1)) w ≡ sixOf l k
+pub whole-six : (l : List ℕ) (k : ℕ) → k < length l / 6 → sixAt l (6 * k) ≡ sixOf l k
 unfolding sixOf
-whole-six l k w h e = rw e (sym (six-at six (length l / 6) l k (six 0 0 0) h))
+whole-six l k h = sym (six-at six (length l / 6) l k (six 0 0 0) h)

@@ -1,9 +1,12 @@
 // A schedule's bytes: numbers 9 and 10, and its commands.
 ghost use mathlib.Core.Path.{_≡_};
-ghost use Rattle.rules.specs.Schedule.{decodeSchedule, command};
-ghost use Rattle.records.specs.Commands.{commandOf, ScheduleJudged};
+ghost use Prim.Native.Nat.{_<_, _≤_};
+ghost use Rattle.rules.specs.Schedule.{decodeSchedule, command, commandsIn};
+ghost use Rattle.records.specs.Commands.{commandOf, moveIn, ScheduleJudged};
 ghost use lib.ListN.{getD};
+use crate::bytes::byte;
 use crate::head::VERSION;
+use crate::six::six_at;
 use crate::six::six_of;
 use numbers::runs::ACCEPTED;
 use numbers::runs::SCHEDULE_LENGTH;
@@ -82,6 +85,27 @@ pub fn command_at(schedule: &[u8], i: usize) -> Command
     let s = six_of(&schedule[FIRST_COMMAND..], i);
     Command {
         mv: s.first,
+        a: s.second,
+        word: s.word,
+    }
+}
+
+// The move of the i-th command, read by itself.
+pub fn move_at(schedule: &[u8], i: usize) -> u8
+    requires { ⌜ i ≤ commandsIn (now schedule) ⌝ }
+    ensures { λ r. ⌜ (i < commandsIn (now (schedule .entry)) → r ≡ moveIn (now (schedule .entry)) i) ⌝ }
+{
+    byte(schedule, FIRST_COMMAND + 6 * i)
+}
+
+// The i-th command of a schedule that has so many, its move being known.
+pub fn command_of(schedule: &[u8], i: usize, mv: u8) -> Command
+    requires { ⌜ (i < commandsIn (now schedule)) × (mv ≡ moveIn (now schedule) i) ⌝ }
+    ensures { λ r. ⌜ commandOf r ≡ getD (decodeSchedule (now (schedule .entry))) i (command 0 0 0) ⌝ }
+{
+    let s = six_at(schedule, FIRST_COMMAND + 6 * i);
+    Command {
+        mv: mv,
         a: s.second,
         word: s.word,
     }

@@ -22,12 +22,11 @@ use plan::limit;
 use plan::start;
 use process::row::PC;
 use process::row::ROW;
-use records::fetch::fetch;
+use records::fetch::fetch_at;
 use state::moved::Moved;
 use state::moved::refused;
 use state::queue::QUEUE_ROW;
 use words::index16;
-use words::wide;
 
 // W-206: "Code 36: 1 for FIRST."
 fn missing(code: u8) -> u32
@@ -56,7 +55,7 @@ pub fn step(
 {
     let p = index16(a);
     let limit = limit(programs, p);
-    let i = fetch(table, wide(start(programs, p)), wide(rows[p][PC]));
+    let i = fetch_at(table, start(programs, p), rows[p][PC]);
     match examine(
         &rows[p],
         &mails[p],

@@ -19,10 +19,10 @@ use Rattle.plan.specs.Plan.{Plan, Planned}
 use Rattle.state.specs.declared.entry.Entry.{Entry}
 use Rattle.state.specs.Store.{Store, Holds}
 use Rattle.outcome.specs.Starts.{Placed, Starts}
-use Rattle.play.specs.declared.play.Stretch.{Stretch}
-use Rattle.play.specs.Plays.{Sheets, Roomy, Wrote, between, Suited, Played, Plays}
-use Rattle.play.proofs.Sheets.{wrote-over}
-use Rattle.play.proofs.Playing.{between-length, between-all}
+use Rattle.stretch.specs.declared.stretch.Stretch.{Stretch}
+use Rattle.stretch.specs.Plays.{Sheets, Roomy, Wrote, between, Suited, Played, Plays}
+use Rattle.stretch.proofs.Sheets.{wrote-over}
+use Rattle.stretch.proofs.Playing.{between-length, between-all}
 use Rattle.undo.specs.Sessions.{Shown, Sessions, PlaysAll}
 
 -- ---- the start

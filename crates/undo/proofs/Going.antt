@@ -21,11 +21,11 @@ use Rattle.plan.specs.Plan.{Plan}
 use Rattle.state.specs.declared.entry.Entry.{Entry}
 use Rattle.state.specs.declared.moved.Answer.{Answer}
 use Rattle.state.specs.Store.{Store}
-use Rattle.play.specs.declared.play.Stretch.{Stretch}
-use Rattle.play.specs.Plays.{Sheets, Roomy, AsLong, Writes, between, Suited, Plays}
-use Rattle.play.proofs.Sheets.{as-long, still-long}
+use Rattle.stretch.specs.declared.stretch.Stretch.{Stretch}
+use Rattle.stretch.specs.Plays.{Sheets, Roomy, AsLong, Writes, between, Suited, Plays}
+use Rattle.stretch.proofs.Sheets.{as-long, still-long}
 use Rattle.rules.proofs.Scheduled.{commands-counted}
-use Rattle.play.proofs.Playing.{between-length, between-parts, between-all, between-one, anyUndo-parts}
+use Rattle.stretch.proofs.Playing.{between-length, between-parts, between-all, between-one, anyUndo-parts}
 use Rattle.undo.specs.History.{heldMost, historyLength, heldIn, Fitting, Remembers}
 use Rattle.undo.specs.Replays.{Replays, Follows}
 use Rattle.undo.specs.Sessions.{undoAnswerOf, Sessions}

@@ -25,10 +25,10 @@ use Rattle.state.specs.declared.entry.Entry.{Entry}
 use Rattle.state.specs.declared.moved.Answer.{Answer}
 use Rattle.state.specs.Store.{Store, Holds}
 use Rattle.state.specs.Moved.{Reachable, answerOf, refusalOf}
-use Rattle.play.specs.Plays.{Sheets, Writes, Wrote, Suited, Played}
-use Rattle.play.proofs.Answers.{Fits}
-use Rattle.play.proofs.Sheets.{wrote-none, wrote-one, wrote-more}
-use Rattle.play.proofs.Playing.{reached-on}
+use Rattle.stretch.specs.Plays.{Sheets, Writes, Wrote, Suited, Played}
+use Rattle.stretch.proofs.Answers.{Fits}
+use Rattle.stretch.proofs.Sheets.{wrote-none, wrote-one, wrote-more}
+use Rattle.stretch.proofs.Playing.{reached-on}
 use Rattle.undo.specs.Sessions.{undoAnswerOf, Shown}
 
 -- after these commands: base b with its entries, and k of the records that are held may be taken back

@@ -10,9 +10,9 @@ use Rattle.rules.specs.Bytes.{byteAt, number32}
 use Rattle.rules.specs.Moves.{Command}
 use Rattle.rules.specs.Schedule.{command, commandsIn, decodeSchedule}
 use Rattle.records.proofs.Sixes.{madeAt, six-from}
-use Rattle.play.specs.Plays.{between}
+use Rattle.stretch.specs.Plays.{between}
 use Rattle.rules.proofs.Scheduled.{commands-counted}
-use Rattle.play.proofs.Playing.{between-length}
+use Rattle.stretch.proofs.Playing.{between-length}
 use Rattle.undo.specs.History.{heldMost, historyLength, heldIn, Fitting, Remembers}
 
 -- ---- byte by byte

@@ -15,10 +15,10 @@ use Rattle.rules.specs.Schedule.{command, commandsIn, decodeSchedule}
 use Rattle.plan.specs.Plan.{Plan}
 use Rattle.state.specs.declared.entry.Entry.{Entry}
 use Rattle.state.specs.Store.{Store, Holds}
-use Rattle.play.specs.declared.play.Stretch.{Stretch}
-use Rattle.play.specs.Plays.{Sheets, between, Suited, Plays}
+use Rattle.stretch.specs.declared.stretch.Stretch.{Stretch}
+use Rattle.stretch.specs.Plays.{Sheets, between, Suited, Plays}
 use Rattle.rules.proofs.Scheduled.{commands-counted}
-use Rattle.play.proofs.Playing.{between-parts}
+use Rattle.stretch.proofs.Playing.{between-parts}
 use Rattle.undo.specs.History.{heldMost, historyLength, heldIn, Remembers}
 use Rattle.undo.specs.Replays.{Replays, Follows}
 use Rattle.undo.proofs.Remembering.{whole-history}

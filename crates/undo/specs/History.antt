@@ -6,7 +6,7 @@ use lib.ListN.{length, take}
 use Rattle.rules.specs.Sizes.{keptMost, scheduleHead}
 use Rattle.rules.specs.Moves.{Command}
 use Rattle.rules.specs.Schedule.{commandsIn, decodeSchedule}
-use Rattle.play.specs.Plays.{between}
+use Rattle.stretch.specs.Plays.{between}
 
 -- how many records are held at most, and how many bytes hold them
 abbrev pub heldMost : ℕ

@@ -13,7 +13,7 @@ use Rattle.rules.specs.Schedule.{commandsIn}
 use Rattle.plan.specs.Plan.{Plan}
 use Rattle.state.specs.declared.entry.Entry.{Entry}
 use Rattle.state.specs.Store.{Store, Holds}
-use Rattle.play.specs.Plays.{Suited}
+use Rattle.stretch.specs.Plays.{Suited}
 use Rattle.undo.specs.History.{heldMost, historyLength, heldIn}
 
 -- the first n of them, none of which is a move 8, from any cabinet that commands reach

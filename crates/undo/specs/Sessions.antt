@@ -16,7 +16,7 @@ use Rattle.state.specs.declared.entry.Entry.{Entry}
 use Rattle.state.specs.declared.moved.Answer.{Answer}
 use Rattle.state.specs.Store.{Store, Holds}
 use Rattle.state.specs.Moved.{answerOf, refusalOf}
-use Rattle.play.specs.Plays.{Sheets, Wrote, Suited}
+use Rattle.stretch.specs.Plays.{Sheets, Wrote, Suited}
 
 -- What a move 8 is answered where k records are kept: "with a and word 0 (else 32, cause 1)", "53, no record is kept to go back to, move 8's
 -- last refusal", else 7 "with 0 and 0".

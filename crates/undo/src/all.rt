@@ -3,7 +3,7 @@
 ghost use Rattle.rules.specs.Schedule.{commandsIn};
 ghost use Rattle.plan.specs.Plan.{planOf};
 ghost use Rattle.state.specs.Store.{storeOf};
-ghost use Rattle.play.specs.Plays.{Roomy, sheetsOf};
+ghost use Rattle.stretch.specs.Plays.{Roomy, sheetsOf};
 ghost use Rattle.undo.specs.Sessions.{PlaysAll};
 use crate::session::session;
 use backup::limits::LOG;
@@ -15,13 +15,13 @@ use plan::Counts;
 use plan::PROCESSES;
 use plan::PROGRAMS;
 use plan::WIRES;
-use play::play::Stretch;
-use play::play::count;
 use play::play::play;
 use process::row::ROW;
 use state::entry::Entry;
 use state::queue::ENTRIES;
 use state::queue::QUEUE_ROW;
+use stretch::stretch::Stretch;
+use stretch::stretch::count;
 
 // On lists that may hold anything; `primary` and `standby` are the boards of each process. What is returned are the entries of all queues.
 pub fn play_all(

@@ -18,12 +18,12 @@ use plan::Counts;
 use plan::PROCESSES;
 use plan::PROGRAMS;
 use plan::WIRES;
-use play::play::Stretch;
 use play::play::play;
 use process::row::ROW;
 use state::entry::Entry;
 use state::queue::ENTRIES;
 use state::queue::QUEUE_ROW;
+use stretch::stretch::Stretch;
 
 // The first n records of a history, on lists that hold the cabinet before them. What they answer nobody reads.
 pub fn replay(

@@ -25,7 +25,7 @@ use Rattle.plan.specs.Plan.{planOf}
 use Rattle.outcome.specs.Starts.{Placed}
 use Rattle.state.specs.declared.entry.Entry.{Entry}
 use Rattle.state.specs.Store.{Store}
-use Rattle.play.specs.Plays.{Sheets, sheetsOf, Roomy}
+use Rattle.stretch.specs.Plays.{Sheets, sheetsOf, Roomy}
 use Rattle.undo.specs.Sessions.{PlaysAll}
 use Rattle.layout.specs.View.{viewMost, viewedOf, view, validateView, viewed}
 use Rattle.layout.specs.Lists.{viewOf}

@@ -1,7 +1,7 @@
 // The whole cabinet after a run, as numbers in a fixed layout (docs/FORMATS.md, "View"): the run's parts with another end, which writes neither
 // answers nor a report but everything that the rules speak of.
 ghost use Rattle.rules.specs.Schedule.{commandsIn};
-ghost use Rattle.play.specs.Plays.{Roomy, sheetsOf};
+ghost use Rattle.stretch.specs.Plays.{Roomy, sheetsOf};
 ghost use Prim.Native.Nat.{_≤_};
 ghost use lib.ListN.{length};
 ghost use Rattle.layout.specs.View.{viewMost};

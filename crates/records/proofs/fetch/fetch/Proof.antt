@@ -1,5 +1,4 @@
-use mathlib.Core.Path.{ap, _∙_}
-use Prim.Native.Nat.{ℕ}
+use mathlib.Core.Path.{_∙_}
 use Rattle.records.specs.Fetch.{numbered, fetched}
 use Rattle.records.proofs.Sixes.{made-of-none, made-of-part}
 use native.Mathlib.Omega.{arith}
@@ -8,12 +7,18 @@ use Rattle.records.proofs.fetch.fetch.Statement.{statement}
 use Rattle.records.proofs.fetch.fetch.Tie as tie
 use Rattle.records.proofs.fetch.fetch.Reads as reads
 use Rattle.records.proofs.fetch.fetch.Lts as lts
+use Rattle.records.proofs.fetch.made.Reads as made-reads
+use Rattle.records.proofs.fetch.none.Reads as none-reads
 use Rattle.records.proofs.six.six_of.Reads as six-of-reads
-use Rattle.words.proofs.byte_word.Reads as byte-word-reads
+
+none-requires : tie.Need-none-requires
+none-requires c κs = search needs
 
 returns : tie.Need-returns
 unfolding fetched
-returns c = let s = c .before .before .args in made-of-none numbered (s .table .now) (s .at) (s .k) (c .if1 .taken)
+returns c =
+    let s = c .before .before .before .args in
+    c .none .ensures ∙ made-of-none numbered (s .table .now) (s .at) (s .k) (c .before .if1 .taken)
 
 sub-six-of : tie.Need-sub-six-of
 sub-six-of c = search needs
@@ -27,24 +32,24 @@ part-six-of-end c = search needs
 six-of-requires : tie.Need-six-of-requires
 six-of-requires c κs = search needs
 
-byte-word-requires : tie.Need-byte-word-requires
-byte-word-requires c κs = search needs
+made-requires : tie.Need-made-requires
+made-requires c κs = search needs
 
 returns-2 : tie.Need-returns-2
 unfolding fetched
 returns-2 c =
     let s = c .before .before .before .before .before .args in
-    ap (λ (a : ℕ). numbered (c .before .six-of .result .first) a (c .before .six-of .result .word)) (c .byte-word .ensures .0)
-    ∙ made-of-part numbered (s .table .now) (s .at) (s .k) _ (c .before .six-of .ensures)
+    c .made .ensures ∙ made-of-part numbered (s .table .now) (s .at) (s .k) _ (c .before .six-of .ensures)
 
 pub fetch-spec : {M : Type 1} → statement M
 fetch-spec =
     tie.close
     (tie.spec
+    none-requires
     returns
     sub-six-of
     part-six-of-start
     part-six-of-end
     six-of-requires
-    byte-word-requires
+    made-requires
     returns-2)

@@ -5,8 +5,8 @@ use native.Mathlib.Omega.{arith}
 use Rattle.rules.specs.Schedule.{commandsIn}
 use Rattle.plan.specs.Plan.{planOf}
 use Rattle.state.specs.Store.{storeOf}
-use Rattle.play.specs.Plays.{sheetsOf, RoomAt, AsLong}
-use Rattle.play.proofs.Sheets.{has-room}
+use Rattle.stretch.specs.Plays.{sheetsOf, RoomAt, AsLong}
+use Rattle.stretch.proofs.Sheets.{has-room}
 use Rattle.undo.specs.History.{heldMost, Fitting}
 use Rattle.undo.proofs.Going.{Going, room-less, going-first, going-last, going-refused, some-kept, going-undone, one-done, stretch-fits, going-forward, going-followed}
 use borrow.Author.Needs.{needs}
