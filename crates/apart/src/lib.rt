@@ -1,4 +1,6 @@
 // A table taken apart (document 02, W-201): its bytes become lists of numbers again, in lent lists. Crate `writer` makes a table of such lists.
+#![tactic(auto)]
+
 ghost use Rattle.std.specs.Prelude.{◌≡◌, [], ◌∷◌, ◌+◌, ◌*◌, ◌≤◌, ◌<◌, length, take, drop};
 ghost use Rattle.std.proofs.lemmas.List.Edits.{sets};
 ghost use Rattle.rules.specs.Bytes.{byte_at};
@@ -18,7 +20,7 @@ use table::record::{length_place, record_length, version_of};
 use words::{byte_wide, byte_word};
 
 // 0, the version, the counts, and how many instructions there are; or the number that refuses the table or the lists lent for it, and zeros.
-#[derive(Drop)]
+#[derive(Clone, Copy)]
 pub struct Taken {
     pub number: u8,
     pub version: u8,

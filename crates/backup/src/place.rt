@@ -48,7 +48,7 @@ pub const HEAD: usize = 11;
 const FRESH: u32 = 0;
 
 // A process at the moment a checkpoint was issued: program counter, registers, and the receives on each port since the last one.
-#[derive(Drop)]
+#[derive(Clone, Copy)]
 pub struct Checkpoint {
     pub pc: u32,
     pub r0: u32,
@@ -62,7 +62,7 @@ pub struct Checkpoint {
 }
 
 // What a promotion goes on from, beside the log: how many messages it has, the count, the program counter and the registers.
-#[derive(Drop)]
+#[derive(Clone, Copy)]
 pub struct Promotion {
     pub len: u32,
     pub sent: u32,

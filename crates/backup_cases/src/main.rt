@@ -1,6 +1,8 @@
 // Cases of the backup record, run and compared with stdout: M12 of document 01, the sixty-fifth arrival, every refusal of every call and
 // its place in the order, take over of a full and of an empty record, and syncs that take everything, nothing, or one slot's oldest, with
 // what they report.
+#![tactic(auto)]
+
 use backup::limits::LOG;
 use backup::place::Checkpoint;
 use backup_value::{Backup, FailOver, Reply, SyncReply};

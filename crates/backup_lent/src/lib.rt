@@ -1,6 +1,8 @@
 // The backup record on lent numbers, for board programmers: two arrays, the saved words and a head of seven numbers, each call in place.
 // Crate kunzeastylus exports them. A call looks through the saved words once, which tells 20 and counts the words on each port, and then is
 // the call in place of crate `backup`. Nothing is copied but the head.
+#![tactic(auto)]
+
 ghost use Rattle.std.specs.Prelude.{◌≡◌, List, ℕ, ◌≤◌, length};
 ghost use Rattle.backup.specs.Limits.{log_most};
 ghost use Rattle.backup.specs.Replica.{initial, arrive as arriveOf, count as count_of, sync as sync_of};
@@ -32,7 +34,7 @@ pub struct Metered {
 }
 
 // What a look through saved words finds: whether each is on a port, and how many are on each.
-#[derive(Drop)]
+#[derive(Clone, Copy)]
 struct Tallies {
     fits: bool,
     n0: u32,

@@ -1,5 +1,7 @@
 // The backup record by value: each call takes a backup and gives one back. It is laid out in two arrays, called there (crate
 // `backup_lent`), and put together again.
+#![tactic(auto)]
+
 ghost use Rattle.std.specs.Prelude.{◌≡◌};
 ghost use Rattle.backup.specs.Replica.{initial, arrive as arriveOf, count as count_of, sync as sync_of, fail_over};
 ghost use Rattle.backup.specs.Place.{checkpoint_of};

@@ -5,6 +5,8 @@
 // wanted (`Took`); and where as many were read as are wanted, what is left unread changes nothing, so that it is the page of all of standard
 // input (`Benched`, `Wanted`). Assumed of `read` and `write`, since no contract can say it: bytes come in the input's order, fewer than asked for
 // only where the input ends, and go out as they are. A read that fails counts as the input's end. A write that fails ends the program quietly.
+#![tactic(auto)]
+
 ghost use Rattle.std.specs.Prelude.{◌≤◌, length};
 ghost use Rattle.bench.specs.Took.{FilledPart, Took};
 

@@ -2,7 +2,7 @@
 // soon written in another language.
 
 // The sample, or the largest table, of version 1 or 2; one byte of the input that is changed; the schedule's length field.
-#[derive(Drop)]
+#[derive(Clone, Copy)]
 pub struct Case {
     pub large: bool,
     pub limited: bool,

@@ -1,6 +1,8 @@
 // Cases of the bench program's page, compared with stdout, which an independent simulator printed (outside/src/pages): input that ends
 // early, lengths at and over each limit, and pages of runs of 10,000 records and 16 processes. Of each input the first line says how many
 // bytes of it the program wants; of a page that is long, its length and a number made of all its bytes stand for it.
+#![tactic(auto)]
+
 mod input;
 
 use crate::input::{Case, NOWHERE, fill};

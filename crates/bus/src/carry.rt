@@ -12,7 +12,7 @@ use state::moved::Answer;
 use state::queue::QUEUE_ROW;
 
 // An answer, and the origin of its word.
-#[derive(Drop)]
+#[derive(Clone, Copy)]
 pub struct Carried {
     pub answer: Answer,
     pub origin: Origin,

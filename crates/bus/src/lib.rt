@@ -1,4 +1,6 @@
 // What happens on the bus: the oldest entry of a board's queue is carried (move 3), and a word comes in from outside (move 4).
+#![tactic(auto)]
+
 pub mod carry;
 mod delivery;
 pub mod inject;

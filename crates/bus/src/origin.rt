@@ -9,7 +9,7 @@ use plan::{ENVIRONMENT, WIRES, sender};
 use state::entry::{Entry, Item};
 use words::{index32, low_byte};
 
-#[derive(Drop)]
+#[derive(Clone, Copy)]
 pub struct Origin {
     pub sender: u8,
     pub place: u8,

@@ -6,7 +6,7 @@ use numbers::runs::{ACCEPTED, ANSWERS_SHORT, ORIGINS_SHORT, REPORT_SHORT};
 use records::schedule::Judged;
 
 // How long the lent buffers are.
-#[derive(Drop)]
+#[derive(Clone, Copy)]
 pub struct Lengths {
     pub answers: usize,
     pub reasons: usize,

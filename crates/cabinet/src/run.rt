@@ -20,7 +20,7 @@ use table::{Plan, decode};
 use undo::all::play_all;
 
 // "An accepted run returns 0, its number of records, and whether it ended quiet." A refused one its number, 0 and false.
-#[derive(Drop)]
+#[derive(Clone, Copy)]
 pub struct Verdict {
     pub number: u8,
     pub records: usize,

@@ -10,7 +10,7 @@ use state::moved::{Answer, refusal};
 use words::byte_word;
 
 // The record's move, a and word, and 32, 33 or 0 for neither.
-#[derive(Drop)]
+#[derive(Clone, Copy)]
 pub struct Due {
     pub number: u32,
     pub mv: u8,

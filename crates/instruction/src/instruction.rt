@@ -15,7 +15,7 @@ use process::row::{
 use words::wide;
 
 // What the instruction at a process's place would do.
-#[derive(Drop)]
+#[derive(Clone, Copy)]
 pub enum Intent {
     // nothing: it is halted, or the code is none
     Halted,
@@ -30,7 +30,7 @@ pub enum Intent {
 }
 
 // The kinds of instructions, by what they ask for.
-#[derive(Drop)]
+#[derive(Clone, Copy)]
 enum Kind {
     // a SET, an ADD or a JUMP
     Calculation,

@@ -1,5 +1,7 @@
 // The label line (document 02, W-203): "one scanner, one numbering program and one printer program on two boards". It is given a first
 // serial, makes the table and runs schedules on it, with nothing but the cabinet's promises.
+#![tactic(auto)]
+
 ghost use Rattle.std.specs.Prelude.{◌≡◌, ◌≤◌};
 ghost use Rattle.rules.specs.Run.{buffers_of};
 ghost use Rattle.label_line.specs.Line.{line_bytes};

@@ -1,4 +1,6 @@
 // A cabinet's lists as numbers in a fixed layout (docs/FORMATS.md, "View").
+#![tactic(auto)]
+
 pub mod all;
 mod boards;
 mod lay;

@@ -1,4 +1,6 @@
 // The bench program's page (document 01, "The bench program's page"), from what a run returned and the buffers that it was lent.
+#![tactic(auto)]
+
 ghost use Rattle.std.specs.Prelude.{◌+◌, ◌*◌, ◌<◌};
 ghost use Rattle.rules.specs.Run.{ran_of};
 ghost use Rattle.rules.specs.Page.{accepted_page, page_of, refused_line};

@@ -1,5 +1,7 @@
 // A table's plan, as the moves are lent it: a row of numbers for each process and for each channel, laid out so that a step of any process finds
 // its numbers at once, and how many boards, processes and channels there are. What the numbers say of the table is `specs/Plan.antt`.
+#![tactic(auto)]
+
 ghost use Rattle.std.specs.Prelude.{◌≡◌, ◌+◌, ◌*◌, ◌<◌, get_or};
 ghost use Rattle.rules.specs.Sizes.{processes_most, channels_most};
 ghost use Rattle.plan.specs.Plan.{start_in, length_in, limit_in, arity_in, input_in, sender_in, reader_in, port_in};
@@ -42,7 +44,7 @@ pub const WIRE_ROW: usize = 3;
 pub const WIRES: usize = CHANNELS * WIRE_ROW;
 
 // Document 01: "boards B", "processes P", "channels C".
-#[derive(Drop)]
+#[derive(Clone, Copy)]
 pub struct Counts {
     pub boards: usize,
     pub processes: usize,

@@ -6,7 +6,7 @@ use crate::six::{Six, six_at, six_of};
 use words::{byte_word, wide};
 
 // Code, `a` and operand, as the six bytes say them.
-#[derive(Drop)]
+#[derive(Clone, Copy)]
 pub struct Instruction {
     pub code: u8,
     pub a: u32,

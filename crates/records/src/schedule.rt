@@ -20,14 +20,14 @@ pub const SCHEDULE_MOST: usize = FIRST_COMMAND + 6 * COMMANDS_MOST;
 pub const UNDO: u8 = 8;
 
 // What judging a schedule finds: 0 or the number that refuses it, and how many commands it has (0 where it is refused).
-#[derive(Drop)]
+#[derive(Clone, Copy)]
 pub struct Judged {
     pub number: u8,
     pub records: usize,
 }
 
 // A schedule record: move, `a` and word.
-#[derive(Drop)]
+#[derive(Clone, Copy)]
 pub struct Command {
     pub mv: u8,
     pub a: u8,

@@ -3,7 +3,7 @@ ghost use Rattle.std.specs.Prelude.{◌≡◌, ◌+◌, ◌≤◌, length};
 ghost use Rattle.rules.specs.Bytes.{number32};
 ghost use Rattle.records.specs.Six.{six_of, six_at};
 
-#[derive(Drop)]
+#[derive(Clone, Copy)]
 pub struct Six {
     pub first: u8,
     pub second: u8,

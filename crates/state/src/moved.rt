@@ -5,7 +5,7 @@ ghost use Rattle.state.specs.Moved.{refusal_of, alone_of, refused_with};
 use crate::queue::ENTRIES;
 
 // An answer's three numbers, and its cause (W-206).
-#[derive(Drop)]
+#[derive(Clone, Copy)]
 pub struct Answer {
     pub code: u32,
     pub cause: u32,
@@ -15,7 +15,7 @@ pub struct Answer {
 
 // An answer, and the place of the entry that joins a queue by the move, which is no place where none does. Which entry that is the loop knows
 // from the move: it alone holds the entries.
-#[derive(Drop)]
+#[derive(Clone, Copy)]
 pub struct Moved {
     pub answer: Answer,
     pub at: usize,

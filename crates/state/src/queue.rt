@@ -44,7 +44,7 @@ pub fn oldest(queue: &[u32; QUEUE_ROW], b: usize) -> usize
 }
 
 // Document 01: "Carry looks at the oldest entry; with none the answer is 42."
-#[derive(Drop)]
+#[derive(Clone, Copy)]
 pub enum Front {
     Oldest { item: Item },
     Empty,

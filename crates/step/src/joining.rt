@@ -12,7 +12,7 @@ use state::moved::Answer;
 use state::queue::QUEUE_ROW;
 
 // An answer, the place of the entry that joins by the move, which is no place where none does, and that entry.
-#[derive(Drop)]
+#[derive(Clone, Copy)]
 pub struct Joining {
     pub answer: Answer,
     pub at: usize,

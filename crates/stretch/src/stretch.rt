@@ -36,7 +36,7 @@ pub fn last(schedule: &[u8], to: usize) -> usize
 }
 
 // How far a stretch reaches: the number of the first record that is not to be played, and the move of the first that is.
-#[derive(Drop)]
+#[derive(Clone, Copy)]
 pub struct Reach {
     pub end: usize,
     pub first: u8,

@@ -1,5 +1,7 @@
 // Every place to pull a board (document 02, W-213): "the crash put at each of the n + 1 places of a schedule of n records, for each of the B
 // boards", and how many of these runs end quiet, unquiet with some hold-back left, and unquiet with none. It has nothing but the cabinet's promise.
+#![tactic(auto)]
+
 ghost use Rattle.sweep.specs.Sweeps.{Sweeps};
 
 mod count;
@@ -15,7 +17,7 @@ use records::schedule::judge_schedule;
 use table::decode;
 
 // 0 and the three counts, or the number that refuses the sweep and counts of 0.
-#[derive(Drop)]
+#[derive(Clone, Copy)]
 pub struct Swept {
     pub number: u8,
     pub quiet: u32,

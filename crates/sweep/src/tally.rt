@@ -1,5 +1,5 @@
 // How many runs end in each of the three ways.
-#[derive(Drop)]
+#[derive(Clone, Copy)]
 pub struct Tally {
     pub quiet: u32,
     // unquiet, with some hold-back left

@@ -14,7 +14,7 @@ use records::bytes::byte;
 use words::{byte_wide, byte_word};
 
 // The record of one process: whether its boards are right, and its numbers.
-#[derive(Drop)]
+#[derive(Clone, Copy)]
 struct Placed {
     ok: bool,
     primary: u32,

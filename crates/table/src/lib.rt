@@ -1,4 +1,6 @@
 // Tables: bytes are read, judged and turned into a plan by proved code.
+#![tactic(auto)]
+
 ghost use Rattle.std.specs.Prelude.{◌≡◌};
 ghost use Rattle.table.specs.Parts.{plan_from};
 ghost use Rattle.table.specs.Plan.{no_plan, Decodes};

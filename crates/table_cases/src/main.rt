@@ -1,6 +1,8 @@
 // Cases of the judging of a run, each with its number, compared with stdout: M1 to M6 of document 01, every way of each number from 1 to 12
 // and of 47 alone, what is still accepted beside it, and pairs that show the order. Each case is a sound table or schedule with a few bytes
 // changed.
+#![tactic(auto)]
+
 mod tables;
 
 use crate::tables::{FIVE, FOUR, LIMITED, PAIR, SAMPLE, SCHEDULE, largest_table};

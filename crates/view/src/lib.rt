@@ -1,5 +1,7 @@
 // The whole cabinet after a run, as numbers in a fixed layout (docs/FORMATS.md, "View"): the run's parts with another end, which writes neither
 // answers nor a report but everything that the rules speak of.
+#![tactic(auto)]
+
 ghost use Rattle.rules.specs.Schedule.{commands_in};
 ghost use Rattle.stretch.specs.Plays.{Roomy, sheets_of};
 ghost use Rattle.std.specs.Prelude.{◌≤◌, length};

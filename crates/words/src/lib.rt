@@ -1,4 +1,6 @@
 // Small functions on numbers that know nothing of cabinets: widening, clamps, the least of two, the low byte, and two words in one number.
+#![tactic(auto)]
+
 ghost use Rattle.std.specs.Prelude.{◌≡◌, cond, ◌+◌, ◌*◌, ◌%◌, ◌^◌, ◌≤◌, ◌<◌, min};
 ghost use Rattle.words.specs.Words.{pack, high_in, low_in};
 

@@ -16,7 +16,7 @@ use table::format::TABLE_MOST;
 pub const TABLE_BYTES: usize = 2 + TABLE_MOST;
 
 // What a table's head says behind its length: version, boards, processes and channels.
-#[derive(Drop)]
+#[derive(Clone, Copy)]
 pub struct Head {
     pub version: u32,
     pub boards: u32,
@@ -25,7 +25,7 @@ pub struct Head {
 }
 
 // 0 and the table's length, or the number that refuses the lists or the buffer, and 0.
-#[derive(Drop)]
+#[derive(Clone, Copy)]
 pub struct Written {
     pub number: u8,
     pub length: u32,

@@ -1,6 +1,8 @@
 // Cases of the writer, compared with stdout: document 01's sample as lists, in version 1 and, with a limit, in version 2; then with one number
 // changed for each refusal, in numbers that fit no byte where there are such; pairs that show the order; a buffer of one byte too few; and both
 // tables taken apart again. A line of the writer has the number, the length and four bytes of the buffer, all of which were 238 before.
+#![tactic(auto)]
+
 use apart::take_apart;
 use libc::STDOUT_FILENO;
 use writer::write::{Head, Written, write};
@@ -18,7 +20,7 @@ const SECOND: [u8; 38] = [
 ];
 
 // What is changed of the sample, and how many limits are given.
-#[derive(Drop)]
+#[derive(Clone, Copy)]
 struct Change {
     boards: u32,
     reader: u32,
@@ -27,7 +29,7 @@ struct Change {
     code: u32,
 }
 
-#[derive(Drop)]
+#[derive(Clone, Copy)]
 struct Limits {
     version: u32,
     given: usize,
