@@ -4,7 +4,6 @@ ghost use Rattle.std.proofs.lemmas.List.Edits.{sets};
 ghost use Rattle.sweep.specs.Pulled.{pulled_most, pulled_bytes, HasPlace};
 
 use crate::judge::{CRASH, SWEEP_MOST};
-use bytes::copy;
 use records::schedule::FIRST_COMMAND;
 
 // The bytes of the longest schedule that is swept, with the crash.
@@ -15,7 +14,7 @@ fn lay(from: &[u8], out: &mut [u8], at: usize)
     requires { at + length from.now ≤ length out.old }
     ensures { out.new ≡ sets out.old at from.now }
 {
-    copy(from, &mut out[at..]);
+    out[at..at + from.len()].copy_from_slice(from);
 }
 
 // The schedule with the crash of a board behind so many records, to the front of `out`.
