@@ -82,7 +82,7 @@ port_by_port p t (m ∷ l) =
     ∙ rw (on_same p m l e, k))
     (λ n. on_other p m (remaining t l) n ∙ port_by_port p t l ∙ ap (drop (taken_on t p)) (sym (on_other p m l n)))))
     (λ g. rw (goes t m l g) (port_by_port p (one_less t m.port) l ∙ by_eq p m.port
-    (λ e. rw (e, taken_less t m.port, on_same m.port m l refl) (drop_one m (on_port m.port l) (taken_on t m.port) g))
+    (λ e. rw (on_same p m l e, e, taken_less t m.port) (drop_one m (on_port m.port l) (taken_on t m.port) g))
     (λ n. rw (taken-other t m.port p n, on_other p m l n))))
 
 -- so each port has as many less as were taken on it

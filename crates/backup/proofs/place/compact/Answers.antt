@@ -1,0 +1,49 @@
+use Rattle.std.proofs.Common.{◌≡◌, ℕ, ◌-◌, ◌<◌, subst, arith, rules, ltb-false}
+use Rattle.backup.proofs.Compacting.{sifting_due, sifting_owed, sifting_goes, sifting_stays, sifting_swept, Moving, moving_on, passed}
+use Rattle.backup.proofs.place.compact.Goals as goal
+use Rattle.backup.proofs.place.compact.Goals.{else-n-gt0, else-p-i-2-test, then-n-gt0, then-p-i-2-test}
+
+pub overflow_sub-due : goal.overflow_sub-due
+overflow_sub-due c =
+    let l = c.loop-i in
+    let t = c.loop-i-test.true in
+    let z = sifting_due l.invariant (omega arith) c.lane-s.result c.lane-s.ensures c.if-n-gt0.true in
+    search rules
+
+pub loop-i-preserved : goal.loop-i-preserved
+loop-i-preserved c =
+    let l = c.loop-i in
+    let t : l.i < c.args.len = (let k = c.loop-i-test.true in omega arith) in
+    let s = c.lane-s in
+    elim c.if-n-gt0.branch [ then-n-gt0 w ↦ rw (w.VAR1-is, w.VAR2-is, w.VAR3-is, w.VAR4-is) (sifting_goes l.invariant t s.result s.ensures w.if-n-gt0.true) | else-n-gt0 w ↦ rw (w.VAR1-is, w.VAR2-is, w.VAR3-is, w.VAR4-is)
+    (sifting_stays l.invariant t s.result s.ensures (let z = w.if-n-gt0.false in omega arith) c.requires.len_le_log_most) ]
+
+pub overflow_sub-due-in-loop-i-2 : goal.overflow_sub-due-in-loop-i-2
+overflow_sub-due-in-loop-i-2 c =
+    let l = c.loop-i-2 in
+    let t = c.loop-i-2-test.true in
+    let s = c.lane-s-in-loop-i-2 in
+    let z = sifting_owed l.invariant t s.result s.ensures c.minus-m.result c.wide-goes.result c.minus-m.ensures c.wide-goes.ensures.0 in
+    search rules
+
+pub loop-i-2-preserved : goal.loop-i-2-preserved
+loop-i-2-preserved c =
+    let l = c.loop-i-2 in
+    let t = c.loop-i-2-test.true in
+    let s = c.lane-s-in-loop-i-2 in
+    sifting_swept l.invariant t s.result s.ensures c.minus-m.result c.wide-goes.result c.minus-m.ensures c.wide-goes.ensures.0 c.requires.len_le_log_most
+
+pub loop-i-3-preserved : goal.loop-i-3-preserved
+loop-i-3-preserved c = moving_on c.loop-i-3.invariant c.loop-i-3-test.true c.requires.len_le_log_most
+
+pub returns : goal.returns
+returns c =
+    let a = c.args in
+    let k = c.loop-i in
+    let l = c.loop-i-2 in
+    let m = c.loop-i-3 in
+    let e : m.i ≡ a.len = (let h = m.invariant.passing.looked in omega arith) in
+    let z : l.i < a.len → l.due ≡ 0 = elim c.loop-i-2-test.branch [ then-p-i-2-test w ↦ λ _. let h = ltb-false 0 l.due w.VAR1-is.left in omega arith | else-p-i-2-test w ↦ λ h. absurd (omega arith) ] in record {
+      dropped = passed k.invariant l.invariant z (subst (λ (i : ℕ). Moving l.log a.len l.i l.kept l.rounds m.log i m.kept m.rounds) e m.invariant);
+      value = (let f = k.invariant.metered in let g = l.invariant.metered in let h = m.invariant.metered in omega arith);
+    }

@@ -1,0 +1,9 @@
+use Rattle.rules.specs.Run.{ran_of}
+use Rattle.page.specs.Written.{shown_of}
+use Rattle.bench_input.proofs.Printing.{printed}
+use Rattle.bench_input.proofs.bench.print.Goals as goal
+
+pub returns : goal.returns
+returns c =
+    let s = c.args in
+    printed (ran_of s.number s.records s.quiet (shown_of s.answers.now s.report.now)) c.ranges.number.fits s.processes (λ i. (c.shared_slice_known-1.given i).fits) (λ i. (c.shared_slice_known-2-1.given i).fits) _ _ _ c.write_page.ensures

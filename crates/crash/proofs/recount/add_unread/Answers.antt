@@ -1,0 +1,25 @@
+use Rattle.std.proofs.Common.{ℕ, ◌-◌, ◌<◌, ap, ◌∙◌, arith}
+use Rattle.crash.specs.Recount.{unread_at, more_by, more_unread}
+use Rattle.crash.proofs.Passing.{passing_start, passing_on, passing_end}
+use Rattle.crash.proofs.recount.add_unread.Goals as goal
+
+pub loop-k-init : goal.loop-k-init
+loop-k-init c = passing_start _ _ _
+
+pub loop-k-preserved : goal.loop-k-preserved
+loop-k-preserved c =
+    let a = c.args in
+    let l = c.loop-k in
+    let t = c.loop-k-test.true in
+    let small : l.k < 32 = omega arith in
+    let r = c.wide.ensures.0 ∙ c.reader.ensures small in
+    let u = c.unread_at-unread in
+    let w = c.wrapping_add_u32 in
+    passing_on (more_unread a.wires.now a.rows.now a.mails.now) a.n a.totals.now l.totals l.k l.invariant t w.result
+    (w.ensures ∙ ap (more_by _) (u.ensures ∙ ap (λ (p : ℕ). unread_at a.rows.now a.mails.now p l.k) r))
+
+pub returns : goal.returns
+returns c =
+    let a = c.args in
+    let l = c.loop-k in
+    passing_end (more_unread a.wires.now a.rows.now a.mails.now) a.n a.totals.now l.totals l.k l.invariant c.loop-k-test.false

@@ -1,0 +1,25 @@
+use Rattle.std.proofs.Common.{sym, ◌∙◌}
+use Rattle.step.proofs.Taking.{take_37, take_done}
+use Rattle.step.proofs.take.take.Goals as goal
+
+pub returns-then-owing : goal.returns-then-owing
+returns-then-owing c =
+    let s = c.args in
+    let p = c.index16-p in
+    take_37 s.wires.now s.rows.now s.mails.now s.totals.now s.limit p.result s.a p.ensures.1 s.code s.register s.at _
+    (sym c.owing.ensures ∙ c.if-owing.true) _ c.blame.ensures c.refused.ensures
+
+pub returns : goal.returns
+returns c =
+    let s = c.args in
+    let p = c.index16-p in
+    let x = c.word_at-x in
+    let w = c.channel_of-channel in
+    let k = c.index32-k in
+    let port = c.port in
+    let t = c.take_word in
+    let u = c.wrapping_sub_u32 in
+    take_done s.wires.now s.rows.now s.mails.now s.totals.now s.limit p.result s.a p.ensures.1 s.code s.register s.at _
+    k.result port.result u.result t.new.row t.new.mail (sym c.owing.ensures ∙ c.if-owing.false)
+    (rw (w.ensures, x.ensures) at k.ensures.1) (port.ensures k.ensures.0) t.ensures u.ensures u.type-inv
+    (rw (← x.ensures, ← w.ensures, ← c.word_of.ensures) c.alone.ensures)

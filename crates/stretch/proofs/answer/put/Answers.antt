@@ -1,0 +1,4 @@
+use Rattle.stretch.proofs.answer.put.Goals as goal
+
+pub returns : goal.returns
+returns c = cc

@@ -1,0 +1,45 @@
+-- `mend`: by the number of the move. Where no entry joins, any entry may be named as the one that would.
+use mathlib.Core.Path.{refl}
+use native.Mathlib.Omega.{arith}
+use Rattle.stretch.proofs.Mending.{any_entry}
+use Rattle.stretch.proofs.mend.mend.Goals as goal
+
+pub returns-in-5 : goal.returns-in-5
+returns-in-5 c =
+    let is = c.in_default.keys1 in
+    record {
+      crashes = λ _ table. any_entry c.alone.ensures (c.crash-r.ensures table);
+      rejoins = λ e. absurd (omega arith);
+      rebackups = λ e. absurd (omega arith);
+      others = λ n _ _. absurd (n is);
+    }
+
+pub returns-in-6 : goal.returns-in-6
+returns-in-6 c =
+    let is = c.in_default.keys2 in
+    record {
+      crashes = λ e. absurd (omega arith);
+      rejoins = λ _ table. any_entry c.alone-in-6.ensures (c.rejoin.ensures _ _ _ _ _ _);
+      rebackups = λ e. absurd (omega arith);
+      others = λ _ n _. absurd (n is);
+    }
+
+pub returns-in-7 : goal.returns-in-7
+returns-in-7 c =
+    let is = c.in_default.keys3 in
+    record {
+      crashes = λ e. absurd (omega arith);
+      rejoins = λ e. absurd (omega arith);
+      rebackups = λ _ table. c.rebackup.ensures table _;
+      others = λ _ _ n. absurd (n is);
+    }
+
+pub returns-in_default : goal.returns-in_default
+returns-in_default c =
+    let m = c.in_default.rest in
+    record {
+      crashes = λ e. absurd (m.0.0.1 e);
+      rejoins = λ e. absurd (m.0.1 e);
+      rebackups = λ e. absurd (m.1 e);
+      others = λ _ _ _. (refl, c.refused.ensures);
+    }

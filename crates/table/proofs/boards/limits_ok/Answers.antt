@@ -1,0 +1,23 @@
+use mathlib.Core.Path.{ap, ◌∙◌}
+use Prim.Native.Nat.{◌-◌}
+use native.Mathlib.Omega.{arith}
+use Rattle.facts.specs.Walks.{walk_start, walk_on, walk_fails, walk_end}
+use Rattle.rules.specs.Judge.{limit_ok}
+use Rattle.table.specs.Parts.{limits_pass}
+use Rattle.table.proofs.boards.limits_ok.Goals as goal
+
+pub loop-p-init : goal.loop-p-init
+loop-p-init c = walk_start _ _
+
+pub returns-then-not-limit_ok : goal.returns-then-not-limit_ok
+unfolding limits_pass
+returns-then-not-limit_ok c =
+    walk_fails _ _ c.loop-p.p _ c.loop-p-test.true (c.limit_ok.ensures ∙ ap limit_ok (c.limit.ensures (omega arith))) c.if-not-limit_ok.true-raw
+
+pub loop-p-preserved : goal.loop-p-preserved
+loop-p-preserved c =
+    walk_on _ _ c.loop-p.p _ c.loop-p.invariant c.loop-p-test.true (c.limit_ok.ensures ∙ ap limit_ok (c.limit.ensures (omega arith))) c.if-not-limit_ok.false-raw
+
+pub returns : goal.returns
+unfolding limits_pass
+returns c = walk_end _ _ c.loop-p.p c.loop-p.invariant c.loop-p-test.false
