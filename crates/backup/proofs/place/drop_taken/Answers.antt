@@ -1,0 +1,47 @@
+use Rattle.std.proofs.Common.{◌≡◌, ℕ, ◌-◌, ◌≤◌, set, sym, refl, ap, ◌∙◌, subst, arith}
+use lib.Seq.{set-get_or}
+use Rattle.backup.specs.Rounds.{all_taken, sync_rounds-none, sync_rounds_all, sync_rounds-some}
+use Rattle.backup.specs.Place.{view_in, taken_of, checkpoint_of, Dropped, head_len}
+use Rattle.backup.proofs.InPlace.{view-length}
+use Rattle.backup.proofs.Compacting.{dropped-none, dropped_all}
+use Rattle.backup.proofs.place.drop_taken.Goals as goal
+
+pub returns-then-all-eq0 : goal.returns-then-all-eq0
+returns-then-all-eq0 c =
+    let a = c.args in
+    let z = sym c.together-all.ensures ∙ c.if-all-eq0.true in
+    let r = let n : head_len a.head.now - all_taken (taken_of a.c) ≡ head_len a.head.now = omega arith in (
+      dropped-none a.log.now (head_len a.head.now) (taken_of a.c) refl z,
+      (sym (ap (set a.head.now 0) n ∙ set-get_or a.head.now 0 0), sym (sync_rounds-none (view_in a.log.now a.head.now) (checkpoint_of a.c) z)),
+    ) in record { dropped = r.0; head_after = r.1; value = r.2 }
+
+pub returns-then-all-len : goal.returns-then-all-len
+returns-then-all-len c =
+    let a = c.args in
+    let w = c.wide-len.ensures.0 in
+    let z = c.together-all.ensures in
+    let n : c.less.result ≡ head_len a.head.now - all_taken (taken_of a.c) = (let l = c.less.ensures in omega arith) in
+    let few : head_len a.head.now ≤ all_taken (taken_of a.c) = (let t = c.if-all-len.true in omega arith) in (
+      dropped_all a.log.now (head_len a.head.now) (taken_of a.c) few,
+      (
+        ap (set a.head.now 0) n,
+        sym (sync_rounds_all (view_in a.log.now a.head.now) (checkpoint_of a.c) (λ e. c.if-all-eq0.false (z ∙ e)) (let l = view-length a.log.now a.head.now in omega arith)),
+      ),
+    )
+
+pub returns : goal.returns
+returns c =
+    let a = c.args in
+    let w = c.wide-len.ensures.0 in
+    let z = c.together-all.ensures in
+    let n : c.less.result ≡ head_len a.head.now - all_taken (taken_of a.c) = (let l = c.less.ensures in omega arith) in
+    let t = c.if-all-len.false in
+    let p = c.compact in
+    let r = let l = view-length a.log.now a.head.now in (
+      subst (λ (n : ℕ). Dropped a.log.now n (taken_of a.c) p.new.log) w p.ensures.dropped,
+      (
+        ap (set a.head.now 0) n,
+        p.ensures.value ∙ w ∙ sym l
+            ∙ sym (sync_rounds-some (view_in a.log.now a.head.now) (checkpoint_of a.c) (λ e. c.if-all-eq0.false (z ∙ e)) (omega arith)),
+      ),
+    ) in record { dropped = r.0; head_after = r.1; value = r.2 }

@@ -1,0 +1,13 @@
+use Rattle.backup.specs.Place.{checkpoint_of}
+use Rattle.backup_value.specs.Value.{view}
+use Rattle.backup_value.proofs.ByValue.{answered_so, report_so, view_laid}
+use Rattle.backup_value.proofs.metered_sync.Goals as goal
+
+pub returns : goal.returns
+returns c =
+    let a = c.args in
+    let k = c.metered_sync-m in
+    let r = let e = rw c.opened-head.ensures at k.ensures in (
+      answered_so a.b _ k.new.saved k.new.head _ e.0 c.closed.ensures,
+      (report_so _ (view a.b) (checkpoint_of a.c) (rw (view_laid a.b) at e.1.0), rw (view_laid a.b) at e.1.1),
+    ) in record { answered = r.0; reply_value = r.1; one_pass = r.2 }
