@@ -77,8 +77,8 @@ fit_placement x =
 pairs-fit : (n : ℕ) (l : List ℕ) → pairs n (map fit_byte l) ≡ map fit_channel (pairs n l)
 pairs-fit zero l = refl
 pairs-fit (suc n) l =
-    let s : get_or (map fit_byte l) 0 0 ≡ fit_byte (get_or l 0 0) = ListN.get_d_map fit_byte l 0 0 in
-    let r : get_or (map fit_byte l) 1 0 ≡ fit_byte (get_or l 1 0) = ListN.get_d_map fit_byte l 1 0 in
+    let s : get_or (map fit_byte l) 0 0 ≡ fit_byte (get_or l 0 0) = ListN.get_or-map fit_byte l 0 0 in
+    let r : get_or (map fit_byte l) 1 0 ≡ fit_byte (get_or l 1 0) = ListN.get_or-map fit_byte l 1 0 in
     let later = ap (pairs n) (drop-map 2 l) ∙ pairs-fit n (drop 2 l) in
     λ i. record { sender = s i; reader = r i } ∷ later i
 
@@ -110,7 +110,7 @@ Few n ps = all_of (λ k. leb k pc_most) (program_lengths n ps) ≡ true
 n_fit : (n : ℕ) (ps : List ℕ) → Few (suc n) ps → get_or (map fit_byte ps) 2 0 ≡ get_or ps 2 0
 n_fit n ps h =
     let a = leb-true (get_or ps 2 0) pc_most (and_left (leb (get_or ps 2 0) pc_most) _ h) in
-    ListN.get_d_map fit_byte ps 2 0 ∙ fit_same (get_or ps 2 0) (omega arith)
+    ListN.get_or-map fit_byte ps 2 0 ∙ fit_same (get_or ps 2 0) (omega arith)
 
 few_later : (n : ℕ) (ps : List ℕ) → Few (suc n) ps → Few n (drop 3 ps)
 few_later n ps h = and_right (leb (get_or ps 2 0) pc_most) _ h
@@ -126,7 +126,7 @@ limit-fit : (v : ℕ) (ls : List ℕ) → limit_said v (get_or (map fit_byte ls)
 limit-fit v ls = go (with_limits v)
   where
     go : (w : Bool) → cond w (get_or (map fit_byte ls) 0 0) limit_before ≡ fit_byte (cond w (get_or ls 0 0) limit_before)
-    go true = ListN.get_d_map fit_byte ls 0 0
+    go true = ListN.get_or-map fit_byte ls 0 0
     go false = refl
 
 placed-fit : (v n : ℕ) (ps ls is : List ℕ) → Few n ps → placed_by v n (map fit_byte ps) (map fit_byte ls) (fit_threes is) ≡ map fit_placement (placed_by v n ps ls is)
@@ -134,8 +134,8 @@ placed-fit v zero ps ls is h = refl
 placed-fit v (suc n) ps ls is h =
     let k = get_or ps 2 0 in
     let e = n_fit n ps h in
-    let p : get_or (map fit_byte ps) 0 0 ≡ fit_byte (get_or ps 0 0) = ListN.get_d_map fit_byte ps 0 0 in
-    let s : get_or (map fit_byte ps) 1 0 ≡ fit_byte (get_or ps 1 0) = ListN.get_d_map fit_byte ps 1 0 in
+    let p : get_or (map fit_byte ps) 0 0 ≡ fit_byte (get_or ps 0 0) = ListN.get_or-map fit_byte ps 0 0 in
+    let s : get_or (map fit_byte ps) 1 0 ≡ fit_byte (get_or ps 1 0) = ListN.get_or-map fit_byte ps 1 0 in
     let c = ap (λ (m : ℕ). threes instruction m (fit_threes is)) e ∙ threes-fit k is in
     let behind = ap (λ (m : ℕ). drop (3 * m) (fit_threes is)) e ∙ fit_threes-drop k is in
     let later = (λ i. placed_by v n (drop-map 3 ps i) (drop-map (limit_bytes v) ls i) (behind i)) ∙ placed-fit v n (drop 3 ps) (drop (limit_bytes v) ls) (drop (3 * k) is) (few_later n ps h) in
