@@ -31,9 +31,9 @@ returns-then-not-has_room c =
 
 pub take_lists-requires : goal.take_lists-requires
 take_lists-requires c = record {
-      table_value = sym c.decode-d.ensures.number_is ∙ c.if-number-ne0.false;
-      room = record { room = sym c.has_room.ensures ∙ not-false _ c.if-not-has_room.false-raw };
-    }
+  table_value = sym c.decode-d.ensures.number_is ∙ c.if-number-ne0.false;
+  room = record { room = sym c.has_room.ensures ∙ not-false _ c.if-not-has_room.false-raw };
+}
 
 pub returns : goal.returns
 returns c =

@@ -58,7 +58,7 @@ returns-then-not-instructions_ok c =
 pub limits_ok-requires : goal.limits_ok-requires
 limits_ok-requires c =
     let f = (framing-passes _ (sym c.judge_extent-number.ensures ∙ c.if-number-ne0.false)).framed in
-    let a = ap (λ (n : Counts). n.processes) c.Counts-of.ensures in
+    let a = ap (λ (n : Counts). n.processes) c.counts_of-counts.ensures in
     let d = (counted _ f.counts_ok_lem).processes_high in
     omega arith
 
@@ -71,7 +71,7 @@ returns-then-not-limits_ok c =
     let b = c.judge_boards-b in
     let boards = passed c.if-not-b.false b.ensures.says in
     let instructions = passed c.if-not-instructions_ok.false-raw c.instructions_ok.ensures in
-    let processes = ap (λ (n : Counts). n.processes) c.Counts-of.ensures in
+    let processes = ap (λ (n : Counts). n.processes) c.counts_of-counts.ensures in
     let limits = failed c.if-not-limits_ok.true-raw (c.limits_ok.ensures ∙ limits_are t _ b.result _ b.ensures (not-false _ c.if-not-b.false) processes) in
     decodes_refused t 47 _ (number_from t f ends inputs boards instructions limits) (λ z. omega arith) c.refused-then-not-limits_ok.ensures
 
@@ -86,7 +86,7 @@ returns c =
     let b-ok = not-false _ c.if-not-b.false in
     let boards = passed c.if-not-b.false b.ensures.says in
     let instructions = passed c.if-not-instructions_ok.false-raw c.instructions_ok.ensures in
-    let processes = ap (λ (n : Counts). n.processes) c.Counts-of.ensures in
+    let processes = ap (λ (n : Counts). n.processes) c.counts_of-counts.ensures in
     let limits = passed c.if-not-limits_ok.false-raw (c.limits_ok.ensures ∙ limits_are t _ b.result _ b.ensures b-ok processes) in
     decodes_accepted t w.result b.result w.ensures b.ensures (not-false _ c.if-not-w.false) b-ok (framing-passes t f).framed.extent_ok_lem _ _
-    (number_from t f ends inputs boards instructions limits) c.Counts-of.ensures c.accepted.ensures
+    (number_from t f ends inputs boards instructions limits) c.counts_of-counts.ensures c.accepted.ensures

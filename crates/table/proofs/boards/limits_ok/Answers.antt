@@ -1,5 +1,4 @@
 use mathlib.Core.Path.{ap, ◌∙◌}
-use Prim.Native.Nat.{◌-◌}
 use native.Mathlib.Omega.{arith}
 use Rattle.facts.specs.Walks.{walk_start, walk_on, walk_fails, walk_end}
 use Rattle.rules.specs.Judge.{limit_ok}

@@ -1,4 +1,3 @@
-use Prim.Native.Nat.{◌-◌}
 use Rattle.facts.specs.Walks.{walk_start, walk_on, walk_fails, walk_end}
 use Rattle.table.proofs.EndsPass.{pair-passes, ends_are}
 use Rattle.table.proofs.ends.ends_ok.Goals as goal

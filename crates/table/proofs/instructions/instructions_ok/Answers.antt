@@ -1,4 +1,3 @@
-use Prim.Native.Nat.{◌-◌}
 use Rattle.table.proofs.Programs.{starts_within}
 use Rattle.table.proofs.Walk.{going_start, going_end, going_within, going_fails, going_on, lent_fits, lent_size}
 use native.Mathlib.Omega.{arith}
@@ -13,8 +12,8 @@ loop-p-init c = going_start c.args.table.now c.records_start-at.result c.records
 pub slice_bounds-rest-count : goal.slice_bounds-rest-count
 slice_bounds-rest-count c = omega (arith, going_within c.args.table.now c.requires c.loop-p.at c.loop-p.p c.version_of-version.result c.version_of-version.ensures c.loop-p.invariant c.loop-p-test.true)
 
-pub slice-bounds-rest-start : goal.slice-bounds-rest-start
-slice-bounds-rest-start c = omega (arith, going_within c.args.table.now c.requires c.loop-p.at c.loop-p.p c.version_of-version.result c.version_of-version.ensures c.loop-p.invariant c.loop-p-test.true)
+pub slice_bounds-rest-start : goal.slice_bounds-rest-start
+slice_bounds-rest-start c = omega (arith, going_within c.args.table.now c.requires c.loop-p.at c.loop-p.p c.version_of-version.result c.version_of-version.ensures c.loop-p.invariant c.loop-p-test.true)
 
 pub record_ok-requires : goal.record_ok-requires
 record_ok-requires c = (starts_within _ c.requires, lent_fits c.args.table.now c.requires c.loop-p.at c.loop-p.p c.version_of-version.result c.version_of-version.ensures c.loop-p.invariant c.loop-p-test.true)

@@ -1,5 +1,4 @@
 use mathlib.Core.Path.{ap, ◌∙◌}
-use Prim.Native.Nat.{◌-◌}
 use Rattle.facts.specs.Walks.{walk_start, walk_on, walk_fails, walk_end}
 use Rattle.rules.specs.Format.{decode_table}
 use Rattle.table.specs.Judging.{passes, program_ok}
