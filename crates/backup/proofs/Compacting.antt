@@ -1,5 +1,5 @@
 -- One pass over a log, in three loops: what is true between two of its rounds.
-use Rattle.std.proofs.Common.{◌≡◌, ℕ, zero, suc, ◌+◌, ◌-◌, ◌%◌, ◌<◌, ◌≤◌, Bool, true, false, ltb, List, [], ◌∷◌, ◌++◌, map, length, get_or, drop, set, sym, refl, ap, ◌∙◌, subst, append_assoc, append-nil, add-one, arith, length-drop, length-set, get_or-drop, drop-cons, get_or-set_other, ext_get_or, ltb-true}
+use Rattle.std.proofs.Common.{◌≡◌, ℕ, suc, ◌+◌, ◌-◌, ◌%◌, ◌<◌, ◌≤◌, true, false, ltb, List, [], ◌∷◌, ◌++◌, map, length, get_or, drop, set, sym, refl, ap, ◌∙◌, append_assoc, append-nil, add-one, arith, length-drop, length-set, get_or-drop, drop-cons, get_or-set_other, ext_get_or, ltb-true}
 use mathlib.Core.List.{map-append}
 use lib.ListN.{length-map, get_or-map, get_or-eq_default}
 use lib.Seq.{set-get_or, drop-length}

@@ -1,15 +1,14 @@
 -- Laws of the backup's value, each stated once, for whoever stands on it: what a drop leaves, how it meets arrivals and further
 -- drops, lengths after each call, and when a call is accepted.
-use Rattle.std.specs.Prelude.{◌≡◌, ℕ, zero, suc, ◌+◌, ◌-◌, ◌<◌, ◌≤◌, Bool, true, false, cond, not, ◌&&◌, ◌≢◌, List, [], ◌∷◌, ◌++◌, length, drop, ◌==◌, nat_lt, refl}
-use Rattle.std.proofs.Common.{ap, sym, ◌∙◌, arith, length-append, length-drop, get_or-set_other, eqb-true, eq-eqb, ne_eqb, ltb-true, lt-ltb, le-ltb, le-leb, leb-true}
+use Rattle.std.specs.Prelude.{◌≡◌, ℕ, zero, suc, ◌+◌, ◌-◌, ◌<◌, ◌≤◌, Bool, true, false, cond, ◌≢◌, List, [], ◌∷◌, ◌++◌, length, drop, ◌==◌, nat_lt, refl}
+use Rattle.std.proofs.Common.{ap, sym, ◌∙◌, arith, length-drop, get_or-set_other, eq-eqb, ne_eqb, ltb-true, lt-ltb}
 use mathlib.Core.List.{Sublistᴰ}
-use Rattle.std.proofs.lemmas.Bool.{eqb-false, lt-leb}
-use Rattle.facts.specs.Tests.{by_eq, by_lt, all_of, any_below, no_such, no_way, and_left, and_right, and_both, all_append}
+use Rattle.facts.specs.Tests.{by_eq, and_left, and_right, and_both}
 use Rattle.facts.specs.Sums.{◌⊕◌, getD-⊕, get_d_lowered, sum_below, sum_add, sum_same}
 use Rattle.facts.specs.Counts.{same, same_yes, same_no}
-use Rattle.backup.specs.Limits.{log_most, ports, sent_most, pc_most}
-use Rattle.backup.specs.Replica.{Message, Replica, Checkpoint, Reply, fit, on_ports, answer, arrived, arrive_number, arrive, counted}
-use Rattle.backup.specs.Replica.{count_number, count, saved_on, taken_on, one_less, remaining, lacking, synced, sync_number, sync}
+use Rattle.backup.specs.Limits.{ports}
+use Rattle.backup.specs.Replica.{Message, on_ports}
+use Rattle.backup.specs.Replica.{saved_on, taken_on, one_less, remaining}
 
 -- ---- takes of a port, after one of them is used up
 

@@ -6,8 +6,8 @@ use Rattle.std.proofs.Math.ListN.{length-map}
 use Rattle.std.proofs.lemmas.List.{get_or-replicate}
 use Rattle.facts.specs.Indexing.{get_d_map}
 use Rattle.facts.specs.Lists.{prefix, length-prefix, get_d_prefix}
-use Rattle.backup.specs.Limits.{log_most, ports}
-use Rattle.backup.specs.Replica.{Message, Replica, FailOver, initial, fit, on_ports, fail_over}
+use Rattle.backup.specs.Limits.{log_most}
+use Rattle.backup.specs.Replica.{Message, FailOver, fit, on_ports, fail_over}
 use Rattle.backup.specs.Accepts.{fit_parts, fail_over_accepted}
 use Rattle.backup.specs.Place.{port_in, word_in, unpack, messages, head_length, view_in, Sound, Fresh, fresh_head, promotion_in, handed_over}
 use Rattle.backup.specs.Place.{message_at, head_len}

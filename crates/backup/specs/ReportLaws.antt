@@ -1,7 +1,7 @@
 -- Laws of what a sync reports: for each port dropped is what was taken, and dropped and remaining together are what was saved; the total is
 -- all that was taken, and at most the words saved.
-use Rattle.std.specs.Prelude.{◌≡◌, ℕ, zero, suc, ◌+◌, ◌-◌, ◌<◌, ◌≤◌, List, length, ◌≢◌, slice_index, slice_index_or, refl}
-use Rattle.std.proofs.Common.{ap, sym, ◌∙◌, arith}
+use Rattle.std.specs.Prelude.{◌≡◌, ℕ, zero, suc, ◌+◌, ◌-◌, ◌<◌, ◌≤◌, length, ◌≢◌, slice_index, slice_index_or, refl}
+use Rattle.std.proofs.Common.{ap, ◌∙◌, arith}
 use Rattle.facts.specs.Tests.{by_eq}
 use Rattle.facts.specs.Rings.{get_d_listed}
 use Rattle.facts.specs.Sums.{sum_same}

@@ -1,5 +1,5 @@
 -- Elements by their index: of a mapped list, and of one whose elements all pass a test; and what two functions make of such a list.
-use Rattle.std.specs.Prelude.{◌≡◌, refl, Bool, true, false, ◌&&◌, List, [], ◌∷◌, map, ℕ, zero, suc, ◌≤◌, ◌<◌, length, get_or, replicate}
+use Rattle.std.specs.Prelude.{◌≡◌, refl, Bool, true, List, [], ◌∷◌, map, ℕ, zero, suc, ◌<◌, length, get_or, replicate}
 use Rattle.std.proofs.Common.{le_of_suc-le-suc, not-suc-le-zero}
 use Rattle.facts.specs.Tests.{and_left, and_right, all_of}
 

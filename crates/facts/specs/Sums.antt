@@ -1,9 +1,9 @@
 -- Sums over a range, and tallies: lists of numbers that are added place by place.
-use Rattle.std.specs.Prelude.{◌≡◌, refl, List, [], ◌∷◌, ℕ, zero, suc, ◌+◌, ◌-◌, ◌≤◌, ◌<◌, length, get_or, set}
-use Rattle.std.proofs.Common.{ap, sym, ◌∙◌, arith, get_or-set_same, get_or-set_other}
+use Rattle.std.specs.Prelude.{◌≡◌, refl, List, [], ◌∷◌, ℕ, zero, suc, ◌+◌, ◌≤◌, ◌<◌, length, get_or, set}
+use Rattle.std.proofs.Common.{arith, get_or-set_same}
 use Rattle.std.proofs.Math.ListN.{get_or-eq_default}
 use Rattle.std.proofs.Math.Seq.{set_out}
-use Rattle.facts.specs.Tests.{by_eq, by_lt}
+use Rattle.facts.specs.Tests.{by_lt}
 
 -- f 0 + .. + f (n - 1)
 abbrev pub sum_below : (ℕ → ℕ) → ℕ → ℕ

@@ -1,4 +1,4 @@
-use Rattle.std.proofs.Common.{◌≡◌, ℕ, ◌-◌, ◌<◌, subst, arith, rules}
+use Rattle.std.proofs.Common.{◌≡◌, ℕ, ◌<◌, subst, arith, rules}
 use Rattle.backup.proofs.Compacting.{sifting_due, sifting_owed, sifting_goes, sifting_stays, sifting_swept, Moving, moving_on, passed}
 use Rattle.backup.proofs.place.compact.Goals as goal
 use Rattle.backup.proofs.place.compact.Goals.{else-n-gt0, else-loop-i-2-test, then-n-gt0, then-loop-i-2-test+else-due-gt0}
