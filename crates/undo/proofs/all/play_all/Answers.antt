@@ -1,5 +1,4 @@
 -- `play_all`: one stretch, and where that ends before the schedule does, a session.
-use mathlib.Core.Path.{◌∙◌}
 use native.Mathlib.Omega.{arith}
 use Rattle.undo.proofs.Going.{room_less}
 use Rattle.undo.proofs.AllRecords.{all_played, then_session}
@@ -12,15 +11,6 @@ pub session-requires : goal.session-requires
 session-requires c =
     let kept = c.play-left.auto in
     room_less c.requires (record { answers-long = kept.answers; reasons-long = kept.reasons; origins-long = kept.origins }) (omega arith)
-
-pub shape_of-answers : goal.shape_of-answers
-shape_of-answers c = c.session.auto.answers ∙ c.play-left.auto.answers
-
-pub shape_of-reasons : goal.shape_of-reasons
-shape_of-reasons c = c.session.auto.reasons ∙ c.play-left.auto.reasons
-
-pub shape_of-origins : goal.shape_of-origins
-shape_of-origins c = c.session.auto.origins ∙ c.play-left.auto.origins
 
 pub returns : goal.returns
 returns c =
