@@ -3,7 +3,7 @@ use Rattle.std.proofs.Common.{◌≡◌, ℕ, ◌<◌, ◌≤◌, ◌≢◌, Lis
 use lib.Seq.{set-get_or}
 use Rattle.facts.specs.Tests.{by_eq}
 use Rattle.facts.specs.Lists.{listed}
-use Rattle.facts.specs.Rings.{listed-set, get_d_listed, listed-length}
+use Rattle.facts.specs.Rings.{listed-set, get_or_listed, listed-length}
 use Rattle.process.specs.Row.{process_of, waits_in, Kept, Seated}
 use Rattle.process.specs.Change.{Became}
 use Rattle.rules.specs.Table.{Table, channel_at, placement_at}

@@ -1,7 +1,7 @@
 use mathlib.Core.Path.{◌∙◌, ap, refl}
 use Prim.Native.Nat.{◌<◌}
 use native.Mathlib.Omega.{arith}
-use Rattle.facts.specs.Indexing.{get_d_replicate-any}
+use Rattle.facts.specs.Indexing.{get_or_replicate_any}
 use Rattle.rules.proofs.Valid.{counted}
 use Rattle.plan.specs.Plan.{arity_in}
 use Rattle.table.proofs.PortsPass.{ended_start, ended_on, ended-port, porting_start, porting_ends, porting_past, porting_on, porting_refused, porting_end}
@@ -15,7 +15,7 @@ loop-k-init c =
       (let e = c.byte_wide-channels.ensures.0 in let f = c.byte.ensures in let g = n.channels_high in omega arith),
       (let f = c.byte-processes.ensures in let g = n.processes_high in omega arith),
       ended_start t _,
-      porting_start t _ _ refl refl (λ i. get_d_replicate-any 128 i 0),
+      porting_start t _ _ refl refl (λ i. get_or_replicate_any 128 i 0),
     )
 
 pub returns-then-n-ge-PORTS : goal.returns-then-n-ge-PORTS
