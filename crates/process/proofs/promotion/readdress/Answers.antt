@@ -1,5 +1,5 @@
 use mathlib.Core.Path.{ap, ◌∙◌}
-use Prim.Native.Nat.{ℕ, ◌-◌, ◌%◌}
+use Prim.Native.Nat.{ℕ, ◌%◌}
 use Rattle.process.proofs.Readdressing.{filling_start, filling_on, filling_end}
 use native.Mathlib.Omega.{arith}
 use Rattle.process.proofs.promotion.readdress.Goals as goal
