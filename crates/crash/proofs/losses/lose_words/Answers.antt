@@ -1,4 +1,4 @@
-use Rattle.std.proofs.Common.{◌-◌, ◌<◌, sym, ap, ◌∙◌, arith}
+use Rattle.std.proofs.Common.{◌<◌, sym, ap, ◌∙◌, arith}
 use Rattle.crash.specs.Losses.{runs_on_board, lost_words}
 use Rattle.crash.proofs.Losing.{zeroing_start, zeroing_hit, zeroing_miss, zeroing_end}
 use Rattle.crash.proofs.losses.lose_words.Goals as goal

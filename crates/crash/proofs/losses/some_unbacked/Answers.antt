@@ -1,4 +1,4 @@
-use Rattle.std.proofs.Common.{◌-◌, sym, ◌∙◌}
+use Rattle.std.proofs.Common.{sym, ◌∙◌}
 use Rattle.crash.specs.Losses.{unbacked_in}
 use Rattle.state.proofs.Searching.{searching_start, searching_hit, searching_miss, searching_end}
 use Rattle.crash.proofs.losses.some_unbacked.Goals as goal

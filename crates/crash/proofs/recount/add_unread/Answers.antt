@@ -1,4 +1,4 @@
-use Rattle.std.proofs.Common.{ℕ, ◌-◌, ◌<◌, ap, ◌∙◌, arith}
+use Rattle.std.proofs.Common.{ℕ, ◌<◌, ap, ◌∙◌, arith}
 use Rattle.crash.specs.Recount.{unread_at, more_by, more_unread}
 use Rattle.crash.proofs.Passing.{passing_start, passing_on, passing_end}
 use Rattle.crash.proofs.recount.add_unread.Goals as goal

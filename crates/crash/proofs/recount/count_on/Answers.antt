@@ -1,4 +1,4 @@
-use Rattle.std.proofs.Common.{ℕ, ◌-◌, ap, ◌∙◌}
+use Rattle.std.proofs.Common.{ℕ, ap, ◌∙◌}
 use Rattle.process.specs.Row.{oldest_in, mail_in}
 use Rattle.crash.proofs.Recounting.{counting_start, counting_hit, counting_miss, counting-end}
 use Rattle.crash.proofs.recount.count_on.Goals as goal

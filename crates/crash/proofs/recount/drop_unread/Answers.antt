@@ -1,4 +1,4 @@
-use Rattle.std.proofs.Common.{ℕ, ◌-◌, ◌<◌, ap, ◌∙◌, arith}
+use Rattle.std.proofs.Common.{ℕ, ◌<◌, ap, ◌∙◌, arith}
 use Rattle.crash.specs.Recount.{unread_at, less_unread}
 use Rattle.crash.proofs.Passing.{passing_start, passing_on, passing_end}
 use Rattle.state.specs.Queue.{less_by}
