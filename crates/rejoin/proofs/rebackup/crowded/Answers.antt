@@ -1,5 +1,5 @@
 use mathlib.Core.Path.{◌∙◌, ap, sym}
-use Prim.Native.Nat.{ℕ, ◌-◌, min}
+use Prim.Native.Nat.{ℕ, min}
 use Rattle.facts.specs.Tests.{any_below}
 use Rattle.backup.specs.Limits.{ports}
 use Rattle.rejoin.specs.Rebackups.{crowded_on}
