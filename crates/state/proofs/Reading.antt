@@ -1,6 +1,5 @@
 -- What the lists say of the cabinet that they hold: processes, queues, dead boards.
-use Rattle.std.proofs.Common.{◌≡◌, ℕ, ◌<◌, ◌≤◌, Bool, false, List, [], ◌∷◌, length, get_or, sym, refl, ap, ◌∙◌, arith}
-use Rattle.facts.specs.Lists.{listed}
+use Rattle.std.proofs.Common.{◌≡◌, ℕ, ◌<◌, Bool, false, List, [], length, get_or, ap, ◌∙◌}
 use Rattle.facts.specs.Rings.{get_or_listed, listed-length}
 use Rattle.rules.specs.Table.{Table}
 use Rattle.rules.specs.Cabinet as rules
