@@ -17,12 +17,7 @@ pub fn ks_backup_new(head: &mut [u32; LENT])
 }
 
 // A word arrives on a slot: 0, or 20, 21, 22.
-pub fn ks_backup_arrive(
-    saved: &mut [u64; LOG],
-    head: &mut [u32; LENT],
-    slot: u32,
-    word: u32,
-) -> u32
+pub fn ks_backup_arrive(saved: &mut [u64; LOG], head: &mut [u32; LENT], slot: u32, word: u32) -> u32
     ensures { Answered saved.old head.old saved.new head.new result (λ v. arriveOf v slot word) }
 {
     arrive(saved, head, slot, word) as u32
@@ -53,11 +48,7 @@ pub fn ks_backup_sync(
 }
 
 // The record takes over: 0, or 20. What is handed over is the head that is handed, and of the saved words as many as it says.
-pub fn ks_backup_take_over(
-    saved: &[u64; LOG],
-    head: &[u32; LENT],
-    handed: &mut [u32; LENT],
-) -> u32
+pub fn ks_backup_take_over(saved: &[u64; LOG], head: &[u32; LENT], handed: &mut [u32; LENT]) -> u32
     ensures { HandsOver saved.now head.now result handed.new }
 {
     take_over(saved, head, handed) as u32
