@@ -15,7 +15,7 @@ use backup_lent::{LENT, TOLD};
 
 // Passive replica of a process (document 01: backup record). A message of the log is one number, port times 2^32 plus word (see
 // `pack`); the log's first len numbers count.
-#[derive(Drop)]
+#[derive(Clone, Copy)]
 pub struct Backup {
     pub log: [u64; LOG],
     pub len: u32,

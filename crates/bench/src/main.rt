@@ -12,26 +12,44 @@ ghost use Rattle.bench.specs.Took.{FilledPart, Took};
 
 use bench_input::bench::{PAGE_ROOM, bench};
 use bench_input::wanted::{INPUT_ROOM, wanted};
-use libc::{STDIN_FILENO, STDOUT_FILENO};
+use std::io::Read;
 use words::least;
 
+// Reads once, to the front of a buffer: how many bytes. None come at the input's end, and where the reading fails.
+fn read_some<R: Read>(reader: &mut R, buffer: &mut [u8]) -> usize
+    ensures { result ≤ length buffer.new }
+{
+    match reader.read(buffer) {
+        Ok(n) => n,
+        Err(_) => 0,
+    }
+}
+
 // Reads into a part of a buffer until it is full or the input ends: where it ended.
-fn read_part(input: &mut [u8], from: usize, to: usize) -> usize
+fn read_part<R: Read>(reader: &mut R, input: &mut [u8], from: usize, to: usize) -> usize
     requires from_le_to { from ≤ to }
     requires to_in_bounds { to ≤ length input.old }
     ensures { FilledPart input.old from to result input.new }
 {
-    from + io::read_full(STDIN_FILENO, &mut input[from..to])
+    let mut end = from;
+    while end < to {
+        let n = read_some(reader, &mut input[end..to]);
+        if n == 0 {
+            break;
+        }
+        end += n;
+    }
+    end
 }
 
 // Reads as many bytes as are wanted, or all that there are, or as many as have room: how many.
-fn read_input(input: &mut [u8]) -> usize
+fn read_input<R: Read>(reader: &mut R, input: &mut [u8]) -> usize
     ensures { Took result input.new }
 {
     if input.len() < 2 {
         return 0;
     }
-    let first = read_part(input, 0, 2);
+    let first = read_part(reader, input, 0, 2);
     if first < 2 {
         return first;
     }
@@ -39,13 +57,13 @@ fn read_input(input: &mut [u8]) -> usize
     if end <= 2 {
         return 2;
     }
-    read_part(input, 2, end)
+    read_part(reader, input, 2, end)
 }
 
-fn main() {
+fn main(rt: HostRuntime) {
     let mut input = [0u8; INPUT_ROOM];
     let mut page = [0u8; PAGE_ROOM];
-    let n = read_input(&mut input);
+    let n = read_input(&mut rt.stdin(), &mut input);
     let length = bench(&input[..n], &mut page);
-    io::write_all(STDOUT_FILENO, &page[..length]);
+    let _ = rt.write_all(&page[..length]);
 }

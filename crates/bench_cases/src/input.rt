@@ -186,9 +186,7 @@ fn input_byte(c: Case, i: usize) -> u8 {
 
 // All of a buffer.
 pub fn fill(input: &mut [u8], c: Case) {
-    let mut i = 0;
-    while i < input.len() {
+    for i in 0..input.len() {
         input[i] = input_byte(c, i);
-        i += 1;
     }
 }

@@ -5,8 +5,7 @@ ghost use Rattle.kunzeastylus.specs.Abi.{abi};
 // include/kunzeastylus.h has it as KS_ABI.
 pub const ABI: u32 = 3;
 
-#[unsafe(no_mangle)]
-pub extern "C" fn ks_abi() -> u32
+pub fn ks_abi() -> u32
     ensures { result ≡ abi }
 {
     ABI

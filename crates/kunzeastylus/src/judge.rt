@@ -6,8 +6,7 @@ use records::schedule::judge_schedule;
 use table::decode;
 
 // 0, or the number, 1 to 12, 47 or 51, that refuses the run of a table and a schedule with buffers of these lengths.
-#[unsafe(no_mangle)]
-pub extern "C" fn ks_judge(
+pub fn ks_judge(
     table: &[u8],
     schedule: &[u8],
     answers: usize,

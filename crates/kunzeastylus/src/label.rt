@@ -6,8 +6,7 @@ use crate::run::packed;
 use label_line::{TABLE, make_table, run_line};
 
 // The table of a first serial, into 84 lent bytes: 0, or 46 and they are untouched.
-#[unsafe(no_mangle)]
-pub extern "C" fn ks_label_table(first: u32, table: &mut [u8; TABLE]) -> u32
+pub fn ks_label_table(first: u32, table: &mut [u8; TABLE]) -> u32
     ensures { MakesInto first table.old result table.new }
 {
     let made = make_table(first);
@@ -21,8 +20,7 @@ pub extern "C" fn ks_label_table(first: u32, table: &mut [u8; TABLE]) -> u32
 }
 
 // A schedule on the table of a first serial, with four lent buffers: as `ks_run` of that table, or 46.
-#[unsafe(no_mangle)]
-pub extern "C" fn ks_label_run(
+pub fn ks_label_run(
     first: u32,
     schedule: &[u8],
     answers: &mut [u8],

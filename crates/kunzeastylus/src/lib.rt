@@ -1,5 +1,5 @@
-// The calls that programs in other languages make, each on lent bytes or numbers: one library to link. Every exported name begins with
-// `ks_`, and no other crate exports any; include/kunzeastylus.h declares them for C, bindings/ for Rust.
+// The calls that programs in other languages make, each on lent bytes or numbers: every one's name begins with `ks_`. Crate `kunzeastylus_c`
+// exports them, since a crate is a library or a static library; include/kunzeastylus.h declares them for C, bindings/ for Rust.
 #![tactic(auto)]
 
 pub mod abi;

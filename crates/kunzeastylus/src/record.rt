@@ -9,8 +9,7 @@ use backup::limits::LOG;
 use backup_lent::{LENT, TOLD, arrive, count, new, sync, take_over};
 
 // The record as it starts. The saved words aren't lent: with none saved nobody reads them.
-#[unsafe(no_mangle)]
-pub extern "C" fn ks_backup_new(head: &mut [u32; LENT])
+pub fn ks_backup_new(head: &mut [u32; LENT])
     ensures head_after { head.new ≡ fresh_lent }
     ensures by_index { (saved : List ℕ) → view_in saved head.new ≡ initial }
 {
@@ -18,29 +17,21 @@ pub extern "C" fn ks_backup_new(head: &mut [u32; LENT])
 }
 
 // A word arrives on a slot: 0, or 20, 21, 22.
-#[unsafe(no_mangle)]
-pub extern "C" fn ks_backup_arrive(
-    saved: &mut [u64; LOG],
-    head: &mut [u32; LENT],
-    slot: u32,
-    word: u32,
-) -> u32
+pub fn ks_backup_arrive(saved: &mut [u64; LOG], head: &mut [u32; LENT], slot: u32, word: u32) -> u32
     ensures { Answered saved.old head.old saved.new head.new result (λ v. arrive_of v slot word) }
 {
     arrive(saved, head, slot, word) as u32
 }
 
 // A word of the process was carried: 0, or 20, 24.
-#[unsafe(no_mangle)]
-pub extern "C" fn ks_backup_count(saved: &[u64; LOG], head: &mut [u32; LENT]) -> u32
+pub fn ks_backup_count(saved: &[u64; LOG], head: &mut [u32; LENT]) -> u32
     ensures { Answered saved.now head.old saved.now head.new result count_of }
 {
     count(saved, head) as u32
 }
 
 // A sync lands: 0, or 20, 21, 23, and of each slot how many words it dropped, and then how many remain.
-#[unsafe(no_mangle)]
-pub extern "C" fn ks_backup_sync(
+pub fn ks_backup_sync(
     saved: &mut [u64; LOG],
     head: &mut [u32; LENT],
     place: u32,
@@ -57,12 +48,7 @@ pub extern "C" fn ks_backup_sync(
 }
 
 // The record takes over: 0, or 20. What is handed over is the head that is handed, and of the saved words as many as it says.
-#[unsafe(no_mangle)]
-pub extern "C" fn ks_backup_take_over(
-    saved: &[u64; LOG],
-    head: &[u32; LENT],
-    handed: &mut [u32; LENT],
-) -> u32
+pub fn ks_backup_take_over(saved: &[u64; LOG], head: &[u32; LENT], handed: &mut [u32; LENT]) -> u32
     ensures { HandsOver saved.now head.now result handed.new }
 {
     take_over(saved, head, handed) as u32

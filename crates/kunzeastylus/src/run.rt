@@ -17,8 +17,7 @@ pub fn packed(r: Verdict) -> u64
 }
 
 // The run of a table and a schedule, whatever bytes they are, with four lent buffers.
-#[unsafe(no_mangle)]
-pub extern "C" fn ks_run(
+pub fn ks_run(
     table: &[u8],
     schedule: &[u8],
     answers: &mut [u8],

@@ -17,8 +17,7 @@ fn pack_swept(r: Swept) -> u64
 }
 
 // The sweep of a table and a schedule, whatever bytes they are.
-#[unsafe(no_mangle)]
-pub extern "C" fn ks_sweep(table: &[u8], schedule: &[u8]) -> u64
+pub fn ks_sweep(table: &[u8], schedule: &[u8]) -> u64
     ensures { SweepsPacked table.now schedule.now result }
 {
     pack_swept(sweep(table, schedule))

@@ -15,8 +15,7 @@ fn pack_written(r: Written) -> u64
 }
 
 // The table that lists say, to the front of a lent buffer.
-#[unsafe(no_mangle)]
-pub extern "C" fn ks_table_write(
+pub fn ks_table_write(
     version: u32,
     boards: u32,
     processes: u32,
@@ -53,8 +52,7 @@ fn pack_taken(r: Taken) -> u64
 }
 
 // The lists of a table, to the fronts of four lent ones.
-#[unsafe(no_mangle)]
-pub extern "C" fn ks_table_apart(
+pub fn ks_table_apart(
     table: &[u8],
     ends: &mut [u32],
     placements: &mut [u32],

@@ -4,8 +4,7 @@ ghost use Rattle.view.specs.Views.{Views};
 use view::view;
 
 // The view of a table and a schedule, whatever bytes they are, to the front of a lent list: 0, or the number that refuses it, 1 to 10, 47 or 54.
-#[unsafe(no_mangle)]
-pub extern "C" fn ks_view(table: &[u8], schedule: &[u8], out: &mut [u32]) -> u32
+pub fn ks_view(table: &[u8], schedule: &[u8], out: &mut [u32]) -> u32
     ensures { Views table.now schedule.now out.old result out.new }
 {
     view(table, schedule, out) as u32

@@ -1,10 +1,11 @@
 // Cases of the writer, compared with stdout: document 01's sample as lists, in version 1 and, with a limit, in version 2; then with one number
 // changed for each refusal, in numbers that fit no byte where there are such; pairs that show the order; a buffer of one byte too few; and both
 // tables taken apart again. A line of the writer has the number, the length and four bytes of the buffer, all of which were 238 before.
+// A write that fails ends the program with its error.
 #![tactic(auto)]
 
 use apart::take_apart;
-use libc::STDOUT_FILENO;
+use std::io;
 use writer::write::{Head, Written, write};
 
 // Document 01's sample.
@@ -36,28 +37,27 @@ struct Limits {
     limit: u32,
 }
 
-fn text(s: &[u8]) {
-    io::write_all(STDOUT_FILENO, s);
+fn text(rt: &impl Print, s: &str) -> io::Result<()> {
+    rt.print(s)
 }
 
-fn number(n: u64) {
-    text(b" ");
-    io::print_decimal(STDOUT_FILENO, n);
+fn number(rt: &impl Print, n: u64) -> io::Result<()> {
+    print!(rt; " {n}")
 }
 
 // A byte, and a word.
-fn byte(n: u8) {
-    number(n as u64);
+fn byte(rt: &impl Print, n: u8) -> io::Result<()> {
+    number(rt, n as u64)
 }
 
-fn word(n: u32) {
-    number(n as u64);
+fn word(rt: &impl Print, n: u32) -> io::Result<()> {
+    number(rt, n as u64)
 }
 
-fn show(name: &[u8], r: Written) {
-    text(name);
-    byte(r.number);
-    word(r.length);
+fn show(rt: &impl Print, name: &str, r: Written) -> io::Result<()> {
+    text(rt, name)?;
+    byte(rt, r.number)?;
+    word(rt, r.length)
 }
 
 // The first numbers of a slice.
@@ -90,32 +90,40 @@ fn write_sample(l: Limits, c: Change, out: &mut [u8]) -> Written {
 }
 
 // In a buffer with a byte to spare, or two in version 1.
-fn written(name: &[u8], l: Limits, c: Change) {
+fn written(rt: &impl Print, name: &str, l: Limits, c: Change) -> io::Result<()> {
     let mut out = [238u8; 39];
-    show(name, write_sample(l, c, &mut out));
-    byte(out[1]);
-    byte(out[12]);
-    byte(out[13]);
-    byte(out[38]);
-    text(b"\n");
+    show(rt, name, write_sample(l, c, &mut out))?;
+    byte(rt, out[1])?;
+    byte(rt, out[12])?;
+    byte(rt, out[13])?;
+    byte(rt, out[38])?;
+    text(rt, "\n")
 }
 
 // In a buffer with too few bytes.
-fn short(name: &[u8], version: u32, given: usize, limit: u32, code: u32) {
+fn short(
+    rt: &impl Print,
+    name: &str,
+    version: u32,
+    given: usize,
+    limit: u32,
+    code: u32,
+) -> io::Result<()> {
     let mut out = [238u8; 36];
     show(
+        rt,
         name,
         write_sample(
             limited(version, given, limit),
             changed(2, 0, 1, 4, code),
             &mut out,
         ),
-    );
-    byte(out[1]);
-    byte(out[12]);
-    byte(out[13]);
-    byte(out[35]);
-    text(b"\n");
+    )?;
+    byte(rt, out[1])?;
+    byte(rt, out[12])?;
+    byte(rt, out[13])?;
+    byte(rt, out[35])?;
+    text(rt, "\n")
 }
 
 fn limited(version: u32, given: usize, limit: u32) -> Limits {
@@ -137,18 +145,23 @@ fn changed(boards: u32, reader: u32, standby: u32, n: u32, code: u32) -> Change 
 }
 
 // Of version 1 with one number changed.
-fn case(name: &[u8], c: Change) {
-    written(name, limited(1, 0, 0), c);
+fn case(rt: &impl Print, name: &str, c: Change) -> io::Result<()> {
+    written(rt, name, limited(1, 0, 0), c)
 }
 
 // The sample with so many limits, of which the first is this.
-fn version(name: &[u8], version: u32, given: usize, limit: u32) {
-    written(name, limited(version, given, limit), changed(2, 0, 1, 4, 3));
+fn version(rt: &impl Print, name: &str, version: u32, given: usize, limit: u32) -> io::Result<()> {
+    written(
+        rt,
+        name,
+        limited(version, given, limit),
+        changed(2, 0, 1, 4, 3),
+    )
 }
 
 // A table taken apart into lists of which the last has no number to spare: the number, the version, the counts, how many instructions, and
 // some of the lists' numbers, all of which were 9 before.
-fn apart(name: &[u8], table: &[u8]) {
+fn apart(rt: &impl Print, name: &str, table: &[u8]) -> io::Result<()> {
     let mut ends = [9u32; 5];
     let mut placements = [9u32; 4];
     let mut limits = [9u32; 2];
@@ -160,71 +173,73 @@ fn apart(name: &[u8], table: &[u8]) {
         &mut limits,
         &mut instructions,
     );
-    text(name);
-    byte(r.number);
-    byte(r.version);
-    byte(r.boards);
-    byte(r.processes);
-    byte(r.channels);
-    word(r.instructions);
-    word(ends[0]);
-    word(ends[4]);
-    word(placements[2]);
-    word(placements[3]);
-    word(limits[0]);
-    word(limits[1]);
-    word(instructions[9]);
-    text(b"\n");
+    text(rt, name)?;
+    byte(rt, r.number)?;
+    byte(rt, r.version)?;
+    byte(rt, r.boards)?;
+    byte(rt, r.processes)?;
+    byte(rt, r.channels)?;
+    word(rt, r.instructions)?;
+    word(rt, ends[0])?;
+    word(rt, ends[4])?;
+    word(rt, placements[2])?;
+    word(rt, placements[3])?;
+    word(rt, limits[0])?;
+    word(rt, limits[1])?;
+    word(rt, instructions[9])?;
+    text(rt, "\n")
 }
 
-fn refusals() {
-    case(b"sample", changed(2, 0, 1, 4, 3));
-    case(b"one board", changed(1, 0, 1, 4, 3));
-    case(b"n 5", changed(2, 0, 1, 5, 3));
-    case(b"reader 256", changed(2, 256, 1, 4, 3));
-    case(b"board 257", changed(2, 0, 257, 4, 3));
-    case(b"code 259", changed(2, 0, 1, 4, 259));
+fn refusals(rt: &impl Print) -> io::Result<()> {
+    case(rt, "sample", changed(2, 0, 1, 4, 3))?;
+    case(rt, "one board", changed(1, 0, 1, 4, 3))?;
+    case(rt, "n 5", changed(2, 0, 1, 5, 3))?;
+    case(rt, "reader 256", changed(2, 256, 1, 4, 3))?;
+    case(rt, "board 257", changed(2, 0, 257, 4, 3))?;
+    case(rt, "code 259", changed(2, 0, 1, 4, 259))
 }
 
-fn versions() {
-    version(b"version 2, limit 16", 2, 1, 16);
-    version(b"version 3", 3, 1, 16);
-    version(b"version 258", 258, 1, 16);
+fn versions(rt: &impl Print) -> io::Result<()> {
+    version(rt, "version 2, limit 16", 2, 1, 16)?;
+    version(rt, "version 3", 3, 1, 16)?;
+    version(rt, "version 258", 258, 1, 16)?;
     written(
-        b"version 0 and one board",
+        rt,
+        "version 0 and one board",
         limited(0, 0, 0),
         changed(1, 0, 1, 4, 3),
-    );
-    version(b"a limit in version 1", 1, 1, 8);
-    version(b"no limit in version 2", 2, 0, 8);
-    version(b"two limits of one process", 2, 2, 8);
+    )?;
+    version(rt, "a limit in version 1", 1, 1, 8)?;
+    version(rt, "no limit in version 2", 2, 0, 8)?;
+    version(rt, "two limits of one process", 2, 2, 8)
 }
 
-fn limits_47() {
-    version(b"limit 0", 2, 1, 0);
-    version(b"limit 17", 2, 1, 17);
-    version(b"limit 257", 2, 1, 257);
+fn limits_47(rt: &impl Print) -> io::Result<()> {
+    version(rt, "limit 0", 2, 1, 0)?;
+    version(rt, "limit 17", 2, 1, 17)?;
+    version(rt, "limit 257", 2, 1, 257)?;
     written(
-        b"limit 0 and code 7",
+        rt,
+        "limit 0 and code 7",
         limited(2, 1, 0),
         changed(2, 0, 1, 4, 7),
-    );
+    )
 }
 
-fn shorts() {
-    short(b"36 bytes", 1, 0, 0, 3);
-    short(b"36 bytes, code 7", 1, 0, 0, 7);
-    short(b"36 bytes, version 2", 2, 1, 16, 3);
-    short(b"36 bytes, limit 17", 2, 1, 17, 3);
+fn shorts(rt: &impl Print) -> io::Result<()> {
+    short(rt, "36 bytes", 1, 0, 0, 3)?;
+    short(rt, "36 bytes, code 7", 1, 0, 0, 7)?;
+    short(rt, "36 bytes, version 2", 2, 1, 16, 3)?;
+    short(rt, "36 bytes, limit 17", 2, 1, 17, 3)
 }
 
-fn main() {
-    refusals();
-    versions();
-    limits_47();
-    shorts();
+fn main(rt: HostRuntime) -> io::Result<()> {
+    refusals(&rt)?;
+    versions(&rt)?;
+    limits_47(&rt)?;
+    shorts(&rt)?;
     let first = FIRST;
-    apart(b"apart", &first);
+    apart(&rt, "apart", &first)?;
     let second = SECOND;
-    apart(b"apart, version 2", &second);
+    apart(&rt, "apart, version 2", &second)
 }
