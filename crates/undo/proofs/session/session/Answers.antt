@@ -3,7 +3,7 @@ use mathlib.Core.Path.{◌≡◌, ap, ◌∙◌}
 use Prim.Native.Nat.{◌+◌, ◌-◌, ◌<◌, min}
 use native.Mathlib.Omega.{arith}
 use Rattle.rules.specs.Schedule.{commands_in}
-use Rattle.stretch.specs.Plays.{sheets_of, RoomAt, AsLong}
+use Rattle.stretch.specs.Plays.{sheets_of, AsLong}
 use Rattle.stretch.proofs.Sheets.{has_room}
 use Rattle.undo.specs.History.{held_most, Fitting}
 use Rattle.undo.proofs.Going.{room_less, going_first, going_last, going_refused, some-kept, going_undone, one_done_lem, stretch_fits, going_forward, going_followed}
@@ -55,17 +55,17 @@ overflow_sub-kept c = let a = some (goal.at.overflow_sub-kept c).After-write c.i
 
 pub loop-i-preserved-then-r-eq-TAKEN_BACK : goal.loop-i-preserved-then-r-eq-TAKEN_BACK
 loop-i-preserved-then-r-eq-TAKEN_BACK c = (
-      (let a = c.loop-i.invariant.0 in omega arith),
-      going_undone c.loop-i.invariant.1 c.command_at-c.result c.command_at-c.ensures (below (goal.at.loop-i-preserved-then-r-eq-TAKEN_BACK c).After-command_at-c) c.if-c-eq-UNDO.true
-          c.undo_answer-r.ensures.1 c.undo_answer-r.ensures.0 c.write.ensures c.if-r-eq-TAKEN_BACK.true c.replay-before.ensures,
-    )
+  (let a = c.loop-i.invariant.0 in omega arith),
+  going_undone c.loop-i.invariant.1 c.command_at-c.result c.command_at-c.ensures (below (goal.at.loop-i-preserved-then-r-eq-TAKEN_BACK c).After-command_at-c) c.if-c-eq-UNDO.true
+      c.undo_answer-r.ensures.1 c.undo_answer-r.ensures.0 c.write.ensures c.if-r-eq-TAKEN_BACK.true c.replay-before.ensures,
+)
 
 pub loop-i-preserved-else-r-eq-TAKEN_BACK : goal.loop-i-preserved-else-r-eq-TAKEN_BACK
 loop-i-preserved-else-r-eq-TAKEN_BACK c = (
-      c.loop-i.invariant.0,
-      going_refused c.loop-i.invariant.1 c.command_at-c.result c.command_at-c.ensures (below (goal.at.loop-i-preserved-else-r-eq-TAKEN_BACK c).After-command_at-c) c.if-c-eq-UNDO.true
-          c.undo_answer-r.ensures.1 c.undo_answer-r.ensures.0 c.write.ensures c.if-r-eq-TAKEN_BACK.false,
-    )
+  c.loop-i.invariant.0,
+  going_refused c.loop-i.invariant.1 c.command_at-c.result c.command_at-c.ensures (below (goal.at.loop-i-preserved-else-r-eq-TAKEN_BACK c).After-command_at-c) c.if-c-eq-UNDO.true
+      c.undo_answer-r.ensures.1 c.undo_answer-r.ensures.0 c.write.ensures c.if-r-eq-TAKEN_BACK.false,
+)
 
 pub overflow_add-k : goal.overflow_add-k
 overflow_add-k c = let a = below (goal.at.overflow_add-k c).After-command_at-c in omega arith
@@ -98,22 +98,22 @@ loop-i-smaller-then-held-eq-HELD c = let a = further (goal.at.loop-i-smaller-the
 
 pub loop-i-preserved-then-held-eq-HELD : goal.loop-i-preserved-then-held-eq-HELD
 loop-i-preserved-then-held-eq-HELD c = (
-      omega arith,
-      going_followed
-          (going_forward c.loop-i.invariant.1 c.command_at-c.result c.command_at-c.ensures (below (goal.at.loop-i-preserved-then-held-eq-HELD c).After-command_at-c) c.if-c-eq-UNDO.false c.loop-i.invariant.0
-          (ends (goal.at.loop-i-preserved-then-held-eq-HELD c).After-play-left) c.play-left.ensures (long (goal.at.loop-i-preserved-then-held-eq-HELD c).After-play-left) c.remember.ensures c.least-kept.ensures)
-          c.if-held-eq-HELD.true c.follow-followed.ensures,
-    )
+  omega arith,
+  going_followed
+      (going_forward c.loop-i.invariant.1 c.command_at-c.result c.command_at-c.ensures (below (goal.at.loop-i-preserved-then-held-eq-HELD c).After-command_at-c) c.if-c-eq-UNDO.false c.loop-i.invariant.0
+      (ends (goal.at.loop-i-preserved-then-held-eq-HELD c).After-play-left) c.play-left.ensures (long (goal.at.loop-i-preserved-then-held-eq-HELD c).After-play-left) c.remember.ensures c.least-kept.ensures)
+      c.if-held-eq-HELD.true c.follow-followed.ensures,
+)
 
 pub loop-i-smaller : goal.loop-i-smaller
 loop-i-smaller c = let a = further (goal.at.loop-i-smaller c).After-play-left in let b = c.loop-i-test.true in omega arith
 
 pub loop-i-preserved : goal.loop-i-preserved
 loop-i-preserved c = (
-      (let a = (fits (goal.at.loop-i-preserved c).After-play-left).fits in let b = c.if-held-eq-HELD.false in omega arith),
-      going_forward c.loop-i.invariant.1 c.command_at-c.result c.command_at-c.ensures (below (goal.at.loop-i-preserved c).After-command_at-c) c.if-c-eq-UNDO.false c.loop-i.invariant.0
-          (ends (goal.at.loop-i-preserved c).After-play-left) c.play-left.ensures (long (goal.at.loop-i-preserved c).After-play-left) c.remember.ensures c.least-kept.ensures,
-    )
+  (let a = (fits (goal.at.loop-i-preserved c).After-play-left).fits in let b = c.if-held-eq-HELD.false in omega arith),
+  going_forward c.loop-i.invariant.1 c.command_at-c.result c.command_at-c.ensures (below (goal.at.loop-i-preserved c).After-command_at-c) c.if-c-eq-UNDO.false c.loop-i.invariant.0
+      (ends (goal.at.loop-i-preserved c).After-play-left) c.play-left.ensures (long (goal.at.loop-i-preserved c).After-play-left) c.remember.ensures c.least-kept.ensures,
+)
 
 pub returns : goal.returns
 returns c = going_last c.loop-i.invariant.1 (let a = c.loop-i-test.false in let b = c.count-records.ensures in omega arith)

@@ -1,7 +1,5 @@
 -- The loop of `session`: `Going` holds between two rounds, and fewer records are held than there is room for.
-use mathlib.Core.Path.{◌≡◌}
-use Prim.Native.Nat.{ℕ, ◌+◌, ◌-◌, ◌<◌, min}
-use Rattle.rules.specs.Schedule.{commands_in}
+use Prim.Native.Nat.{◌-◌, ◌<◌}
 use Rattle.plan.specs.Plan.{plan_of}
 use Rattle.state.specs.Store.{store_of}
 use Rattle.stretch.specs.Plays.{sheets_of}
