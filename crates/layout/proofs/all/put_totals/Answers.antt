@@ -1,5 +1,4 @@
 use mathlib.Core.Path.{refl, ap}
-use Prim.Native.Nat.{◌-◌}
 use Rattle.rules.specs.Sizes.{channels_most}
 use Rattle.layout.proofs.Laying.{each_start, each_on, each-end}
 use mathlib.Core.List.{[], ◌∷◌}

@@ -1,6 +1,6 @@
 use mathlib.Core.Path.{refl, ◌∙◌}
 use mathlib.Core.List.{[], ◌∷◌}
-use Prim.Native.Nat.{◌+◌, ◌-◌}
+use Prim.Native.Nat.{◌+◌}
 use Rattle.facts.specs.Laying.{laid_length}
 use Rattle.state.specs.Queue.{queue_count}
 use Rattle.rules.specs.Sizes.{outbox_most}
