@@ -1,7 +1,7 @@
 -- The label line's table (document 02, W-203): "one scanner, one numbering program and one printer program on two boards".
 use Rattle.std.specs.Prelude.{List, [], ◌∷◌, ℕ, leb}
 use Rattle.rules.specs.Sizes.{limit_before}
-use Rattle.rules.specs.Table.{environment, Channel, Instruction, SET, ADD, TAKE, SEND, JUMP, Table}
+use Rattle.rules.specs.Table.{environment, Instruction, SET, ADD, TAKE, SEND, JUMP, Table}
 use Rattle.rules.specs.Format.{or_number}
 use Rattle.rules.specs.Encode.{Lists, encode}
 
