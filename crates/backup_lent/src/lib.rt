@@ -83,6 +83,7 @@ fn census(saved: &[u64], len: usize) -> Tallies
 }
 
 // Whether a head says no more words than there is room for, and count and place are in range.
+#[tactic(auto, using(std::proofs::lemmas::Bool::Decides::nat_tests))]
 fn within(head: &[u32]) -> bool
     requires { length head.now ≡ lent_length }
     ensures { result ≡ within_in head.now }
