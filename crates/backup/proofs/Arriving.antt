@@ -1,16 +1,16 @@
 -- An arrival in place: a store at the log's end, and two cells of the head that go up by one.
-use Rattle.std.proofs.Common.{◌≡◌, ℕ, zero, suc, ◌+◌, ◌^◌, ◌<◌, ◌≤◌, List, [], ◌∷◌, ◌++◌, map, length, get_or, set, sym, refl, ap, ◌∙◌, arith, length-set, get_or-set_other, le-leb}
+use Rattle.std.proofs.Common.{◌≡◌, ℕ, suc, ◌+◌, ◌^◌, ◌<◌, ◌≤◌, List, [], ◌∷◌, ◌++◌, map, length, get_or, set, sym, ap, ◌∙◌, arith, length-set, get_or-set_other, le-leb}
 use mathlib.Core.List.{map-append}
 use borrow.Author.Tests.{lt-leb}
 use Rattle.facts.specs.Tests.{by_eq}
 use Rattle.facts.specs.Counts.{same_yes, same_no}
 use Rattle.facts.specs.Lists.{prefix, prefix_push}
 use Rattle.backup.specs.Limits.{log_most, ports}
-use Rattle.backup.specs.Replica.{Message, Replica, saved_on, arrive, arrive_number, arrived}
+use Rattle.backup.specs.Replica.{Message, saved_on, arrive, arrive_number, arrived}
 use Rattle.backup.specs.Laws.{saved_append, saved_cons}
-use Rattle.backup.specs.Accepts.{fit_parts, arrive-accepted, arrived-fit}
+use Rattle.backup.specs.Accepts.{arrive-accepted, arrived-fit}
 use Rattle.words.specs.Words.{pack}
-use Rattle.backup.specs.Place.{unpack, unpack-pack, messages, view_in, tally_in, head_length, Sound, Called, arrive_number_in, head_len}
+use Rattle.backup.specs.Place.{unpack, unpack-pack, messages, view_in, tally_in, Sound, Called, arrive_number_in, head_len}
 use Rattle.backup.proofs.InPlace.{refused_so, accepted_so, same-replica, view-length, saved-few, bumped, bumped-other, bumped-same}
 
 module _ (log head : List ℕ) (port word : ℕ) where

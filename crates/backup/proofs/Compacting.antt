@@ -1,10 +1,10 @@
 -- One pass over a log, in three loops: what is true between two of its rounds.
-use Rattle.std.proofs.Common.{◌≡◌, ℕ, zero, suc, ◌+◌, ◌-◌, ◌%◌, ◌<◌, ◌≤◌, Bool, true, false, ltb, List, [], ◌∷◌, ◌++◌, map, length, get_or, drop, set, sym, refl, ap, ◌∙◌, subst, append_assoc, append-nil, add-one, arith, length-drop, length-set, get_or-drop, drop-cons, get_or-set_other, ext_get_or, ltb-true}
+use Rattle.std.proofs.Common.{◌≡◌, ℕ, suc, ◌+◌, ◌-◌, ◌%◌, ◌<◌, ◌≤◌, true, false, ltb, List, [], ◌∷◌, ◌++◌, map, length, get_or, drop, set, sym, refl, ap, ◌∙◌, append_assoc, append-nil, add-one, arith, length-drop, length-set, get_or-drop, drop-cons, get_or-set_other, ext_get_or, ltb-true}
 use mathlib.Core.List.{map-append}
 use lib.ListN.{length-map, get_or-map, get_or-eq_default}
 use lib.Seq.{set-get_or, drop-length}
 use Rattle.facts.specs.Tests.{all_at, by_lt}
-use Rattle.facts.specs.Lists.{prefix, length-prefix, prefix_push, get_d_prefix, listed_same, prefix-listed}
+use Rattle.facts.specs.Lists.{prefix, length-prefix, prefix_push, get_or_prefix, listed_same, prefix-listed}
 use Rattle.backup.specs.Limits.{log_most, ports}
 use Rattle.backup.specs.Replica.{Message, on_ports, taken_on, one_less, remaining, lacking}
 use Rattle.backup.specs.Laws.{stays, goes, by_taken, none-taken, length-remaining}
@@ -16,7 +16,7 @@ pub messages-length : (n : ℕ) (log : List ℕ) → length (messages n log) ≡
 messages-length n log = length-map (prefix n log) unpack ∙ length-prefix n log
 
 pub message_at_lem : (n : ℕ) (log : List ℕ) (i : ℕ) → i < n → get_or (messages n log) i (unpack 0) ≡ unpack (get_or log i 0)
-message_at_lem n log i h = get_or-map unpack (prefix n log) i 0 ∙ ap unpack (get_d_prefix n log i h)
+message_at_lem n log i h = get_or-map unpack (prefix n log) i 0 ∙ ap unpack (get_or_prefix n log i h)
 
 -- Of len messages of log₀ a loop has looked at i. What stays of them stands at the log's front, and with what a drop of `left` leaves of
 -- the rest it is `goal`, supposing H. From i on the log is as it was.

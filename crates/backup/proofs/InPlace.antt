@@ -1,11 +1,11 @@
 -- What every call in place has in common: a refusal, an acceptance, and the parts of a sound backup. Then the count.
-use Rattle.std.proofs.Common.{◌≡◌, ℕ, zero, suc, ◌+◌, ◌%◌, ◌^◌, ◌<◌, ◌≤◌, Bool, true, false, cond, eqb, List, [], ◌∷◌, length, get_or, set, sym, refl, ap, ◌∙◌, arith, length-set, get_or-set_other, get_or-set_same, le-leb}
+use Rattle.std.proofs.Common.{◌≡◌, ℕ, suc, ◌+◌, ◌%◌, ◌^◌, ◌<◌, ◌≤◌, Bool, true, false, cond, eqb, List, [], ◌∷◌, length, get_or, set, sym, refl, ap, ◌∙◌, arith, length-set, get_or-set_other, get_or-set_same, le-leb}
 use lib.ListN.{length-map}
 use borrow.Author.Tests.{lt-leb}
 use Rattle.facts.specs.Lists.{prefix, length-prefix}
 use Rattle.facts.specs.Counts.{same}
 use Rattle.backup.specs.Limits.{log_most, ports, sent_most}
-use Rattle.backup.specs.Replica.{Message, Replica, Reply, fit, saved_on, initial, count, count_number, counted}
+use Rattle.backup.specs.Replica.{Message, Replica, Reply, fit, saved_on, count, count_number, counted}
 use Rattle.backup.specs.Laws.{saved_cons}
 use Rattle.backup.specs.Accepts.{count-accepted, counted-fit}
 use Rattle.backup.specs.Place.{unpack, messages, view_in, tally_in, head_length, Sound, SameBehind, Called, count_number_in, head_len, head_sent}

@@ -1,9 +1,9 @@
 -- A checkpoint in place: the head tells its number, what was taken is dropped, and the head is written anew.
-use Rattle.std.proofs.Common.{◌≡◌, ℕ, zero, suc, ◌+◌, ◌-◌, ◌<◌, ◌≤◌, Bool, true, false, cond, ltb, List, get_or, set, sym, refl, ap, ◌∙◌, arith, ltb-false, le-ltb}
+use Rattle.std.proofs.Common.{◌≡◌, ℕ, zero, suc, ◌-◌, ◌<◌, ◌≤◌, Bool, true, false, cond, ltb, List, get_or, set, sym, refl, ap, ◌∙◌, arith, ltb-false, le-ltb}
 use Rattle.facts.specs.Tests.{any_same}
 use Rattle.facts.specs.Lists.{listed_same}
 use Rattle.backup.specs.Limits.{log_most, ports, pc_most}
-use Rattle.backup.specs.Replica.{Replica, saved_on, taken_on, remaining, lacking, answer, sync, sync_number, synced}
+use Rattle.backup.specs.Replica.{Replica, saved_on, taken_on, lacking, answer, sync, sync_number, synced}
 use Rattle.backup.specs.Laws.{saved-remaining}
 use Rattle.backup.specs.Accepts.{fit_parts, enough, answer-number, answer-done, sync-accepted, synced-fit}
 use Rattle.backup.specs.Place.{view_in, tally_in, Sound, Called, taken_of, checkpoint_of, lacks_in, sync_number_in, Dropped, restated_in, report_of, refused_of, landed_in, Reports}

@@ -1,11 +1,11 @@
 -- When a call of the backup is accepted, what it then gives, and that a fit value stays fit.
-use Rattle.std.specs.Prelude.{◌≡◌, ℕ, zero, suc, ◌+◌, ◌<◌, ◌≤◌, Bool, true, false, cond, not, ◌&&◌, ltb, List, [], ◌∷◌, ◌++◌, length, nat_le, nat_lt, refl}
-use Rattle.std.proofs.Common.{ap, sym, ◌∙◌, arith, length-append, le-ltb, lt-ltb, le-leb, leb-true, leb-false, ltb-false}
+use Rattle.std.specs.Prelude.{◌≡◌, ℕ, zero, suc, ◌<◌, ◌≤◌, Bool, true, false, cond, not, ◌&&◌, ltb, List, [], ◌∷◌, length, nat_le, nat_lt, refl}
+use Rattle.std.proofs.Common.{arith, length-append, le-ltb, lt-ltb, le-leb, leb-true, ltb-false}
 use Rattle.std.proofs.lemmas.Bool.{lt-leb}
-use Rattle.facts.specs.Tests.{any_below, none_below, no_such, and_left, and_right, and_both, all_append, no_way}
+use Rattle.facts.specs.Tests.{none_below, no_such, and_left, and_right, and_both, all_append}
 use Rattle.backup.specs.Limits.{log_most, ports, sent_most, pc_most}
-use Rattle.backup.specs.Replica.{no_registers, Message, Replica, Checkpoint, Reply, FailOver, fit, on_ports, answer, arrived}
-use Rattle.backup.specs.Replica.{arrive_number, arrive, counted, count_number, count, saved_on, taken_on, remaining, lacking, synced}
+use Rattle.backup.specs.Replica.{no_registers, Message, Replica, Checkpoint, fit, on_ports, answer, arrived}
+use Rattle.backup.specs.Replica.{arrive_number, arrive, counted, count_number, count, saved_on, taken_on, lacking, synced}
 use Rattle.backup.specs.Replica.{sync_number, sync, fail_over}
 use Rattle.backup.specs.Laws.{ports-remaining, shorter}
 

@@ -1,20 +1,19 @@
 -- Laws of the backup's value, each stated once, for whoever stands on it: what a drop leaves, how it meets arrivals and further
 -- drops, lengths after each call, and when a call is accepted.
-use Rattle.std.specs.Prelude.{◌≡◌, ℕ, zero, suc, ◌+◌, ◌-◌, ◌<◌, ◌≤◌, Bool, true, false, cond, not, ◌&&◌, ◌≢◌, List, [], ◌∷◌, ◌++◌, length, drop, ◌==◌, nat_lt, refl}
-use Rattle.std.proofs.Common.{ap, sym, ◌∙◌, arith, length-append, length-drop, get_or-set_other, eqb-true, eq-eqb, ne_eqb, ltb-true, lt-ltb, le-ltb, le-leb, leb-true}
+use Rattle.std.specs.Prelude.{◌≡◌, ℕ, zero, suc, ◌+◌, ◌-◌, ◌<◌, ◌≤◌, Bool, true, false, cond, ◌≢◌, List, [], ◌∷◌, ◌++◌, length, drop, ◌==◌, nat_lt, refl}
+use Rattle.std.proofs.Common.{ap, sym, ◌∙◌, arith, length-drop, get_or-set_other, eq-eqb, ne_eqb, ltb-true, lt-ltb}
 use mathlib.Core.List.{Sublistᴰ}
-use Rattle.std.proofs.lemmas.Bool.{eqb-false, lt-leb}
-use Rattle.facts.specs.Tests.{by_eq, by_lt, all_of, any_below, no_such, no_way, and_left, and_right, and_both, all_append}
-use Rattle.facts.specs.Sums.{◌⊕◌, getD-⊕, get_d_lowered, sum_below, sum_add, sum_same}
+use Rattle.facts.specs.Tests.{by_eq, and_left, and_right, and_both}
+use Rattle.facts.specs.Sums.{◌⊕◌, get_or-⊕, get_or_lowered, sum_below, sum_add, sum_same}
 use Rattle.facts.specs.Counts.{same, same_yes, same_no}
-use Rattle.backup.specs.Limits.{log_most, ports, sent_most, pc_most}
-use Rattle.backup.specs.Replica.{Message, Replica, Checkpoint, Reply, fit, on_ports, answer, arrived, arrive_number, arrive, counted}
-use Rattle.backup.specs.Replica.{count_number, count, saved_on, taken_on, one_less, remaining, lacking, synced, sync_number, sync}
+use Rattle.backup.specs.Limits.{ports}
+use Rattle.backup.specs.Replica.{Message, on_ports}
+use Rattle.backup.specs.Replica.{saved_on, taken_on, one_less, remaining}
 
 -- ---- takes of a port, after one of them is used up
 
 pub taken_less : (t : List ℕ) (q : ℕ) → taken_on (one_less t q) q ≡ taken_on t q - 1
-taken_less t q = get_d_lowered t q (taken_on t q - 1) (omega arith)
+taken_less t q = get_or_lowered t q (taken_on t q - 1) (omega arith)
 
 pub taken-other : (t : List ℕ) (q p : ℕ) → p ≢ q → taken_on (one_less t q) p ≡ taken_on t p
 taken-other t q p n = get_or-set_other t q p (taken_on t q - 1) 0 n
@@ -119,20 +118,20 @@ none-taken t (m ∷ l) h = stays t m l (h m.port) ∙ ap (λ (r : List Message).
 
 less_left : (s t : List ℕ) (q : ℕ) → 1 ≤ taken_on s q → (p : ℕ) → taken_on (◌⊕◌ (one_less s q) t) p ≡ taken_on (one_less (◌⊕◌ s t) q) p
 less_left s t q g p =
-    let a = getD-⊕ (one_less s q) t p in
-    let b = getD-⊕ s t p in
+    let a = get_or-⊕ (one_less s q) t p in
+    let b = get_or-⊕ s t p in
     by_eq p q
     (λ e. let c = taken_less s q in let d = taken_less (◌⊕◌ s t) q in
-    rw e (let a' = getD-⊕ (one_less s q) t q in let b' = getD-⊕ s t q in omega arith))
+    rw e (let a' = get_or-⊕ (one_less s q) t q in let b' = get_or-⊕ s t q in omega arith))
     (λ n. let c = taken-other s q p n in let d = taken-other (◌⊕◌ s t) q p n in omega arith)
 
 less_right : (s t : List ℕ) (q : ℕ) → 1 ≤ taken_on t q → (p : ℕ) → taken_on (◌⊕◌ s (one_less t q)) p ≡ taken_on (one_less (◌⊕◌ s t) q) p
 less_right s t q g p =
-    let a = getD-⊕ s (one_less t q) p in
-    let b = getD-⊕ s t p in
+    let a = get_or-⊕ s (one_less t q) p in
+    let b = get_or-⊕ s t p in
     by_eq p q
     (λ e. let c = taken_less t q in let d = taken_less (◌⊕◌ s t) q in
-    rw e (let a' = getD-⊕ s (one_less t q) q in let b' = getD-⊕ s t q in omega arith))
+    rw e (let a' = get_or-⊕ s (one_less t q) q in let b' = get_or-⊕ s t q in omega arith))
     (λ n. let c = taken-other t q p n in let d = taken-other (◌⊕◌ s t) q p n in omega arith)
 
 -- Dropping s and then t is dropping s + t.
@@ -140,7 +139,7 @@ pub drop-drop : (s t : List ℕ) (l : List Message) → remaining t (remaining s
 drop-drop s t [] = refl
 drop-drop s t (m ∷ l) =
     let q = m.port in
-    let sum = getD-⊕ s t q in
+    let sum = get_or-⊕ s t q in
     by_taken s q
     (λ z. ap (remaining t) (stays s m l z) ∙ by_taken t q
     (λ y. stays t m (remaining s l) y ∙ ap (λ (r : List Message). m ∷ r) (drop-drop s t l) ∙ sym (stays (◌⊕◌ s t) m l (omega arith)))

@@ -4,10 +4,10 @@ use Rattle.std.specs.Prelude.{◌≡◌, ℕ, ◌+◌, ◌<◌, ◌≤◌, true,
 use Rattle.std.proofs.Common.{ap, sym, ◌∙◌, arith}
 use Rattle.std.proofs.Math.ListN.{length-map}
 use Rattle.std.proofs.lemmas.List.{get_or-replicate}
-use Rattle.facts.specs.Indexing.{get_d_map}
-use Rattle.facts.specs.Lists.{prefix, length-prefix, get_d_prefix}
-use Rattle.backup.specs.Limits.{log_most, ports}
-use Rattle.backup.specs.Replica.{Message, Replica, FailOver, initial, fit, on_ports, fail_over}
+use Rattle.facts.specs.Indexing.{get_or_map}
+use Rattle.facts.specs.Lists.{prefix, length-prefix, get_or_prefix}
+use Rattle.backup.specs.Limits.{log_most}
+use Rattle.backup.specs.Replica.{Message, FailOver, fit, on_ports, fail_over}
 use Rattle.backup.specs.Accepts.{fit_parts, fail_over_accepted}
 use Rattle.backup.specs.Place.{port_in, word_in, unpack, messages, head_length, view_in, Sound, Fresh, fresh_head, promotion_in, handed_over}
 use Rattle.backup.specs.Place.{message_at, head_len}
@@ -51,8 +51,8 @@ module _ (log head : List ℕ) where
     message_at_lem i l =
         let n : ℕ = head_len head in
         ap (λ (f : FailOver). message_at f i) fail_over_in_lem
-        ∙ get_d_map unpack (prefix n log) i 0 (unpack 0) (let e = length-prefix n log in omega arith)
-        ∙ ap unpack (get_d_prefix n log i l)
+        ∙ get_or_map unpack (prefix n log) i 0 (unpack 0) (let e = length-prefix n log in omega arith)
+        ∙ ap unpack (get_or_prefix n log i l)
 
     pub port_at : (i : ℕ) → i < (promotion_in head).len → port_in (slice_index log i) ≡ (message_at (fail_over (view_in log head)) i).port
     port_at i l = ap (λ (m : Message). m.port) (sym (message_at_lem i l))

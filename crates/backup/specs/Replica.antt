@@ -1,7 +1,7 @@
 -- The backup record as a value, and each of its calls as a total function: document 01, "The backup record".
 -- "A value: up to 48 saved words with slots, count, place, registers." The sizes are those of Limits, since W-207 64 words and a count of 32;
 -- the sentences below have document 01's.
-use Rattle.std.specs.Prelude.{ℕ, zero, suc, ◌-◌, Bool, true, false, cond, not, ◌&&◌, ltb, List, [], ◌∷◌, ◌++◌, length, ◌==◌, nat_le, nat_lt, slice_index, slice_set}
+use Rattle.std.specs.Prelude.{ℕ, zero, suc, ◌-◌, Bool, cond, not, ◌&&◌, ltb, List, [], ◌∷◌, ◌++◌, length, ◌==◌, nat_le, nat_lt, slice_index, slice_set}
 use Rattle.facts.specs.Tests.{any_below, all_of}
 use Rattle.backup.specs.Limits.{log_most, ports, sent_most, pc_most}
 

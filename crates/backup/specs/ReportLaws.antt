@@ -1,9 +1,9 @@
 -- Laws of what a sync reports: for each port dropped is what was taken, and dropped and remaining together are what was saved; the total is
 -- all that was taken, and at most the words saved.
-use Rattle.std.specs.Prelude.{◌≡◌, ℕ, zero, suc, ◌+◌, ◌-◌, ◌<◌, ◌≤◌, List, length, ◌≢◌, slice_index, slice_index_or, refl}
-use Rattle.std.proofs.Common.{ap, sym, ◌∙◌, arith}
+use Rattle.std.specs.Prelude.{◌≡◌, ℕ, zero, suc, ◌+◌, ◌-◌, ◌<◌, ◌≤◌, length, ◌≢◌, slice_index, slice_index_or, refl}
+use Rattle.std.proofs.Common.{ap, ◌∙◌, arith}
 use Rattle.facts.specs.Tests.{by_eq}
-use Rattle.facts.specs.Rings.{get_d_listed}
+use Rattle.facts.specs.Rings.{get_or_listed}
 use Rattle.facts.specs.Sums.{sum_same}
 use Rattle.backup.specs.Limits.{log_most, ports}
 use Rattle.backup.specs.Replica.{Replica, Checkpoint, saved_on, taken_on, synced, sync_number}
@@ -36,14 +36,14 @@ module _ (r : Replica) (c : Checkpoint) (h : sync_number r c ≡ 0) where
   pub sync_report-dropped : (p : ℕ) → p < ports → slice_index (sync_report r c).dropped p ≡ taken_on c.taken p
   sync_report-dropped p l =
       ap (λ (x : Report). slice_index x.dropped p) (sync_report-accepted r c h)
-      ∙ get_d_listed (λ q. saved_on q r.log - saved_on q (synced r c).log) ports p 0 l ∙ gone_taken p l
+      ∙ get_or_listed (λ q. saved_on q r.log - saved_on q (synced r c).log) ports p 0 l ∙ gone_taken p l
 
   -- dropped and remaining together are what was saved
   pub sync_report-whole : (p : ℕ) → p < ports → slice_index (sync_report r c).dropped p + slice_index (sync_report r c).remained p ≡ saved_on p r.log
   sync_report-whole p l =
       let a = sync_report-dropped p l in
       let b : slice_index_or (sync_report r c).remained p 0 ≡ saved_on p (synced r c).log =
-      ap (λ (x : Report). slice_index x.remained p) (sync_report-accepted r c h) ∙ get_d_listed (λ q. saved_on q (synced r c).log) ports p 0 l in
+      ap (λ (x : Report). slice_index x.remained p) (sync_report-accepted r c h) ∙ get_or_listed (λ q. saved_on q (synced r c).log) ports p 0 l in
       let d = saved-remaining p c.taken r.log in
       let e = enough c.taken r.log (sync-parts r c h).1 p l in
       omega arith

@@ -1,6 +1,6 @@
 -- The rounds of a sync's loops. W-205: "one pass over the saved words is enough: apart from the check for 20, the rounds of all loops in a
 -- sync together are at most the words saved, by a count that is proved."
-use Rattle.std.specs.Prelude.{◌≡◌, ℕ, zero, suc, ◌<◌, ◌≤◌, Bool, true, false, cond, ◌||◌, List, length, ◌==◌, ◌≢◌, nat_le, refl}
+use Rattle.std.specs.Prelude.{◌≡◌, ℕ, zero, suc, ◌<◌, ◌≤◌, Bool, true, false, cond, ◌||◌, List, length, ◌==◌, ◌≢◌, nat_le}
 use Rattle.std.proofs.Common.{arith, eq-eqb, ne_eqb, le-leb}
 use Rattle.std.proofs.lemmas.Bool.{lt-leb}
 use Rattle.facts.specs.Tests.{by_eq}

@@ -11,7 +11,7 @@ use lib.Seq.{get_or-set_same, get_or-set_other}
 use borrow.Author.Tests.{ltb-true, lt-ltb}
 use Rattle.facts.specs.Tests.{all_at, all_append, and_both, by_eq, no_way}
 use Rattle.facts.specs.Counts.{same_yes, same_no}
-use Rattle.facts.specs.Lists.{prefix, prefix-more, written_out}
+use Rattle.facts.specs.Lists.{prefix, prefix-more}
 use Rattle.backup.specs.Limits.{ports}
 use Rattle.backup.specs.Replica.{Message, on_ports, saved_on}
 use Rattle.backup.specs.Laws.{saved_append, saved_cons}

@@ -1,11 +1,11 @@
 -- What the value of two lent arrays tells of them: every number of the head, and every saved word. So `Answered`, which gives the value
 -- afterwards, gives these numbers.
-use Rattle.std.specs.Prelude.{◌≡◌, List, [], ◌∷◌, ℕ, ◌+◌, ◌*◌, ◌/◌, ◌%◌, ◌<◌, length}
+use Rattle.std.specs.Prelude.{◌≡◌, List, [], ◌∷◌, ℕ, ◌<◌, length}
 use Rattle.std.proofs.Math.Path.{ap, sym}
 use Rattle.std.proofs.Common.{◌∙◌, arith}
 use Rattle.std.proofs.Math.ListN.{get_or}
-use Rattle.facts.specs.Indexing.{get_d_map}
-use Rattle.facts.specs.Lists.{prefix, length-prefix, get_d_prefix, written_out}
+use Rattle.facts.specs.Indexing.{get_or_map}
+use Rattle.facts.specs.Lists.{prefix, length-prefix, get_or_prefix, written_out}
 use Rattle.backup.specs.Replica.{Message, Replica}
 use Rattle.backup.specs.Place.{unpack, view_in, head_len, port_in, word_in}
 use Rattle.backup.specs.PlaceLaws.{view-few}
@@ -20,7 +20,7 @@ word_at : (saved head : List ℕ) (i : ℕ) → i < head_len head → get_or (vi
 unfolding view_in
 word_at saved head i l =
     let n : ℕ = head_len head in
-    get_d_map unpack (prefix n saved) i 0 (unpack 0) (let e = length-prefix n saved in omega arith) ∙ ap unpack (get_d_prefix n saved i l)
+    get_or_map unpack (prefix n saved) i 0 (unpack 0) (let e = length-prefix n saved in omega arith) ∙ ap unpack (get_or_prefix n saved i l)
 
 module _ (saved head saved' head' : List ℕ) (e : view_in saved head ≡ view_in saved' head') where
   same_len : head_len head ≡ head_len head'

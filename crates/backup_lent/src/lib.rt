@@ -5,7 +5,7 @@
 
 ghost use Rattle.std.specs.Prelude.{◌≡◌, List, ℕ, ◌≤◌, length};
 ghost use Rattle.backup.specs.Limits.{log_most};
-ghost use Rattle.backup.specs.Replica.{initial, arrive as arriveOf, count as count_of, sync as sync_of};
+ghost use Rattle.backup.specs.Replica.{initial, arrive as arrive_of, count as count_of, sync as sync_of};
 ghost use Rattle.backup.specs.Place.{view_in};
 ghost use Rattle.backup.specs.Report.{sync_report};
 ghost use Rattle.backup.specs.Rounds.{OnePass};
@@ -138,7 +138,7 @@ pub fn new(head: &mut [u32; LENT])
 
 // A word arrives on a port: 0, or 20, 21, 22.
 pub fn arrive(saved: &mut [u64; LOG], head: &mut [u32; LENT], port: u32, word: u32) -> u8
-    ensures { Answered saved.old head.old saved.new head.new result (λ v. arriveOf v port word) }
+    ensures { Answered saved.old head.old saved.new head.new result (λ v. arrive_of v port word) }
 {
     let looked = look(saved, head);
     if looked.fits {

@@ -3,7 +3,7 @@
 #![tactic(auto)]
 
 ghost use Rattle.std.specs.Prelude.{◌≡◌};
-ghost use Rattle.backup.specs.Replica.{initial, arrive as arriveOf, count as count_of, sync as sync_of, fail_over};
+ghost use Rattle.backup.specs.Replica.{initial, arrive as arrive_of, count as count_of, sync as sync_of, fail_over};
 ghost use Rattle.backup.specs.Place.{checkpoint_of};
 ghost use Rattle.backup.specs.Rounds.{OnePass};
 ghost use Rattle.backup.specs.Report.{sync_report};
@@ -98,7 +98,7 @@ fn closed(log: [u64; LOG], head: [u32; LENT]) -> Backup
 
 // A message arrives on a port: 20, 21, 22.
 pub fn arrive(b: Backup, port: u32, word: u32) -> Reply
-    ensures { Answered b result (λ v. arriveOf v port word) }
+    ensures { Answered b result (λ v. arrive_of v port word) }
 {
     let mut log = b.log;
     let mut head = opened(b);

@@ -18,16 +18,16 @@ use Rattle.bench_input.specs.Parts.{parts_page}
 
 -- ---- the length field
 
-get_d_append_left : (l r : List ℕ) (i : ℕ) → i < length l → get_or (l ++ r) i 0 ≡ get_or l i 0
-get_d_append_left [] r i h = absurd (omega arith)
-get_d_append_left (x ∷ l) r zero h = refl
-get_d_append_left (x ∷ l) r (suc i) h = get_d_append_left l r i (omega arith)
+get_or_append_left : (l r : List ℕ) (i : ℕ) → i < length l → get_or (l ++ r) i 0 ≡ get_or l i 0
+get_or_append_left [] r i h = absurd (omega arith)
+get_or_append_left (x ∷ l) r zero h = refl
+get_or_append_left (x ∷ l) r (suc i) h = get_or_append_left l r i (omega arith)
 
 -- two bytes tell it
 field_append : (have more : List ℕ) → 2 ≤ length have → length_field (have ++ more) ≡ length_field have
 field_append have more h =
-    let a = get_d_append_left have more 0 (omega arith) in
-    let b = get_d_append_left have more 1 (omega arith) in
+    let a = get_or_append_left have more 0 (omega arith) in
+    let b = get_or_append_left have more 1 (omega arith) in
     rw (a, b)
 
 -- the table that is cut out has it too

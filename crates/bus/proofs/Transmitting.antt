@@ -1,5 +1,5 @@
 -- Move 3 in the lists: the two refusals, and the oldest entry that leaves, a word, a checkpoint or a state transfer.
-use Rattle.std.proofs.Common.{◌≡◌, ℕ, zero, suc, ◌+◌, ◌%◌, ◌<◌, ◌≢◌, ◌⊎◌, List, [], ◌∷◌, map, length, get_or, set, sym, refl, ap, ◌∙◌, subst, ⊎_elim, arith, length-set, get_or-set_other, get_or-set_same, eq-eqb, ne_eqb}
+use Rattle.std.proofs.Common.{◌≡◌, ℕ, zero, suc, ◌+◌, ◌%◌, ◌<◌, ◌≢◌, List, [], ◌∷◌, map, length, get_or, set, sym, refl, ap, ◌∙◌, subst, arith, length-set, get_or-set_other, get_or-set_same, eq-eqb, ne_eqb}
 use Rattle.facts.specs.Tests.{by_eq}
 use Rattle.facts.specs.Counts.{same}
 use Rattle.facts.specs.Lists.{listed}
@@ -41,11 +41,12 @@ use Rattle.bus.specs.Transmits.{Oldest as OldestAt, Transmits}
 
 -- ---- what an entry is
 
--- the number of its variant: what is no word, and no checkpoint, is a transfer
-pub no_fourth : {A : Type 0} (n : ℕ) → (n ≡ 1) ⊎ (n ≡ 2) → (n ≡ 0) ⊎ (n ≡ 2) → (n ≡ 0) ⊎ (n ≡ 1) → A
-no_fourth n no_word no-checkpoint no_transfer =
-    ⊎_elim (λ e. ⊎_elim (λ f. absurd (omega arith)) (λ f. absurd (omega arith)) no-checkpoint)
-    (λ e. ⊎_elim (λ f. absurd (omega arith)) (λ f. absurd (omega arith)) no_transfer) no_word
+-- what is no word, and no checkpoint, is a transfer
+pub no_fourth : {A : Type 0} (i : Item) → ((channel word pc : ℕ) → i ≡ Word channel word pc → ⊥)
+    → ((process : ℕ) (k : code.Checkpoint) → i ≡ Sync process k → ⊥) → ((process : ℕ) → i ≡ Transfer process → ⊥) → A
+no_fourth (Word channel word pc) no_word no-checkpoint no_transfer = absurd (no_word channel word pc refl)
+no_fourth (Sync process k) no_word no-checkpoint no_transfer = absurd (no-checkpoint process k refl)
+no_fourth (Transfer process) no_word no-checkpoint no_transfer = absurd (no_transfer process refl)
 
 -- ---- the queue
 

@@ -2,7 +2,7 @@
 use mathlib.Core.Path.{◌≡◌, refl, ap, sym, ◌∙◌, subst}
 use mathlib.Core.Bool.{Bool, true, false, cond}
 use mathlib.Core.List.{List}
-use Prim.Native.Nat.{ℕ, ◌+◌, ◌*◌, ◌≤◌, ◌<◌}
+use Prim.Native.Nat.{ℕ, ◌*◌, ◌≤◌}
 use native.Mathlib.Omega.{arith}
 use lib.Dec.{eqb}
 use lib.ListN.{length}
@@ -10,7 +10,7 @@ use borrow.Author.Tests.{eqb-true, ne_eqb}
 use Rattle.records.specs.Commands.{ScheduleJudged}
 use Rattle.rules.specs.Transparency.{FailureTransparency}
 use Rattle.records.specs.declared.schedule.Judged.{Judged}
-use Rattle.table.specs.Plan.{Plans, Decodes}
+use Rattle.table.specs.Plan.{Decodes}
 use Rattle.table.specs.declared.Decoded.{Decoded}
 use Rattle.table.specs.declared.Plan.{Plan}
 use Rattle.rules.specs.Table.{Table}
@@ -39,8 +39,7 @@ use Rattle.outcome.specs.Quiets.{Quiets}
 use Rattle.cabinet.specs.Judged.{judged_run}
 use Rattle.cabinet.proofs.Judging.{run_is}
 use Rattle.cabinet.specs.Conducts.{Conducts}
-use Rattle.cabinet.specs.Runs.{ran_by, Runs}
-use Rattle.cabinet.specs.declared.run.Verdict.{Verdict}
+use Rattle.cabinet.specs.Runs.{Runs}
 
 -- ---- an accepted run
 

@@ -1,12 +1,12 @@
 -- W-208 in one statement: the records before any place of a schedule are a schedule's, and lists that hold the cabinet after them have its totals.
-use mathlib.Core.Path.{◌≡◌, refl, ap, sym, ◌∙◌}
+use mathlib.Core.Path.{◌≡◌, refl, ap, ◌∙◌}
 use mathlib.Core.List.{List, [], ◌∷◌}
-use Prim.Native.Nat.{ℕ, zero, suc, ◌+◌, ◌-◌, ◌*◌, ◌/◌, ◌≤◌}
+use Prim.Native.Nat.{ℕ, zero, suc, ◌+◌, ◌*◌, ◌≤◌}
 use native.Mathlib.Omega.{arith}
 use lib.ListN.{length, take, drop}
 use lib.Seq.{length-take-le}
 use Rattle.rules.specs.Bytes.{sixes}
-use Rattle.rules.specs.Cabinet.{Cabinet, occupancy}
+use Rattle.rules.specs.Cabinet.{occupancy}
 use Rattle.rules.specs.Format.{decode_table}
 use Rattle.rules.specs.Moves.{Command}
 use Rattle.rules.specs.Schedule.{commands_in, command, decode_schedule}

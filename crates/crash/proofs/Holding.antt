@@ -6,7 +6,7 @@ use lib.ListN.{get_or-eq_default}
 use Rattle.facts.specs.Tests.{any_below, none_below, by_eq, by_lt}
 use Rattle.facts.specs.Counts.{total-set}
 use Rattle.facts.specs.Lists.{listed}
-use Rattle.facts.specs.Rings.{get_d_listed, listed-length}
+use Rattle.facts.specs.Rings.{get_or_listed, listed-length}
 use Rattle.backup.specs.Limits.{log_most}
 use Rattle.plan.specs.Plan.{Plan, Planned, arity_in, sender_in, reader_in}
 use Rattle.process.specs.Row.{board_in, flag_in, unread_in, oldest_in, waits_in, mail_in, packed_at, mails_in, process_of, machine_of}
@@ -150,7 +150,7 @@ module _ {t : Table} {l : Plan} {s : Store} {entries : List Entry} {c : Cabinet}
       (λ p hp. (became p hp).process-is ∙ ap (λ (i : ℕ). after_crash t b i (process_in s p) (process_in s p).standby) (omega arith))
 
   process_then : (p : ℕ) → p < length t.processes → process_at (crashed_cabinet t c b) p ≡ process_in after p
-  process_then p hp = ap (λ (x : List Process). get_or x p nobody) processes_then ∙ get_d_listed (process_in after) (length t.processes) p nobody hp
+  process_then p hp = ap (λ (x : List Process). get_or x p nobody) processes_then ∙ get_or_listed (process_in after) (length t.processes) p nobody hp
 
   -- ---- the boards: "its queue is lost"
 

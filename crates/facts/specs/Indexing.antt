@@ -1,18 +1,18 @@
 -- Elements by their index: of a mapped list, and of one whose elements all pass a test; and what two functions make of such a list.
-use Rattle.std.specs.Prelude.{◌≡◌, refl, Bool, true, false, ◌&&◌, List, [], ◌∷◌, map, ℕ, zero, suc, ◌≤◌, ◌<◌, length, get_or, replicate}
+use Rattle.std.specs.Prelude.{◌≡◌, refl, Bool, true, List, [], ◌∷◌, map, ℕ, zero, suc, ◌<◌, length, get_or, replicate}
 use Rattle.std.proofs.Common.{le_of_suc-le-suc, not-suc-le-zero}
 use Rattle.facts.specs.Tests.{and_left, and_right, all_of}
 
-pub get_d_map : {A B : Type 0} (f : A → B) (l : List A) (j : ℕ) (d : A) (e : B) → j < length l → get_or (map f l) j e ≡ f (get_or l j d)
-get_d_map f [] j d e h = absurd (not-suc-le-zero h)
-get_d_map f (x ∷ l) zero d e h = refl
-get_d_map f (x ∷ l) (suc j) d e h = get_d_map f l j d e (le_of_suc-le-suc h)
+pub get_or_map : {A B : Type 0} (f : A → B) (l : List A) (j : ℕ) (d : A) (e : B) → j < length l → get_or (map f l) j e ≡ f (get_or l j d)
+get_or_map f [] j d e h = absurd (not-suc-le-zero h)
+get_or_map f (x ∷ l) zero d e h = refl
+get_or_map f (x ∷ l) (suc j) d e h = get_or_map f l j d e (le_of_suc-le-suc h)
 
 -- a list of one value has it at every index, where it also stands for what lies past the end
-pub get_d_replicate-any : {A : Type 0} (n j : ℕ) (a : A) → get_or (replicate n a) j a ≡ a
-get_d_replicate-any zero j a = refl
-get_d_replicate-any (suc n) zero a = refl
-get_d_replicate-any (suc n) (suc j) a = get_d_replicate-any n j a
+pub get_or_replicate_any : {A : Type 0} (n j : ℕ) (a : A) → get_or (replicate n a) j a ≡ a
+get_or_replicate_any zero j a = refl
+get_or_replicate_any (suc n) zero a = refl
+get_or_replicate_any (suc n) (suc j) a = get_or_replicate_any n j a
 
 pub all_of_lem : {A : Type 0} (f : A → Bool) (l : List A) → all_of f l ≡ true → (j : ℕ) (d : A) → j < length l → f (get_or l j d) ≡ true
 all_of_lem f [] h j d l = absurd (not-suc-le-zero l)

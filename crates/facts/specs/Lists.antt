@@ -59,12 +59,12 @@ written_out [] (suc n) d h = absurd (omega arith)
 written_out (x ∷ l) zero d h = absurd (omega arith)
 written_out (x ∷ l) (suc n) d h = ap (λ (r : List _). x ∷ r) (written_out l n d (omega arith))
 
-pub get_d_prefix : (n : ℕ) (l : List ℕ) (i : ℕ) → i < n → get_or (prefix n l) i 0 ≡ get_or l i 0
-get_d_prefix zero l i h = absurd (not-suc-le-zero h)
-get_d_prefix (suc n) [] zero h = refl
-get_d_prefix (suc n) [] (suc i) h = get_d_prefix n [] i (le_of_suc-le-suc h)
-get_d_prefix (suc n) (x ∷ l) zero h = refl
-get_d_prefix (suc n) (x ∷ l) (suc i) h = get_d_prefix n l i (le_of_suc-le-suc h)
+pub get_or_prefix : (n : ℕ) (l : List ℕ) (i : ℕ) → i < n → get_or (prefix n l) i 0 ≡ get_or l i 0
+get_or_prefix zero l i h = absurd (not-suc-le-zero h)
+get_or_prefix (suc n) [] zero h = refl
+get_or_prefix (suc n) [] (suc i) h = get_or_prefix n [] i (le_of_suc-le-suc h)
+get_or_prefix (suc n) (x ∷ l) zero h = refl
+get_or_prefix (suc n) (x ∷ l) (suc i) h = get_or_prefix n l i (le_of_suc-le-suc h)
 
 -- ---- a list with one place left out
 

@@ -11,10 +11,10 @@ pub listed-length : {A : Type 0} (f : ℕ → A) (n : ℕ) → length (listed f 
 listed-length f zero = refl
 listed-length f (suc n) = ap suc (listed-length (λ i. f (suc i)) n)
 
-pub get_d_listed : {A : Type 0} (f : ℕ → A) (n i : ℕ) (d : A) → i < n → get_or (listed f n) i d ≡ f i
-get_d_listed f zero i d h = absurd (not-suc-le-zero h)
-get_d_listed f (suc n) zero d h = refl
-get_d_listed f (suc n) (suc i) d h = get_d_listed (λ k. f (suc k)) n i d (le_of_suc-le-suc h)
+pub get_or_listed : {A : Type 0} (f : ℕ → A) (n i : ℕ) (d : A) → i < n → get_or (listed f n) i d ≡ f i
+get_or_listed f zero i d h = absurd (not-suc-le-zero h)
+get_or_listed f (suc n) zero d h = refl
+get_or_listed f (suc n) (suc i) d h = get_or_listed (λ k. f (suc k)) n i d (le_of_suc-le-suc h)
 
 pub listed_more : {A : Type 0} (f : ℕ → A) (n : ℕ) → listed f (suc n) ≡ listed f n ++ (f n ∷ [])
 listed_more f zero = refl

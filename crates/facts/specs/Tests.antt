@@ -1,7 +1,7 @@
 -- Tests over ranges and lists, as Booleans that compute, and what follows when they pass or fail.
-use Rattle.std.specs.Prelude.{◌≡◌, refl, ◌≢◌, Bool, true, false, not, cond, ◌&&◌, ◌||◌, List, [], ◌∷◌, ◌++◌, ℕ, zero, suc, ◌+◌, ◌≤◌, ◌<◌, eqb, ltb, leb, length, get_or}
-use Rattle.std.proofs.Common.{ap, sym, ◌∙◌, arith, not-suc-le-zero, le_of_suc-le-suc}
-use Rattle.std.proofs.Math.Decide.{dec_le, dec_lt, ℕ_discrete}
+use Rattle.std.specs.Prelude.{◌≡◌, refl, ◌≢◌, Bool, true, false, ◌&&◌, ◌||◌, List, [], ◌∷◌, ◌++◌, ℕ, zero, suc, ◌≤◌, ◌<◌, length, get_or}
+use Rattle.std.proofs.Common.{arith, not-suc-le-zero, le_of_suc-le-suc}
+use Rattle.std.proofs.Math.Decide.{dec_lt, ℕ_discrete}
 
 -- the test holds of some number below n
 abbrev pub any_below : (ℕ → Bool) → ℕ → Bool

@@ -4,7 +4,7 @@ use native.Mathlib.Nat.{div-eq_of_lt}
 use lib.Bits.{bit_and, and_mask}
 use Rattle.facts.specs.Tests.{by_eq}
 use Rattle.facts.specs.Lists.{remove_at}
-use Rattle.facts.specs.Rings.{listed-length, get_d_listed, listed-remove_at}
+use Rattle.facts.specs.Rings.{listed-length, get_or_listed, listed-remove_at}
 use Rattle.backup.specs.Limits.{log_most}
 use Rattle.rules.specs.Machine.{Mail, nothing, found, pull, bit}
 use Rattle.process.specs.Row.{place_in, mail_in, packed_at, mails_in}
@@ -25,7 +25,7 @@ mails-length : (first n : ℕ) (mail : List ℕ) → length (mails_in first n ma
 mails-length first n mail = listed-length (λ i. mail_in (packed_at first mail i)) n
 
 mail_at_lem : (first n : ℕ) (mail : List ℕ) (i : ℕ) → i < n → get_or (mails_in first n mail) i (mail_in 0) ≡ mail_in (packed_at first mail i)
-mail_at_lem first n mail i h = get_d_listed (λ j. mail_in (packed_at first mail j)) n i (mail_in 0) h
+mail_at_lem first n mail i h = get_or_listed (λ j. mail_in (packed_at first mail j)) n i (mail_in 0) h
 
 -- ---- the look for the oldest
 

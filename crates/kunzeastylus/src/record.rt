@@ -1,6 +1,6 @@
 // The backup record, exported: the calls of crate `backup_lent`, on two lent arrays.
 ghost use Rattle.std.specs.Prelude.{◌≡◌, List, ℕ};
-ghost use Rattle.backup.specs.Replica.{initial, arrive as arriveOf, count as count_of, sync as sync_of};
+ghost use Rattle.backup.specs.Replica.{initial, arrive as arrive_of, count as count_of, sync as sync_of};
 ghost use Rattle.backup.specs.Report.{sync_report};
 ghost use Rattle.backup.specs.Place.{view_in};
 ghost use Rattle.backup_lent.specs.Lent.{fresh_lent, Answered, HandsOver, checkpoint_lent, told};
@@ -18,7 +18,7 @@ pub fn ks_backup_new(head: &mut [u32; LENT])
 
 // A word arrives on a slot: 0, or 20, 21, 22.
 pub fn ks_backup_arrive(saved: &mut [u64; LOG], head: &mut [u32; LENT], slot: u32, word: u32) -> u32
-    ensures { Answered saved.old head.old saved.new head.new result (λ v. arriveOf v slot word) }
+    ensures { Answered saved.old head.old saved.new head.new result (λ v. arrive_of v slot word) }
 {
     arrive(saved, head, slot, word) as u32
 }

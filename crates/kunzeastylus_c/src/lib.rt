@@ -8,7 +8,7 @@ ghost use Rattle.kunzeastylus.specs.Abi.{abi};
 ghost use Rattle.kunzeastylus.specs.Judges.{Judges};
 ghost use Rattle.rules.specs.Run.{buffers_of};
 ghost use Rattle.kunzeastylus.specs.Label.{MakesInto, RunsLinePacked};
-ghost use Rattle.backup.specs.Replica.{initial, arrive as arriveOf, count as count_of, sync as sync_of};
+ghost use Rattle.backup.specs.Replica.{initial, arrive as arrive_of, count as count_of, sync as sync_of};
 ghost use Rattle.backup.specs.Report.{sync_report};
 ghost use Rattle.backup.specs.Place.{view_in};
 ghost use Rattle.backup_lent.specs.Lent.{fresh_lent, Answered, HandsOver, checkpoint_lent, told};
@@ -88,7 +88,7 @@ pub extern "C" fn ks_backup_arrive(
     slot: u32,
     word: u32,
 ) -> u32
-    ensures { Answered saved.old head.old saved.new head.new result (λ v. arriveOf v slot word) }
+    ensures { Answered saved.old head.old saved.new head.new result (λ v. arrive_of v slot word) }
 {
     kunzeastylus::record::ks_backup_arrive(saved, head, slot, word)
 }

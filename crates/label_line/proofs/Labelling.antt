@@ -1,5 +1,5 @@
 -- From demand 3 to labels: a run whose words are those of a plain run of the label line's table.
-use mathlib.Core.Path.{◌≡◌, refl, ap, sym, ◌∙◌, subst}
+use mathlib.Core.Path.{◌≡◌, ap, sym, ◌∙◌, subst}
 use mathlib.Core.Bool.{Bool, true, false, cond, ◌&&◌}
 use mathlib.Core.List.{List, [], ◌∷◌, IsPrefix}
 use Prim.Native.Nat.{ℕ, suc, ◌+◌, ◌^◌, ◌≤◌, ◌<◌}
@@ -14,7 +14,7 @@ use Rattle.rules.specs.Transparent.{Transparent, without_origins, fed_of, bus_or
 use Rattle.rules.proofs.Standing.{standing-length}
 use Rattle.rules.proofs.BusWords.{words_stand}
 use Rattle.label_line.specs.Line.{serial_most, scanner, outlet, line_table}
-use Rattle.label_line.specs.Outlet.{labels, words_on, cartons, at_outlet, serials, in_arow}
+use Rattle.label_line.specs.Outlet.{labels, words_on, cartons, at_outlet, serials, in_a_row}
 use Rattle.label_line.specs.Labels.{Labelled}
 use Rattle.label_line.proofs.Sequences.{length-words_on, word_labels, word_labels_labels}
 use Rattle.label_line.proofs.Serials.{serials_in_a_row, in_a_row_apart}
@@ -63,7 +63,7 @@ module _ (first : ℕ) (small : first ≤ serial_most) (commands : List Command)
   begins : IsPrefix (at_outlet commands answers origins) (labels first (cartons commands answers origins))
   begins = rw (← printed_is, ← labels_are) (plain_begins first (cartons commands answers origins) x.end plain)
 
-  row : serials (at_outlet commands answers origins) ≡ in_arow first (length (serials (at_outlet commands answers origins)))
+  row : serials (at_outlet commands answers origins) ≡ in_a_row first (length (serials (at_outlet commands answers origins)))
   row = serials_in_a_row first (cartons commands answers origins) (at_outlet commands answers origins) begins
 
   pub labelled : Labelled first commands answers origins quiet

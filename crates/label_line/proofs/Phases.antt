@@ -4,7 +4,7 @@ use mathlib.Core.Path.{◌≡◌}
 use mathlib.Core.List.{List, [], ◌∷◌, ◌++◌}
 use Prim.Native.Nat.{ℕ, ◌+◌}
 use lib.ListN.{length}
-use Rattle.rules.specs.Machine.{BusWord, Machine}
+use Rattle.rules.specs.Machine.{BusWord}
 use Rattle.rules.specs.Reference.{Reference}
 use Rattle.rules.specs.Transparent.{without_origins}
 use Rattle.label_line.specs.Line.{scanner, printer, outlet}

@@ -1,7 +1,7 @@
 -- A plain run of the label line: the outlet's words are a beginning of the labels of the cartons fed, and where no process could step
 -- they are all of them.
 use mathlib.Core.Path.{◌≡◌, refl, ap, sym, ◌∙◌, subst}
-use mathlib.Core.Option.{Option, none, some}
+use mathlib.Core.Option.{none, some}
 use mathlib.Core.List.{List, [], ◌∷◌, ◌++◌, append_assoc, append-nil, IsPrefix}
 use Prim.Native.Nat.{ℕ, ◌^◌, ◌<◌}
 use Rattle.facts.specs.Tests.{no_way}

@@ -1,14 +1,13 @@
 -- The run of a first serial: 46 and nothing touched, or the cabinet's run of its table, whose promise gives the labels.
-use mathlib.Core.Path.{◌≡◌, refl, ap, sym, ◌∙◌, subst}
+use mathlib.Core.Path.{◌≡◌, refl, ap, sym, ◌∙◌}
 use mathlib.Core.Bool.{Bool, true, false, cond}
 use mathlib.Core.List.{List}
-use Prim.Native.Nat.{ℕ, ◌≤◌, ◌<◌}
+use Prim.Native.Nat.{ℕ, ◌≤◌}
 use native.Mathlib.Omega.{arith}
 use lib.Dec.{leb}
 use lib.ListN.{length}
-use borrow.Author.Tests.{leb-true, le-leb}
+use borrow.Author.Tests.{leb-true}
 use Rattle.rules.specs.Moves.{numbered}
-use Rattle.rules.specs.Format.{decode_table}
 use Rattle.rules.specs.Schedule.{commands_most, decode_schedule}
 use Rattle.rules.specs.Run.{Buffers, Ran, run, refused_with}
 use Rattle.rules.specs.Transparency.{answers_in, origins_in}
@@ -16,10 +15,9 @@ use Rattle.rules.proofs.Valid.{length-sixes}
 use Rattle.cabinet.specs.Runs.{ran_by, Runs}
 use Rattle.cabinet.specs.declared.run.Verdict.{Verdict}
 use Rattle.cabinet.proofs.Running.{run-few}
-use Rattle.label_line.specs.Line.{serial_most, line_number, line_table, line_bytes}
-use Rattle.label_line.specs.Labels.{MakesTable, Labelled, line_run, RunsLine}
+use Rattle.label_line.specs.Line.{serial_most, line_bytes}
+use Rattle.label_line.specs.Labels.{MakesTable, line_run, RunsLine}
 use Rattle.label_line.specs.declared.MadeTable.{MadeTable}
-use Rattle.label_line.proofs.Tables.{line_decoded}
 use Rattle.label_line.proofs.Labelling.{labelled}
 
 -- whether a table was made shows in the number

@@ -1,7 +1,7 @@
 -- Neither program does nine instructions in a row without a take: after a take at most four others come before the next.
-use mathlib.Core.Path.{◌≡◌, refl, ap, sym, ◌∙◌, subst}
-use mathlib.Core.Bool.{Bool, true, false, cond, ◌||◌}
-use mathlib.Core.Option.{Option, none, some}
+use mathlib.Core.Path.{◌≡◌, refl, subst}
+use mathlib.Core.Bool.{Bool, true, false, cond}
+use mathlib.Core.Option.{some}
 use mathlib.Core.List.{List, [], ◌∷◌, ◌++◌}
 use Prim.Native.Nat.{ℕ, zero, suc, ◌^◌, ◌≤◌, ◌<◌}
 use native.Mathlib.Omega.{arith}
@@ -12,8 +12,8 @@ use Rattle.facts.specs.Tests.{no_way}
 use Rattle.rules.specs.Machine.{booted, Act, internal, took, sent, local_step}
 use Rattle.rules.specs.Reference.{Reference, Action, inject, step, act, and_then, reference_start, reference_run}
 use Rattle.label_line.specs.Line.{line_table}
-use Rattle.label_line.specs.Spaced.{done, done_by, onward, instructions_of, is_take, has_take, TakesOften}
-use Rattle.label_line.proofs.Phases.{Numbering, starting, unserialled, waiting, coded, code-sent, serial_sent, raised, numbering_left, Printing, resting, listening, holding, handed, printing_left, Line, state_of, Lines}
+use Rattle.label_line.specs.Spaced.{done, done_by, instructions_of, is_take, has_take, TakesOften}
+use Rattle.label_line.proofs.Phases.{numbering_left, printing_left, Line, state_of, Lines}
 use Rattle.label_line.proofs.Turns.{left_most, Spends, Spending, fed_next, Turn, no_turn, turned, turn}
 use Rattle.label_line.proofs.Plain.{start_line, start_is, start_lines}
 

@@ -1,18 +1,18 @@
 -- One action of the plain cabinet of the label line: it is refused, or it leads to a line whose words again fit together.
 use mathlib.Core.Path.{◌≡◌, refl, ap, sym, ◌∙◌}
-use mathlib.Core.Option.{Option, none, some}
+use mathlib.Core.Option.{none, some}
 use mathlib.Core.List.{List, [], ◌∷◌, ◌++◌, map-append, append_assoc, append-nil}
-use Prim.Native.Nat.{ℕ, zero, suc, ◌+◌, ◌%◌, ◌^◌, ◌≤◌, ◌<◌}
+use Prim.Native.Nat.{ℕ, zero, suc, ◌+◌, ◌^◌, ◌≤◌, ◌<◌}
 use native.Mathlib.Omega.{arith}
 use lib.ListN.{length, length-append}
 use borrow.Author.Tests.{le-ltb}
 use Rattle.rules.specs.Machine.{Mail, BusWord, sent_from, from_outside, Act, internal, took, sent}
-use Rattle.rules.specs.Reference.{Reference, Action, inject, step, act}
+use Rattle.rules.specs.Reference.{Action, inject, step, act}
 use Rattle.rules.specs.Transparent.{without_origins}
 use Rattle.label_line.specs.Line.{scanner, printer, outlet, line_table}
 use Rattle.label_line.specs.Outlet.{words_on}
 use Rattle.label_line.specs.Spaced.{done_by}
-use Rattle.label_line.proofs.Sequences.{words_on_append, on_channel, on_channel_snoc, word, word_labels, word_labels_snoc}
+use Rattle.label_line.proofs.Sequences.{words_on_append, on_channel_snoc, word, word_labels, word_labels_snoc}
 use Rattle.label_line.proofs.Phases.{Numbering, starting, unserialled, waiting, coded, code-sent, serial_sent, raised, cartons_taken, words_numbered, numbering_left, Printing, resting, listening, holding, handed, words_taken, words_handed, printing_left, Line, state_of, Lines}
 
 -- the cartons fed, after one more action

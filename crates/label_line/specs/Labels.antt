@@ -11,7 +11,7 @@ use Rattle.rules.specs.Transparency.{answers_in, origins_in, FailureTransparency
 use Rattle.cabinet.specs.Runs.{ran_by}
 use Rattle.cabinet.specs.declared.run.Verdict.{Verdict}
 use Rattle.label_line.specs.Line.{serial_most, line_number, line_table, line_length, line_lists, line_bytes}
-use Rattle.label_line.specs.Outlet.{labels, cartons, at_outlet, serials, in_arow}
+use Rattle.label_line.specs.Outlet.{labels, cartons, at_outlet, serials, in_a_row}
 use Rattle.label_line.specs.Spaced.{TakesOften}
 use Rattle.label_line.specs.declared.MadeTable.{MadeTable}
 
@@ -23,7 +23,7 @@ pub record Labelled (first : ℕ) (commands : List Command) (answers : List Numb
   -- "When the run ends quiet they are all of it"
   pub all_printed : quiet ≡ true → at_outlet commands answers origins ≡ labels first (cartons commands answers origins)
   -- "no serial repeats, none is skipped": the serials are first, first + 1, ..
-  pub in_a_row : serials (at_outlet commands answers origins) ≡ in_arow first (length (serials (at_outlet commands answers origins)))
+  pub in_a_row : serials (at_outlet commands answers origins) ≡ in_a_row first (length (serials (at_outlet commands answers origins)))
   pub no_repeat : (i j : ℕ) → i < length (serials (at_outlet commands answers origins)) → j < length (serials (at_outlet commands answers origins))
       → get_or (serials (at_outlet commands answers origins)) i 0 ≡ get_or (serials (at_outlet commands answers origins)) j 0 → i ≡ j
   -- and none wraps: with a label for every carton even the serial after the last fits 32 bits

@@ -32,6 +32,6 @@ serials (code ∷ []) = []
 serials (code ∷ serial ∷ l) = serial ∷ serials l
 
 -- n numbers in a row: first, first + 1, ..
-unfoldable pub in_arow : ℕ → ℕ → List ℕ
-in_arow first zero = []
-in_arow first (suc n) = first ∷ in_arow (suc first) n
+unfoldable pub in_a_row : ℕ → ℕ → List ℕ
+in_a_row first zero = []
+in_a_row first (suc n) = first ∷ in_a_row (suc first) n

@@ -2,7 +2,7 @@
 -- than a process without it, and has the same numbers.
 use mathlib.Core.Path.{◌≡◌, refl, ap}
 use mathlib.Core.Option.{none}
-use mathlib.Core.List.{List, [], ◌∷◌}
+use mathlib.Core.List.{[], ◌∷◌}
 use Prim.Native.Nat.{ℕ}
 use native.Mathlib.Omega.{arith}
 use lib.ListN.{length}

@@ -15,7 +15,7 @@ use Rattle.state.specs.Store.{item_of, blank_entry}
 use Rattle.layout.specs.View.{each, item_numbers, no_item, queue_numbers, board_numbers}
 use Rattle.layout.specs.Lists.{entry_place, entry_at, board_numbers_in}
 use Rattle.layout.proofs.Laying.{each_same}
-use Rattle.layout.proofs.OfProcess.{get_d_chosen}
+use Rattle.layout.proofs.OfProcess.{get_or_chosen}
 
 dead_by : (b : Bool) → ◌≡◌ {A = ℕ} (cond b 0 1) (cond (not b) 1 0)
 dead_by true = refl
@@ -42,7 +42,7 @@ module _ (queue : List ℕ) (entries : List Entry) (b : ℕ) where
   unfolding queue_numbers
   entries_are =
       each_same _ _ outbox_most (λ i l.
-      get_d_chosen (λ (x : List ℕ). x) (λ i. item_numbers (item_of (get_or entries (entry_place queue b i) blank_entry).item)) (queue_count queue) i no_item
+      get_or_chosen (λ (x : List ℕ). x) (λ i. item_numbers (item_of (get_or entries (entry_place queue b i) blank_entry).item)) (queue_count queue) i no_item
       ∙ ap (λ (x : List (List ℕ)). get_or x i no_item) (sym numbers-listed))
 
   pub board-is : board_numbers_in queue entries b ≡ board_numbers (not (eqb (queue_dead queue) 0)) queue_of

@@ -10,7 +10,7 @@ use lib.ListN.{length, get_or, replicate, length-map, get_or-eq_default}
 use borrow.Author.Tests.{lt-ltb, le-ltb}
 use Rattle.facts.specs.Tests.{by_lt}
 use Rattle.facts.specs.Lists.{listed, prefix, prefix-listed, map-listed, length-prefix}
-use Rattle.facts.specs.Rings.{listed-length, get_d_listed}
+use Rattle.facts.specs.Rings.{listed-length, get_or_listed}
 use Rattle.backup.specs.Limits.{log_most}
 use Rattle.backup.specs.Replica.{Message}
 use Rattle.backup.specs.Place.{unpack, messages, head_len, head_sent, head_pc, head_register, view_in}
@@ -24,11 +24,11 @@ use Rattle.layout.proofs.Laying.{each_same}
 
 -- ---- an element of a list given by a function of the place, or what stands for none
 
-pub get_d_chosen : {A : Type 0} (numbers : A → List ℕ) (f : ℕ → A) (n i : ℕ) (d : A)
+pub get_or_chosen : {A : Type 0} (numbers : A → List ℕ) (f : ℕ → A) (n i : ℕ) (d : A)
     → cond (ltb i n) (numbers (f i)) (numbers d) ≡ numbers (get_or (listed f n) i d)
-get_d_chosen numbers f n i d =
+get_or_chosen numbers f n i d =
     by_lt i n
-    (λ h. rw (lt-ltb i n h) (sym (ap numbers (get_d_listed f n i d h))))
+    (λ h. rw (lt-ltb i n h) (sym (ap numbers (get_or_listed f n i d h))))
     (λ h. rw (le-ltb i n h)
     (sym (ap numbers (get_or-eq_default (listed f n) d {n = i} (let e = listed-length f n in omega arith)))))
 
@@ -43,7 +43,7 @@ module _ (row mail log head : List ℕ) where
 
   inbox_is : each (inbox_at row mail) log_most ≡ inbox_numbers (machine_of row mail).mailbox
   unfolding inbox_numbers machine_of
-  inbox_is = each_same _ _ log_most (λ i l. get_d_chosen mail_numbers (mail_at row mail) (unread_in row) i no_mail)
+  inbox_is = each_same _ _ log_most (λ i l. get_or_chosen mail_numbers (mail_at row mail) (unread_in row) i no_mail)
 
 -- ---- the backup
 
@@ -79,7 +79,7 @@ module _ (row log head : List ℕ) where
   unfolding view_in
   saved_by true i = rw (le-ltb i 0 (omega arith))
   saved_by false i =
-      get_d_chosen saved_word (λ k. unpack (get_or log k 0)) (head_len head) i no_message
+      get_or_chosen saved_word (λ k. unpack (get_or log k 0)) (head_len head) i no_message
       ∙ ap (λ (l : List Message). saved_word (get_or l i no_message)) (sym (saved-listed (head_len head) log))
 
   backup-is : backup_in row head ≡ backup_numbers (standby_of row log head)

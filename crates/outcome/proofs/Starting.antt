@@ -12,7 +12,7 @@ use lib.Seq.{get_or-set_same, get_or-set_other}
 use borrow.Author.Tests.{eq-eqb, ne_eqb}
 use Rattle.facts.specs.Tests.{by_eq, by_lt}
 use Rattle.facts.specs.Lists.{listed, listed_same, map-listed, written_out}
-use Rattle.facts.specs.Indexing.{get_d_map, get_d_replicate-any}
+use Rattle.facts.specs.Indexing.{get_or_map, get_or_replicate_any}
 use Rattle.facts.specs.Rings.{ring}
 use Rattle.backup.specs.Limits.{log_most}
 use Rattle.backup.specs.Replica.{Replica}
@@ -52,7 +52,7 @@ seated_row primary standby = seated_in (zeros row_length) primary standby
 
 seated-words : (primary standby : ℕ) → primary < 2 ^ 32 → standby < 2 ^ 32 → Words (seated_row primary standby)
 seated-words primary standby a b =
-    stored 13 standby b (stored 12 1 (omega arith) (stored {l = zeros row_length} 0 primary a (record { word = λ i. rw (get_d_replicate-any {A = ℕ} row_length i 0) (omega arith) })))
+    stored 13 standby b (stored 12 1 (omega arith) (stored {l = zeros row_length} 0 primary a (record { word = λ i. rw (get_or_replicate_any {A = ℕ} row_length i 0) (omega arith) })))
 
 seated-kept : (primary standby : ℕ) → primary < 2 ^ 32 → standby < 2 ^ 32 → Kept (seated_row primary standby) (zeros log_most) (zeros log_most) (zeros 11)
 seated-kept primary standby a b = record {
@@ -126,13 +126,13 @@ module _ (t : Table) (ok : Accepted t) (rows : List (List ℕ)) (rows-length : l
   unfolding started placed booted nobody
   mailbox-is p =
       by_lt p (length t.processes)
-      (λ h. ap (λ (x : Process). x.machine.mailbox) (get_d_map placed t.processes p nowhere nobody h))
+      (λ h. ap (λ (x : Process). x.machine.mailbox) (get_or_map placed t.processes p nowhere nobody h))
       (λ h. ap (λ (x : Process). x.machine.mailbox)
       (get_or-eq_default (map placed t.processes) nobody {n = p} (let a = length-map t.processes placed in omega arith)))
 
   outbox_is : (b : ℕ) → outbox_at (started t) b ≡ []
   unfolding started
-  outbox_is b = get_d_replicate-any {A = List rules.Item} t.boards b []
+  outbox_is b = get_or_replicate_any {A = List rules.Item} t.boards b []
 
   in_flight_lem : (k : ℕ) → in_flight k (started t).outboxes ≡ 0
   unfolding started
@@ -157,7 +157,7 @@ module _ (t : Table) (ok : Accepted t) (rows : List (List ℕ)) (rows-length : l
     total-is = λ k h.
         let a = ap (λ (l : List Mail). unread_on k l) (mailbox-is (channel_at t k).reader) in
         let b = in_flight_lem k in
-        get_d_replicate-any {A = ℕ} 32 k 0 ∙ omega arith;
+        get_or_replicate_any {A = ℕ} 32 k 0 ∙ omega arith;
     totals-length = refl;
   }
 

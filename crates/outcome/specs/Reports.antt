@@ -1,6 +1,6 @@
 -- The report (document 01: "The report: board, place, unread count and hold-back, a byte each, then four registers."
 -- "Bytes beyond those are untouched.").
-use Rattle.std.specs.Prelude.{◌≡◌, List, [], ◌∷◌, ◌++◌, ℕ, ◌+◌, ◌*◌, ◌%◌, ◌≤◌, length, get_or}
+use Rattle.std.specs.Prelude.{◌≡◌, List, [], ◌∷◌, ◌++◌, ℕ, ◌+◌, ◌*◌, ◌%◌, ◌≤◌, length}
 use Rattle.std.proofs.lemmas.List.Edits.{sets}
 use Rattle.process.specs.Row.{board_in, pc_in, suppress_in, unread_in, register_in}
 use Rattle.rules.specs.Table.{Table}

@@ -8,7 +8,7 @@ use native.Mathlib.Omega.{arith}
 use native.Mathlib.Numerals.{add-one}
 use lib.ListN.{length, get_or, set, length-set, length-map, length-append}
 use borrow.Author.Tests.{eq-eqb, ne_eqb}
-use Rattle.facts.specs.Indexing.{get_d_replicate-any}
+use Rattle.facts.specs.Indexing.{get_or_replicate_any}
 use Rattle.facts.specs.Lists.{listed, listed_same, map-listed}
 use Rattle.facts.specs.Rings.{listed-length, listed_more}
 use Rattle.backup.specs.Limits.{log_most, ports, pc_most}
@@ -95,7 +95,7 @@ routed_copies t p port row mail on =
 kept_whole : (c : Checkpoint) → c.taken ≡ no_takes → c.pc ≤ pc_most → sync initial c ≡ record { number = 0; replica = record { log = []; sent = 0; pc = c.pc; registers = c.registers } }
 unfolding fit
 kept_whole c e l =
-    sync-accepted initial c refl l (λ p h. let a : get_or c.taken p 0 ≡ 0 = ap (λ (t : List ℕ). get_or t p 0) e ∙ get_d_replicate-any {A = ℕ} 4 p 0 in omega arith)
+    sync-accepted initial c refl l (λ p h. let a : get_or c.taken p 0 ≡ 0 = ap (λ (t : List ℕ). get_or t p 0) e ∙ get_or_replicate_any {A = ℕ} 4 p 0 in omega arith)
 
 -- ---- the process
 

@@ -1,6 +1,6 @@
 -- What a resync makes of one process, in lists: the record that is being made, by the record's own calls. Document 02, W-210: "its snapshot and
 -- copies of all its unread words".
-use Rattle.std.specs.Prelude.{◌≡◌, List, ◌++◌, map, ℕ, ◌+◌, ◌%◌, ◌≤◌, ◌<◌, length, get_or}
+use Rattle.std.specs.Prelude.{◌≡◌, List, ◌++◌, map, ℕ, ◌+◌, ◌%◌, ◌≤◌, ◌<◌, length}
 use Rattle.backup.specs.Limits.{log_most, ports, pc_most}
 use Rattle.backup.specs.Replica.{Message, Replica}
 use Rattle.backup.specs.Place.{view_in, Sound}

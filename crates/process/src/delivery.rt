@@ -3,7 +3,7 @@
 // counts it and keeps no copy."
 ghost use Rattle.std.specs.Prelude.{List, ℕ};
 ghost use Rattle.backup.specs.Replica.{arrive};
-ghost use Rattle.rules.specs.Moves.{on_replica, counts as countsOf};
+ghost use Rattle.rules.specs.Moves.{on_replica, counts as counts_of};
 ghost use Rattle.process.specs.Change.{Backed, BackupBecame, Received};
 
 use crate::mailbox::append;
@@ -47,7 +47,7 @@ pub fn receive(
 
 // The sender's half: the backup counts the word, if there is one. A record that is being made counts none.
 pub fn counts(row: &[u32; ROW], head: &mut [u32; HEAD])
-    ensures { (log : List ℕ) → BackupBecame row.now log head.old log head.new countsOf }
+    ensures { (log : List ℕ) → BackupBecame row.now log head.old log head.new counts_of }
 {
     if row[PROTECTED] != COMPLETE {
         return;

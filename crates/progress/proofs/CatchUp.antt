@@ -16,7 +16,7 @@ use Rattle.rules.specs.Moves.{Command, Answer, step_done, received, suppressed, 
 use Rattle.rules.specs.Moves.{one_taken, send, step_from, Turn, turn, run_from}
 use Rattle.rules.specs.Judge.{Accepted}
 use Rattle.rules.specs.Transparent.{finished}
-use Rattle.progress.specs.Progress.{step_of, is_done, AllDone, steps, CatchesUp}
+use Rattle.progress.specs.Progress.{step_of, is_done, AllDone, CatchesUp}
 use Rattle.rules.proofs.Runs.{Run, here, more, one_send, sends}
 use Rattle.rules.proofs.Good.{Good, backed, alone, late, Late}
 use Rattle.rules.proofs.Invariant.{Invariant, in_table}

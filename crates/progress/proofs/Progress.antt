@@ -3,7 +3,7 @@ use mathlib.Core.Path.{◌≡◌, refl, ap, ◌∙◌}
 use mathlib.Core.Bool.{Bool, true, false, not, cond, ◌&&◌, ◌||◌}
 use mathlib.Core.Option.{Option, none, some}
 use mathlib.Core.List.{List, [], ◌∷◌, ◌++◌}
-use Prim.Native.Nat.{ℕ, zero, suc, ◌+◌, ◌≤◌, ◌<◌}
+use Prim.Native.Nat.{ℕ, zero, suc, ◌≤◌, ◌<◌}
 use native.Mathlib.Omega.{arith}
 use native.Mathlib.Nat.{not-suc-le-zero}
 use lib.Dec.{eqb, leb}
@@ -27,7 +27,6 @@ use Rattle.rules.specs.Judge.{end_ok, ends_ok, Accepted}
 use Rattle.rules.specs.Transparent.{finished}
 use Rattle.progress.specs.Progress.{step_of, sync_of, carry_of, is_done, AllDone, Next, carries, steps, syncs, Pressed, Stands, waits}
 use Rattle.progress.specs.Progress.{pressed, Progress, quiet, next, stands}
-use Rattle.rules.proofs.Runs.{sends}
 use Rattle.rules.proofs.Tables.{reader_past, limit_low}
 use Rattle.rules.proofs.Invariant.{Invariant, owner, owner_of, in_table, its_outbox}
 use Rattle.rules.proofs.Counting.{flight_joined}

@@ -3,7 +3,7 @@
 use mathlib.Core.Path.{◌≡◌, refl, ap, sym, ◌∙◌, subst}
 use mathlib.Core.Bool.{Bool, true, false, not, ◌&&◌}
 use mathlib.Core.List.{List, [], ◌∷◌, ◌++◌, map, append-nil}
-use Prim.Native.Nat.{ℕ, zero, suc, ◌+◌, ◌<◌}
+use Prim.Native.Nat.{ℕ, zero, suc, ◌<◌}
 use native.Mathlib.Omega.{arith}
 use lib.Dec.{eqb, leb}
 use lib.ListN.{length, get_or, set}
@@ -21,7 +21,7 @@ use Rattle.rules.specs.Moves.{run_from}
 use Rattle.rules.specs.Judge.{Accepted}
 use Rattle.rules.specs.Transparent.{finished}
 use Rattle.progress.specs.Progress.{step_of, sync_of, carry_of, is_done, Next, carries, steps, syncs, Pressed, Stands, waits, pressed}
-use Rattle.progress.specs.Progress.{Standstill, is_outside, all_inside, StandsAs, PlainGoesOn, ListGoesOn}
+use Rattle.progress.specs.Progress.{Standstill, is_outside, all_inside, StandsAs, ListGoesOn}
 use Rattle.rules.proofs.Decoded.{refusal_number-listed}
 use Rattle.rules.proofs.Ahead.{UpToEnd, up_to_end}
 use Rattle.rules.proofs.Good.{Link, trailing, coming, Good, backed, alone, late}

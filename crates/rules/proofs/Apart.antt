@@ -1,19 +1,19 @@
 -- An accepted table, taken apart and written again, is the same bytes; and the lists are accepted.
-use mathlib.Core.Path.{◌≡◌, refl, ap, sym, subst, ◌∙◌}
-use mathlib.Core.Bool.{Bool, true, false, cond, ◌&&◌}
+use mathlib.Core.Path.{◌≡◌, refl, ap, sym, ◌∙◌}
+use mathlib.Core.Bool.{Bool, true, false, cond}
 use mathlib.Core.List.{List, [], ◌∷◌, ◌++◌}
 use Prim.Native.Nat.{ℕ, zero, suc, ◌+◌, ◌*◌, ◌-◌, ◌/◌, ◌%◌, ◌^◌, ◌≤◌, ◌<◌}
 use native.Mathlib.Omega.{arith}
 use lib.Dec.{eqb, leb}
 use lib.ListN.{length, get_or, take, drop, length-append, length-drop, take-append-drop}
-use lib.Seq.{take_at, drop_at, get_or-drop, drop-drop, length-take-le}
+use lib.Seq.{drop_at, get_or-drop, drop-drop, length-take-le}
 use borrow.Author.Tests.{eqb-true, leb-true}
 use Rattle.facts.specs.Tests.{all_of, no_way, and_left, and_right, and_both}
 use Rattle.backup.specs.Limits.{pc_most}
 use Rattle.rules.specs.Sizes.{table_most, with_limits, limit_bytes, record_head}
-use Rattle.rules.specs.Bytes.{byte_at, number16, number32, sixes, word_bytes, all_bytes}
-use Rattle.rules.specs.Format.{length_field, version_in, boards_in, processes_in, channels_in, records_start, record_bytes, program_length, record_length, rests, decode_table, length_ok, counts_fit, counts_ok, records_ok, extent_ok, validate_table}
-use Rattle.rules.specs.Encode.{Lists, threes, instruction_bytes, program_bytes, if_limits, records_for, body_of, encode, program_lengths, total, lists_ok, validate_lists, program_in, placements_in, limits_in, instructions_in, apart, WritesAs}
+use Rattle.rules.specs.Bytes.{byte_at, number16, number32, word_bytes}
+use Rattle.rules.specs.Format.{length_field, version_in, boards_in, processes_in, channels_in, records_start, record_bytes, program_length, record_length, decode_table, length_ok, counts_ok, records_ok, extent_ok, validate_table}
+use Rattle.rules.specs.Encode.{program_bytes, if_limits, records_for, body_of, encode, program_lengths, total, validate_lists, program_in, placements_in, limits_in, instructions_in, apart, WritesAs}
 use Rattle.rules.proofs.Valid.{valid}
 use Rattle.rules.proofs.Encoding.{Long, decode_encode, validate_encode}
 

@@ -6,7 +6,7 @@ use mathlib.Core.List.{List, [], ◌∷◌, ◌++◌, map, map-append}
 use Prim.Native.Nat.{ℕ, ◌≤◌, ◌<◌}
 use native.Mathlib.Omega.{arith}
 use lib.ListN.{length, length-append}
-use borrow.Author.Tests.{lt-ltb, le-ltb, lt-leb}
+use borrow.Author.Tests.{lt-ltb}
 use Rattle.backup.specs.Limits.{log_most, ports, sent_most, pc_most}
 use Rattle.backup.specs.Replica.{Message, Replica, Checkpoint, Reply, on_ports, fit, arrived, arrive_number, arrive, counted, count_number, count, synced, sync_number, sync, fail_over, remaining}
 use Rattle.backup.specs.Laws.{shorter}

@@ -13,7 +13,7 @@ use Rattle.backup.specs.Replica.{Checkpoint, FailOver, counted, taken_on, remain
 use Rattle.rules.specs.Table.{Table, channel_at, code_of, limit_of, port_of}
 use Rattle.rules.specs.Machine.{Machine}
 use Rattle.rules.specs.Reference.{Reference}
-use Rattle.rules.specs.Cabinet.{instructions_most, saved_most, Standby, Since, Process, Item, checkpoint, Cabinet, process_at, outbox_at, is_some, occupancy}
+use Rattle.rules.specs.Cabinet.{instructions_most, Standby, Since, Process, Item, checkpoint, Cabinet, process_at, outbox_at, is_some, occupancy}
 use Rattle.rules.specs.Judge.{Accepted}
 use Rattle.rules.specs.Bounds.{mails, issued_takes, BackupBounds, Bounds}
 use Rattle.rules.proofs.Runs.{◌then◌, tally}

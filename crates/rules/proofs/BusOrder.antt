@@ -1,9 +1,8 @@
 -- W-202: "The bus order is unaffected." A carried sync answers 5 with how many words it dropped, where document 01 has 0; the bus order is the
 -- answers 4, so it is the same by both numberings, and so are the feeds that answered 4.
-use mathlib.Core.Path.{◌≡◌, refl, ap}
-use mathlib.Core.Bool.{cond, ◌&&◌}
+use mathlib.Core.Path.{◌≡◌, refl}
+use mathlib.Core.Bool.{cond}
 use mathlib.Core.List.{List, [], ◌∷◌, map}
-use Prim.Native.Nat.{ℕ}
 use lib.Dec.{eqb}
 use Rattle.rules.specs.Machine.{Origin, BusWord}
 use Rattle.rules.specs.Moves.{Command, Answer, step_done, issue_done, crash_done, rejoin_done, rebackup_done, undo_done, received, queued}

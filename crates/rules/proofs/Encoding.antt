@@ -2,7 +2,7 @@
 use mathlib.Core.Path.{◌≡◌, refl, ap, sym, ◌∙◌}
 use mathlib.Core.Bool.{Bool, true, false, cond, ◌&&◌}
 use mathlib.Core.List.{List, [], ◌∷◌, ◌++◌, map}
-use Prim.Native.Nat.{ℕ, zero, suc, ◌+◌, ◌*◌, ◌/◌, ◌%◌, ◌^◌, ◌≤◌, ◌<◌}
+use Prim.Native.Nat.{ℕ, zero, suc, ◌+◌, ◌*◌, ◌/◌, ◌%◌, ◌^◌, ◌≤◌}
 use native.Mathlib.Omega.{arith}
 use lib.Dec.{eqb, leb}
 use lib.ListN.{length, get_or, take, drop, length-append, length-drop, take-append-drop}
@@ -11,10 +11,9 @@ use borrow.Author.Tests.{eqb-true, eq-eqb, leb-true, le-leb}
 use Rattle.facts.specs.Tests.{all_of, and_left, and_right, and_both}
 use Rattle.backup.specs.Limits.{pc_most}
 use Rattle.rules.specs.Sizes.{table_most, with_limits, limit_bytes, record_head}
-use Rattle.rules.specs.Table.{Placement, Table}
-use Rattle.rules.specs.Bytes.{byte_at, number16, number32, sixes, word_bytes, all_bytes}
-use Rattle.rules.specs.Format.{version_in, boards_in, processes_in, channels_in, pairs, records_start, record_bytes, program_length, record_length, rests, instruction, limit_said, placement_in, decode_table, or_number, length_ok, version_ok, counts_fit, counts_ok, records_ok, extent_ok, table_number, validate_table}
-use Rattle.rules.specs.Encode.{Lists, threes, length_given, placed_by, table_of, instruction_bytes, program_bytes, if_limits, records_for, body_of, encode, program_lengths, total, lists_ok, validate_lists, program_in, placements_in, limits_in, instructions_in, apart, ReadsAs}
+use Rattle.rules.specs.Bytes.{byte_at, number16, sixes, all_bytes}
+use Rattle.rules.specs.Format.{version_in, pairs, record_bytes, program_length, rests, instruction, limit_said, placement_in, decode_table, or_number, length_ok, version_ok, counts_fit, counts_ok, records_ok, extent_ok, table_number, validate_table}
+use Rattle.rules.specs.Encode.{Lists, threes, length_given, placed_by, table_of, program_bytes, if_limits, records_for, body_of, encode, program_lengths, total, lists_ok, validate_lists, program_in, placements_in, limits_in, instructions_in, apart, ReadsAs}
 use Rattle.rules.proofs.Valid.{test_passed, further-passed, counts-fit}
 use Rattle.rules.proofs.ReadBack.{word_back}
 

@@ -1,6 +1,6 @@
 -- A table of version 1 means what it meant: what is read from it is what document 01 alone says, with limit 8.
 use mathlib.Core.Path.{◌≡◌, refl}
-use mathlib.Core.List.{List, [], ◌∷◌, map}
+use mathlib.Core.List.{List, ◌∷◌, map}
 use Prim.Native.Nat.{ℕ, zero, suc, ◌+◌, ◌*◌}
 use lib.ListN.{drop}
 use Rattle.rules.specs.Bytes.{byte_at}

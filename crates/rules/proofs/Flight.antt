@@ -3,7 +3,7 @@ use mathlib.Core.Logic.{◌≢◌}
 use mathlib.Core.Path.{◌≡◌, refl, ap, sym, ◌∙◌}
 use mathlib.Core.Bool.{Bool, true, false, cond}
 use mathlib.Core.List.{List, [], ◌∷◌}
-use Prim.Native.Nat.{ℕ, suc, ◌≤◌, ◌<◌}
+use Prim.Native.Nat.{ℕ, suc, ◌≤◌}
 use native.Mathlib.Omega.{arith}
 use lib.Dec.{eqb}
 use lib.ListN.{length}
@@ -11,11 +11,10 @@ use borrow.Author.Tests.{eqb-true, eq-eqb}
 use Rattle.facts.specs.Tests.{no_way}
 use Rattle.facts.specs.Counts.{total_one}
 use Rattle.rules.specs.Table.{Table, channel_at}
-use Rattle.rules.specs.Machine.{Mail}
 use Rattle.rules.specs.Reference.{Reference}
-use Rattle.rules.specs.Cabinet.{Item, message, checkpoint, transfer, Cabinet, process_at, outbox_at, is_on, queued_on, in_flight}
+use Rattle.rules.specs.Cabinet.{Item, message, checkpoint, transfer, Cabinet, process_at, outbox_at, is_on, queued_on}
 use Rattle.rules.specs.Bounds.{OutboxBounds, ChannelBounds}
-use Rattle.rules.proofs.Invariant.{mine, owner_of, Invariant}
+use Rattle.rules.proofs.Invariant.{mine, Invariant}
 use Rattle.rules.proofs.Counting.{flight_total}
 
 -- a word of channel k is one of its sender's own items

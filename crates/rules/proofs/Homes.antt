@@ -11,7 +11,7 @@ use lib.ListN.{length, get_or, set, length-set, length-map}
 use lib.Seq.{get_or-set_same, get_or-set_other}
 use borrow.Author.Tests.{eq-eqb}
 use Rattle.facts.specs.Tests.{no_way, by_eq}
-use Rattle.facts.specs.Indexing.{get_d_map}
+use Rattle.facts.specs.Indexing.{get_or_map}
 use Rattle.backup.specs.Replica.{Checkpoint, initial, arrive, count, sync}
 use Rattle.rules.specs.Table.{Table, placement_at, channel_at, port_of}
 use Rattle.rules.specs.Machine.{Mail}
@@ -149,7 +149,7 @@ start_home : (t : Table) → AtHome t (started t)
 unfolding started placed
 start_home t p hp =
     let l : p < length t.processes = rw length-map at hp in
-    subst (Home t p) (sym (get_d_map placed t.processes p _ nobody l))
+    subst (Home t p) (sym (get_or_map placed t.processes p _ nobody l))
     (record {
       runs = λ n. absurd (n refl);
       other = λ s e.

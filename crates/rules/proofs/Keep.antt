@@ -10,7 +10,7 @@ use lib.Dec.{eqb}
 use lib.ListN.{length, set, length-map}
 use lib.Seq.{get_or-set_same}
 use Rattle.facts.specs.Tests.{no_way}
-use Rattle.facts.specs.Indexing.{get_d_map}
+use Rattle.facts.specs.Indexing.{get_or_map}
 use Rattle.facts.specs.Counts.{occurs}
 use Rattle.backup.specs.Replica.{Checkpoint, count, sync}
 use Rattle.rules.specs.Table.{Table, environment, channel_at, code_of, limit_of, nowhere}
@@ -219,7 +219,7 @@ pub start_room : (t : Table) → Room t [] (started t)
 unfolding started placed booted
 start_room t p hp =
     let there : p < length t.processes = rw length-map at hp in
-    let e = get_d_map placed t.processes p nowhere nobody there in
+    let e = get_or_map placed t.processes p nowhere nobody there in
     record {
       again = [];
       few = omega arith;

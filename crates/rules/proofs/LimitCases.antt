@@ -2,14 +2,14 @@
 -- the limit; which limits and which versions are refused, and in which order.
 use mathlib.Core.Path.{◌≡◌, refl}
 use mathlib.Core.List.{List, [], ◌∷◌, ◌++◌, map}
-use Prim.Native.Nat.{ℕ, zero, suc, ◌+◌, ◌*◌, ◌%◌}
+use Prim.Native.Nat.{ℕ, zero, suc, ◌*◌, ◌%◌}
 use lib.ListN.{replicate, set}
 use Rattle.backup.specs.Replica.{fit, arrive_number, count_number, sync_number, fail_over}
-use Rattle.rules.specs.Table.{Instruction, SET, TAKE, SEND}
+use Rattle.rules.specs.Table.{SET, TAKE, SEND}
 use Rattle.rules.specs.Moves.{guard, Command}
 use Rattle.rules.specs.Bytes.{byte_at}
 use Rattle.rules.specs.Run.{buffers_of, run}
-use Rattle.rules.proofs.Cases.{step, sync, carry, feed, crash, times, channel, placement, placement_with, cabinet, table_bytes, limited_bytes, run_of, codes_of, Case, case, given, said}
+use Rattle.rules.proofs.Cases.{step, sync, feed, crash, times, channel, placement, placement_with, cabinet, table_bytes, limited_bytes, run_of, codes_of, Case, case, given, said}
 
 -- ---- acts
 

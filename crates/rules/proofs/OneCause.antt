@@ -1,6 +1,6 @@
 -- W-206: "one byte never fits two causes", and every byte of an answer is one.
-use mathlib.Core.Path.{◌≡◌, refl}
-use Prim.Native.Nat.{ℕ, ◌+◌, ◌*◌, ◌≤◌, ◌<◌}
+use mathlib.Core.Path.{◌≡◌}
+use Prim.Native.Nat.{ℕ, ◌≤◌, ◌<◌}
 use native.Mathlib.Omega.{arith}
 use Rattle.rules.specs.Moves.{Refusal, unknown_move, stray_word, no_process, no_board, no_channel, transmit_dead, crash_dead, is_halted, no_word_to_take, no_word_for_first, events_full, instructions_full, send_blocked, sync_blocked, rebackup_blocked, send_held, inject_held, no_backup, sync_waits, rebackup_waits, outbox_empty, not_outside, not_backed, board_live, unready, has_backup, none_kept, refusal_number, Answer, step_done, issue_done, crash_done, rejoin_done, rebackup_done, undo_done, received, queued, suppressed, transmitted, injected, sync_kept, sync_lost, transfer_kept, refused, numbers}
 use Rattle.rules.specs.Reasons.{refusal_cause, cause_of, reason_of}

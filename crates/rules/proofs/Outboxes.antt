@@ -9,7 +9,7 @@ use lib.ListN.{length, get_or, set, length-append}
 use lib.Seq.{get_or-set_same, get_or-set_other, set_out}
 use borrow.Author.Tests.{leb-false}
 use Rattle.facts.specs.Tests.{by_eq, by_lt}
-use Rattle.facts.specs.Indexing.{get_d_replicate-any}
+use Rattle.facts.specs.Indexing.{get_or_replicate_any}
 use Rattle.rules.specs.Table.{Table}
 use Rattle.rules.specs.Cabinet.{outbox_most, Item, message, checkpoint, transfer, Cabinet, process_at, outbox_at, started}
 use Rattle.rules.specs.Moves.{Command, snapshot, deliver, run_from}
@@ -56,7 +56,7 @@ module _ (t : Table) (c : Cabinet) (h : OutboxBounds c) where
 
 start_short : (t : Table) → OutboxBounds (started t)
 unfolding started
-start_short t b = rw (get_d_replicate-any {A = List Item} t.boards b []) (omega arith)
+start_short t b = rw (get_or_replicate_any {A = List Item} t.boards b []) (omega arith)
 
 pub outboxes_bounded : (t : Table) (commands : List Command) → OutboxBounds (run_from t (started t) commands).cabinet
 outboxes_bounded t commands = after_run t (λ c r h. keep_short t c h r) (started t) commands (start_short t)

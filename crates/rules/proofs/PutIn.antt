@@ -9,7 +9,7 @@ use lib.ListN.{length, get_or, set, take}
 use lib.Seq.{get_or-set_same, get_or-set_other, set_out}
 use borrow.Author.Tests.{ne_eqb, lt-leb}
 use Rattle.facts.specs.Tests.{no_way, by_eq, by_lt, or_left, or_right}
-use Rattle.facts.specs.Indexing.{get_d_map, get_d_replicate-any}
+use Rattle.facts.specs.Indexing.{get_or_map, get_or_replicate_any}
 use Rattle.rules.specs.Table.{Table, placement_at}
 use Rattle.rules.specs.Cabinet.{Cabinet, placed, started, nobody, process_at, dead_at, protected}
 use Rattle.rules.specs.Moves.{Command, Move, step_move, issue_move, transmit_move, inject_move, crash_move, rejoin_move, rebackup_move, unknown, move_of, Answer, crash_done, sync_kept, sync_lost, guard, with_process, with_outbox, keeps, deliver, perform, turn, run_from}
@@ -101,11 +101,11 @@ fewer_barred (r ∷ rs) (suc place) h = rw (or_left (is_barred r) (any_barred rs
 module _ (t : Table) (ok : Accepted t) where
   starts_live : AllLive (started t)
   unfolding started
-  starts_live b = get_d_replicate-any t.boards b false
+  starts_live b = get_or_replicate_any t.boards b false
 
   starts_backed : (p : ℕ) → p < length t.processes → protected (process_at (started t) p) ≡ true
   unfolding started placed
-  starts_backed p h = rw (get_d_map placed t.processes p (placement_at t p) nobody h)
+  starts_backed p h = rw (get_or_map placed t.processes p (placement_at t p) nobody h)
 
   -- the crash of any board at any place
   pub put_in : (commands : List Command) → any_barred commands ≡ false → (place b : ℕ) → b < t.boards

@@ -11,7 +11,7 @@ use lib.ListN.{length, length-set, length-map, get_or-eq_default}
 use lib.Seq.{get_or-set_same, get_or-set_other, ext_get_or}
 use borrow.Author.Tests.{le-ltb}
 use Rattle.facts.specs.Tests.{no_way, by_eq, by_lt, and_left, and_right, all_of, all_below, all_below_lem}
-use Rattle.facts.specs.Indexing.{all_of_lem, get_d_map}
+use Rattle.facts.specs.Indexing.{all_of_lem, get_or_map}
 use Rattle.rules.specs.Table.{Table, Instruction, code_of}
 use Rattle.rules.specs.Machine.{Machine, booted, Act, Outcome, halted, no_mail, moved, local_step}
 use Rattle.rules.specs.Reference.{Reference, Action, step, with_machine, stepped, act, reference_run, injections}
@@ -89,7 +89,7 @@ pub same-machines : {t : Table} {c : Cabinet} {s : Reference} → Invariant t c 
 same-machines {c = c} inv r =
     let n : length r.end.machines ≡ length c.processes = r.same_number ∙ sym inv.same_number in
     ext_get_or booted r.end.machines (map (λ (x : Process). x.machine) c.processes) (n ∙ sym (length-map c.processes (λ (x : Process). x.machine)))
-    (λ i h. let h' : i < length c.processes = rw n at h in r.caught_up i h' ∙ sym (get_d_map (λ (x : Process). x.machine) c.processes i nobody booted h'))
+    (λ i h. let h' : i < length c.processes = rw n at h in r.caught_up i h' ∙ sym (get_or_map (λ (x : Process). x.machine) c.processes i nobody booted h'))
 
 -- ---- at a quiet end
 

@@ -8,14 +8,13 @@ use native.Mathlib.Omega.{arith}
 use lib.Dec.{eqb}
 use lib.ListN.{length, get_or}
 use Rattle.backup.specs.Limits.{sent_most}
-use Rattle.rules.specs.Table.{Table, Instruction, code_of}
-use Rattle.rules.specs.Machine.{Machine, Act, internal, took, sent, local_step}
+use Rattle.rules.specs.Table.{Table, Instruction}
+use Rattle.rules.specs.Machine.{Machine, Act, internal, took, sent}
 use Rattle.rules.specs.Reference.{Reference}
 use Rattle.rules.specs.Cabinet.{Standby, Process, Cabinet, nobody, process_at, started}
 use Rattle.rules.specs.Moves.{Command, Answer, crash_done, accept, promoted, unprotected, after_crash, all_after_crash, crash, run_from}
 use Rattle.rules.specs.Judge.{Accepted}
-use Rattle.rules.specs.RollForward.{acts_of, go_on, redo, RollsForward}
-use Rattle.rules.proofs.Steps.{Steps}
+use Rattle.rules.specs.RollForward.{acts_of, redo, RollsForward}
 use Rattle.rules.proofs.Runs.{Run, here, more, busy, busy1}
 use Rattle.rules.proofs.Tables.{limit_high}
 use Rattle.rules.proofs.Good.{state_of, good_span, good_small, good_kept}

@@ -18,7 +18,7 @@ use Rattle.rules.specs.Cabinet.{Cabinet, started}
 use Rattle.rules.specs.Moves.{Command, stray_word, none_kept, Answer, refused, numbers, origin_of, turn, run_from}
 use Rattle.rules.specs.Undo.{Session, opened, is_undo, is_bare, undone, undo, stride, play_from, Noted, stands_after, commands_of}
 use Rattle.rules.specs.Judge.{Accepted}
-use Rattle.rules.specs.Origins.{SendsAt, Genuine, was_fed, was_sent, AllGenuine, none-shown, one_shown}
+use Rattle.rules.specs.Origins.{SendsAt, was_fed, was_sent, AllGenuine, none-shown, one_shown}
 use Rattle.rules.specs.Format.{decode_table}
 use Rattle.rules.specs.Schedule.{decode_schedule}
 use Rattle.rules.specs.Run.{Buffers, run, accepted}

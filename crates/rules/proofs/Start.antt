@@ -6,7 +6,7 @@ use mathlib.Core.List.{List, []}
 use Prim.Native.Nat.{ℕ, ◌<◌}
 use native.Mathlib.Omega.{arith}
 use lib.ListN.{length, length-map, length-replicate, replicate}
-use Rattle.facts.specs.Indexing.{get_d_map, get_d_replicate-any}
+use Rattle.facts.specs.Indexing.{get_or_map, get_or_replicate_any}
 use Rattle.backup.specs.Replica.{initial}
 use Rattle.rules.specs.Table.{Table, Placement, placement_at}
 use Rattle.rules.specs.Machine.{booted}
@@ -39,7 +39,7 @@ good_placed t p x =
 
 module _ (t : Table) (ok : Accepted t) where
   live : (b : ℕ) → b < t.boards → Live t (replicate t.boards false) b
-  live b h = record { there = h; live = get_d_replicate-any t.boards b false }
+  live b h = record { there = h; live = get_or_replicate_any t.boards b false }
 
   seated-placed : (p : ℕ) → p < length t.processes → Seated t (replicate t.boards false) (placed (placement_at t p))
   unfolding placed
@@ -54,15 +54,15 @@ module _ (t : Table) (ok : Accepted t) where
 
   process-is : (p : ℕ) → p < length t.processes → process_at (started t) p ≡ placed (placement_at t p)
   unfolding started
-  process-is p h = get_d_map placed t.processes p _ nobody h
+  process-is p h = get_or_map placed t.processes p _ nobody h
 
   machine-is : (p : ℕ) → p < length t.processes → machine_at (reference_start t) p ≡ booted
   unfolding reference_start
-  machine-is p h = get_d_map (λ _. booted) t.processes p (placement_at t p) booted h
+  machine-is p h = get_or_map (λ _. booted) t.processes p (placement_at t p) booted h
 
   outbox_is : (b : ℕ) → outbox_at (started t) b ≡ []
   unfolding started
-  outbox_is b = get_d_replicate-any t.boards b []
+  outbox_is b = get_or_replicate_any t.boards b []
 
   processes : length (started t).processes ≡ length t.processes
   unfolding started

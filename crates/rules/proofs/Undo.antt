@@ -1,7 +1,7 @@
 -- W-214, a session by records: the cabinets kept are those that the records kept make of an earlier cabinet (`Keeps`), so that code may
 -- hold that cabinet and the records, and do them again.
 use mathlib.Core.Path.{◌≡◌, refl, ap, sym, ◌∙◌, subst, subst₂}
-use mathlib.Core.Bool.{Bool, true, false}
+use mathlib.Core.Bool.{true, false}
 use mathlib.Core.List.{List, [], ◌∷◌, ◌++◌, append_assoc, append-nil}
 use Prim.Native.Nat.{ℕ, zero, suc, ◌+◌, ◌-◌, ◌≤◌}
 use native.Mathlib.Omega.{arith}
@@ -12,7 +12,7 @@ use Rattle.facts.specs.Tests.{by_lt, or_left, or_right}
 use Rattle.rules.specs.Sizes.{kept_most}
 use Rattle.rules.specs.Table.{Table}
 use Rattle.rules.specs.Cabinet.{Cabinet}
-use Rattle.rules.specs.Moves.{Command, stray_word, none_kept, Answer, undo_done, refused, turn, run_from}
+use Rattle.rules.specs.Moves.{Command, stray_word, none_kept, undo_done, refused, turn, run_from}
 use Rattle.rules.specs.Undo.{Session, is_undo, any_undo, is_bare, undo_key, stride, play_from, cabinets_before, Keeps, one_kept}
 use Rattle.rules.proofs.Recovery.{run-parts, one_more}
 

@@ -11,9 +11,9 @@ use Rattle.facts.specs.Tests.{no_way}
 use Rattle.rules.specs.Table.{Table}
 use Rattle.rules.specs.Cabinet.{started}
 use Rattle.rules.specs.Moves.{Command, Answer, undo_done, numbers, origin_of}
-use Rattle.rules.specs.Undo.{Session, opened, Stride, is_undo, undo_key, stride, Strides, play_from, Noted, noted, note_of, behind_first}
+use Rattle.rules.specs.Undo.{Session, opened, Stride, is_undo, undo_key, stride, play_from, Noted, noted, note_of, behind_first}
 use Rattle.rules.specs.Undo.{stands_after, stands_with, standing, commands_of, Keeps}
-use Rattle.rules.specs.Transparent.{finished, shown, shown_from, standing_after, session_after, ended, answer_next, Undoes}
+use Rattle.rules.specs.Transparent.{finished, shown, shown_from, session_after, ended, answer_next, Undoes}
 use Rattle.rules.proofs.Undo.{play_parts, undo_refuses}
 use Rattle.rules.proofs.Standing.{Stands, note, stood, stands, ended_is}
 

@@ -1,5 +1,5 @@
 -- The cabinet's state, and what is read off it: outboxes, back-pressure, protection, quiescence (document 01, "The cabinet's moves").
-use Rattle.std.specs.Prelude.{Bool, true, false, not, cond, ◌&&◌, ◌||◌, List, [], ◌∷◌, ◌++◌, map, ℕ, zero, suc, ◌+◌, eqb, ltb, leb, length, get_or, set, replicate}
+use Rattle.std.specs.Prelude.{Bool, true, false, not, cond, ◌&&◌, ◌||◌, List, [], ◌∷◌, map, ℕ, suc, ◌+◌, eqb, ltb, leb, length, get_or, replicate}
 use Rattle.std.proofs.Math.Option.{Option, none, some}
 use Rattle.facts.specs.Tests.{any_below, all_of, all_below}
 use Rattle.backup.specs.Replica.{Replica, Checkpoint, initial}

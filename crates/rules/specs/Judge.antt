@@ -1,11 +1,11 @@
 -- What numbers 5 to 8 and 47 ask of a whole table, each as one test (document 01, "The table" and "What each move replies").
 -- Numbers 1 to 4 are judged on the bytes.
-use Rattle.std.specs.Prelude.{◌≡◌, Bool, true, false, not, cond, ◌&&◌, ◌||◌, List, [], ◌∷◌, ℕ, zero, suc, ◌+◌, ◌≤◌, ◌<◌, eqb, ltb, leb, length}
+use Rattle.std.specs.Prelude.{◌≡◌, Bool, true, false, not, cond, ◌&&◌, ◌||◌, ℕ, zero, suc, ◌≤◌, ◌<◌, eqb, ltb, leb, length}
 use Rattle.facts.specs.Tests.{all_of, all_below}
 use Rattle.backup.specs.Limits.{ports, pc_most}
 use Rattle.rules.specs.Sizes.{boards_least, boards_most, processes_most, channels_most, limit_least, limit_most}
 use Rattle.rules.specs.Table.{environment, Channel, Instruction, SET, ADD, TAKE, FIRST, SEND, JUMP, NONE, Placement, Table, channel_at}
-use Rattle.rules.specs.Table.{code_of, placement_at, inputs}
+use Rattle.rules.specs.Table.{code_of, inputs}
 use Rattle.rules.specs.Machine.{bit}
 
 -- "a process number, or 255 for the outside"

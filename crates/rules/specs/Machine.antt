@@ -1,6 +1,6 @@
 -- One process as a machine, and the meaning of one instruction (document 01, "The table").
 -- The cabinet and the reference machine share this and nothing else.
-use Rattle.std.specs.Prelude.{Bool, true, false, cond, List, [], ◌∷◌, ◌++◌, ℕ, zero, suc, ◌+◌, ◌/◌, ◌%◌, ◌^◌, eqb, ltb, length, get_or, set}
+use Rattle.std.specs.Prelude.{Bool, cond, List, [], ◌∷◌, ◌++◌, ℕ, suc, ◌+◌, ◌/◌, ◌%◌, ◌^◌, eqb, ltb, length, get_or, set}
 use Rattle.backup.specs.Replica.{no_registers}
 use Rattle.rules.specs.Table.{environment, Instruction, SET, ADD, TAKE, FIRST, SEND, JUMP, NONE}
 

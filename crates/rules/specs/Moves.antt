@@ -1,11 +1,11 @@
 -- The seven moves and every refusal in its order (document 01, "The cabinet's moves", "What each move replies"; document 02, W-210).
-use Rattle.std.specs.Prelude.{Bool, true, false, not, cond, ◌&&◌, ◌||◌, List, [], ◌∷◌, ◌++◌, map, ℕ, zero, suc, ◌+◌, eqb, ltb, leb, length, get_or, set}
+use Rattle.std.specs.Prelude.{Bool, true, false, not, cond, ◌||◌, List, [], ◌∷◌, ◌++◌, map, ℕ, zero, suc, eqb, leb, length, get_or, set}
 use Rattle.std.proofs.Math.Option.{Option, none, some}
 use Rattle.backup.specs.Report.{total_dropped, sync_report}
 use Rattle.backup.specs.Replica.{Message, Replica, Checkpoint, Reply, FailOver, arrive, count, sync, fail_over}
 use Rattle.rules.specs.Table.{Table, Instruction, SET, ADD, TAKE, FIRST, SEND, JUMP, NONE, environment, channel_at, code_of, limit_of}
 use Rattle.rules.specs.Table.{port_of, channel_on}
-use Rattle.rules.specs.Machine.{Mail, Machine, Act, internal, took, sent, Outcome, halted, no_mail, moved, instruction_at, local_step}
+use Rattle.rules.specs.Machine.{Mail, Machine, internal, took, sent, Outcome, halted, no_mail, moved, instruction_at, local_step}
 use Rattle.rules.specs.Machine.{sent_from, delivered}
 use Rattle.rules.specs.Cabinet.{outbox_most, Standby, Since, Process, Item, message, checkpoint, transfer, is_complete, Cabinet}
 use Rattle.rules.specs.Cabinet.{none_since, nobody, process_at, outbox_at, dead_at, protected, limited, other_board, some_unbacked}

@@ -1,6 +1,6 @@
 -- The bench program's page, from what a run returned and wrote, and from the bytes of standard input (document 01, "The bench program's
 -- page").
-use Rattle.std.specs.Prelude.{Bool, true, false, cond, List, [], ◌∷◌, ◌++◌, ℕ, zero, suc, ◌+◌, ◌*◌, ◌/◌, ◌%◌, eqb, ltb, take, drop, replicate}
+use Rattle.std.specs.Prelude.{Bool, cond, List, [], ◌∷◌, ◌++◌, ℕ, zero, suc, ◌+◌, ◌*◌, ◌/◌, ◌%◌, eqb, ltb, take, drop, replicate}
 use Rattle.rules.specs.Bytes.{byte_at, number32}
 use Rattle.rules.specs.Format.{table_most, processes_most, length_field, processes_in}
 use Rattle.rules.specs.Schedule.{commands_most}

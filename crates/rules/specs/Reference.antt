@@ -1,9 +1,9 @@
 -- The failure-free reference machine (document 01: "The plain cabinet"): it is given the table and a list of feeds and steps, and
 -- nothing of our cabinet. No boards, no limits, no holding.
-use Rattle.std.specs.Prelude.{Bool, true, false, cond, List, [], ◌∷◌, ◌++◌, map, ℕ, zero, suc, eqb, ltb, length, get_or, set}
+use Rattle.std.specs.Prelude.{cond, List, [], ◌∷◌, ◌++◌, map, ℕ, eqb, ltb, length, get_or, set}
 use Rattle.std.proofs.Math.Option.{Option, none, some}
 use Rattle.rules.specs.Table.{Table, environment, channel_at, code_of}
-use Rattle.rules.specs.Machine.{Mail, BusWord, sent_from, from_outside, Machine, booted, Act, internal, took, sent}
+use Rattle.rules.specs.Machine.{Mail, BusWord, sent_from, from_outside, Machine, booted, internal, took, sent}
 use Rattle.rules.specs.Machine.{Outcome, halted, no_mail, moved, local_step, delivered}
 
 -- "It holds for each process four registers and a place, all 0 at first, and an inbox [..]. Beside them is its bus order."

@@ -1,5 +1,5 @@
 -- What a table says: boards, channel ends, and for each process its two boards and its program (document 01, "The table").
-use Rattle.std.specs.Prelude.{Bool, true, false, cond, List, [], ◌∷◌, ℕ, zero, suc, eqb, length, get_or}
+use Rattle.std.specs.Prelude.{cond, List, [], ◌∷◌, ℕ, suc, eqb, get_or}
 
 -- "a process number, or 255 for the outside"
 abbrev pub environment : ℕ

@@ -1,14 +1,13 @@
 -- One process's lists change, on its own board still: the cabinet then held is the one with that process changed.
-use Rattle.std.proofs.Common.{◌≡◌, ℕ, ◌<◌, ◌≤◌, ◌≢◌, List, [], ◌∷◌, length, get_or, set, sym, refl, ap, ◌∙◌, subst, arith, length-set, get_or-set_other, get_or-set_same}
+use Rattle.std.proofs.Common.{◌≡◌, ℕ, ◌<◌, ◌≤◌, ◌≢◌, List, [], length, get_or, set, sym, ap, ◌∙◌, subst, arith, length-set, get_or-set_other, get_or-set_same}
 use lib.Seq.{set-get_or}
 use Rattle.facts.specs.Tests.{by_eq}
 use Rattle.facts.specs.Lists.{listed}
-use Rattle.facts.specs.Rings.{listed-set, get_d_listed, listed-length}
+use Rattle.facts.specs.Rings.{listed-set}
 use Rattle.process.specs.Row.{process_of, waits_in, Kept, Seated}
 use Rattle.process.specs.Change.{Became}
-use Rattle.rules.specs.Table.{Table, channel_at, placement_at}
-use Rattle.rules.specs.Cabinet as rules
-use Rattle.rules.specs.Cabinet.{Cabinet, Process, nobody, process_at, outbox_at, unread_on, waiting}
+use Rattle.rules.specs.Table.{Table, placement_at}
+use Rattle.rules.specs.Cabinet.{Cabinet, Process, nobody, process_at, outbox_at, waiting}
 use Rattle.rules.specs.Moves.{with_process}
 use Rattle.state.specs.declared.entry.Entry.{Entry}
 use Rattle.state.specs.Store.{Store, store_of, Totalled, Holds, process_in, flag}

@@ -1,13 +1,12 @@
 -- A channel is held where its total says so, and no total is large.
-use Rattle.std.proofs.Common.{◌≡◌, ℕ, ◌+◌, ◌<◌, ◌≤◌, List, [], length, get_or, ap, ◌∙◌, arith, eq-eqb, ne_eqb}
+use Rattle.std.proofs.Common.{◌≡◌, ℕ, ◌+◌, ◌<◌, ◌≤◌, List, length, get_or, ap, arith}
 use lib.ListN.{get_or-eq_default}
-use Rattle.facts.specs.Tests.{by_eq, by_lt}
+use Rattle.facts.specs.Tests.{by_lt}
 use Rattle.backup.specs.Limits.{log_most}
-use Rattle.rules.specs.Table.{Table, environment, channel_at}
+use Rattle.rules.specs.Table.{Table, channel_at}
 use Rattle.rules.specs.Machine.{booted}
 use Rattle.rules.specs.Cabinet.{Cabinet, Process, nobody, outbox_most, process_at, occupancy, full}
-use Rattle.state.specs.declared.entry.Entry.{Entry}
-use Rattle.state.specs.Store.{Store, Totalled, Holds}
+use Rattle.state.specs.Store.{Totalled}
 use Rattle.state.specs.Moved.{Reachable}
 use Rattle.state.specs.Channel.{full_in}
 use Rattle.state.proofs.Known.{known}

@@ -1,5 +1,5 @@
 -- A done move: what it promises of any lists, and how its promise is told from the rules' answer. No entry joins, or one at a place below 512.
-use Rattle.std.proofs.Common.{◌≡◌, ℕ, ◌<◌, List, length, set, sym, refl, ap, ◌∙◌, subst, arith, lt-ltb}
+use Rattle.std.proofs.Common.{◌≡◌, ℕ, ◌<◌, List, length, set, sym, refl, subst, arith, lt-ltb}
 use Rattle.plan.specs.Plan.{Plan, Planned}
 use Rattle.rules.specs.Table.{Table}
 use Rattle.rules.specs.Cabinet.{Cabinet}

@@ -1,11 +1,9 @@
 -- What is known of a cabinet that a list of commands reaches: the bounds of the rules.
-use Rattle.std.proofs.Common.{◌≡◌, ℕ, ◌<◌, ◌≤◌, List, [], length, get_or, sym, refl, ap, ◌∙◌, subst}
+use Rattle.std.proofs.Common.{◌≡◌, ℕ, ◌<◌, List, length, sym, ◌∙◌, subst}
 use lib.ListN.{length-map}
 use Rattle.facts.specs.Rings.{listed-length, ring}
 use Rattle.rules.specs.Table.{Table}
-use Rattle.rules.specs.Judge.{Accepted}
-use Rattle.rules.specs.Cabinet.{Cabinet, started}
-use Rattle.rules.specs.Moves.{run_from}
+use Rattle.rules.specs.Cabinet.{Cabinet}
 use Rattle.rules.specs.Bounds.{Bounds, OutboxBounds, ChannelBounds}
 use Rattle.rules.proofs.Reached.{bounded, channels_bounded}
 use Rattle.rules.proofs.Outboxes.{outboxes_bounded}

@@ -1,8 +1,8 @@
 -- A refused move: the answer repeats a with word 0, no entry joins, and everything stays.
-use Rattle.std.proofs.Common.{◌≡◌, ℕ, List, sym, refl, ap, ◌∙◌, subst, arith}
+use Rattle.std.proofs.Common.{◌≡◌, ℕ, List, sym, refl, subst, arith}
 use Rattle.rules.specs.Table.{Table}
 use Rattle.rules.specs.Cabinet.{Cabinet}
-use Rattle.rules.specs.Moves.{Command, Result, Refusal, refuse, refusal_number, settle, numbers}
+use Rattle.rules.specs.Moves.{Command, Result, Refusal, refuse, refusal_number, numbers}
 use Rattle.rules.specs.Reasons.{refusal_cause, cause_of}
 use Rattle.plan.specs.Plan.{Plan, Planned}
 use Rattle.state.specs.declared.entry.Entry.{Entry}

@@ -4,7 +4,7 @@ use Rattle.std.proofs.Common.{◌≡◌, ℕ, suc, ◌+◌, ◌%◌, ◌^◌, �
 use Rattle.facts.specs.Tests.{by_eq}
 use Rattle.facts.specs.Counts.{same, same_yes, same_no}
 use Rattle.facts.specs.Lists.{listed}
-use Rattle.facts.specs.Rings.{get_d_listed, listed-length}
+use Rattle.facts.specs.Rings.{get_or_listed, listed-length}
 use Rattle.rules.specs.Table.{Table, channel_at}
 use Rattle.rules.specs.Machine.{Mail}
 use Rattle.rules.specs.Cabinet.{Cabinet, Process, Item, nobody, process_at, unread_on, in_flight, occupancy}
@@ -77,7 +77,7 @@ module _ (t : Table) (c : Cabinet) where
 -- the count made afresh, as a list
 pub totalled-afresh : (t : Table) (c : Cabinet) → length t.channels ≤ 32 → Totalled t (listed (occupancy t c) 32) c
 totalled-afresh t c few =
-    record { total-is = λ k l. get_d_listed (occupancy t c) 32 k 0 (omega arith); totals-length = listed-length (occupancy t c) 32 }
+    record { total-is = λ k l. get_or_listed (occupancy t c) 32 k 0 (omega arith); totals-length = listed-length (occupancy t c) 32 }
 
 -- no count changed
 pub totalled-same : {t : Table} {totals : List ℕ} {c d : Cabinet} → Totalled t totals c → ((k : ℕ) → occupancy t d k ≡ occupancy t c k) → Totalled t totals d

@@ -1,6 +1,6 @@
 -- Of each process at most one checkpoint or state transfer waits in any queue, also where it has lost its backup (document 01: "One sync a process
 -- may be waiting there"; W-210: 41 "for a waiting resync too"): behind an oldest entry that is one of them none of the same process waits.
-use Rattle.std.proofs.Common.{◌≡◌, ℕ, suc, ◌≤◌, Bool, true, false, cond, ◌||◌, List, [], ◌∷◌, sym, refl, ap, ◌∙◌, subst, arith}
+use Rattle.std.proofs.Common.{◌≡◌, ℕ, suc, Bool, true, false, cond, ◌||◌, List, [], ◌∷◌, refl, ap, ◌∙◌, arith}
 use Rattle.rules.specs.Table.{Table}
 use Rattle.rules.specs.Cabinet.{Item, Cabinet, outbox_at, is_waiter_of, waiting}
 use Rattle.rules.specs.Rebackup.{pending_of}

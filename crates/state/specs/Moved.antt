@@ -1,6 +1,6 @@
 -- What every move promises: of lists that hold a cabinet, the answer is the rules', and the lists hold the rules' cabinet afterwards; and of any
 -- lists at all, that a refused move leaves them as they were.
-use Rattle.std.specs.Prelude.{◌≡◌, ℕ, ◌<◌, ◌≤◌, cond, List, [], length, ◌≢◌, nat_lt, slice_set}
+use Rattle.std.specs.Prelude.{◌≡◌, ℕ, ◌<◌, ◌≤◌, cond, List, length, ◌≢◌, nat_lt, slice_set}
 use Rattle.rules.specs.Table.{Table}
 use Rattle.rules.specs.Judge.{Accepted}
 use Rattle.rules.specs.Cabinet.{Cabinet, started}

@@ -1,11 +1,10 @@
 -- How lent arrays of numbers and one flat array of entries stand for a cabinet of the rules.
-use Rattle.std.specs.Prelude.{◌≡◌, ℕ, ◌<◌, ◌≤◌, Bool, cond, List, [], ◌∷◌, map, length, slice_index, slice_index_or}
+use Rattle.std.specs.Prelude.{◌≡◌, ℕ, ◌<◌, ◌≤◌, Bool, cond, List, [], map, length, slice_index, slice_index_or}
 use Rattle.facts.specs.Lists.{listed}
 use Rattle.facts.specs.Rings.{ring}
 use Rattle.backup.specs.Place.{checkpoint_of}
 use Rattle.process.specs.Row.{process_of, waits_in, Kept, Seated}
 use Rattle.rules.specs.Table.{Table, placement_at}
-use Rattle.rules.specs.Machine.{Mail}
 use Rattle.rules.specs.Cabinet as rules
 use Rattle.rules.specs.Cabinet.{Cabinet, Process, outbox_most, occupancy, waiting, process_at, outbox_at}
 use Rattle.rules.specs.Sizes.{boards_most, processes_most, channels_most, entries_most}

@@ -1,8 +1,7 @@
 -- Move 2 in the lists: the refusals, and a checkpoint that joins its board's queue.
 use Rattle.std.proofs.Common.{◌≡◌, ℕ, ◌<◌, ◌≤◌, true, false, List, [], length, get_or, set, sym, refl, ap, ◌∙◌, subst, arith, length-set, eq-eqb, ne_eqb, le-leb}
 use borrow.Author.Tests.{lt-leb}
-use Rattle.backup.specs.Replica.{Checkpoint}
-use Rattle.process.specs.Row.{board_in, flag_in, waits_in, checkpoint_in}
+use Rattle.process.specs.Row.{board_in, flag_in, waits_in}
 use Rattle.process.specs.Change.{RowBecame}
 use Rattle.process.proofs.Rows.{checkpoint-is}
 use Rattle.rules.specs.Table.{Table}

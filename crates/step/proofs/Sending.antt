@@ -1,5 +1,5 @@
 -- A step that sends a word, in the lists: one that is suppressed, the refusals 37, 38 and 39, and the word that joins its board's queue.
-use Rattle.std.proofs.Common.{◌≡◌, ℕ, suc, ◌+◌, ◌-◌, ◌%◌, ◌^◌, ◌<◌, ◌≤◌, Bool, true, false, ◌||◌, leb, List, [], ◌∷◌, ◌++◌, length, get_or, set, sym, refl, ap, ◌∙◌, subst, ap₂, subst₂, arith, length-set, get_or-set_other, get_or-set_same, lt-ltb, eq-eqb, ne_eqb, le-leb}
+use Rattle.std.proofs.Common.{◌≡◌, ℕ, suc, ◌+◌, ◌-◌, ◌%◌, ◌^◌, ◌<◌, ◌≤◌, Bool, true, false, ◌||◌, leb, List, [], ◌∷◌, ◌++◌, length, get_or, set, sym, refl, ap, ◌∙◌, ap₂, subst₂, arith, length-set, get_or-set_other, get_or-set_same, le-leb}
 use borrow.Author.Tests.{lt-leb}
 use Rattle.facts.specs.Tests.{by_eq}
 use Rattle.facts.specs.Counts.{same}
@@ -28,7 +28,7 @@ use Rattle.state.proofs.Queueing.{QueueThen, entry_joins}
 use Rattle.state.proofs.Flagging.{flagged_none}
 use Rattle.state.proofs.Totals.{occupancy_outbox, totalled_more}
 use Rattle.state.proofs.Changing.{row_changed}
-use Rattle.state.proofs.Ends.{sent-inside, reader-inside}
+use Rattle.state.proofs.Ends.{sent-inside}
 use Rattle.state.proofs.Refusing.{turned_away_lem, makes-refused}
 use Rattle.step.specs.Parts.{owing_in, blame_in, word_entry, SendTurns}
 use Rattle.state.specs.Channel.{full_in}

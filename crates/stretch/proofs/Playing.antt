@@ -14,7 +14,6 @@ use Rattle.rules.specs.Table.{Table}
 use Rattle.rules.specs.Judge.{Accepted}
 use Rattle.rules.specs.Machine.{Origin}
 use Rattle.rules.specs.Cabinet.{Cabinet, started, outbox_at}
-use Rattle.rules.specs.Moves as rules
 use Rattle.rules.specs.Moves.{Command, Numbers, transmit_move, move_of, judged, numbers, origin_of, no_origin, turn, run_from}
 use Rattle.rules.specs.Origins.{told_by}
 use Rattle.rules.specs.Undo.{is_undo, any_undo}
@@ -34,7 +33,7 @@ use Rattle.command.specs.Dues.{command_in, DueAt}
 use Rattle.command.proofs.Judging.{rule_of, most_of, passes, made, refused, refused-origin, known}
 use Rattle.facts.specs.Tests.{by_eq}
 use Rattle.plan.specs.declared.Counts.{Counts}
-use Rattle.plan.specs.Plan.{Plan, Planned}
+use Rattle.plan.specs.Plan.{Plan}
 use Rattle.stretch.specs.declared.stretch.Stretch.{Stretch}
 use Rattle.rejoin.specs.Rebackups.{transfer_entry}
 use Rattle.stretch.specs.Mends.{Mends}

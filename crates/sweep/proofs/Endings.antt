@@ -16,7 +16,7 @@ use Rattle.rules.specs.Cabinet.{Process, Cabinet, nobody, process_at, quiescent}
 use Rattle.rules.specs.Bytes.{byte_at, all_bytes, written}
 use Rattle.rules.specs.Format.{processes_in, decode_table, validate_table}
 use Rattle.rules.specs.Schedule.{commands_in, decode_schedule, validate_schedule}
-use Rattle.rules.specs.Run.{Buffers, buffers_of, Ran, report_bytes, validate_run, ran_from, run, accepted}
+use Rattle.rules.specs.Run.{Buffers, buffers_of, Ran, report_bytes, validate_run, ran_from, accepted}
 use Rattle.rules.specs.Transparent.{ended}
 use Rattle.rules.specs.Sweep.{Ending, quiet_end, held_end, free_end, some_held, ending_of, ending_at}
 use Rattle.rules.proofs.Valid.{processes-counted, decoded_accepted}

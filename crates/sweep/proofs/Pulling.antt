@@ -1,10 +1,10 @@
 -- A schedule with the crash put in: its bytes are a sound schedule, and its commands are the rules' `pulled_at`.
 use mathlib.Core.Path.{◌≡◌, refl, ap, sym, ◌∙◌}
-use mathlib.Core.List.{List, [], ◌∷◌, ◌++◌, append_assoc, append-nil}
+use mathlib.Core.List.{List, [], ◌∷◌, ◌++◌, append_assoc}
 use Prim.Native.Nat.{ℕ, zero, suc, ◌+◌, ◌-◌, ◌*◌, ◌/◌, ◌%◌, ◌≤◌}
 use native.Mathlib.Omega.{arith}
-use lib.ListN.{length, take, drop, length-append, length-drop, drop_of_length-le}
-use lib.Seq.{sets, sets-eq, length-take-le, take_at, take-length, drop-drop}
+use lib.ListN.{length, take, drop, length-append, length-drop}
+use lib.Seq.{sets, sets-eq, length-take-le, take_at, drop-drop}
 use Rattle.facts.specs.Lists.{part-rest}
 use Rattle.facts.specs.Laying.{sets_append, sets-front}
 use Rattle.rules.specs.Sizes.{sweep_most}
@@ -98,14 +98,11 @@ module _ (schedule : List ℕ) (place b : ℕ) (valid : validate_schedule schedu
 
 -- ---- the bytes that the code puts together
 
--- a copy to a part of a list, from a place on, is a store of what was copied
-pub laid : (l src part : List ℕ) (at : ℕ) → at + length src ≤ length l → part ≡ take (length src) src ++ drop (length src) (take (length l - at) (drop at l))
-    → take at l ++ (part ++ drop (length l - at) (drop at l)) ≡ sets l at src
-laid l src part at h e =
-    let none : drop (length l - at) (drop at l) ≡ [] = drop_of_length-le (drop at l) {i = length l - at} (let d = length-drop at l in omega arith) in
-    let is-part : part ≡ src ++ drop (at + length src) l =
-    e ∙ (λ i. take-length src i ++ drop (length src) (part-rest l at i)) ∙ ap (λ (m : List ℕ). src ++ m) (drop-drop (length src) at l) in
-    (λ i. take at l ++ (is-part i ++ none i)) ∙ ap (λ (m : List ℕ). take at l ++ m) (append-nil (src ++ drop (at + length src) l))
+-- what was copied to a part of a list, in that part's place, is a store of it
+pub laid : (l src part : List ℕ) (at k : ℕ) → at + length src ≤ length l → k ≡ length src → part ≡ src
+    → take at l ++ (part ++ drop k (drop at l)) ≡ sets l at src
+laid l src part at k h m e =
+    (λ i. take at l ++ (e i ++ drop (m i) (drop at l))) ∙ ap (λ (rest : List ℕ). take at l ++ (src ++ rest)) (drop-drop (length src) at l)
     ∙ sym (append_assoc (take at l) src (drop (at + length src) l)) ∙ sym (sets-eq src l at h)
 
 -- stores one behind the other, the next of which begins where the last one ends

@@ -14,7 +14,7 @@ use borrow.Author.Tests.{leb-true, eqb-true}
 use Rattle.facts.specs.Tests.{all_below, and_left, and_right, by_eq, no_way}
 use Rattle.facts.specs.Ranges.{all_same, all_listed}
 use Rattle.facts.specs.Lists.{part-rest, Filled, filled_none, filled_more}
-use Rattle.facts.specs.Indexing.{get_d_map}
+use Rattle.facts.specs.Indexing.{get_or_map}
 use Rattle.facts.specs.Walks.{Walked, walk_start, walk_on, walk_fails, walk_end}
 use Rattle.rules.specs.Table.{Placement, nowhere, placement_at, code_of, limit_of}
 use Rattle.rules.specs.Judge.{boards_ok, limit_ok, limits_ok}
@@ -38,7 +38,7 @@ module _ (bytes : List ℕ) (p : ℕ) (h : p < processes_in bytes) where
   placement_at_lem : placement_at (decode_table bytes) p ≡ placement_in (version_in bytes) (record_at bytes p)
   unfolding decode_table
   placement_at_lem =
-      get_d_map (placement_in (version_in bytes)) (rests (version_in bytes) (processes_in bytes) (record_bytes bytes)) p [] _ (rw (length-rests (version_in bytes) (processes_in bytes) (record_bytes bytes)) h)
+      get_or_map (placement_in (version_in bytes)) (rests (version_in bytes) (processes_in bytes) (record_bytes bytes)) p [] _ (rw (length-rests (version_in bytes) (processes_in bytes) (record_bytes bytes)) h)
       ∙ ap (placement_in (version_in bytes)) (rest-is bytes p h)
 
   length_here : program_length (version_in bytes) (record_at bytes p) ≡ length (code_of (decode_table bytes) p)

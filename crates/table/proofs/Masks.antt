@@ -15,7 +15,7 @@ use Rattle.rules.specs.Table.{Table}
 use Rattle.rules.specs.Machine.{bit}
 use Rattle.rules.specs.Format.{decode_table}
 use Rattle.rules.specs.Judge.{reads, bits}
-use Rattle.table.specs.Judging.{end_is_2, channels_pass, mask_ok}
+use Rattle.table.specs.Judging.{end_is, channels_pass, mask_ok}
 use Rattle.table.proofs.OneChannel.{reads-is}
 
 bits-counted : (mask n : ℕ) → bits mask n ≡ count_below (bit mask) n
@@ -59,7 +59,7 @@ module _ {t : Table} {p mask left : ℕ} (h : Left t p mask left) (some : left �
   clears = let e = shifted in let w = low.1.within in let z = pow_pos (lowest_of left) in omega arith
 
 -- what the code found of it
-module _ (bytes : List ℕ) (p mask left : ℕ) (h : Left (decode_table bytes) p mask left) (some : left ≡ 0 → ⊥) (r : Bool) (found : r ≡ end_is_2 bytes 7 (lowest_of left) p) where
+module _ (bytes : List ℕ) (p mask left : ℕ) (h : Left (decode_table bytes) p mask left) (some : left ≡ 0 → ⊥) (r : Bool) (found : r ≡ end_is bytes 7 (lowest_of left) p) where
   pub left_fails : not r ≡ true → false ≡ channels_pass (decode_table bytes) p mask
   unfolding channels_pass
   left_fails n =

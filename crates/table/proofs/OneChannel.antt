@@ -15,7 +15,7 @@ use Rattle.rules.specs.Bytes.{byte_at}
 use Rattle.rules.specs.Format.{channels_in, pairs, decode_table}
 use Rattle.rules.specs.Judge.{reads, sends}
 use Rattle.rules.proofs.Valid.{channels-counted}
-use Rattle.table.specs.Judging.{end_is_2}
+use Rattle.table.specs.Judging.{end_is}
 
 -- the pair at byte i of a list
 abbrev pub pair_at : List ℕ → ℕ → Channel
@@ -42,12 +42,12 @@ end_test : (bytes : List ℕ) (k p byte other : ℕ) → (k < channels_in bytes 
 end_test bytes k p byte other same =
     rw (channels-counted bytes) (by_lt k (channels_in bytes) (λ l. rw (same l)) (λ g. rw (le-ltb k (channels_in bytes) g)))
 
-pub reads-is : (bytes : List ℕ) (k p : ℕ) → end_is_2 bytes 7 k p ≡ reads (decode_table bytes) p k
+pub reads-is : (bytes : List ℕ) (k p : ℕ) → end_is bytes 7 k p ≡ reads (decode_table bytes) p k
 reads-is bytes k p =
     end_test bytes k p (byte_at bytes (2 * k + 7)) (channel_at (decode_table bytes) k).reader
     (λ l. ap (byte_at bytes) (omega arith) ∙ sym (ap (λ (c : Channel). c.reader) (channel-is bytes k l)))
 
-pub sends-is : (bytes : List ℕ) (k p : ℕ) → end_is_2 bytes 6 k p ≡ sends (decode_table bytes) p k
+pub sends-is : (bytes : List ℕ) (k p : ℕ) → end_is bytes 6 k p ≡ sends (decode_table bytes) p k
 sends-is bytes k p =
     end_test bytes k p (byte_at bytes (2 * k + 6)) (channel_at (decode_table bytes) k).sender
     (λ l. sym (ap (λ (c : Channel). c.sender) (channel-is bytes k l)))
@@ -55,8 +55,8 @@ sends-is bytes k p =
 -- ---- the code's test of an end, from the numbers that it read
 
 module _ (bytes : List ℕ) (side k p channel channels : ℕ) (same : channel ≡ k) (count : channels ≡ channels_in bytes) where
-  pub end_past : channels ≤ channel → false ≡ end_is_2 bytes side k p
+  pub end_past : channels ≤ channel → false ≡ end_is bytes side k p
   end_past h = rw (le-ltb k (channels_in bytes) (omega arith))
 
-  pub end_at : channel < channels → eqb (byte_at bytes (2 * channel + side)) p ≡ end_is_2 bytes side k p
+  pub end_at : channel < channels → eqb (byte_at bytes (2 * channel + side)) p ≡ end_is bytes side k p
   end_at h = rw (same, lt-ltb k (channels_in bytes) (omega arith))

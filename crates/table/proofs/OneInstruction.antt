@@ -10,7 +10,7 @@ use Rattle.rules.proofs.Decoded.{instruction-none}
 use Rattle.rules.specs.Table.{Table}
 use Rattle.rules.specs.Judge.{reads, sends, instruction_ok}
 use Rattle.records.specs.declared.fetch.Instruction.{Instruction}
-use Rattle.table.specs.Judging.{end_is_2, channels_pass, mask_ok, passes}
+use Rattle.table.specs.Judging.{end_is, channels_pass, mask_ok, passes}
 use Rattle.table.proofs.OneChannel.{reads-is, sends-is}
 
 -- a first test that passed leaves it to the second; one that failed is the answer
@@ -58,8 +58,8 @@ module _ (t : Table) (p n : ℕ) (i : Instruction) where
   none_is h1 h2 h3 h4 h5 h6 = rw (instruction-none i.code i.a i.operand h1 h2 h3 h4 h5 h6)
 
 module _ (bytes : List ℕ) (p n : ℕ) (i : Instruction) where
-  pub take-is : i.code ≡ 3 → (ltb i.a 4 && end_is_2 bytes 7 i.operand p) ≡ passes (decode_table bytes) p n i
+  pub take-is : i.code ≡ 3 → (ltb i.a 4 && end_is bytes 7 i.operand p) ≡ passes (decode_table bytes) p n i
   take-is e = ap (λ (b : Bool). ltb i.a 4 && b) (reads-is bytes i.operand p) ∙ take-reads (decode_table bytes) p n i e
 
-  pub send-is : i.code ≡ 5 → (ltb i.a 4 && end_is_2 bytes 6 i.operand p) ≡ passes (decode_table bytes) p n i
+  pub send-is : i.code ≡ 5 → (ltb i.a 4 && end_is bytes 6 i.operand p) ≡ passes (decode_table bytes) p n i
   send-is e = ap (λ (b : Bool). ltb i.a 4 && b) (sends-is bytes i.operand p) ∙ send-sends (decode_table bytes) p n i e

@@ -10,7 +10,7 @@ use lib.ListN.{length, get_or, drop, length-drop}
 use lib.Seq.{drop-drop}
 use borrow.Author.Tests.{leb-true}
 use Rattle.facts.specs.Tests.{and_left, and_right}
-use Rattle.facts.specs.Indexing.{get_d_map}
+use Rattle.facts.specs.Indexing.{get_or_map}
 use Rattle.backup.specs.Limits.{pc_most}
 use Rattle.rules.specs.Table.{Instruction, SET, Placement, code_of}
 use Rattle.rules.specs.Bytes.{sixes}
@@ -90,7 +90,7 @@ pub code_is : (bytes : List ℕ) (p : ℕ) → p < processes_in bytes
 unfolding decode_table
 code_is bytes p h =
     let all = rests (version_in bytes) (processes_in bytes) (record_bytes bytes) in
-    ap (λ (x : Placement). x.code) (get_d_map (placement_in (version_in bytes)) all p [] _ (rw (length-rests (version_in bytes) (processes_in bytes) (record_bytes bytes)) h))
+    ap (λ (x : Placement). x.code) (get_or_map (placement_in (version_in bytes)) all p [] _ (rw (length-rests (version_in bytes) (processes_in bytes) (record_bytes bytes)) h))
     ∙ ap (λ (rest : List ℕ). (placement_in (version_in bytes) rest).code) (rest-is bytes p h)
 
 -- an instruction fetched from among n that begin at `at`

@@ -10,8 +10,8 @@ use Rattle.records.specs.Fetch.{fetched, instruction_of}
 use Rattle.records.specs.declared.fetch.Instruction.{Instruction}
 
 -- k is a channel, and the byte of its pair on a side (6 for the sender, 7 for the reader) is p
-abbrev pub end_is_2 : List ℕ → ℕ → ℕ → ℕ → Bool
-end_is_2 bytes side k p = ltb k (channels_in bytes) && eqb (byte_at bytes (2 * k + side)) p
+abbrev pub end_is : List ℕ → ℕ → ℕ → ℕ → Bool
+end_is bytes side k p = ltb k (channels_in bytes) && eqb (byte_at bytes (2 * k + side)) p
 
 -- process p reads all channels of a mask
 unfoldable pub channels_pass : Table → ℕ → ℕ → Bool

@@ -2,7 +2,7 @@
 ghost use Rattle.std.specs.Prelude.{◌≡◌, ◌*◌, ◌≤◌, length, true};
 ghost use Rattle.rules.specs.Judge.{instructions_ok};
 ghost use Rattle.rules.specs.Format.{records_start, record_length, decode_table, extent_ok};
-ghost use Rattle.table.specs.Judging.{end_is_2, channels_pass, mask_ok, passes, program_ok, record_ok};
+ghost use Rattle.table.specs.Judging.{end_is, channels_pass, mask_ok, passes, program_ok, record_ok};
 
 use crate::extent::records_start;
 use crate::format::{CHANNELS_AT, PAIR_READER, PAIR_SENDER, PROCESSES_AT};
@@ -13,7 +13,7 @@ use words::{byte_wide, wide};
 // Whether k is a channel of the table whose sender (side 6) or reader (side 7) is process p.
 fn end_is(table: &[u8], side: usize, k: u32, p: u8) -> bool
     requires { (records_start table.now ≤ length table.now) × (side ≤ 7) }
-    ensures { result ≡ end_is_2 table.now side k p }
+    ensures { result ≡ end_is table.now side k p }
 {
     let channel = wide(k);
     if channel >= byte_wide(table[CHANNELS_AT]) {

@@ -4,13 +4,12 @@ use mathlib.Core.Bool.{false}
 use mathlib.Core.List.{List, []}
 use Prim.Native.Nat.{ℕ, ◌≤◌}
 use native.Mathlib.Omega.{arith}
-use lib.ListN.{length}
 use Rattle.rules.specs.Table.{Table}
 use Rattle.rules.specs.Judge.{Accepted}
 use Rattle.rules.specs.Cabinet.{started}
 use Rattle.rules.specs.Moves as rules
 use Rattle.rules.specs.Moves.{Command, run_from}
-use Rattle.rules.specs.Undo.{opened, any_undo, play_from}
+use Rattle.rules.specs.Undo.{opened, any_undo}
 use Rattle.rules.specs.Schedule.{commands_in, decode_schedule}
 use Rattle.rules.proofs.Scheduled.{commands-counted}
 use Rattle.rules.proofs.AcceptedRun.{one_answer-each, one_shown-each}

@@ -1,14 +1,12 @@
 -- Why records that are held come to the same once more.
-use mathlib.Core.Path.{◌≡◌, refl, ap, sym, ◌∙◌, subst}
-use mathlib.Core.Bool.{Bool, true, false}
+use mathlib.Core.Path.{◌≡◌, ap, sym, ◌∙◌, subst}
+use mathlib.Core.Bool.{false}
 use mathlib.Core.List.{List, [], ◌∷◌, ◌++◌}
-use Prim.Native.Nat.{ℕ, zero, suc, ◌-◌, ◌*◌, ◌≤◌, ◌<◌}
+use Prim.Native.Nat.{ℕ, zero, suc, ◌-◌, ◌≤◌, ◌<◌}
 use native.Mathlib.Omega.{arith}
 use lib.ListN.{length, get_or, take}
 use Rattle.facts.specs.Tests.{no_way, by_lt, or_left, or_right}
 use Rattle.rules.specs.Sizes.{kept_most}
-use Rattle.rules.specs.Table.{Table}
-use Rattle.rules.specs.Cabinet.{Cabinet}
 use Rattle.rules.specs.Moves.{Command, run_from}
 use Rattle.rules.specs.Undo.{is_undo, any_undo}
 use Rattle.rules.specs.Schedule.{command, commands_in, decode_schedule}
@@ -16,7 +14,7 @@ use Rattle.plan.specs.Plan.{Plan}
 use Rattle.state.specs.declared.entry.Entry.{Entry}
 use Rattle.state.specs.Store.{Store, Holds}
 use Rattle.stretch.specs.declared.stretch.Stretch.{Stretch}
-use Rattle.stretch.specs.Plays.{Sheets, between, Suited, Plays}
+use Rattle.stretch.specs.Plays.{Sheets, between, Plays}
 use Rattle.rules.proofs.Scheduled.{commands-counted}
 use Rattle.stretch.proofs.Playing.{between-parts}
 use Rattle.undo.specs.History.{held_most, history_length, held_in, Remembers}

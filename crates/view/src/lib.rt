@@ -73,7 +73,7 @@ fn show(
 
 // The view of a table and a schedule, whatever bytes they are: 0, or the number that refuses it.
 pub fn view(table: &[u8], schedule: &[u8], out: &mut [u32]) -> u8
-    ensures { Views table.now schedule.now out.old «r» out.new }
+    ensures { Views table.now schedule.now out.old result out.new }
 {
     let d = decode(table);
     let s = judge_schedule(schedule);

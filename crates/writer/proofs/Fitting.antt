@@ -2,14 +2,14 @@
 use mathlib.Core.Path.{◌≡◌, refl, ap, sym, ◌∙◌}
 use mathlib.Core.Bool.{Bool, true, false, not, cond, ◌&&◌, ◌||◌}
 use mathlib.Core.List.{List, [], ◌∷◌, map}
-use Prim.Native.Nat.{ℕ, zero, suc, ◌-◌, ◌*◌, ◌≤◌, ◌<◌}
+use Prim.Native.Nat.{ℕ, zero, suc, ◌*◌, ◌≤◌, ◌<◌}
 use native.Mathlib.Omega.{arith}
 use lib.Dec.{eqb, ltb, leb}
 use lib.ListN
 use lib.ListN.{length, get_or, drop, length-map}
 use borrow.Author.Tests.{le-ltb, leb-true, lt-leb, ne_eqb}
 use Rattle.facts.specs.Tests.{all_of, all_below, and_left, and_right, by_lt, no_way}
-use Rattle.facts.specs.Indexing.{get_d_map}
+use Rattle.facts.specs.Indexing.{get_or_map}
 use Rattle.facts.specs.Ranges.{and_fails, all_same}
 use Rattle.backup.specs.Limits.{pc_most, ports}
 use Rattle.rules.specs.Table.{environment, Channel, Instruction, SET, ADD, TAKE, FIRST, SEND, JUMP, NONE, Placement, Table, nowhere, code_of, read_from, inputs}
@@ -297,7 +297,7 @@ module _ (l : Lists) (f : Fitting l) where
         (λ p h.
         let e : code_of told' p ≡ map fit_instruction (code_of told p) =
         ap (λ (xs : List Placement). (get_or xs p nowhere).code) processes-fit
-        ∙ ap (λ (x : Placement). x.code) (get_d_map fit_placement told.processes p nowhere nowhere h) in
+        ∙ ap (λ (x : Placement). x.code) (get_or_map fit_placement told.processes p nowhere nowhere h) in
         (λ i. all_of (instruction_ok told' p (length (e i))) (e i))
         ∙ all_of-map (instruction_ok told' p (length (map fit_instruction (code_of told p)))) (instruction_ok told p (length (code_of told p))) fit_instruction
         (λ x. ap (λ (n : ℕ). instruction_ok told' p n (fit_instruction x)) (length-map (code_of told p) fit_instruction)

@@ -1,15 +1,14 @@
 -- Numbers 2 to 4 of lists: the tests one after the other, and the pass over the placements.
 use mathlib.Core.Logic.{◌≢◌}
-use mathlib.Core.Path.{◌≡◌, refl, ap, sym, ◌∙◌}
+use mathlib.Core.Path.{◌≡◌, refl, ap, ◌∙◌}
 use mathlib.Core.Bool.{Bool, true, false, ◌&&◌}
 use mathlib.Core.List.{List}
-use Prim.Native.Nat.{ℕ, zero, suc, ◌+◌, ◌-◌, ◌*◌, ◌≤◌, ◌<◌}
+use Prim.Native.Nat.{ℕ, ◌+◌, ◌-◌, ◌*◌, ◌≤◌, ◌<◌}
 use native.Mathlib.Omega.{arith}
 use lib.Dec.{eqb, leb}
 use lib.ListN.{length, get_or, drop}
 use borrow.Author.Tests.{le-leb, lt-leb, eq-eqb, ne_eqb}
 use Rattle.facts.specs.Tests.{all_of}
-use Rattle.facts.specs.Ranges.{and_fails}
 use Rattle.backup.specs.Limits.{pc_most}
 use Rattle.rules.specs.Sizes.{limit_bytes}
 use Rattle.rules.specs.Format.{or_number, version_ok, counts_fit}

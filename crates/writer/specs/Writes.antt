@@ -1,5 +1,5 @@
 -- The promise of `write`.
-use Rattle.std.specs.Prelude.{◌≡◌, cond, List, ℕ, ◌*◌, eqb, length, take}
+use Rattle.std.specs.Prelude.{◌≡◌, cond, List, ℕ, eqb, length, take}
 use Rattle.rules.specs.Bytes.{written}
 use Rattle.rules.specs.Encode.{Lists, encode, validate_write, ReadsAs}
 use Rattle.writer.specs.declared.write.Written.{Written}

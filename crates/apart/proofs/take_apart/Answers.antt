@@ -1,6 +1,5 @@
 use mathlib.Core.Path.{sym, ◌∙◌}
 use lib.ListN.{length}
-use borrow.Author.Tests.{not-true, not-false}
 use Rattle.apart.specs.Taken.{lent}
 use Rattle.apart.proofs.Parting.{taken-nothing, taken-whole, reader_refuses, room_refuses}
 use native.Mathlib.Omega.{arith}
@@ -27,19 +26,19 @@ returns-then-not-has_room c =
     let m = lent s.ends.now s.placements.now s.limits.now s.instructions.now in
     let z = sym c.decode-d.ensures.number_is ∙ c.if-number-ne0.false in
     taken-nothing s.table.now m 45 c.refused-then-not-has_room.result
-    (room_refuses s.table.now (length s.ends.now) (length s.placements.now) (length s.limits.now) (length s.instructions.now) z (sym c.has_room.ensures ∙ not-true _ c.if-not-has_room.true-raw)) (λ e. omega arith) c.refused-then-not-has_room.ensures
+    (room_refuses s.table.now (length s.ends.now) (length s.placements.now) (length s.limits.now) (length s.instructions.now) z (sym c.has_room.ensures ∙ c.if-not-has_room.true)) (λ e. omega arith) c.refused-then-not-has_room.ensures
 
 pub take_lists-requires : goal.take_lists-requires
 take_lists-requires c = record {
-      table_value = sym c.decode-d.ensures.number_is ∙ c.if-number-ne0.false;
-      room = record { room = sym c.has_room.ensures ∙ not-false _ c.if-not-has_room.false-raw };
-    }
+  table_value = sym c.decode-d.ensures.number_is ∙ c.if-number-ne0.false;
+  room = record { room = sym c.has_room.ensures ∙ c.if-not-has_room.false };
+}
 
 pub returns : goal.returns
 returns c =
     let s = c.args in
     let m = lent s.ends.now s.placements.now s.limits.now s.instructions.now in
     let z = sym c.decode-d.ensures.number_is ∙ c.if-number-ne0.false in
-    taken-whole s.table.now z (record { at = λ i. omega (arith, c.shared_slice_known-1.given i) }) m _ _ _ _ _ _
+    taken-whole s.table.now z (record { at = λ i. omega (arith, c.type_inv.table i) }) m _ _ _ _ _ _
     c.byte.ensures c.byte-2.ensures c.byte-3.ensures c.byte-4.ensures c.instructions_in-total.ensures.0
-    (record { room = sym c.has_room.ensures ∙ not-false _ c.if-not-has_room.false-raw }) c.take_lists.ensures
+    (record { room = sym c.has_room.ensures ∙ c.if-not-has_room.false }) c.take_lists.ensures

@@ -1,4 +1,3 @@
-use Prim.Native.Nat.{◌-◌}
 use Rattle.apart.proofs.Storing.{bytes_start, bytes_more, bytes_end}
 use Rattle.apart.proofs.take_bytes.Goals as goal
 

@@ -1,5 +1,5 @@
 use mathlib.Core.Path.{ap, sym, ◌∙◌}
-use Prim.Native.Nat.{ℕ, ◌+◌, ◌-◌}
+use Prim.Native.Nat.{ℕ, ◌+◌}
 use lib.Seq.{sets}
 use borrow.Author.Tests.{eq-eqb, ne_eqb}
 use Rattle.apart.proofs.Walking.{no_limits, record_length-lent, limits_start, limit-within, limit-room, limits-more, limits-end}
@@ -48,8 +48,8 @@ slice_bounds-record_length-count c =
     let y = limit-room s.table.now s.at s.version s.processes s.limits.now (eq-eqb s.version 2 c.if-version-ne-WITH_LIMITS.false) _ l.next l.p l.invariant c.loop-p-test.true c.requires.table_in_bounds in
     omega arith
 
-pub slice-bounds-record-length-start : goal.slice-bounds-record-length-start
-slice-bounds-record-length-start c =
+pub slice_bounds-record_length-start : goal.slice_bounds-record_length-start
+slice_bounds-record_length-start c =
     let s = c.args in
     let l = c.loop-p in
     let x = limit-within s.table.now s.at s.version s.processes s.limits.now (eq-eqb s.version 2 c.if-version-ne-WITH_LIMITS.false) _ l.next l.p l.invariant c.loop-p-test.true in

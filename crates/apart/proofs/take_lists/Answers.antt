@@ -37,8 +37,12 @@ take_records-requires c =
     let m = lent s.ends.now s.placements.now s.limits.now s.instructions.now in
     let v = c.version_of-version.ensures in
     let p = ap (λ (k : ℕ). 2 * k) (c.byte_wide-pairs.ensures.0 ∙ c.byte-2.ensures) in
-    let r = let q = c.byte_wide-processes.ensures.0 ∙ c.byte.ensures in
-    (whole-records s.table.now g.table_value m g.room c.version_of-version.result (2 * c.byte_wide-pairs.result) c.byte_wide-processes.result v p q, (placements-fit s.table.now g.table_value m g.room c.version_of-version.result (2 * c.byte_wide-pairs.result) c.byte_wide-processes.result v p q, instructions-fit s.table.now g.table_value m g.room c.version_of-version.result (2 * c.byte_wide-pairs.result) c.byte_wide-processes.result v p q)) in record { records = r.0; table_in_bounds = r.1; table_in_bounds_2 = r.2 }
+    let q = c.byte_wide-processes.ensures.0 ∙ c.byte.ensures in
+    record {
+      records = whole-records s.table.now g.table_value m g.room c.version_of-version.result (2 * c.byte_wide-pairs.result) c.byte_wide-processes.result v p q;
+      table_in_bounds = placements-fit s.table.now g.table_value m g.room c.version_of-version.result (2 * c.byte_wide-pairs.result) c.byte_wide-processes.result v p q;
+      table_in_bounds_2 = instructions-fit s.table.now g.table_value m g.room c.version_of-version.result (2 * c.byte_wide-pairs.result) c.byte_wide-processes.result v p q;
+    }
 
 pub returns : goal.returns
 returns c =

@@ -1,5 +1,4 @@
 use lib.ListN.{length-set}
-use Prim.Native.Nat.{◌-◌}
 use Rattle.apart.proofs.Storing.{taken_start, taken_more, taken-end}
 use native.Mathlib.Omega.{arith}
 use Rattle.apart.proofs.take_program.Goals as goal

@@ -1,5 +1,5 @@
 use mathlib.Core.Path.{ap}
-use Prim.Native.Nat.{ℕ, ◌+◌, ◌-◌}
+use Prim.Native.Nat.{ℕ, ◌+◌}
 use Rattle.rules.specs.Bytes.{byte_at}
 use Rattle.apart.proofs.Walking.{taking_start, taking_within, placed-room, coded_room, taking_on, placed_end, coded_end}
 use native.Mathlib.Omega.{arith}
@@ -58,8 +58,8 @@ take_placement-requires c =
     let y = ap (λ (k : ℕ). byte_at s.table.now (l.next + k)) e in
     let x = taking_within s.table.now s.at s.version s.processes s.placements.now s.instructions.now _ _ l.next l.i l.p l.invariant t in
     let w = c.byte_wide-n.ensures.0 in
-    let u = placed-room s.table.now s.at s.version s.processes s.placements.now s.instructions.now _ _ l.next l.i l.p l.invariant t g.table_in_bounds.0 in
-    let z = coded_room s.table.now s.at s.version s.processes s.placements.now s.instructions.now _ _ l.next l.i l.p l.invariant t g.table_in_bounds.1 in
+    let u = placed-room s.table.now s.at s.version s.processes s.placements.now s.instructions.now _ _ l.next l.i l.p l.invariant t g.table_in_bounds in
+    let z = coded_room s.table.now s.at s.version s.processes s.placements.now s.instructions.now _ _ l.next l.i l.p l.invariant t g.table_in_bounds_2 in
     let q = l.invariant.coded.same_length in
     ((omega arith, omega arith), omega arith)
 
@@ -100,8 +100,8 @@ take_program-requires c =
     let y = ap (λ (k : ℕ). byte_at s.table.now (l.next + k)) e in
     let x = taking_within s.table.now s.at s.version s.processes s.placements.now s.instructions.now _ _ l.next l.i l.p l.invariant t in
     let w = c.byte_wide-n.ensures.0 in
-    let u = placed-room s.table.now s.at s.version s.processes s.placements.now s.instructions.now _ _ l.next l.i l.p l.invariant t g.table_in_bounds.0 in
-    let z = coded_room s.table.now s.at s.version s.processes s.placements.now s.instructions.now _ _ l.next l.i l.p l.invariant t g.table_in_bounds.1 in
+    let u = placed-room s.table.now s.at s.version s.processes s.placements.now s.instructions.now _ _ l.next l.i l.p l.invariant t g.table_in_bounds in
+    let z = coded_room s.table.now s.at s.version s.processes s.placements.now s.instructions.now _ _ l.next l.i l.p l.invariant t g.table_in_bounds_2 in
     let q = l.invariant.coded.same_length in
     (omega arith, omega arith)
 
@@ -168,8 +168,8 @@ overflow_add-i c =
     let y = ap (λ (k : ℕ). byte_at s.table.now (l.next + k)) e in
     let x = taking_within s.table.now s.at s.version s.processes s.placements.now s.instructions.now _ _ l.next l.i l.p l.invariant t in
     let w = c.byte_wide-n.ensures.0 in
-    let u = placed-room s.table.now s.at s.version s.processes s.placements.now s.instructions.now _ _ l.next l.i l.p l.invariant t g.table_in_bounds.0 in
-    let z = coded_room s.table.now s.at s.version s.processes s.placements.now s.instructions.now _ _ l.next l.i l.p l.invariant t g.table_in_bounds.1 in
+    let u = placed-room s.table.now s.at s.version s.processes s.placements.now s.instructions.now _ _ l.next l.i l.p l.invariant t g.table_in_bounds in
+    let z = coded_room s.table.now s.at s.version s.processes s.placements.now s.instructions.now _ _ l.next l.i l.p l.invariant t g.table_in_bounds_2 in
     let q = l.invariant.coded.same_length in
     omega arith
 

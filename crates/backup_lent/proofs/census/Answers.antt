@@ -1,5 +1,4 @@
 use mathlib.Core.Path.{◌≡◌, refl, subst}
-use Prim.Native.Nat.{◌-◌}
 use Rattle.backup_lent.proofs.Looking.{Looked, looked_few, looked_start, looked_on, census_false, census_true}
 use native.Mathlib.Omega.{arith}
 use Rattle.backup_lent.proofs.census.Goals as goal

@@ -5,6 +5,6 @@ use Rattle.backup_lent.proofs.new.Goals as goal
 pub returns : goal.returns
 unfolding view_in
 returns c = record {
-      head_after = refl;
-      by_index = λ saved. refl;
-    }
+  head_after = refl;
+  by_index = λ saved. refl;
+}

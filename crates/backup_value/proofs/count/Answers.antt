@@ -4,4 +4,4 @@ use Rattle.backup_value.proofs.count.Goals as goal
 pub returns : goal.returns
 returns c =
     let k = c.count-number in
-    answered_so c.args.b _ c.args.b.log k.new.1.0 _ (rw c.opened-head.ensures at k.ensures) c.closed.ensures
+    answered_so c.args.b _ c.args.b.log k.new.head _ (rw c.opened-head.ensures at k.ensures) c.closed.ensures

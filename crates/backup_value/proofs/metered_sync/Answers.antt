@@ -7,7 +7,9 @@ pub returns : goal.returns
 returns c =
     let a = c.args in
     let k = c.metered_sync-m in
-    let r = let e = rw c.opened-head.ensures at k.ensures in (
-      answered_so a.b _ k.new.saved k.new.head _ e.0 c.closed.ensures,
-      (report_so _ (view a.b) (checkpoint_of a.c) (rw (view_laid a.b) at e.1.0), rw (view_laid a.b) at e.1.1),
-    ) in record { answered = r.0; reply_value = r.1; one_pass = r.2 }
+    let e = rw c.opened-head.ensures at k.ensures in
+    record {
+      answered = answered_so a.b _ k.new.saved k.new.head _ e.answered c.closed.ensures;
+      reply_value = report_so _ (view a.b) (checkpoint_of a.c) (rw (view_laid a.b) at e.report_after);
+      one_pass = rw (view_laid a.b) at e.one_pass;
+    }

@@ -12,7 +12,7 @@ pub returns-then-processes-out : goal.returns-then-processes-out
 returns-then-processes-out c = let s = c in let a = s.args in let page = accepted_page a.processes (ran_of 0 a.records a.quiet (shown_of a.answers.now a.report.now)) in let some = accepted-some a.records a.processes a.quiet (shown_of a.answers.now a.report.now) in too_long page a.out.now some (let e = accepted-processes a.records a.processes a.quiet (shown_of a.answers.now a.report.now) in let h = c.if-processes-out.true in omega arith)
 
 pub returns-then-needed-out : goal.returns-then-needed-out
-returns-then-needed-out c = let s = c in let a = s.args in let page = accepted_page a.processes (ran_of 0 a.records a.quiet (shown_of a.answers.now a.report.now)) in let some = accepted-some a.records a.processes a.quiet (shown_of a.answers.now a.report.now) in no_room page a.out.now _ _ _ some (let g = s.well-formed in omega arith) c.put_accepted-needed.ensures c.if-needed-out.true
+returns-then-needed-out c = let s = c in let a = s.args in let page = accepted_page a.processes (ran_of 0 a.records a.quiet (shown_of a.answers.now a.report.now)) in let some = accepted-some a.records a.processes a.quiet (shown_of a.answers.now a.report.now) in no_room page a.out.now _ _ _ some (let g = s.well_formed in omega arith) c.put_accepted-needed.ensures c.if-needed-out.true
 
 pub returns : goal.returns
-returns c = let s = c in let a = s.args in let page = accepted_page a.processes (ran_of 0 a.records a.quiet (shown_of a.answers.now a.report.now)) in let some = accepted-some a.records a.processes a.quiet (shown_of a.answers.now a.report.now) in with_room page a.out.now _ _ _ _ _ some (let g = s.well-formed in omega arith) c.put_accepted-needed.ensures c.if-needed-out.false c.put_accepted.ensures
+returns c = let s = c in let a = s.args in let page = accepted_page a.processes (ran_of 0 a.records a.quiet (shown_of a.answers.now a.report.now)) in let some = accepted-some a.records a.processes a.quiet (shown_of a.answers.now a.report.now) in with_room page a.out.now _ _ _ _ _ some (let g = s.well_formed in omega arith) c.put_accepted-needed.ensures c.if-needed-out.false c.put_accepted.ensures

@@ -1,7 +1,7 @@
-use Rattle.std.proofs.Common.{◌≡◌, ℕ, ◌-◌, ◌<◌, subst, arith, rules, ltb-false}
+use Rattle.std.proofs.Common.{◌≡◌, ℕ, ◌<◌, subst, arith, rules}
 use Rattle.backup.proofs.Compacting.{sifting_due, sifting_owed, sifting_goes, sifting_stays, sifting_swept, Moving, moving_on, passed}
 use Rattle.backup.proofs.place.compact.Goals as goal
-use Rattle.backup.proofs.place.compact.Goals.{else-n-gt0, else-p-i-2-test, then-n-gt0, then-p-i-2-test}
+use Rattle.backup.proofs.place.compact.Goals.{else-n-gt0, else-loop-i-2-test, then-n-gt0, then-loop-i-2-test+else-due-gt0}
 
 pub overflow_sub-due : goal.overflow_sub-due
 overflow_sub-due c =
@@ -15,8 +15,11 @@ loop-i-preserved c =
     let l = c.loop-i in
     let t : l.i < c.args.len = (let k = c.loop-i-test.true in omega arith) in
     let s = c.lane-s in
-    elim c.if-n-gt0.branch [ then-n-gt0 w ↦ rw (w.VAR1-is, w.VAR2-is, w.VAR3-is, w.VAR4-is) (sifting_goes l.invariant t s.result s.ensures w.if-n-gt0.true) | else-n-gt0 w ↦ rw (w.VAR1-is, w.VAR2-is, w.VAR3-is, w.VAR4-is)
-    (sifting_stays l.invariant t s.result s.ensures (let z = w.if-n-gt0.false in omega arith) c.requires.len_le_log_most) ]
+    elim c.if-n-gt0.branch [
+      | then-n-gt0 w ↦ rw (w.log-is, w.left-is, w.due-is, w.kept-is) (sifting_goes l.invariant t s.result s.ensures w.if-n-gt0.true)
+      | else-n-gt0 w ↦ rw (w.log-is, w.left-is, w.due-is, w.kept-is)
+          (sifting_stays l.invariant t s.result s.ensures (let z = w.if-n-gt0.false in omega arith) c.requires.len_le_log_most)
+    ]
 
 pub overflow_sub-due-in-loop-i-2 : goal.overflow_sub-due-in-loop-i-2
 overflow_sub-due-in-loop-i-2 c =
@@ -43,7 +46,7 @@ returns c =
     let l = c.loop-i-2 in
     let m = c.loop-i-3 in
     let e : m.i ≡ a.len = (let h = m.invariant.passing.looked in omega arith) in
-    let z : l.i < a.len → l.due ≡ 0 = elim c.loop-i-2-test.branch [ then-p-i-2-test w ↦ λ _. let h = ltb-false 0 l.due w.VAR1-is.left in omega arith | else-p-i-2-test w ↦ λ h. absurd (omega arith) ] in record {
+    let z : l.i < a.len → l.due ≡ 0 = elim c.loop-i-2-test.branch [ then-loop-i-2-test+else-due-gt0 w ↦ λ _. omega arith | else-loop-i-2-test w ↦ λ h. absurd (omega arith) ] in record {
       dropped = passed k.invariant l.invariant z (subst (λ (i : ℕ). Moving l.log a.len l.i l.kept l.rounds m.log i m.kept m.rounds) e m.invariant);
       value = (let f = k.invariant.metered in let g = l.invariant.metered in let h = m.invariant.metered in omega arith);
     }

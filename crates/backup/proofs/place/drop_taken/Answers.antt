@@ -10,10 +10,12 @@ pub returns-then-all-eq0 : goal.returns-then-all-eq0
 returns-then-all-eq0 c =
     let a = c.args in
     let z = sym c.together-all.ensures ∙ c.if-all-eq0.true in
-    let r = let n : head_len a.head.now - all_taken (taken_of a.c) ≡ head_len a.head.now = omega arith in (
-      dropped-none a.log.now (head_len a.head.now) (taken_of a.c) refl z,
-      (sym (ap (set a.head.now 0) n ∙ set-get_or a.head.now 0 0), sym (sync_rounds-none (view_in a.log.now a.head.now) (checkpoint_of a.c) z)),
-    ) in record { dropped = r.0; head_after = r.1; value = r.2 }
+    let n : head_len a.head.now - all_taken (taken_of a.c) ≡ head_len a.head.now = omega arith in
+    record {
+      dropped = dropped-none a.log.now (head_len a.head.now) (taken_of a.c) refl z;
+      head_after = sym (ap (set a.head.now 0) n ∙ set-get_or a.head.now 0 0);
+      value = sym (sync_rounds-none (view_in a.log.now a.head.now) (checkpoint_of a.c) z);
+    }
 
 pub returns-then-all-len : goal.returns-then-all-len
 returns-then-all-len c =
@@ -21,13 +23,12 @@ returns-then-all-len c =
     let w = c.wide-len.ensures.0 in
     let z = c.together-all.ensures in
     let n : c.less.result ≡ head_len a.head.now - all_taken (taken_of a.c) = (let l = c.less.ensures in omega arith) in
-    let few : head_len a.head.now ≤ all_taken (taken_of a.c) = (let t = c.if-all-len.true in omega arith) in (
-      dropped_all a.log.now (head_len a.head.now) (taken_of a.c) few,
-      (
-        ap (set a.head.now 0) n,
-        sym (sync_rounds_all (view_in a.log.now a.head.now) (checkpoint_of a.c) (λ e. c.if-all-eq0.false (z ∙ e)) (let l = view-length a.log.now a.head.now in omega arith)),
-      ),
-    )
+    let few : head_len a.head.now ≤ all_taken (taken_of a.c) = (let t = c.if-all-len.true in omega arith) in
+    record {
+      dropped = dropped_all a.log.now (head_len a.head.now) (taken_of a.c) few;
+      head_after = ap (set a.head.now 0) n;
+      value = sym (sync_rounds_all (view_in a.log.now a.head.now) (checkpoint_of a.c) (λ e. c.if-all-eq0.false (z ∙ e)) (let l = view-length a.log.now a.head.now in omega arith));
+    }
 
 pub returns : goal.returns
 returns c =
@@ -37,11 +38,11 @@ returns c =
     let n : c.less.result ≡ head_len a.head.now - all_taken (taken_of a.c) = (let l = c.less.ensures in omega arith) in
     let t = c.if-all-len.false in
     let p = c.compact in
-    let r = let l = view-length a.log.now a.head.now in (
-      subst (λ (n : ℕ). Dropped a.log.now n (taken_of a.c) p.new.log) w p.ensures.dropped,
-      (
-        ap (set a.head.now 0) n,
-        p.ensures.value ∙ w ∙ sym l
-            ∙ sym (sync_rounds-some (view_in a.log.now a.head.now) (checkpoint_of a.c) (λ e. c.if-all-eq0.false (z ∙ e)) (omega arith)),
-      ),
-    ) in record { dropped = r.0; head_after = r.1; value = r.2 }
+    let l = view-length a.log.now a.head.now in
+    record {
+      dropped = subst (λ (n : ℕ). Dropped a.log.now n (taken_of a.c) p.new.log) w p.ensures.dropped;
+      head_after = ap (set a.head.now 0) n;
+      value =
+          p.ensures.value ∙ w ∙ sym l
+          ∙ sym (sync_rounds-some (view_in a.log.now a.head.now) (checkpoint_of a.c) (λ e. c.if-all-eq0.false (z ∙ e)) (omega arith));
+    }

@@ -11,7 +11,7 @@ returns-then-number-gt0 c =
     let l = a.log.now in
     let h = a.head.now in
     let k = c.sync_number-number.result in
-    rw c.refusal.ensures (sync-refused l h a.c k e n, (reports-refused l h a.c k e n, (rounds_refused l h a.c k e n, e)))
+    rw c.refusal.ensures (record { called = sync-refused l h a.c k e n; reports = reports-refused l h a.c k e n; one_pass = rounds_refused l h a.c k e n; number_value = e })
 
 pub drop_taken-rounds-requires : goal.drop_taken-rounds-requires
 drop_taken-rounds-requires c =
@@ -27,5 +27,6 @@ returns c =
     let h = a.head.now in
     let d = c.drop_taken-rounds in
     let w = rw c.restate.ensures at d.ensures in
-    let k = sync-done l h d.new.log a.c z w.0 in
-    rw (c.report.ensures, w.1.0) (k, (reports-done l h a.c _ _ d.result k, (rounds_done l h a.c d.result w.1.1, sym z)))
+    let k = sync-done l h d.new.log a.c z w.dropped in
+    rw (c.report.ensures, w.head_after)
+    (record { called = k; reports = reports-done l h a.c _ _ d.result k; one_pass = rounds_done l h a.c d.result w.value; number_value = sym z })

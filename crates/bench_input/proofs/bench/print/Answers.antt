@@ -6,4 +6,4 @@ use Rattle.bench_input.proofs.bench.print.Goals as goal
 pub returns : goal.returns
 returns c =
     let s = c.args in
-    printed (ran_of s.number s.records s.quiet (shown_of s.answers.now s.report.now)) c.ranges.number.fits s.processes (λ i. (c.shared_slice_known-1.given i).fits) (λ i. (c.shared_slice_known-2-1.given i).fits) _ _ _ c.write_page.ensures
+    printed (ran_of s.number s.records s.quiet (shown_of s.answers.now s.report.now)) c.ranges.number.fits s.processes (λ i. (c.type_inv.answers i).fits) (λ i. (c.type_inv.report i).fits) _ _ _ c.write_page.ensures

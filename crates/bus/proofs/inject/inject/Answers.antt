@@ -35,5 +35,5 @@ returns c =
     injects_done s.wires.now s.rows.now s.mails.now s.logs.now s.heads.now s.totals.now s.a s.word
     k.result _ k.ensures.1 sender.result (sender.ensures k.ensures.0) first.if-sender-ne-ENVIRONMENT.false
     reader.result (reader.ensures k.ensures.0)
-    d.new.mails d.new.logs d.new.heads d.new.1.1.1.1.0 more.result
-    (sym second.full.ensures ∙ second.if-full.false) more.ensures refl d.ensures
+    d.new.rows d.new.mails d.new.logs d.new.heads more.result
+    (sym second.full.ensures ∙ second.if-full.false) more.ensures.value refl d.ensures

@@ -1,5 +1,5 @@
 -- `oldest_of`: the index is a where a is a board.
-use Rattle.std.proofs.Common.{ℕ, get_or, ap, ◌∙◌}
+use Rattle.std.proofs.Common.{ℕ, get_or, [], ap, ◌∙◌}
 use Rattle.state.specs.Queue.{oldest_of}
 use Rattle.bus.proofs.oldest.oldest_of.Goals as goal
 

@@ -7,7 +7,7 @@ returns-then-rows-p-ne-COMPLETE c =
     let p = c.index16-p in
     let k = c.keep-dropped in
     syncs_lost s.rows.now s.logs.now s.heads.now s.process s.checkpoint p.result p.ensures.1
-    k.new.head k.new.1.1.0 k.ensures.backup_became k.result k.ensures.drops c.if-rows-p-ne-COMPLETE.true
+    k.new.log k.new.head k.ensures.backup_became k.result k.ensures.drops c.if-rows-p-ne-COMPLETE.true
 
 pub returns : goal.returns
 returns c =
@@ -15,4 +15,4 @@ returns c =
     let p = c.index16-p in
     let k = c.keep-dropped in
     syncs-kept s.rows.now s.logs.now s.heads.now s.process s.checkpoint p.result p.ensures.1
-    k.new.head k.new.1.1.0 k.ensures.backup_became k.result k.ensures.drops c.if-rows-p-ne-COMPLETE.false
+    k.new.log k.new.head k.ensures.backup_became k.result k.ensures.drops c.if-rows-p-ne-COMPLETE.false

@@ -17,7 +17,7 @@ returns-in_default c =
     let b = test.index16-b in
     transmits_42 s.wires.now s.rows.now s.mails.now s.logs.now s.heads.now s.queues.now s.totals.now
     s.a b.result s.oldest _ b.ensures.1 test.if-queues-b-ne0.false
-    (sym c.peek.ensures ∙ c.enum_told-1.given.1) c.refusal-in_default.ensures
+    (sym c.peek.ensures ∙ c.in_default.is) c.refusal-in_default.ensures
 
 pub returns-in-Word : goal.returns-in-Word
 returns-in-Word c =
@@ -27,13 +27,13 @@ returns-in-Word c =
     let test = seen in
     let s = test.args in
     let b = test.index16-b in
-    let i = front.item-1.given in
-    let x = c.item-in-Word-1.given in
+    let i = front.in-Oldest in
+    let x = c.in-Word in
     let y = c.transmit_word in
     transmits-word s.wires.now s.rows.now s.mails.now s.logs.now s.heads.now s.queues.now s.totals.now
-    s.a b.result s.oldest _ b.ensures.1 test.if-queues-b-ne0.false i.0.0 (sym seen.peek.ensures ∙ i.1)
-    left.pop.new.queue left.pop.ensures x.0.0 x.0.1.0 x.0.1.1.0 x.1
-    y.new.mails y.new.logs y.new.heads y.new.totals y.new.1.1.1.1.1.0 y.ensures
+    s.a b.result s.oldest _ b.ensures.1 test.if-queues-b-ne0.false i.item (sym seen.peek.ensures ∙ i.is)
+    left.pop.new.queue left.pop.ensures x.channel x.word x.place x.is
+    y.new.rows y.new.mails y.new.logs y.new.heads y.new.totals y.ensures
 
 pub returns-in-Sync : goal.returns-in-Sync
 returns-in-Sync c =
@@ -43,16 +43,16 @@ returns-in-Sync c =
     let test = seen in
     let s = test.args in
     let b = test.index16-b in
-    let i = front.item-1.given in
-    let x = c.item-in-Sync-item-2-1.given in
+    let i = front.in-Oldest in
+    let x = c.in-Sync in
     let y = c.transmit_sync in
     transmits-sync s.wires.now s.rows.now s.mails.now s.logs.now s.heads.now s.queues.now s.totals.now
-    s.a b.result s.oldest _ b.ensures.1 test.if-queues-b-ne0.false i.0.0 (sym seen.peek.ensures ∙ i.1)
-    left.pop.new.queue left.pop.ensures x.0.0 x.0.1.0 x.1
+    s.a b.result s.oldest _ b.ensures.1 test.if-queues-b-ne0.false i.item (sym seen.peek.ensures ∙ i.is)
+    left.pop.new.queue left.pop.ensures x.process x.checkpoint x.is
     y.new.rows y.new.logs y.new.heads y.ensures
 
 pub returns-in_default-item-3 : goal.returns-in_default-item-3
-returns-in_default-item-3 c = no_fourth _ c.in_default-item.keys2 c.in_default-item-2.keys2 c.in_default-item-3.keys2
+returns-in_default-item-3 c = no_fourth c.in-Oldest.item c.in_default-item.not-Word c.in_default-item-2.not-Sync c.in_default-item-3.not-Transfer
 
 pub returns : goal.returns
 returns c =
@@ -62,9 +62,9 @@ returns c =
     let test = seen in
     let s = test.args in
     let b = test.index16-b in
-    let i = front.item-1.given in
-    let x = c.item-in-Transfer-1.given in
+    let i = front.in-Oldest in
+    let x = c.in-Transfer in
     let y = c.transmit_transfer in
     transmits-transfer s.wires.now s.rows.now s.mails.now s.logs.now s.heads.now s.queues.now s.totals.now
-    s.a b.result s.oldest _ b.ensures.1 test.if-queues-b-ne0.false i.0.0 (sym seen.peek.ensures ∙ i.1)
-    left.pop.new.queue left.pop.ensures x.0.0 x.1 y.new.rows y.ensures
+    s.a b.result s.oldest _ b.ensures.1 test.if-queues-b-ne0.false i.item (sym seen.peek.ensures ∙ i.is)
+    left.pop.new.queue left.pop.ensures x.process x.is y.new.rows y.ensures

@@ -13,8 +13,8 @@ returns-then-reader-eq-ENVIRONMENT c =
     let reader = test.reader in
     let less = c.wrapping_sub_u32 in
     carries-outside s.wires.now s.rows.now s.mails.now s.logs.now s.heads.now s.totals.now s.channel s.word
-    k.result sender.result p.result n.new.1.0 _ k.ensures.1 (sender.ensures k.ensures.0) p.ensures.1 n.ensures refl
-    reader.result (reader.ensures k.ensures.0) test.if-reader-eq-ENVIRONMENT.true less.result less.ensures less.type-inv
+    k.result sender.result p.result n.new.head _ k.ensures.1 (sender.ensures k.ensures.0) p.ensures.1 n.ensures refl
+    reader.result (reader.ensures k.ensures.0) test.if-reader-eq-ENVIRONMENT.true less.result less.ensures.value less.type_inv
 
 pub returns : goal.returns
 returns c =
@@ -27,6 +27,6 @@ returns c =
     let reader = test.reader in
     let d = c.deliver in
     carries-inside s.wires.now s.rows.now s.mails.now s.logs.now s.heads.now s.totals.now s.channel s.word
-    k.result sender.result p.result n.new.1.0 _ k.ensures.1 (sender.ensures k.ensures.0) p.ensures.1 n.ensures refl
+    k.result sender.result p.result n.new.head _ k.ensures.1 (sender.ensures k.ensures.0) p.ensures.1 n.ensures refl
     reader.result (reader.ensures k.ensures.0) test.if-reader-eq-ENVIRONMENT.false
-    d.new.mails d.new.logs d.new.heads d.new.1.1.1.1.0 d.ensures
+    d.new.rows d.new.mails d.new.logs d.new.heads d.ensures

@@ -6,19 +6,18 @@ use Rattle.command.proofs.judge.number.Goals as goal
 
 pub returns-in-1 : goal.returns-in-1
 unfolding number_of
-returns-in-1 c = rw (c.beyond.ensures, c.in_default.keys1)
+returns-in-1 c = rw (c.beyond.ensures, c.in-1.is)
 
 pub returns-in-2 : goal.returns-in-2
 unfolding number_of
-returns-in-2 c = rw (c.beyond-in-2.ensures, c.in_default.keys2)
+returns-in-2 c = rw (c.beyond-in-2.ensures, c.in-2.is)
 
 pub returns-in-3 : goal.returns-in-3
 unfolding number_of
-returns-in-3 c = rw (c.beyond-in-3.ensures, c.in_default.keys3)
+returns-in-3 c = rw (c.beyond-in-3.ensures, c.in-3.is)
 
 pub returns-else-mv-gt3 : goal.returns-else-mv-gt3
 unfolding number_of
 returns-else-mv-gt3 c =
-    let n = c.in_default.rest in
     let most = c.if-mv-gt3.false in
-    sym (unknown-number _ n.0.0.1 n.0.1 n.1 (λ e. omega arith) (λ e. omega arith) (λ e. omega arith) (λ e. omega arith) _ _)
+    sym (unknown-number c.args.mv (λ e. omega arith) (λ e. omega arith) (λ e. omega arith) (λ e. omega arith) (λ e. omega arith) (λ e. omega arith) (λ e. omega arith) _ _)

@@ -1,4 +1,3 @@
-use Rattle.std.proofs.Common.{◌-◌}
 use Rattle.crash.proofs.Promoting.{promoting_start, promoting_on, promoting_end}
 use Rattle.crash.proofs.processes.crash_all.Goals as goal
 

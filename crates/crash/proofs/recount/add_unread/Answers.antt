@@ -1,4 +1,4 @@
-use Rattle.std.proofs.Common.{ℕ, ◌-◌, ◌<◌, ap, ◌∙◌, arith}
+use Rattle.std.proofs.Common.{ℕ, ◌<◌, ap, ◌∙◌, arith}
 use Rattle.crash.specs.Recount.{unread_at, more_by, more_unread}
 use Rattle.crash.proofs.Passing.{passing_start, passing_on, passing_end}
 use Rattle.crash.proofs.recount.add_unread.Goals as goal
@@ -16,7 +16,7 @@ loop-k-preserved c =
     let u = c.unread_at-unread in
     let w = c.wrapping_add_u32 in
     passing_on (more_unread a.wires.now a.rows.now a.mails.now) a.n a.totals.now l.totals l.k l.invariant t w.result
-    (w.ensures ∙ ap (more_by _) (u.ensures ∙ ap (λ (p : ℕ). unread_at a.rows.now a.mails.now p l.k) r))
+    (w.ensures.value ∙ ap (more_by _) (u.ensures ∙ ap (λ (p : ℕ). unread_at a.rows.now a.mails.now p l.k) r))
 
 pub returns : goal.returns
 returns c =

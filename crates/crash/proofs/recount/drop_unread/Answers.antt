@@ -1,4 +1,4 @@
-use Rattle.std.proofs.Common.{ℕ, ◌-◌, ◌<◌, ap, ◌∙◌, arith}
+use Rattle.std.proofs.Common.{ℕ, ◌<◌, ap, ◌∙◌, arith}
 use Rattle.crash.specs.Recount.{unread_at, less_unread}
 use Rattle.crash.proofs.Passing.{passing_start, passing_on, passing_end}
 use Rattle.state.specs.Queue.{less_by}
@@ -18,7 +18,7 @@ loop-k-preserved c =
     let u = c.unread_at-unread in
     let w = c.wrapping_sub_u32 in
     passing_on (less_unread a.wires.now a.rows.now a.mails.now) a.n a.totals.now l.totals l.k l.invariant t w.result
-    (less_by_lem _ u.result w.result w.ensures w.type-inv u.type-inv ∙ ap (less_by _) (u.ensures ∙ ap (λ (p : ℕ). unread_at a.rows.now a.mails.now p l.k) r))
+    (less_by_lem _ u.result w.result w.ensures.value w.type_inv u.type_inv ∙ ap (less_by _) (u.ensures ∙ ap (λ (p : ℕ). unread_at a.rows.now a.mails.now p l.k) r))
 
 pub returns : goal.returns
 returns c =

@@ -9,4 +9,4 @@ returns c =
     let held = added in
     rw (c.place_after.ensures, c.cell.ensures, word.word_after.ensures)
     (evaluates _ _ _ _ held.register-old.result added.sum-both.result wrapped.wrapping_add_u32-next.result held.register-old.ensures added.sum-both.ensures
-    wrapped.wrapping_add_u32-next.ensures held.ranges.operand.fits)
+    wrapped.wrapping_add_u32-next.ensures.value held.ranges.operand.fits)

@@ -19,5 +19,5 @@ returns c =
     let g = p in
     let w = g.wide-unread.ensures.0 in
     rw (c.event.ensures, c.tally.ensures, c.wide.ensures.0)
-    (takes _ _ _ _ _ _ (rw w at g.if-at-unread.false) d.new.row (rw (p.place.ensures, f) at d.ensures) s.result s.ensures s.type-inv
-    _ (let e = o.wrapping_add_u32.ensures in omega arith) _ (rw f at r.remove.ensures))
+    (takes _ _ _ _ _ _ (rw w at g.if-at-unread.false) d.new.row (rw (p.place.ensures, f) at d.ensures) s.result s.ensures.value s.type_inv
+    _ (let e = o.wrapping_add_u32.ensures.value in omega arith) _ (rw f at r.remove.ensures))

@@ -1,4 +1,3 @@
-use Rattle.std.proofs.Common.{◌-◌}
 use Rattle.instruction.specs.Mailbox.{names}
 use Rattle.instruction.proofs.Mailboxes.{looking_start, looking_on, look_found, look_missed}
 use Rattle.instruction.proofs.mailbox.look.Goals as goal

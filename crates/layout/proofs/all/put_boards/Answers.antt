@@ -1,5 +1,4 @@
 use mathlib.Core.Path.{refl}
-use Prim.Native.Nat.{◌-◌}
 use Rattle.rules.specs.Sizes.{boards_most}
 use Rattle.layout.proofs.Laying.{each_start, each_on, each-end}
 use Rattle.layout.specs.Lists.{board_block}

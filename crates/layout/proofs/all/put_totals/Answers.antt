@@ -1,8 +1,7 @@
 use mathlib.Core.Path.{refl, ap}
-use Prim.Native.Nat.{◌-◌}
 use Rattle.rules.specs.Sizes.{channels_most}
 use Rattle.layout.proofs.Laying.{each_start, each_on, each-end}
-use mathlib.Core.List.{◌∷◌}
+use mathlib.Core.List.{[], ◌∷◌}
 use Prim.Native.Nat.{ℕ}
 use Rattle.layout.specs.Lists.{total_block}
 use native.Mathlib.Omega.{arith}

@@ -7,4 +7,4 @@ returns-then-i-wide c = left_out _ _ _ _ _ c.wide.ensures.0 c.if-i-wide.true
 
 -- src/boards.rt:88:1
 pub returns : goal.returns
-returns c = chosen _ _ _ _ _ _ c.wide.ensures.0 c.if-i-wide.false c.Numbers-of.ensures
+returns c = chosen _ _ _ _ _ _ c.wide.ensures.0 c.if-i-wide.false c.numbers_of.ensures

@@ -1,4 +1,3 @@
-use Prim.Native.Nat.{◌-◌}
 use Rattle.layout.proofs.Laying.{laid_start, laid_more, laid_end}
 use Rattle.layout.proofs.lay.lay.Goals as goal
 

@@ -19,4 +19,4 @@ returns c =
     let j = c in
     let s = j.args in
     rw (ne_eqb (flag_in s.row.now) 0 j.if-row-eq0.false)
-    (ap (λ (n : ℕ). n ∷ behind_state s.row.now s.head.now) (state_is (flag_in s.row.now) _ (elim j.if-row-eq-COMPLETE.branch [ then-row-eq-COMPLETE w ↦ inl (w.if-row-eq-COMPLETE.true, w.VAR1-is) | else-row-eq-COMPLETE w ↦ inr (w.if-row-eq-COMPLETE.false, w.VAR1-is) ])))
+    (ap (λ (n : ℕ). n ∷ behind_state s.row.now s.head.now) (state_is (flag_in s.row.now) _ (elim j.if-row-eq-COMPLETE.branch [ then-row-eq-COMPLETE w ↦ inl (w.if-row-eq-COMPLETE.true, w.state-is) | else-row-eq-COMPLETE w ↦ inr (w.if-row-eq-COMPLETE.false, w.state-is) ])))

@@ -1,5 +1,4 @@
 use mathlib.Core.Path.{refl}
-use Prim.Native.Nat.{◌-◌}
 use Rattle.backup.specs.Limits.{log_most}
 use Rattle.layout.specs.Lists.{saved_at}
 use Rattle.layout.proofs.Laying.{each_start, each_on, each-end}

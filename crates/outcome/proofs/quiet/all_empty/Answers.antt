@@ -1,4 +1,3 @@
-use Prim.Native.Nat.{◌-◌}
 use Rattle.facts.specs.Walks.{walk_start}
 use Rattle.outcome.proofs.Quieting.{empty_on, empty_fails, empty-end}
 use Rattle.outcome.proofs.quiet.all_empty.Goals as goal

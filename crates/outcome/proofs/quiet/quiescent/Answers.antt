@@ -1,15 +1,17 @@
+use mathlib.Core.Path.{ap}
+use mathlib.Core.Bool.{not}
 use Rattle.outcome.proofs.Quieting.{quiets_not, quiets_so}
 use Rattle.outcome.proofs.quiet.quiescent.Goals as goal
 
 pub returns-then-not-all_rest : goal.returns-then-not-all_rest
 returns-then-not-all_rest c =
     let s = c.args in
-    let r = c.All-rest in
-    quiets_not s.table.now s.counts s.programs.now s.rows.now s.mails.now s.queues.now r.result r.ensures c.if-not-all_rest.true-raw
+    let r = c.all_rest in
+    quiets_not s.table.now s.counts s.programs.now s.rows.now s.mails.now s.queues.now r.result r.ensures (ap not c.if-not-all_rest.true)
 
 pub returns : goal.returns
 returns c =
     let s = c.args in
-    let r = c.All-rest in
-    quiets_so s.table.now s.counts s.programs.now s.rows.now s.mails.now s.queues.now r.result r.ensures _ c.if-not-all_rest.false-raw
+    let r = c.all_rest in
+    quiets_so s.table.now s.counts s.programs.now s.rows.now s.mails.now s.queues.now r.result r.ensures _ (ap not c.if-not-all_rest.false)
     c.all_empty.ensures

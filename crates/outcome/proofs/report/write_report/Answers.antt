@@ -1,4 +1,3 @@
-use Prim.Native.Nat.{◌-◌}
 use Rattle.outcome.proofs.Reporting.{reporting_start, reporting_on, reporting_end}
 use Rattle.outcome.proofs.report.write_report.Goals as goal
 

@@ -1,4 +1,3 @@
-use Prim.Native.Nat.{◌-◌}
 use Rattle.outcome.proofs.Starting.{seating_start, seating_on, seating_end}
 use Rattle.outcome.proofs.start.seat.Goals as goal
 

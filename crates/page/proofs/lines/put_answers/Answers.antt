@@ -1,4 +1,3 @@
-use Prim.Native.Nat.{◌-◌}
 use Rattle.page.proofs.Lining.{answers_start, answers_on, answers-end}
 use Rattle.page.proofs.lines.put_answers.Goals as goal
 

@@ -1,4 +1,3 @@
-use Prim.Native.Nat.{◌-◌}
 use Rattle.page.proofs.Lining.{processes_start, processes_on, processes-end}
 use Rattle.page.proofs.lines.put_processes.Goals as goal
 

@@ -1,4 +1,3 @@
-use Prim.Native.Nat.{◌-◌}
 use Rattle.page.proofs.Putting.{going_start, text_on, text_end}
 use native.Mathlib.Omega.{arith}
 use Rattle.page.proofs.text.put_text.Goals as goal

@@ -13,4 +13,4 @@ returns c =
     let w = c.wide-end.ensures.0 in
     let v = c.wide.ensures.0 in
     let k = c.save in
-    received_so a.row.now a.mail.now a.log.now a.head.now a.port a.channel a.word c.append.new.mail k.new.head k.new.1.1.0 (let t = c.if-end-ge-LOG.false in omega arith) k.ensures (rw (← w, ← v) c.append.ensures)
+    received_so a.row.now a.mail.now a.log.now a.head.now a.port a.channel a.word c.append.new.mail k.new.log k.new.head (let t = c.if-end-ge-LOG.false in omega arith) k.ensures (rw (← w, ← v) c.append.ensures)

@@ -18,5 +18,5 @@ returns c =
     let s = c.sync_in in
     let q = c.copy in
     begins-transfer_so a.row.now a.mail.now a.log.now a.head.now a.wires.now i.new.row i.ensures n.new.head (λ l h. n.ensures.by_index a.log.now l h)
-    k.result k.ensures s.result.number s.new.log s.new.head s.ensures.called q.new.1.1.1.1.0 q.new.1.1.1.1.1.0
+    k.result k.ensures s.result.number s.new.log s.new.head s.ensures.called q.new.log q.new.head
     (rw (← y.wide-len.ensures.0, ← y.wide-first.ensures.0) q.ensures)

@@ -1,5 +1,5 @@
 use mathlib.Core.Path.{ap, ◌∙◌, subst}
-use Prim.Native.Nat.{ℕ, ◌-◌, ◌%◌}
+use Prim.Native.Nat.{ℕ, ◌%◌}
 use lib.ListN.{get_or}
 use Rattle.backup.specs.Replica.{arrive}
 use Rattle.backup.specs.Place.{Called}

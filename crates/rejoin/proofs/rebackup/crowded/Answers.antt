@@ -1,5 +1,5 @@
 use mathlib.Core.Path.{◌∙◌, ap, sym}
-use Prim.Native.Nat.{ℕ, ◌-◌, min}
+use Prim.Native.Nat.{ℕ, min}
 use Rattle.facts.specs.Tests.{any_below}
 use Rattle.backup.specs.Limits.{ports}
 use Rattle.rejoin.specs.Rebackups.{crowded_on}
@@ -18,7 +18,7 @@ loop-port-preserved c =
     let t = c.loop-port-test.true in
     let d = c.crowds.ensures in
     let test = crowded_on a.programs.now a.totals.now a.p in
-    elim c.if-crowds.branch [ then-crowds w ↦ rw w.VAR1-is (searching_hit test n l.loop-port.found l.loop-port.port l.loop-port.invariant t (sym d ∙ w.if-crowds.true)) | else-crowds w ↦ rw w.VAR1-is (searching_miss test n l.loop-port.found l.loop-port.port l.loop-port.invariant t (sym d ∙ w.if-crowds.false)) ]
+    elim c.if-crowds.branch [ then-crowds w ↦ rw w.found-is (searching_hit test n l.loop-port.found l.loop-port.port l.loop-port.invariant t (sym d ∙ w.if-crowds.true)) | else-crowds w ↦ rw w.found-is (searching_miss test n l.loop-port.found l.loop-port.port l.loop-port.invariant t (sym d ∙ w.if-crowds.false)) ]
 
 pub returns : goal.returns
 returns c =

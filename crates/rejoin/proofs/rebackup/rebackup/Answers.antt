@@ -99,5 +99,5 @@ returns c =
     p.index16-p.result a.a p.index16-p.ensures.1 _
     bare.if-rows-p-eq-COMPLETE.false o.index16-other.result o.index16-other.ensures.1 live.if-queues-other-ne0.false free.if-rows-p-ne0.false u.crowded.result u.crowded.ensures few.if-crowded.false
     waits.if-rows-p-ne0-2.false b.index16-b.result b.index16-b.ensures.1
-    k.new.row k.new.head k.new.1.1.1.0 _ at.place-at.result room.if-queues-b-ge-QUEUE.false k.ensures c.push.ensures
+    k.new.row k.new.log k.new.head _ at.place-at.result room.if-queues-b-ge-QUEUE.false k.ensures c.push.ensures
     at.place-at.ensures.0 (at.place-at.ensures.1 b.index16-b.ensures.0) refl

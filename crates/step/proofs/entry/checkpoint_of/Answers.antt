@@ -1,5 +1,5 @@
 -- `checkpoint_of`: the index is a where a is a process.
-use Rattle.std.proofs.Common.{ℕ, get_or, ap, ◌∙◌}
+use Rattle.std.proofs.Common.{ℕ, get_or, [], ap, ◌∙◌}
 use Rattle.process.specs.Row.{checkpoint_in}
 use Rattle.step.proofs.entry.checkpoint_of.Goals as goal
 

@@ -1,4 +1,4 @@
-use Rattle.std.proofs.Common.{sym, ◌∙◌, arith}
+use Rattle.std.proofs.Common.{◌≡◌, ◌+◌, ◌%◌, ◌^◌, get_or, sym, ◌∙◌, arith}
 use Rattle.step.proofs.Sending.{send-suppressed, send_37, send_38, send_39, send-queued}
 use Rattle.step.proofs.send.send.Goals as goal
 
@@ -49,7 +49,8 @@ returns c =
     let at = c.place-at in
     let t = c.queue_send in
     let none = c.if-rows-p-gt0.false in
-    rw (c.push.ensures, c.wrapping_add_u32.ensures)
+    let more : c.wrapping_add_u32.result ≡ (get_or s.totals.now k.result 0 + 1) % 2 ^ 32 = c.wrapping_add_u32.ensures.value in
+    rw (c.push.ensures, more)
     (send-queued s.wires.now s.rows.now s.queues.now s.totals.now s.limit p.result s.a p.ensures.1 s.channel s.word _
     (omega arith) (sym c.owing.ensures ∙ c.if-owing.false) b.result b.ensures.1 c.if-queues-b-ge-QUEUE.false k.result reader.result k.ensures.1
     (reader.ensures k.ensures.0) t.new.row (sym c.full.ensures ∙ c.if-full.false) t.ensures (rw (← at.ensures.1 b.ensures.0) at.ensures.0)

@@ -12,7 +12,7 @@ returns-in-Halted c =
     let is-start = c.start.ensures small in
     steps_35 s.table.now s.programs.now s.wires.now s.rows.now s.mails.now s.queues.now s.totals.now p.result s.a p.ensures.1 _
     j.result (rw (← is-start) j.ensures)
-    (record { seen = x.result; examined = rw (← c.length.ensures small) x.ensures; is = c.enum_told-1.given.1 }) c.refused.ensures
+    (record { seen = x.result; examined = rw (← c.length.ensures small) x.ensures; is = c.in-Halted.is }) c.refused.ensures
 
 pub returns-in-NoMail : goal.returns-in-NoMail
 returns-in-NoMail c =
@@ -24,7 +24,7 @@ returns-in-NoMail c =
     let is-start = c.start.ensures small in
     steps_36 s.table.now s.programs.now s.wires.now s.rows.now s.mails.now s.queues.now s.totals.now p.result s.a p.ensures.1 _
     j.result (rw (← is-start) j.ensures)
-    (record { seen = x.result; examined = rw (← c.length.ensures small) x.ensures; is = c.enum_told-in-NoMail-1.given.1 }) (rw (← c.missing.ensures) c.refused-in-NoMail.ensures)
+    (record { seen = x.result; examined = rw (← c.length.ensures small) x.ensures; is = c.in-NoMail.is }) (rw (← c.missing.ensures) c.refused-in-NoMail.ensures)
 
 pub returns-in-Internal : goal.returns-in-Internal
 returns-in-Internal c =
@@ -36,7 +36,7 @@ returns-in-Internal c =
     let is-start = c.start.ensures small in
     steps_calculated s.table.now s.programs.now s.wires.now s.rows.now s.mails.now s.queues.now s.totals.now p.result s.a p.ensures.1 _
     j.result (rw (← is-start) j.ensures)
-    (record { seen = x.result; examined = rw (← c.length.ensures small) x.ensures; is = c.enum_told-in-Internal-1.given.1 })
+    (record { seen = x.result; examined = rw (← c.length.ensures small) x.ensures; is = c.in-Internal.is })
     (calculate_turns s.rows.now p.result s.a p.ensures.1 _ _ _ _ c.calculate.new.row c.calculate.ensures)
 
 pub returns-in-Take : goal.returns-in-Take
@@ -49,7 +49,7 @@ returns-in-Take c =
     let is-start = c.start.ensures small in
     steps-taken s.table.now s.programs.now s.wires.now s.rows.now s.mails.now s.queues.now s.totals.now p.result s.a p.ensures.1 _
     j.result (rw (← is-start) j.ensures)
-    c.limit-limit.result (c.limit-limit.ensures small) c.at-1.given.0.0 (record { seen = x.result; examined = rw (← c.length.ensures small) x.ensures; is = c.at-1.given.1 }) c.take.ensures
+    c.limit-limit.result (c.limit-limit.ensures small) c.in-Take.at (record { seen = x.result; examined = rw (← c.length.ensures small) x.ensures; is = c.in-Take.is }) c.take.ensures
 
 pub returns-in-Send : goal.returns-in-Send
 returns-in-Send c =
@@ -61,4 +61,4 @@ returns-in-Send c =
     let is-start = c.start.ensures small in
     steps-sent s.table.now s.programs.now s.wires.now s.rows.now s.mails.now s.queues.now s.totals.now p.result s.a p.ensures.1 _
     j.result (rw (← is-start) j.ensures)
-    c.limit-limit.result (c.limit-limit.ensures small) c.channel-1.given.0.0 c.channel-1.given.0.1.0 (record { seen = x.result; examined = rw (← c.length.ensures small) x.ensures; is = c.channel-1.given.1 }) c.send.ensures
+    c.limit-limit.result (c.limit-limit.ensures small) c.in-Send.channel c.in-Send.word (record { seen = x.result; examined = rw (← c.length.ensures small) x.ensures; is = c.in-Send.is }) c.send.ensures

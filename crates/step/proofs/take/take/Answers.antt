@@ -21,5 +21,5 @@ returns c =
     let u = c.wrapping_sub_u32 in
     take_done s.wires.now s.rows.now s.mails.now s.totals.now s.limit p.result s.a p.ensures.1 s.code s.register s.at _
     k.result port.result u.result t.new.row t.new.mail (sym c.owing.ensures ∙ c.if-owing.false)
-    (rw (w.ensures, x.ensures) at k.ensures.1) (port.ensures k.ensures.0) t.ensures u.ensures u.type-inv
+    (rw (w.ensures, x.ensures) at k.ensures.1) (port.ensures k.ensures.0) t.ensures u.ensures.value u.type_inv
     (rw (← x.ensures, ← w.ensures, ← c.word_of.ensures) c.alone.ensures)

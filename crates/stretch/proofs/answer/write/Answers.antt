@@ -11,5 +11,4 @@ from-there {before} {after} {i} {r} e w = subst (λ (y : Origin). Writes before 
 
 pub returns : goal.returns
 returns c =
-    let wrote = c in
-    from-there wrote.nowhere.ensures wrote.write_from.ensures
+    from-there c.nowhere.ensures c.write_from.ensures

@@ -6,7 +6,7 @@ use Rattle.stretch.proofs.mend.mend.Goals as goal
 
 pub returns-in-5 : goal.returns-in-5
 returns-in-5 c =
-    let is = c.in_default.keys1 in
+    let is = c.in-5.is in
     record {
       crashes = λ _ table. any_entry c.alone.ensures (c.crash-r.ensures table);
       rejoins = λ e. absurd (omega arith);
@@ -16,7 +16,7 @@ returns-in-5 c =
 
 pub returns-in-6 : goal.returns-in-6
 returns-in-6 c =
-    let is = c.in_default.keys2 in
+    let is = c.in-6.is in
     record {
       crashes = λ e. absurd (omega arith);
       rejoins = λ _ table. any_entry c.alone-in-6.ensures (c.rejoin.ensures _ _ _ _ _ _);
@@ -26,7 +26,7 @@ returns-in-6 c =
 
 pub returns-in-7 : goal.returns-in-7
 returns-in-7 c =
-    let is = c.in_default.keys3 in
+    let is = c.in-7.is in
     record {
       crashes = λ e. absurd (omega arith);
       rejoins = λ e. absurd (omega arith);
@@ -36,10 +36,9 @@ returns-in-7 c =
 
 pub returns-in_default : goal.returns-in_default
 returns-in_default c =
-    let m = c.in_default.rest in
     record {
-      crashes = λ e. absurd (m.0.0.1 e);
-      rejoins = λ e. absurd (m.0.1 e);
-      rebackups = λ e. absurd (m.1 e);
+      crashes = λ e. absurd (omega arith);
+      rejoins = λ e. absurd (omega arith);
+      rebackups = λ e. absurd (omega arith);
       others = λ _ _ _. (refl, c.refused.ensures);
     }

@@ -1,5 +1,4 @@
 use mathlib.Core.Path.{refl}
-use Prim.Native.Nat.{◌-◌}
 use Rattle.rules.specs.Format.{decode_table}
 use Rattle.rules.specs.Schedule.{decode_schedule}
 use Rattle.sweep.proofs.Counting.{tallied, one_place_more, boards-few, places_few, boards-most, records-most, all_places}

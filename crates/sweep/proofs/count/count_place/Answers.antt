@@ -1,5 +1,4 @@
 use mathlib.Core.Path.{refl}
-use Prim.Native.Nat.{◌-◌}
 use Rattle.rules.specs.Format.{decode_table}
 use Rattle.rules.specs.Schedule.{decode_schedule}
 use Rattle.sweep.proofs.Counting.{tallied, one_board-more, one_few, boards-few, boards-most, all_boards}
@@ -12,8 +11,12 @@ loop-b-init c = (omega arith, record { quiet_is = refl; held-is = refl; free-is 
 pub pull-e-requires : goal.pull-e-requires
 pull-e-requires c =
     let x = c in
-    let r = let high = boards-most x.args.table.now x.args.schedule.now x.args.counts x.requires.admitted in
-    (x.requires.admitted, (x.requires.place_bound, omega arith)) in record { admitted = r.0; place_bound = r.1; board_bound = r.2 }
+    let high = boards-most x.args.table.now x.args.schedule.now x.args.counts x.requires.admitted in
+    record {
+      admitted = x.requires.admitted;
+      place_bound = x.requires.place_bound;
+      board_bound = omega arith;
+    }
 
 pub overflow_add-quiet : goal.overflow_add-quiet
 overflow_add-quiet c =

@@ -1,6 +1,4 @@
 use mathlib.Core.Path.{refl}
-use mathlib.Core.Bool.{false}
-use Prim.Native.Nat.{◌-◌}
 use Rattle.sweep.proofs.Endings.{held_found, held_on, held_none}
 use native.Mathlib.Omega.{arith}
 use Rattle.sweep.proofs.ending.some_held.Goals as goal

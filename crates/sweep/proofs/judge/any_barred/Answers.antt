@@ -1,4 +1,3 @@
-use Prim.Native.Nat.{◌-◌}
 use Rattle.sweep.proofs.Judging.{crash_barred, undo_barred, barred_found, not_barred, none_found}
 use borrow.Author.Count.{below_more}
 use borrow.Author.Rules.{rules}

@@ -1,5 +1,5 @@
 use mathlib.Core.Path.{◌∙◌, refl}
-use Prim.Native.Nat.{◌-◌, ◌<◌}
+use Prim.Native.Nat.{◌<◌}
 use native.Mathlib.Omega.{arith}
 use Rattle.rules.specs.Format.{processes_in}
 use Rattle.rules.proofs.Valid.{counted}
@@ -11,7 +11,7 @@ loop-p-init c =
     let t = c.args.table.now in
     let f = c.requires in (
       (let e = c.byte_wide-processes.ensures.0 in let d = c.byte.ensures in let g = (counted t f.counts_ok_lem).processes_high in omega arith),
-      placing_start t _ f _ c.records_start-at.ensures (omega (arith, c.well-formed)) refl refl,
+      placing_start t _ f _ c.records_start-at.ensures (omega (arith, c.well_formed)) refl refl,
     )
 
 pub returns-then-not-r : goal.returns-then-not-r

@@ -1,12 +1,12 @@
 use mathlib.Core.Path.{◌∙◌, ap, refl}
-use Prim.Native.Nat.{◌<◌, ◌-◌}
+use Prim.Native.Nat.{◌<◌}
 use native.Mathlib.Omega.{arith}
-use Rattle.facts.specs.Indexing.{get_d_replicate-any}
+use Rattle.facts.specs.Indexing.{get_or_replicate_any}
 use Rattle.rules.proofs.Valid.{counted}
 use Rattle.plan.specs.Plan.{arity_in}
 use Rattle.table.proofs.PortsPass.{ended_start, ended_on, ended-port, porting_start, porting_ends, porting_past, porting_on, porting_refused, porting_end}
 use Rattle.table.proofs.ends.judge_ports.Goals as goal
-use Rattle.table.proofs.ends.judge_ports.Goals.{else-reader-processes, then-reader-processes}
+use Rattle.table.proofs.ends.judge_ports.Goals.{else-reader-processes, then-reader-processes+else-n-ge-PORTS}
 
 pub loop-k-init : goal.loop-k-init
 loop-k-init c =
@@ -15,7 +15,7 @@ loop-k-init c =
       (let e = c.byte_wide-channels.ensures.0 in let f = c.byte.ensures in let g = n.channels_high in omega arith),
       (let f = c.byte-processes.ensures in let g = n.processes_high in omega arith),
       ended_start t _,
-      porting_start t _ _ refl refl (λ i. get_d_replicate-any 128 i 0),
+      porting_start t _ _ refl refl (λ i. get_or_replicate_any 128 i 0),
     )
 
 pub returns-then-n-ge-PORTS : goal.returns-then-n-ge-PORTS
@@ -40,9 +40,17 @@ loop-k-preserved c =
     let long = x.3.wires-long in
     let ended = ended_on x.2 c.byte-in-loop-k.result b.result (omega arith) c.byte-in-loop-k.ensures b.ensures in
     let porting = porting_ends x.3 l.k c.byte-in-loop-k.result b.result in
-    elim c.if-reader-processes.branch [ then-reader-processes w ↦ rw (w.VAR9-is, w.VAR10-is, w.VAR6-is.ensures, w.VAR8-is.ensures, c.put_ends.ensures)
-    (let reads : w.VAR1-is.result < 16 = let h = w.if-reader-processes.true in let e = w.VAR1-is.ensures.0 in omega arith in
-    (x.0, x.1, ended-port ended l.k _, porting_on t _ l.programs l.k porting (omega arith) w.VAR1-is.result _ (w.VAR1-is.ensures.0 ∙ b.ensures) (let h = w.if-reader-processes.true in let e = w.VAR1-is.ensures.0 in omega arith) (w.VAR3-is.ensures reads) w.VAR4-is.left (omega arith) (omega arith))) | else-reader-processes w ↦ rw (w.VAR1-is, w.VAR2-is, c.put_ends.ensures) (x.0, x.1, ended, porting_past t _ l.programs l.k porting (omega arith) (let h = w.if-reader-processes.false in let e = b.ensures in omega arith)) ]
+    elim c.if-reader-processes.branch [
+      | then-reader-processes+else-n-ge-PORTS w ↦
+          (let b2 = w.byte_wide-p in
+          let same = b2.ensures.0 in
+          let reads : b2.result < 16 = let h = w.if-reader-processes.true in omega arith in
+          rw (w.wires-is, w.programs-is, w.put_port.ensures, w.put_input.ensures, c.put_ends.ensures)
+          (x.0, x.1, ended-port ended l.k _, porting_on t _ l.programs l.k porting (omega arith) b2.result _ (same ∙ b.ensures) (let h = w.if-reader-processes.true in omega arith) (w.arity-n.ensures reads) w.if-n-ge-PORTS.false (omega arith) (omega arith)))
+      | else-reader-processes w ↦
+          rw (w.wires-is, w.programs-is, c.put_ends.ensures)
+          (x.0, x.1, ended, porting_past t _ l.programs l.k porting (omega arith) (let h = w.if-reader-processes.false in let e = b.ensures in omega arith))
+    ]
 
 pub returns : goal.returns
 returns c =

@@ -1,5 +1,4 @@
 use mathlib.Core.Path.{◌∙◌, sym, ap₂}
-use Prim.Native.Nat.{◌-◌}
 use Rattle.facts.specs.Lists.{part-rest}
 use Rattle.table.specs.Parts.{record_in}
 use Rattle.table.proofs.Extents.{extending_start, extending_on, extending_refused, extending_end, no_pairs, extent_says}

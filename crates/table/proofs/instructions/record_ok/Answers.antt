@@ -6,8 +6,8 @@ use Rattle.table.proofs.instructions.record_ok.Goals as goal
 pub slice_bounds-program_ok-count : goal.slice_bounds-program_ok-count
 slice_bounds-program_ok-count c = omega (arith, c.record_head-head.ensures.0, c.requires.1)
 
-pub slice-bounds-program-ok-start : goal.slice-bounds-program-ok-start
-slice-bounds-program-ok-start c = omega (arith, c.record_head-head.ensures.0, c.requires.1)
+pub slice_bounds-program_ok-start : goal.slice_bounds-program_ok-start
+slice_bounds-program_ok-start c = omega (arith, c.record_head-head.ensures.0, c.requires.1)
 
 pub returns : goal.returns
 returns c =

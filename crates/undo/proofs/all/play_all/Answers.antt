@@ -1,5 +1,4 @@
 -- `play_all`: one stretch, and where that ends before the schedule does, a session.
-use mathlib.Core.Path.{◌∙◌}
 use native.Mathlib.Omega.{arith}
 use Rattle.undo.proofs.Going.{room_less}
 use Rattle.undo.proofs.AllRecords.{all_played, then_session}
@@ -11,16 +10,7 @@ returns-then-done-records c = all_played c.count-records.ensures c.start-entries
 pub session-requires : goal.session-requires
 session-requires c =
     let kept = c.play-left.auto in
-    room_less c.requires (record { answers-long = kept.1.1.1.1.1.1.1.1.1.1.1.0; reasons-long = kept.1.1.1.1.1.1.1.1.1.1.1.1.0; origins-long = kept.1.1.1.1.1.1.1.1.1.1.1.1.1.0 }) (omega arith)
-
-pub shape_of-answers : goal.shape_of-answers
-shape_of-answers c = c.session.auto.1.1.1.1.1.1.1.1.1.1.1.0 ∙ c.play-left.auto.1.1.1.1.1.1.1.1.1.1.1.0
-
-pub shape_of-reasons : goal.shape_of-reasons
-shape_of-reasons c = c.session.auto.1.1.1.1.1.1.1.1.1.1.1.1.0 ∙ c.play-left.auto.1.1.1.1.1.1.1.1.1.1.1.1.0
-
-pub shape_of-origins : goal.shape_of-origins
-shape_of-origins c = c.session.auto.1.1.1.1.1.1.1.1.1.1.1.1.1.0 ∙ c.play-left.auto.1.1.1.1.1.1.1.1.1.1.1.1.1.0
+    room_less c.requires (record { answers-long = kept.answers; reasons-long = kept.reasons; origins-long = kept.origins }) (omega arith)
 
 pub returns : goal.returns
 returns c =

@@ -1,4 +1,3 @@
-use Prim.Native.Nat.{◌-◌}
 use native.Mathlib.Omega.{arith}
 use Rattle.undo.proofs.Remembering.{copied_none, copied_more, remembered}
 use Rattle.undo.proofs.history.remember.Goals as goal

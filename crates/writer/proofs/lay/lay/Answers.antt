@@ -15,7 +15,7 @@ overflow_sub-total c =
     let g = c.requires in
     let k = length-parts (given s.head s.ends.now s.placements.now s.limits.now s.instructions.now) g.fitting in
     let m = length_laid (given s.head s.ends.now s.placements.now s.limits.now s.instructions.now) g.fitting in
-    let e = g.total_value.0 in
+    let e = g.total_value in
     omega arith
 
 pub overflow_cast-total : goal.overflow_cast-total
@@ -24,7 +24,7 @@ overflow_cast-total c =
     let g = c.requires in
     let k = length-parts (given s.head s.ends.now s.placements.now s.limits.now s.instructions.now) g.fitting in
     let m = length_laid (given s.head s.ends.now s.placements.now s.limits.now s.instructions.now) g.fitting in
-    let e = g.total_value.0 in
+    let e = g.total_value in
     omega arith
 
 pub put_head-requires : goal.put_head-requires
@@ -33,7 +33,7 @@ put_head-requires c =
     let g = c.requires in
     let k = length-parts (given s.head s.ends.now s.placements.now s.limits.now s.instructions.now) g.fitting in
     let m = length_laid (given s.head s.ends.now s.placements.now s.limits.now s.instructions.now) g.fitting in
-    let e = g.total_value.0 in
+    let e = g.total_value in
     omega arith
 
 pub put_ends-requires : goal.put_ends-requires
@@ -42,7 +42,7 @@ put_ends-requires c =
     let g = c.requires in
     let k = length-parts (given s.head s.ends.now s.placements.now s.limits.now s.instructions.now) g.fitting in
     let m = length_laid (given s.head s.ends.now s.placements.now s.limits.now s.instructions.now) g.fitting in
-    let e = g.total_value.0 in
+    let e = g.total_value in
     let h = laid_length s.bytes.now c.put_head.new.bytes 0 (head_bytes (s.total - 2) s.head) c.put_head.ensures in
     omega arith
 
@@ -52,7 +52,7 @@ put_records-requires c =
     let g = c.requires in
     let k = length-parts (given s.head s.ends.now s.placements.now s.limits.now s.instructions.now) g.fitting in
     let m = length_laid (given s.head s.ends.now s.placements.now s.limits.now s.instructions.now) g.fitting in
-    let e = g.total_value.0 in
+    let e = g.total_value in
     let h = laid_length s.bytes.now c.put_head.new.bytes 0 (head_bytes (s.total - 2) s.head) c.put_head.ensures in
     let t = laid_length c.put_head.new.bytes c.put_ends.new.bytes 6 (map fit_byte s.ends.now) c.put_ends.ensures in
     record {
@@ -66,6 +66,6 @@ returns c =
     let g = c.requires in
     let k = length-parts (given s.head s.ends.now s.placements.now s.limits.now s.instructions.now) g.fitting in
     let m = length_laid (given s.head s.ends.now s.placements.now s.limits.now s.instructions.now) g.fitting in
-    let e = g.total_value.0 in
+    let e = g.total_value in
     laid_whole s.head s.ends.now s.placements.now s.limits.now s.instructions.now g.fitting s.bytes.now c.put_head.new.bytes c.put_ends.new.bytes _
     (s.total - 2) (6 + length s.ends.now) (omega arith) refl c.put_head.ensures c.put_ends.ensures c.put_records.ensures

@@ -1,4 +1,3 @@
-use Prim.Native.Nat.{◌-◌}
 use Rattle.writer.proofs.Storing.{ends_start, ends_more, ends-end}
 use Rattle.writer.proofs.lay.put_ends.Goals as goal
 

@@ -1,6 +1,6 @@
 use mathlib.Core.Path.{ap, sym, ◌∙◌}
 use mathlib.Core.Bool.{Bool, cond}
-use mathlib.Core.List.{◌∷◌, ◌++◌}
+use mathlib.Core.List.{[], ◌∷◌, ◌++◌}
 use Prim.Native.Nat.{◌+◌, ◌*◌}
 use lib.ListN.{get_or}
 use lib.Seq.{sets}
@@ -13,7 +13,7 @@ pub bounds-limits-p : goal.bounds-limits-p
 bounds-limits-p c =
     let g = c.requires in
     let a = ap (λ (w : Bool). cond w 1 0 * (c.args.p + 1)) (eq-eqb c.args.version 2 c.if-version-eq-WITH_LIMITS.true) in
-    let b = g.p_in_bounds.1 in
+    let b = g.p_in_bounds_2 in
     omega arith
 
 pub put_four-requires : goal.put_four-requires
@@ -21,7 +21,7 @@ put_four-requires c =
     let g = c.requires in
     let a = ap (λ (w : Bool). 1 + (2 + cond w 1 0)) (eq-eqb c.args.version 2 c.if-version-eq-WITH_LIMITS.true) in
     let b = g.version_in_bounds in
-    let d = g.p_in_bounds.0 in
+    let d = g.p_in_bounds in
     (omega arith, omega arith)
 
 pub returns-then-version-eq-WITH_LIMITS : goal.returns-then-version-eq-WITH_LIMITS
@@ -37,7 +37,7 @@ put_three-requires c =
     let g = c.requires in
     let a = ap (λ (w : Bool). 1 + (2 + cond w 1 0)) (ne_eqb c.args.version 2 c.if-version-eq-WITH_LIMITS.false) in
     let b = g.version_in_bounds in
-    let d = g.p_in_bounds.0 in
+    let d = g.p_in_bounds in
     (omega arith, omega arith)
 
 pub returns : goal.returns

@@ -1,4 +1,3 @@
-use Prim.Native.Nat.{◌-◌}
 use Rattle.writer.proofs.Storing.{program_start_lem, program_more, program_end}
 use Rattle.writer.proofs.lay.put_program.Goals as goal
 

@@ -1,6 +1,6 @@
 use mathlib.Core.Path.{ap, sym, subst, ◌∙◌}
 use mathlib.Core.List.{map}
-use Prim.Native.Nat.{ℕ, ◌+◌, ◌-◌, ◌≤◌}
+use Prim.Native.Nat.{ℕ, ◌+◌, ◌≤◌}
 use lib.ListN.{length}
 use lib.Seq.{sets}
 use Rattle.rules.specs.Encode.{records_for}
@@ -40,8 +40,12 @@ put_placement-requires c =
     let q = l.invariant.laid.same_length in
     let k = next-instructions s.bytes.now s.at s.head.version c.wide-processes.result s.placements.now s.limits.now s.instructions.now _ l.next l.i l.p l.invariant w.result w.ensures.0 t in
     let f = next-few s.bytes.now s.at s.head.version c.wide-processes.result s.placements.now s.limits.now s.instructions.now _ l.next l.i l.p l.invariant w.result w.ensures.0 t in
-    let r = let z = g.placed in
-    (omega arith, (omega arith, limits-room s.bytes.now s.at s.head.version c.wide-processes.result s.placements.now s.limits.now s.instructions.now g l.p t)) in record { version_in_bounds = r.0; p_in_bounds = r.1; p_in_bounds_2 = r.2 }
+    let z = g.placed in
+    record {
+      version_in_bounds = omega arith;
+      p_in_bounds = omega arith;
+      p_in_bounds_2 = limits-room s.bytes.now s.at s.head.version c.wide-processes.result s.placements.now s.limits.now s.instructions.now g l.p t;
+    }
 
 pub overflow_add-next : goal.overflow_add-next
 overflow_add-next c =
@@ -150,7 +154,6 @@ overflow_add-i c =
     let q = l.invariant.laid.same_length in
     let k = next-instructions s.bytes.now s.at s.head.version c.wide-processes.result s.placements.now s.limits.now s.instructions.now _ l.next l.i l.p l.invariant w.result w.ensures.0 t in
     let f = next-few s.bytes.now s.at s.head.version c.wide-processes.result s.placements.now s.limits.now s.instructions.now _ l.next l.i l.p l.invariant w.result w.ensures.0 t in
-    let z = c.well-formed.1.1.1.1.1.0.0 in
     omega arith
 
 pub loop-p-preserved : goal.loop-p-preserved

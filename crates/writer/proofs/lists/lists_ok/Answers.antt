@@ -1,5 +1,5 @@
 use mathlib.Core.Path.{ap, sym, ◌∙◌}
-use Prim.Native.Nat.{ℕ, ◌-◌, ◌*◌}
+use Prim.Native.Nat.{ℕ, ◌*◌}
 use lib.Dec.{leb}
 use Rattle.facts.specs.Tests.{all_of}
 use Rattle.backup.specs.Limits.{pc_most}

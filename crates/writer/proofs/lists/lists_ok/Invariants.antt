@@ -1,5 +1,4 @@
 use Prim.Native.Nat.{◌-◌}
-use Rattle.rules.specs.Encode.{total}
 use Rattle.writer.proofs.Lengths.{Counting}
 use Rattle.writer.proofs.lists.lists_ok.Given as goal
 

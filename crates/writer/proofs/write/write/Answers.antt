@@ -21,9 +21,9 @@ table_length-total-requires c = let s = c.args in fitting (given s.head s.ends.n
 
 pub judge_laid-number-requires : goal.judge_laid-number-requires
 judge_laid-number-requires c = let s = c.args in record {
-      fitting = fitting (given s.head s.ends.now s.placements.now s.limits.now s.instructions.now) (sym c.if-framing-ne0.false ∙ c.judge_lists-framing.ensures);
-      total_value = c.table_length-total.ensures;
-    }
+  fitting = fitting (given s.head s.ends.now s.placements.now s.limits.now s.instructions.now) (sym c.if-framing-ne0.false ∙ c.judge_lists-framing.ensures);
+  total_value = c.table_length-total.ensures;
+}
 
 pub returns-then-number-ne0 : goal.returns-then-number-ne0
 returns-then-number-ne0 c =
@@ -45,7 +45,11 @@ returns-then-total-out c =
 pub lay-requires : goal.lay-requires
 lay-requires c =
     let s = c.args in
-    (fitting (given s.head s.ends.now s.placements.now s.limits.now s.instructions.now) (sym c.if-framing-ne0.false ∙ c.judge_lists-framing.ensures), (c.table_length-total.ensures.0, c.if-total-out.false))
+    record {
+      fitting = fitting (given s.head s.ends.now s.placements.now s.limits.now s.instructions.now) (sym c.if-framing-ne0.false ∙ c.judge_lists-framing.ensures);
+      total_value = c.table_length-total.ensures.0;
+      total_in_bounds = c.if-total-out.false;
+    }
 
 pub returns : goal.returns
 returns c =
