@@ -7,7 +7,8 @@ use Rattle.facts.specs.Tests.{all_at, by_lt}
 use Rattle.facts.specs.Lists.{prefix, length-prefix, prefix_push, get_or_prefix, listed_same, prefix-listed}
 use Rattle.backup.specs.Limits.{log_most, ports}
 use Rattle.backup.specs.Replica.{Message, on_ports, taken_on, one_less, remaining, lacking}
-use Rattle.backup.specs.Laws.{stays, goes, by_taken, none-taken, length-remaining}
+use Rattle.backup.specs.Laws.{by_taken}
+use Rattle.backup.proofs.Drops.{stays, goes, none-taken, length-remaining}
 use Rattle.backup.specs.Accepts.{enough}
 use Rattle.backup.specs.Place.{port_in, unpack, messages, Dropped}
 use Rattle.backup.specs.Rounds.{all_taken, all_taken_less, all_taken-none}

@@ -4,12 +4,13 @@ use Rattle.facts.specs.Tests.{any_same}
 use Rattle.facts.specs.Lists.{listed_same}
 use Rattle.backup.specs.Limits.{log_most, ports, pc_most}
 use Rattle.backup.specs.Replica.{Replica, saved_on, taken_on, lacking, answer, sync, sync_number, synced}
-use Rattle.backup.specs.Laws.{saved-remaining}
-use Rattle.backup.specs.Accepts.{fit_parts, enough, answer-number, answer-done, sync-accepted, synced-fit}
+use Rattle.backup.proofs.Drops.{saved-remaining}
+use Rattle.backup.specs.Accepts.{fit_parts, enough, answer-number, answer-done, sync-accepted}
+use Rattle.backup.proofs.Drops.{synced-fit}
 use Rattle.backup.specs.Place.{view_in, tally_in, Sound, Called, taken_of, checkpoint_of, lacks_in, sync_number_in, Dropped, restated_in, report_of, refused_of, landed_in, Reports}
 use Rattle.backup.specs.Place.{head_len}
 use Rattle.backup.specs.Report.{sync_report}
-use Rattle.backup.specs.ReportLaws.{sync_report-accepted, sync_report-refused, gone_taken}
+use Rattle.backup.proofs.ReportLaws.{sync_report-accepted, sync_report-refused, gone_taken}
 use Rattle.backup.specs.Rounds.{all_taken, sync_rounds, OnePass, one_pass_by}
 use Rattle.backup.specs.declared.place.Checkpoint.{Checkpoint}
 use Rattle.backup.proofs.InPlace.{Left, refused_so, accepted_so, same-replica, view-length}

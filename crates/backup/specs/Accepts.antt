@@ -7,7 +7,6 @@ use Rattle.backup.specs.Limits.{log_most, ports, sent_most, pc_most}
 use Rattle.backup.specs.Replica.{no_registers, Message, Replica, Checkpoint, fit, on_ports, answer, arrived}
 use Rattle.backup.specs.Replica.{arrive_number, arrive, counted, count_number, count, saved_on, taken_on, lacking, synced}
 use Rattle.backup.specs.Replica.{sync_number, sync, fail_over}
-use Rattle.backup.specs.Laws.{ports-remaining, shorter}
 
 -- ---- fitness, part by part
 
@@ -131,16 +130,6 @@ pub sync-accepted : (r : Replica) (c : Checkpoint) → fit r ≡ true → c.pc �
     → sync r c ≡ record { number = 0; replica = synced r c }
 unfolding sync
 sync-accepted r c f p h = rw (sync-number r c f p h)
-
-pub synced-fit : (r : Replica) (c : Checkpoint) → fit r ≡ true → c.pc ≤ pc_most → fit (synced r c) ≡ true
-synced-fit r c f p =
-    let h = fit_parts r f in
-    parts-fit (synced r c) record {
-      few = (let a = shorter c.taken r.log in let b = h.few in omega arith);
-      on_ports_lem = ports-remaining c.taken r.log h.on_ports_lem;
-      sent_small = omega arith;
-      pc_small = p;
-    }
 
 -- ---- take over
 

@@ -5,6 +5,5 @@ pub mod Laws
 pub mod Accepts
 pub mod Report
 pub mod Rounds
-pub mod ReportLaws
 pub mod Place
 pub mod PlaceLaws

@@ -16,7 +16,7 @@ use Rattle.backup.specs.Accepts.{Fit, fit_parts, parts-fit, sync-parts, fail_ove
 use Rattle.backup.specs.Place.{view_in, tally_in, head_len, head_sent, head_pc, Sound, Called, checkpoint_of, report_of, Reports}
 use Rattle.backup.specs.Rounds.{sync_rounds, OnePass, one_pass_by}
 use Rattle.backup.specs.Report.{Report, no_report, report_for, sync_report}
-use Rattle.backup.specs.ReportLaws.{sync_report-refused}
+use Rattle.backup.proofs.ReportLaws.{sync_report-refused}
 use Rattle.backup.specs.declared.place.Checkpoint.{Checkpoint}
 use Rattle.backup.specs.declared.place.Landed.{Landed}
 use Rattle.backup_lent.specs.Lent.{lent_length, fresh_lent, Answered, HandsOver, told}

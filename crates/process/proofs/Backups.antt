@@ -14,7 +14,7 @@ use Rattle.backup.specs.Replica.{Replica, Reply, Checkpoint, arrive, count, sync
 use Rattle.backup.specs.declared.place.Checkpoint as code
 use Rattle.backup.specs.declared.place.Landed.{Landed}
 use Rattle.backup.specs.Report.{total_dropped, sync_report}
-use Rattle.backup.specs.ReportLaws.{total_dropped_small}
+use Rattle.backup.proofs.ReportLaws.{total_dropped_small}
 use Rattle.backup.specs.Place.{view_in, Called, checkpoint_of, report_of, Reports}
 use Rattle.rules.specs.Table.{port_of}
 use Rattle.rules.specs.Machine.{delivered}

@@ -9,7 +9,7 @@ use lib.ListN.{length, length-append}
 use borrow.Author.Tests.{lt-ltb}
 use Rattle.backup.specs.Limits.{log_most, ports, sent_most, pc_most}
 use Rattle.backup.specs.Replica.{Message, Replica, Checkpoint, Reply, on_ports, fit, arrived, arrive_number, arrive, counted, count_number, count, synced, sync_number, sync, fail_over, remaining}
-use Rattle.backup.specs.Laws.{shorter}
+use Rattle.backup.proofs.Drops.{shorter}
 use Rattle.backup.specs.Accepts as accepts
 use Rattle.backup.specs.Accepts.{parts-fit, fail_over_accepted}
 use Rattle.rules.specs.Table.{Table, channel_at, code_of, inputs, port_of}

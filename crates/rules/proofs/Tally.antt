@@ -13,7 +13,8 @@ use borrow.Author.Tests.{eq-eqb, ne_eqb}
 use Rattle.facts.specs.Tests.{no_way, by_eq}
 use Rattle.backup.specs.Limits.{ports}
 use Rattle.backup.specs.Replica.{Message, saved_on, taken_on, one_less, remaining}
-use Rattle.backup.specs.Laws.{stays, goes, by_taken, none-taken as nothing-dropped}
+use Rattle.backup.specs.Laws.{by_taken}
+use Rattle.backup.proofs.Drops.{stays, goes, none-taken as nothing-dropped}
 use Rattle.rules.specs.Table.{Table, Instruction, inputs, port_of, channel_on}
 use Rattle.rules.specs.Machine.{Mail, Machine, Act, internal, took, sent, Pull, nothing, found, behind, pull}
 use Rattle.rules.specs.Cabinet.{no_takes}

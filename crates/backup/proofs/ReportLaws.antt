@@ -7,7 +7,7 @@ use Rattle.facts.specs.Rings.{get_or_listed}
 use Rattle.facts.specs.Sums.{sum_same}
 use Rattle.backup.specs.Limits.{log_most, ports}
 use Rattle.backup.specs.Replica.{Replica, Checkpoint, saved_on, taken_on, synced, sync_number}
-use Rattle.backup.specs.Laws.{saved-remaining, length-remaining}
+use Rattle.backup.proofs.Drops.{saved-remaining, length-remaining}
 use Rattle.backup.specs.Accepts.{fit_parts, enough, sync-parts}
 use Rattle.backup.specs.Rounds.{all_taken}
 use Rattle.backup.specs.Report.{Report, no_report, report_on, report_for, sync_report, total_dropped}
