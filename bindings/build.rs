@@ -1,4 +1,4 @@
-// The proved library is where `rt staticlib kunzeastylus` writes it, below the repository's root, or in the folder KUNZEASTYLUS_LIBRARY. Where it
+// The proved library is where `tools/library` writes it, below the repository's root, or in the folder KUNZEASTYLUS_LIBRARY. Where it
 // isn't, that is said here, since the linker would only say what it can't find.
 use std::path::PathBuf;
 
@@ -11,7 +11,7 @@ fn main() {
     println!("cargo::rustc-link-search=native={}", folder.display());
     if !library.is_file() {
         println!(
-            "cargo::error=the proved library is not there: {}. `rt staticlib kunzeastylus` at the repository's root proves and writes it; \
+            "cargo::error=the proved library is not there: {}. `tools/library` at the repository's root proves and writes it; \
              one that stands elsewhere is found by its folder in KUNZEASTYLUS_LIBRARY",
             library.display()
         );

@@ -1,6 +1,6 @@
 /* The proved calls for programs in C (from C99 on) and C++ (from C++11 on): the run of a schedule, the judging of its input, every place to pull a
  * board, the whole cabinet after a run, tables, the backup record and the label line. One library for x86-64 has them all, libkunzeastylus.a, and
- * exports nothing else; `rt staticlib kunzeastylus` writes it to target/staticlib/, and `tools/install PREFIX` installs it with this header.
+ * exports nothing else; `tools/library` writes it to target/staticlib/, and `tools/install PREFIX` installs it with this header.
  *
  * All numbers are those of the documents; docs/NUMBERS.md has each in a line, and the texts below say the same. The calls keep nothing between them,
  * allocate nothing and may be used from several threads at once. Of the C library they call memcpy and memset. Each lent piece of memory is a

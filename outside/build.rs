@@ -4,7 +4,7 @@
 fn main() {
     println!("cargo::rustc-env=PLACE={}", std::env::var("PLACE").unwrap_or("0".to_string()));
     println!("cargo::rerun-if-env-changed=PLACE");
-    let folder = concat!(env!("CARGO_MANIFEST_DIR"), "/../target/sync_speed/target/staticlib");
+    let folder = concat!(env!("CARGO_MANIFEST_DIR"), "/../target/sync_speed");
     println!("cargo::rustc-link-search=native={folder}");
     println!("cargo::rerun-if-changed={folder}");
 }

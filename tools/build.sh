@@ -12,6 +12,11 @@ fresh() {
     [[ -e $product && -z $(find "$@" -newer "$product" -print -quit) ]]
 }
 
+# proved PRODUCT: the product is there, and nothing of the crates is newer. crates/CRATE/out is rt's own.
+proved() {
+    fresh "$1" "$root/crates.txt" && [[ -z $(find "$root/crates" -mindepth 2 -name out -prune -o -newer "$1" -print -quit) ]]
+}
+
 # build WHAT PRODUCT CRATES COMMAND..: runs the command, which has cargo compile these crates in this order, as far as they are not compiled; each is
 # said on standard error when it begins, with how many are left.
 build() {
@@ -27,39 +32,37 @@ build() {
 # prove WHAT PRODUCT CRATE COMMAND..: runs the command, which proves a crate and all that it stands on; each crate that is proved is said on
 # standard error, with how many are left.
 prove() {
-    local crates
-    crates=$(below "$3")
-    made "$1" "$2" "${@:4}" | countdown "$crates" >&2
+    command -v rt >/dev/null || { say 'rt is not in PATH'; return 1; }
+    made "$1" "$2" "${@:4}" | countdown "$3" >&2
 }
 
-# below CRATE: the crate and all that it stands on, by crates.txt.
-below() {
-    awk -F ':' -v top="$1" '
-        /^[a-z]/ { stands[$1] = $2 }
-        END {
-            todo[many = 1] = top
-            for (i = 1; i <= many; i++) {
-                if (todo[i] in seen || !(todo[i] in stands)) continue
-                seen[todo[i]]
-                printf "%s ", todo[i]
-                n = split(stands[todo[i]], on, " ")
-                for (j = 1; j <= n; j++) todo[++many] = on[j]
-            }
-        }' "$root/crates.txt"
-}
-
-# countdown CRATES: of the lines of rt, those that a crate of these is proved, with how many are left; what is unchanged is only counted.
+# countdown CRATE: of the lines of rt, those that a crate is proved which is this or one that it stands on by crates.txt, with how many are left. rt says
+# nothing of a crate that is unchanged: it is done with what stands on it.
 countdown() {
-    awk -v name="$name" -v crates="$1" '
-        BEGIN { left = split(crates, list, " "); for (i in list) todo[list[i]] }
-        /^rt: [a-z_]+ proved/ && ($2 in todo) {
-            delete todo[$2]
-            left--
-            if (/unchanged/) next
-            sub(/^rt: /, "")
-            printf "%s: %s; %s\n", name, $0, (left == 1 ? "1 crate is left" : left ? left " crates are left" : "all are proved")
+    awk -v name="$name" -v top="$1" '
+        # finish(CRATE): it and all that it stands on are done; how many of them were not.
+        function finish(crate,   on, many, i, new) {
+            if (!(crate in stands) || crate in finished) return 0
+            finished[crate]
+            many = split(stands[crate], on, " ")
+            new = 1
+            for (i = 1; i <= many; i++) new += finish(on[i])
+            return new
+        }
+        FNR == NR {
+            if (/^[a-z]/ && split($0, line, ":") == 2 && split(line[1], head, " ")) stands[head[1]] = line[2]
+            next
+        }
+        FNR == 1 {
+            left = finish(top)
+            split("", finished)
+        }
+        /^crate [a-z_]+: / { crate = substr($2, 1, length($2) - 1) }
+        /^logic=proved/ && crate in stands && !(crate in finished) {
+            left -= finish(crate)
+            printf "%s: %s proved; %s\n", name, crate, (left == 1 ? "1 crate is left" : left ? left " crates are left" : "all are proved")
             fflush()
-        }'
+        }' "$root/crates.txt" -
 }
 
 # made WHAT PRODUCT COMMAND..: runs the command at the root. All that it prints stands in target/build.log. What is edited while it runs is
@@ -86,15 +89,15 @@ program=$root/build/release/ks
 
 # Each of these sees to it that one of the three is there and no older than what it is made of.
 have_library() {
-    fresh "$library" "$root/crates" "$root/crates.txt" && return
+    proved "$library" && return
     say 'proving and building the library; the first time takes minutes'
-    prove 'the library' "$library" kunzeastylus rt staticlib kunzeastylus
+    prove 'the library' "$library" kunzeastylus_c "$root/tools/library"
 }
 
 have_bench() {
-    fresh "$bench" "$root/crates" "$root/crates.txt" && return
+    proved "$bench" && return
     say 'proving and building the bench program; the first time takes minutes'
-    prove 'the bench program' "$bench" bench rt check bench
+    prove 'the bench program' "$bench" bench "$root/tools/bench"
 }
 
 have_ks() {

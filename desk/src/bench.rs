@@ -5,7 +5,7 @@ use std::io::Write;
 use std::path::PathBuf;
 use std::process::{Command, Stdio};
 
-/// KS_BENCH; or `ks-bench` beside this program, where both are installed; or where `rt check bench` puts it, below the repository's root.
+/// KS_BENCH; or `ks-bench` beside this program, where both are installed; or where `tools/bench` puts it, below the repository's root.
 fn program() -> PathBuf {
     let named = std::env::var_os("KS_BENCH").map(PathBuf::from);
     let beside = || Some(std::env::current_exe().ok()?.parent()?.join("ks-bench")).filter(|path| path.is_file());

@@ -2,12 +2,14 @@
 // standard input", and prints the page (document 01, "The bench program's page").
 //
 // Proved: of the bytes read, `bench` makes `bench_page`, for every input, and the buffer has room for it (`Benched`); never more is read than is
-// wanted (`Took`); and where as many were read as are wanted, what is left unread changes nothing, so that it is the page of all of standard
-// input (`Benched`, `Wanted`). Assumed of `read` and `write`, since no contract can say it: bytes come in the input's order, fewer than asked for
-// only where the input ends, and go out as they are. A read that fails counts as the input's end. A write that fails ends the program quietly.
+// wanted (`Took`); of a reader whose bytes are known, what is read is its first bytes in their order, and none is lost (`Consumes`); and where as
+// many were read as are wanted, what is left unread changes nothing, so that it is the page of all of standard input (`Benched`, `Wanted`). Assumed
+// of standard input and output, since no contract can say it: bytes come in the input's order, fewer than asked for only where the input ends, and
+// go out as they are. A read that fails counts as the input's end. A write that fails ends the program quietly.
 #![tactic(auto)]
 
-ghost use Rattle.std.specs.Prelude.{◌≤◌, length};
+ghost use Rattle.std.specs.Prelude.{◌≤◌, length, take, drop};
+ghost use Rattle.std.specs.Io.KnownBytes.{Consumes};
 ghost use Rattle.bench.specs.Took.{FilledPart, Took};
 
 use bench_input::bench::{PAGE_ROOM, bench};
@@ -17,7 +19,8 @@ use words::least;
 
 // Reads once, to the front of a buffer: how many bytes. None come at the input's end, and where the reading fails.
 fn read_some<R: Read>(reader: &mut R, buffer: &mut [u8]) -> usize
-    ensures { result ≤ length buffer.new }
+    ensures within { result ≤ length buffer.new }
+    ensures in_order { Consumes (R.remaining reader.old) (R.remaining reader.new) (take result buffer.new) }
 {
     match reader.read(buffer) {
         Ok(n) => n,
@@ -29,7 +32,8 @@ fn read_some<R: Read>(reader: &mut R, buffer: &mut [u8]) -> usize
 fn read_part<R: Read>(reader: &mut R, input: &mut [u8], from: usize, to: usize) -> usize
     requires from_le_to { from ≤ to }
     requires to_in_bounds { to ≤ length input.old }
-    ensures { FilledPart input.old from to result input.new }
+    ensures filled { FilledPart input.old from to result input.new }
+    ensures in_order { Consumes (R.remaining reader.old) (R.remaining reader.new) (drop from (take result input.new)) }
 {
     let mut end = from;
     while end < to {
@@ -44,7 +48,8 @@ fn read_part<R: Read>(reader: &mut R, input: &mut [u8], from: usize, to: usize) 
 
 // Reads as many bytes as are wanted, or all that there are, or as many as have room: how many.
 fn read_input<R: Read>(reader: &mut R, input: &mut [u8]) -> usize
-    ensures { Took result input.new }
+    ensures took { Took result input.new }
+    ensures in_order { Consumes (R.remaining reader.old) (R.remaining reader.new) (take result input.new) }
 {
     if input.len() < 2 {
         return 0;
