@@ -159,6 +159,7 @@ fn word_after(code: u8, old: u32, sum: u32, operand: u32) -> u32
 }
 
 // The place after it: the next one, or of a JUMP where register a is not 0 its operand.
+#[tactic(auto, using(std::proofs::lemmas::Bool::Decides::nat_tests))]
 fn place_after(code: u8, old: u32, next: u32, operand: u32) -> u32
     ensures { result ≡ place_after code old next operand }
 {

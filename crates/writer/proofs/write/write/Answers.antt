@@ -1,4 +1,4 @@
-use mathlib.Core.Path.{ap, sym, ◌∙◌}
+use mathlib.Core.Path.{◌≡◌, ap, sym, ◌∙◌}
 use lib.ListN.{length}
 use Rattle.rules.specs.Encode.{encode}
 use Rattle.writer.specs.Given.{given}
@@ -36,7 +36,8 @@ returns-then-number-ne0 c =
 pub returns-then-total-out : goal.returns-then-total-out
 returns-then-total-out c =
     let s = c.args in
-    let z = sym c.judge_laid-number.ensures ∙ c.if-number-ne0.false in
+    let passed : c.judge_laid-number.result ≡ 0 = omega arith in
+    let z = sym c.judge_laid-number.ensures ∙ passed in
     let same = ap length (ap encode (fitted-same (given s.head s.ends.now s.placements.now s.limits.now s.instructions.now) z)) in
     let t = c.table_length-total.ensures.0 in
     writes_nothing (given s.head s.ends.now s.placements.now s.limits.now s.instructions.now) s.out.now 45 c.refused-then-total-out.result
@@ -54,5 +55,6 @@ lay-requires c =
 pub returns : goal.returns
 returns c =
     let s = c.args in
-    let z = sym c.judge_laid-number.ensures ∙ c.if-number-ne0.false in
+    let passed : c.judge_laid-number.result ≡ 0 = omega arith in
+    let z = sym c.judge_laid-number.ensures ∙ passed in
     writes-table (given s.head s.ends.now s.placements.now s.limits.now s.instructions.now) s.out.now _ c.table_length-total.result z c.table_length-total.ensures.0 c.if-total-out.false c.lay.ensures
