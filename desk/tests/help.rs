@@ -66,10 +66,11 @@ fn version_of_the_package() {
 /// While something is proved, each crate is said with how many are left; those that stand already are only counted.
 #[test]
 fn how_many_are_left() {
-    let stands = |name: &str| format!("rt: {name} proved (unchanged since it was last proved)\n");
-    let lines = stands("facts") + &stands("numbers") + "fn words::a: proved\nrt: words proved (4 s)\nrt: backup proved (21 s)\n";
-    let script = format!("root=. name=ks; source tools/build.sh; printf '{lines}' | countdown \"$(below backup)\"");
+    let proved =
+        |name: &str| format!("fn {name}::a: proved\ncrate {name}: modules loaded=1 checked=2\nlogic=proved functions=1\n");
+    let lines = proved("words") + "library words: modules loaded=3 checked=0\n" + &proved("backup");
+    let script = format!("root=. name=ks; source tools/build.sh; printf '{lines}' | countdown backup");
     let ended = Command::new("bash").args(["-c", &script]).current_dir(ROOT).output().expect("bash");
     let said = String::from_utf8(ended.stdout).expect("text");
-    assert_eq!(said, "ks: words proved (4 s); 1 crate is left\nks: backup proved (21 s); all are proved\n");
+    assert_eq!(said, "ks: words proved; 3 crates are left\nks: backup proved; all are proved\n");
 }
