@@ -54,9 +54,9 @@ extern "C" {
 
 /* ---- stack that a call takes at most, in bytes, as it is measured for many inputs whenever the library is tested. A thread may have less by default */
 
-#define KS_STACK_RUN 327680         /* ks_run, ks_label_run */
-#define KS_STACK_SWEEP 339968       /* ks_sweep */
-#define KS_STACK_VIEW 442368        /* ks_view */
+#define KS_STACK_RUN 376832         /* ks_run, ks_label_run */
+#define KS_STACK_SWEEP 385024       /* ks_sweep */
+#define KS_STACK_VIEW 487424        /* ks_view */
 #define KS_STACK_TABLE_WRITE 12288  /* ks_table_write */
 #define KS_STACK_OTHER 6144         /* every other call */
 
