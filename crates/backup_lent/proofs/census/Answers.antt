@@ -10,10 +10,10 @@ pub returns-then-port-ge-PORTS : goal.returns-then-port-ge-PORTS
 returns-then-port-ge-PORTS c = census_false _ _ c.loop-i.i c.port_of-port.result _ c.loop-i-test.true c.port_of-port.ensures c.if-port-ge-PORTS.true refl
 
 pub overflow_add-n : goal.overflow_add-n
-overflow_add-n c = omega (arith, looked_few c.loop-i.invariant c.port_of-port.result c.if-port-ge-PORTS.false, c.loop-i.invariant.looked, c.requires.len_le_log_most)
+overflow_add-n c = omega (arith, looked_few c.loop-i.invariant c.port_of-port.result (omega arith), c.loop-i.invariant.looked, c.requires.len_le_log_most)
 
 pub loop-i-preserved : goal.loop-i-preserved
-loop-i-preserved c = looked_on _ _ _ _ c.port_of-port.result c.loop-i.invariant c.loop-i-test.true c.port_of-port.ensures c.if-port-ge-PORTS.false
+loop-i-preserved c = looked_on _ _ _ _ c.port_of-port.result c.loop-i.invariant c.loop-i-test.true c.port_of-port.ensures (omega arith)
 
 pub returns : goal.returns
 returns c =

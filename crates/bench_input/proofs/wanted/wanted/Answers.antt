@@ -1,3 +1,4 @@
+use native.Mathlib.Omega.{arith}
 use Rattle.bench_input.proofs.Reading.{returns_short, returns_over, returns_all}
 use Rattle.bench_input.proofs.wanted.wanted.Goals as goal
 
@@ -8,4 +9,4 @@ pub returns-then-field-gt-TABLE_MOST : goal.returns-then-field-gt-TABLE_MOST
 returns-then-field-gt-TABLE_MOST c = returns_over c.args.have.now c.length_field-field.result c.if-have-lt2.false c.length_field-field.ensures.0 c.if-field-gt-TABLE_MOST.true
 
 pub returns : goal.returns
-returns c = returns_all c.args.have.now c.length_field-field.result c.if-have-lt2.false c.length_field-field.ensures.0 c.if-field-gt-TABLE_MOST.false
+returns c = returns_all c.args.have.now c.length_field-field.result c.if-have-lt2.false c.length_field-field.ensures.0 (omega arith)

@@ -1,3 +1,4 @@
+use native.Mathlib.Omega.{arith}
 use Rattle.bus.proofs.Syncing.{syncs_lost, syncs-kept}
 use Rattle.bus.proofs.sync.transmit_sync.Goals as goal
 
@@ -15,4 +16,4 @@ returns c =
     let p = c.index16-p in
     let k = c.keep-dropped in
     syncs-kept s.rows.now s.logs.now s.heads.now s.process s.checkpoint p.result p.ensures.1
-    k.new.log k.new.head k.ensures.backup_became k.result k.ensures.drops c.if-rows-p-ne-COMPLETE.false
+    k.new.log k.new.head k.ensures.backup_became k.result k.ensures.drops (omega arith)

@@ -1,3 +1,4 @@
+use native.Mathlib.Omega.{arith}
 use Rattle.rules.specs.Run.{buffers_of}
 use Rattle.cabinet.proofs.Running.{refuses, roomy, accepts}
 use Rattle.cabinet.proofs.run.run.Goals as goal
@@ -18,7 +19,7 @@ conduct-quiet-requires c =
     let j = c.judge_schedule-s in
     let n = c.judge_run-number in
     roomy s.table.now s.schedule.now (buffers_of s.answers.now s.reasons.now s.report.now s.origins.now) d.result j.result d.ensures j.ensures
-    n.result n.ensures c.if-number-ne0.false
+    n.result n.ensures (omega arith)
 
 pub returns : goal.returns
 returns c =
@@ -27,4 +28,4 @@ returns c =
     let j = c.judge_schedule-s in
     let n = c.judge_run-number in
     accepts s.table.now s.schedule.now (buffers_of s.answers.now s.reasons.now s.report.now s.origins.now) d.result j.result d.ensures j.ensures
-    n.result n.ensures c.if-number-ne0.false c.conduct-quiet.result _ c.conduct-quiet.ensures
+    n.result n.ensures (omega arith) c.conduct-quiet.result _ c.conduct-quiet.ensures

@@ -14,7 +14,6 @@ pub returns-then-owing : goal.returns-then-owing
 returns-then-owing c =
     let s = c.args in
     let p = c.index16-p in
-    let none = c.if-rows-p-gt0.false in
     send_37 s.wires.now s.rows.now s.queues.now s.totals.now s.limit p.result s.a p.ensures.1 s.channel s.word _
     (omega arith) (sym c.owing.ensures ∙ c.if-owing.true) _ c.blame.ensures c.refused.ensures
 
@@ -23,7 +22,6 @@ returns-then-queues-b-ge-QUEUE c =
     let s = c.args in
     let p = c.index16-p in
     let b = c.index16-b in
-    let none = c.if-rows-p-gt0.false in
     send_38 s.wires.now s.rows.now s.queues.now s.totals.now s.limit p.result s.a p.ensures.1 s.channel s.word _
     (omega arith) (sym c.owing.ensures ∙ c.if-owing.false) b.result b.ensures.1 c.if-queues-b-ge-QUEUE.true c.refused-then-queues-b-ge-QUEUE.ensures
 
@@ -34,7 +32,6 @@ returns-then-full c =
     let b = c.index16-b in
     let k = c.index32-k in
     let reader = c.reader in
-    let none = c.if-rows-p-gt0.false in
     send_39 s.wires.now s.rows.now s.queues.now s.totals.now s.limit p.result s.a p.ensures.1 s.channel s.word _
     (omega arith) (sym c.owing.ensures ∙ c.if-owing.false) b.result b.ensures.1 c.if-queues-b-ge-QUEUE.false k.result reader.result k.ensures.1
     (reader.ensures k.ensures.0) (sym c.full.ensures ∙ c.if-full.true) c.refused-then-full.ensures
@@ -48,7 +45,6 @@ returns c =
     let reader = c.reader in
     let at = c.place-at in
     let t = c.queue_send in
-    let none = c.if-rows-p-gt0.false in
     let more : c.wrapping_add_u32.result ≡ (get_or s.totals.now k.result 0 + 1) % 2 ^ 32 = c.wrapping_add_u32.ensures.value in
     rw (c.push.ensures, more)
     (send-queued s.wires.now s.rows.now s.queues.now s.totals.now s.limit p.result s.a p.ensures.1 s.channel s.word _
