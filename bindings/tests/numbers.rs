@@ -7,12 +7,12 @@ use kunzeastylus::{
 
 const HEADER: &str = include_str!("../../include/kunzeastylus.h");
 const NUMBERS: &str = include_str!("../../docs/NUMBERS.md");
-const CODE: [(&str, &str); 3] = [
-    ("ks_answer", include_str!("../../crates/numbers/src/answers.rt")),
-    ("ks_refusal", include_str!("../../crates/numbers/src/runs.rt")),
-    ("ks_backup_reply", include_str!("../../crates/numbers/src/backup.rt")),
+/// An enum of the header, what it puts before its names, and the proved code's enum.
+const CODE: [(&str, &str, &str); 3] = [
+    ("ks_reason", "KS_REASON_", include_str!("../../crates/numbers/src/answers.rt")),
+    ("ks_refusal", "KS_", include_str!("../../crates/numbers/src/runs.rt")),
+    ("ks_backup_reply", "KS_BACKUP_", include_str!("../../crates/numbers/src/backup.rt")),
 ];
-const CAUSES: &str = include_str!("../../crates/numbers/src/causes.rt");
 
 /// A process with no instructions, which reads a channel from the outside.
 const TABLE: [u8; 11] = [0, 9, 1, 2, 1, 1, 255, 0, 0, 1, 0];
@@ -63,28 +63,35 @@ fn numbers() {
     assert!(Reason::ALL.iter().all(|cause| cause.code().number() == cause.number() / 4));
 }
 
-/// The constants of a file of the proved code, with what the header puts before their names.
+/// The cases of the enum of a file of the proved code, as the header spells names: `TableLength` as `TABLE_LENGTH`.
 fn coded(source: &str, before: &str) -> Vec<(String, u8)> {
-    let constant = |line: &str| {
-        let (name, rest) = line.strip_prefix("pub const ")?.split_once(": ")?;
-        Some((format!("{before}{name}"), rest.split_once(" = ")?.1.strip_suffix(';')?.parse().ok()?))
+    let spelled = |name: &str| -> String {
+        let parts =
+            name.char_indices()
+                .map(|(i, c)| if i > 0 && c.is_uppercase() { format!("_{c}") } else { c.to_uppercase().to_string() });
+        parts.collect()
     };
-    source.lines().filter_map(constant).collect()
+    let case = |line: &str| {
+        let (name, number) = line.trim().strip_suffix(',')?.split_once(" = ")?;
+        let named = name.starts_with(char::is_uppercase) && name.chars().all(char::is_alphanumeric);
+        Some((format!("{before}{}", spelled(name)), number.parse().ok()?)).filter(|_| named)
+    };
+    source.lines().filter_map(case).collect()
 }
 
-/// The proved code names its numbers as the header does, in the same order; a cause as the reason that it is with its code, where it isn't 0 each.
+/// The proved code names its numbers as the header does, in the same order. It has no case for what is not refused, 0.
 #[test]
 fn in_code() {
-    for (name, source) in CODE {
-        assert_eq!(
-            coded(source, "KS_"),
-            constants(name).map(|(constant, number)| (constant.to_string(), number)).collect::<Vec<_>>()
-        );
+    for (name, before, source) in CODE {
+        let refuses = name != "ks_reason";
+        let header = constants(name).filter(|(_, number)| !refuses || *number != 0);
+        assert_eq!(coded(source, before), header.map(|(constant, number)| (constant.to_string(), number)).collect::<Vec<_>>());
     }
-    let causes = coded(CAUSES, "KS_REASON_");
-    let reasons: Vec<(String, u8)> = constants("ks_reason").map(|(constant, byte)| (constant.to_string(), byte % 4)).collect();
-    assert!(causes.iter().all(|cause| reasons.contains(cause)));
-    assert!(reasons.iter().all(|reason| reason.1 == 0 || causes.contains(reason)));
+    // An answer's code is a reason's, and every code has one.
+    let codes: Vec<u8> = header("ks_answer");
+    let mut reasons: Vec<u8> = coded(CODE[0].2, CODE[0].1).into_iter().map(|(_, number)| number / 4).collect();
+    reasons.dedup();
+    assert_eq!(reasons, codes);
 }
 
 /// The lines of a section of docs/NUMBERS.md: a number, and the other columns, without backticks.

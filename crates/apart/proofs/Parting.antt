@@ -1,6 +1,7 @@
 -- A table taken apart: the room that its lists want, what goes into them, and the promise.
+use Rattle.std.specs.Prelude.{Result, Ok, Err, IfOk}
 use mathlib.Core.Path.{◌≡◌, refl, ap, sym, subst, ◌∙◌}
-use mathlib.Core.Bool.{Bool, true, false, cond, ◌&&◌}
+use mathlib.Core.Bool.{Bool, true, false, ◌&&◌}
 use mathlib.Core.List.{List}
 use Prim.Native.Nat.{ℕ, ◌+◌, ◌-◌, ◌*◌, ◌/◌, ◌^◌, ◌≤◌, ◌<◌}
 use native.Mathlib.Omega.{arith}
@@ -9,6 +10,8 @@ use lib.ListN.{length, take, drop}
 use lib.Seq.{sets, take_at}
 use borrow.Author.Tests.{leb-true, le-leb, lt-leb, eqb-true, ne_eqb}
 use Rattle.facts.specs.Tests.{by_eq, and_left, and_right}
+use Rattle.numbers.specs.Runs.{number_of, refuses}
+use Rattle.numbers.specs.declared.runs.Refusal.{Refusal}
 use Rattle.rules.specs.Bytes.{written}
 use Rattle.rules.specs.Sizes.{table_most, limit_bytes}
 use Rattle.rules.specs.Format.{length_field, version_in, boards_in, processes_in, channels_in, length_ok, records_ok, or_number, validate_table}
@@ -16,7 +19,7 @@ use Rattle.rules.specs.Encode.{program_lengths, total, placements_in, limits_in,
 use Rattle.rules.proofs.Apart.{Bytes, apart-long, length-apart, records_ok_lem, apart-writes}
 use Rattle.rules.proofs.Valid.{valid, counted}
 use Rattle.apart.specs.declared.Taken.{Taken}
-use Rattle.apart.specs.Taken.{none, Lent, lists_in, written_in, TakesApart}
+use Rattle.apart.specs.Taken.{Lent, lists_in, TakesApart}
 use Rattle.apart.specs.Taking.{Records, Room, room_for, ListsTaken}
 use Rattle.facts.specs.Laying.{sets-front}
 
@@ -100,11 +103,11 @@ module _ (table : List ℕ) (h : validate_table table ≡ 0) where
 
   pub taken-whole : Bytes table → (m after : Lent) (v b p c n : ℕ) → v ≡ version_in table → b ≡ boards_in table → p ≡ processes_in table → c ≡ channels_in table
       → 3 * n ≡ length (apart table).instructions → Room table m → ListsTaken table m after
-      → TakesApart table m (record { number = 0; version = v; boards = b; processes = p; channels = c; instructions = n }) after
+      → TakesApart table m (Ok (record { version = v; boards = b; processes = p; channels = c; instructions = n })) after
   unfolding validate_apart apart
   taken-whole y m after v b p c n ev eb ep ec en r t =
       let w = t.taken in
-      let e : lists_in (record { number = 0; version = v; boards = b; processes = p; channels = c; instructions = n }) after ≡ apart table =
+      let e : lists_in (record { version = v; boards = b; processes = p; channels = c; instructions = n }) after ≡ apart table =
       λ i. record {
         version = ev i;
         boards = eb i;
@@ -118,31 +121,19 @@ module _ (table : List ℕ) (h : validate_table table ≡ 0) where
       record {
         number_is = sym ((λ i. or_number (eqb (h i) 0) (h i) (or_number (room_for table (length m.ends) (length m.placements) (length m.limits) (length m.instructions)) 45 0)) ∙ ap (λ (x : Bool). or_number x 45 0) r.room);
         lists_written = w;
-        refused = λ z. absurd (z refl);
-        counted = λ _. en;
-        lists_are = λ _. e;
-        written_back = λ _. subst (WritesAs table) (sym e) (apart-writes table h y);
+        counted = en;
+        lists_are = e;
+        written_back = subst (WritesAs table) (sym e) (apart-writes table h y);
       }
 
-pub taken-nothing : (table : List ℕ) (m : Lent) (number : ℕ) (r : Taken)
-    → number ≡ validate_apart table (length m.ends) (length m.placements) (length m.limits) (length m.instructions)
-    → (number ≡ 0 → ⊥) → r ≡ none number → TakesApart table m r m
-taken-nothing table m number r e h s =
-    let same = ap (λ (x : Taken). x.number) s in
-    let off = ne_eqb r.number 0 (λ z. h (sym same ∙ z)) in
-    record {
-      number_is = same ∙ e;
-      lists_written = sym (ap (λ (b : Bool). cond b (written_in (apart table) m) m) off);
-      refused = λ _. s ∙ ap none (sym same);
-      counted = λ z. absurd (h (sym same ∙ z));
-      lists_are = λ z. absurd (h (sym same ∙ z));
-      written_back = λ z. absurd (h (sym same ∙ z));
-    }
+pub taken-nothing : (table : List ℕ) (m : Lent) (r : Refusal)
+    → number_of r ≡ validate_apart table (length m.ends) (length m.placements) (length m.limits) (length m.instructions) → TakesApart table m (Err r) m
+taken-nothing table m r e = record { number_is = e; lists_written = refl; counted = tt; lists_are = tt; written_back = tt }
 
 module _ (table : List ℕ) (e p m i : ℕ) where
-  pub reader_refuses : (number : ℕ) → number ≡ validate_table table → (number ≡ 0 → ⊥) → number ≡ validate_apart table e p m i
+  pub reader_refuses : (r : Refusal) → number_of r ≡ validate_table table → number_of r ≡ validate_apart table e p m i
   unfolding validate_apart
-  reader_refuses number s h = s ∙ sym (ap (λ (b : Bool). or_number b (validate_table table) (or_number (room_for table e p m i) 45 0)) (ne_eqb (validate_table table) 0 (λ z. h (s ∙ z))))
+  reader_refuses r s = s ∙ sym (ap (λ (b : Bool). or_number b (validate_table table) (or_number (room_for table e p m i) 45 0)) (ne_eqb (validate_table table) 0 (λ z. refuses r (s ∙ z))))
 
   pub room_refuses : validate_table table ≡ 0 → room_for table e p m i ≡ false → 45 ≡ validate_apart table e p m i
   unfolding validate_apart
@@ -196,24 +187,22 @@ module _ (table : List ℕ) (h : validate_table table ≡ 0) (n e p m i c q l : 
 
 -- ---- what is returned is small
 
-module _ (table : List ℕ) (before after : Lent) (r : Taken) (t : TakesApart table before r after) where
-  accepted-table : r.number ≡ 0 → validate_table table ≡ 0
+module _ (table : List ℕ) (before after : Lent) where
+  accepted-table : (x : Taken) → TakesApart table before (Ok x) after → validate_table table ≡ 0
   unfolding validate_apart
-  accepted-table z =
+  accepted-table x t =
       by_eq (validate_table table) 0
       (λ e. e)
       (λ n. absurd (n (sym
       (ap (λ (b : Bool). or_number b (validate_table table) (or_number (room_for table (length before.ends) (length before.placements) (length before.limits) (length before.instructions)) 45 0))
       (ne_eqb (validate_table table) 0 n))
-      ∙ (sym t.number_is ∙ z))))
+      ∙ sym t.number_is)))
 
-  pub few-instructions : r.instructions < 2 ^ 16
-  few-instructions =
-      by_eq r.number 0
-      (λ z.
-      let h = accepted-table z in
-      let a = t.counted z in
+  pub few-instructions : (r : Result Taken Refusal) → TakesApart table before r after → IfOk r (λ x. x.instructions < 2 ^ 16)
+  few-instructions (Err r) t = tt
+  few-instructions (Ok x) t =
+      let h = accepted-table x t in
+      let a : 3 * x.instructions ≡ length (apart table).instructions = t.counted in
       let b = length-apart table h in
       let d = table-short table h in
-      omega arith)
-      (λ n. let e = ap (λ (x : Taken). x.instructions) (t.refused n) in omega arith)
+      omega arith

@@ -1,13 +1,11 @@
 -- The promise of `take_apart`.
-use Rattle.std.specs.Prelude.{◌≡◌, cond, List, ℕ, ◌*◌, eqb, length, take}
+use Rattle.std.specs.Prelude.{◌≡◌, cond, List, ℕ, ◌*◌, length, take, Result, is_ok, IfOk}
+use Rattle.numbers.specs.Runs.{number_in}
+use Rattle.numbers.specs.declared.runs.Refusal.{Refusal}
 use Rattle.rules.specs.Sizes.{limit_bytes}
 use Rattle.rules.specs.Bytes.{written}
 use Rattle.rules.specs.Encode.{Lists, apart, validate_apart, WritesAs}
 use Rattle.apart.specs.declared.Taken.{Taken}
-
--- what a refusal returns
-abbrev pub none : ℕ → Taken
-none number = record { number = number; version = 0; boards = 0; processes = 0; channels = 0; instructions = 0 }
 
 -- the four lists that are lent
 pub record Lent : Type 0 where
@@ -42,13 +40,12 @@ written_in l m = record {
 }
 
 -- a table, the lists before, what was returned, the lists after
-pub record TakesApart (table : List ℕ) (before : Lent) (r : Taken) (after : Lent) : Type 0 where
-  pub number_is : r.number
+pub record TakesApart (table : List ℕ) (before : Lent) (r : Result Taken Refusal) (after : Lent) : Type 0 where
+  pub number_is : number_in r
       ≡ validate_apart table (length before.ends) (length before.placements) (length before.limits) (length before.instructions)
-  -- the table's lists at the fronts; refused, zeros and all four as they were
-  pub lists_written : after ≡ cond (eqb r.number 0) (written_in (apart table) before) before
-  pub refused : (r.number ≡ 0 → ⊥) → r ≡ none r.number
-  pub counted : r.number ≡ 0 → 3 * r.instructions ≡ length (apart table).instructions
+  -- the table's lists at the fronts; refused, all four as they were
+  pub lists_written : after ≡ cond (is_ok r) (written_in (apart table) before) before
+  pub counted : IfOk r (λ x. 3 * x.instructions ≡ length (apart table).instructions)
   -- "An accepted table, taken apart and written again, comes out byte for byte": of the numbers that are then in the lists
-  pub lists_are : r.number ≡ 0 → lists_in r after ≡ apart table
-  pub written_back : r.number ≡ 0 → WritesAs table (lists_in r after)
+  pub lists_are : IfOk r (λ x. lists_in x after ≡ apart table)
+  pub written_back : IfOk r (λ x. WritesAs table (lists_in x after))

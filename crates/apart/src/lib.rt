@@ -7,10 +7,10 @@ ghost use Rattle.rules.specs.Bytes.{byte_at};
 ghost use Rattle.rules.specs.Sizes.{table_most, limit_bytes};
 ghost use Rattle.rules.specs.Format.{version_in, processes_in, validate_table};
 ghost use Rattle.rules.specs.Encode.{program_in, placements_in, limits_in, instructions_in, apart};
-ghost use Rattle.apart.specs.Taken.{TakesApart, none, lent};
+ghost use Rattle.apart.specs.Taken.{TakesApart, lent};
 ghost use Rattle.apart.specs.Taking.{Records, Room, room_for, ListsTaken};
 
-use numbers::runs::{ACCEPTED, NO_ROOM};
+use numbers::runs::Refusal;
 use records::bytes::byte;
 use records::fetch::fetch;
 use records::head::VERSION;
@@ -19,10 +19,9 @@ use table::format::{BOARDS_AT, CHANNELS_AT, HEAD, LIMIT, PROCESSES_AT, WITH_LIMI
 use table::record::{length_place, record_length, version_of};
 use words::{byte_wide, byte_word};
 
-// 0, the version, the counts, and how many instructions there are; or the number that refuses the table or the lists lent for it, and zeros.
+// What a table's head says behind its length, and how many instructions there are.
 #[derive(Clone, Copy)]
 pub struct Taken {
-    pub number: u8,
     pub version: u8,
     pub boards: u8,
     pub processes: u8,
@@ -30,28 +29,13 @@ pub struct Taken {
     pub instructions: u32,
 }
 
-fn refused(number: u8) -> Taken
-    ensures { result ≡ none number }
-{
-    Taken {
-        number: number,
-        version: 0,
-        boards: 0,
-        processes: 0,
-        channels: 0,
-        instructions: 0,
-    }
-}
-
 // The n bytes from `at` on, as numbers at the front of a list.
 fn take_bytes(table: &[u8], at: usize, n: usize, out: &mut [u32])
     requires { (at + n ≤ length table.now) × (n ≤ length out.old) }
     ensures { out.new ≡ sets out.old 0 (take n (drop at table.now)) }
 {
-    let mut k = 0;
-    while k < n {
+    for k in 0..n {
         out[k] = byte_word(table[at + k]);
-        k += 1;
     }
 }
 
@@ -60,14 +44,12 @@ fn take_program(table: &[u8], at: usize, n: usize, out: &mut [u32], i: usize)
     requires { (at + 6 * n ≤ length table.now) × (3 * (i + n) ≤ length out.old) }
     ensures { out.new ≡ sets out.old (3 * i) (program_in n (drop at table.now)) }
 {
-    let mut k = 0;
-    while k < n {
+    for k in 0..n {
         let j = 3 * (i + k);
         let s = fetch(table, at, k);
         out[j] = byte_word(s.code);
         out[j + 1] = s.a;
         out[j + 2] = s.operand;
-        k += 1;
     }
 }
 
@@ -102,14 +84,12 @@ fn take_records(
     let place = length_place(version);
     let mut next = at;
     let mut i = 0;
-    let mut p = 0;
-    while p < processes {
+    for p in 0..processes {
         let n = byte_wide(table[next + place]);
         take_placement(table, next, next + place, placements, p);
         take_program(table, next + (1 + place), n, instructions, i);
         next += 1 + place + 6 * n;
         i += n;
-        p += 1;
     }
 }
 
@@ -123,11 +103,9 @@ fn take_limits(table: &[u8], at: usize, version: u32, processes: usize, limits: 
         return;
     }
     let mut next = at;
-    let mut p = 0;
-    while p < processes {
+    for p in 0..processes {
         limits[p] = byte_word(table[next + LIMIT]);
         next += record_length(version, &table[next..]);
-        p += 1;
     }
 }
 
@@ -210,16 +188,12 @@ pub fn take_apart(
     placements: &mut [u32],
     limits: &mut [u32],
     instructions: &mut [u32],
-) -> Taken
+) -> Result<Taken, Refusal>
     ensures { TakesApart table.now
         (lent ends.old placements.old limits.old instructions.old) result
         (lent ends.new placements.new limits.new instructions.new) }
 {
-    let d = decode(table);
-    let number = d.number;
-    if number != 0 {
-        return refused(number);
-    }
+    decode(table)?;
     let total = instructions_in(table);
     if !has_room(
         table,
@@ -229,15 +203,14 @@ pub fn take_apart(
         limits.len(),
         instructions.len(),
     ) {
-        return refused(NO_ROOM);
+        return Err(Refusal::NoRoom);
     }
     take_lists(table, ends, placements, limits, instructions);
-    Taken {
-        number: ACCEPTED,
+    Ok(Taken {
         version: byte(table, VERSION),
         boards: byte(table, BOARDS_AT),
         processes: byte(table, PROCESSES_AT),
         channels: byte(table, CHANNELS_AT),
         instructions: total as u32,
-    }
+    })
 }

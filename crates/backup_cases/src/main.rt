@@ -6,8 +6,37 @@
 
 use backup::limits::LOG;
 use backup::place::Checkpoint;
-use backup_value::{Backup, FailOver, Reply, SyncReply};
+use backup_value::{Backup, Synced};
+use numbers::backup::BackupRefusal;
 use std::io;
+
+// A call's number, and the record after it: refused, the one that it was called on.
+#[derive(Clone, Copy)]
+struct Outcome {
+    number: u8,
+    backup: Backup,
+}
+
+fn after(b: Backup, r: Result<Backup, BackupRefusal>) -> Outcome {
+    match r {
+        Ok(next) => Outcome {
+            number: 0,
+            backup: next,
+        },
+        Err(refusal) => Outcome {
+            number: refusal.number(),
+            backup: b,
+        },
+    }
+}
+
+fn arrive(b: Backup, port: u32, word: u32) -> Outcome {
+    after(b, b.arrive(port, word))
+}
+
+fn count(b: Backup) -> Outcome {
+    after(b, b.count())
+}
 
 fn text(rt: &impl Print, s: &str) -> io::Result<()> {
     rt.print(s)
@@ -43,11 +72,10 @@ fn show(rt: &impl Print, b: Backup) -> io::Result<()> {
     text(rt, "\n")
 }
 
-fn reply(rt: &impl Print, case: &str, r: Reply) -> io::Result<Backup> {
+fn reply(rt: &impl Print, case: &str, r: Outcome) -> io::Result<()> {
     text(rt, case)?;
     number(rt, r.number as u64)?;
-    show(rt, r.backup)?;
-    Ok(r.backup)
+    show(rt, r.backup)
 }
 
 fn word(rt: &impl Print, n: u32) -> io::Result<()> {
@@ -62,51 +90,76 @@ fn by_slot(rt: &impl Print, n: [u32; 4]) -> io::Result<()> {
     word(rt, n[3])
 }
 
-fn synced(rt: &impl Print, case: &str, r: SyncReply) -> io::Result<()> {
-    text(rt, case)?;
-    number(rt, r.number as u64)?;
-    let dropped = r.dropped;
-    text(rt, " dropped")?;
-    by_slot(rt, dropped)?;
-    let remained = r.remained;
-    text(rt, " remain")?;
-    by_slot(rt, remained)?;
-    show(rt, r.backup)
+fn backup_of(r: Result<Synced, BackupRefusal>) -> Result<Backup, BackupRefusal> {
+    let s = r?;
+    Ok(s.backup)
 }
 
-fn promoted(rt: &impl Print, case: &str, f: FailOver) -> io::Result<()> {
+// A sync, whatever it reports.
+fn landing(b: Backup, c: Checkpoint) -> Outcome {
+    after(b, backup_of(b.sync(c)))
+}
+
+// A report of no words.
+const NONE: [u32; 4] = [0; 4];
+
+fn synced(rt: &impl Print, case: &str, b: Backup, c: Checkpoint) -> io::Result<()> {
     text(rt, case)?;
-    number(rt, f.number as u64)?;
-    show(rt, f.promoted)
+    match b.sync(c) {
+        Ok(s) => told(rt, 0, s.dropped, s.remained, s.backup),
+        Err(refusal) => told(rt, refusal.number(), NONE, NONE, b),
+    }
+}
+
+fn told(
+    rt: &impl Print,
+    answer: u8,
+    dropped: [u32; 4],
+    remained: [u32; 4],
+    b: Backup,
+) -> io::Result<()> {
+    number(rt, answer as u64)?;
+    text(rt, " dropped")?;
+    by_slot(rt, dropped)?;
+    text(rt, " remain")?;
+    by_slot(rt, remained)?;
+    show(rt, b)
+}
+
+// What is handed over; refused, no words and the rest 0, as of a new record.
+fn promoted(rt: &impl Print, case: &str, b: Backup) -> io::Result<()> {
+    reply(rt, case, after(Backup::new(), b.fail_over()))
 }
 
 // Two words on slot 0, one on slot 1 between them.
 fn three() -> Backup {
-    let a = backup_value::arrive(backup_value::new(), 0, 10).backup;
-    let b = backup_value::arrive(a, 1, 11).backup;
-    backup_value::arrive(b, 0, 12).backup
+    let a = arrive(Backup::new(), 0, 10).backup;
+    let b = arrive(a, 1, 11).backup;
+    arrive(b, 0, 12).backup
 }
 
-// n words on slots 0, 1, 2, 3, 0, ..; the last reply.
-fn filled(n: u32) -> Reply {
-    let mut r = Reply {
+// Nothing was called yet.
+fn untried(b: Backup) -> Outcome {
+    Outcome {
         number: 0,
-        backup: backup_value::new(),
-    };
+        backup: b,
+    }
+}
+
+// n words on slots 0, 1, 2, 3, 0, ..; after the last call.
+fn filled(n: u32) -> Outcome {
+    let mut r = untried(Backup::new());
     for i in 0..n {
-        r = backup_value::arrive(r.backup, i % 4, i);
+        r = arrive(r.backup, i % 4, i);
     }
     r
 }
 
-// A record after n transmissions; the last reply.
-fn counted(n: u32) -> Reply {
-    let mut r = Reply {
-        number: 0,
-        backup: backup_value::new(),
-    };
+// A record after n transmissions; after the last call.
+fn counted(n: u32) -> Outcome {
+    let mut r = untried(Backup::new());
     for _ in 0..n {
-        r = backup_value::count(r.backup);
+        r = count(r.backup);
     }
     r
 }
@@ -129,143 +182,103 @@ fn arrivals(rt: &impl Print) -> io::Result<()> {
     reply(
         rt,
         "arrive on an empty record",
-        backup_value::arrive(backup_value::new(), 3, 4294967295),
+        arrive(Backup::new(), 3, 4294967295),
     )?;
-    reply(
-        rt,
-        "M12's record",
-        Reply {
-            number: 0,
-            backup: three(),
-        },
-    )?;
+    reply(rt, "M12's record", untried(three()))?;
     reply(rt, "sixty-four arrivals", filled(64))?;
     reply(rt, "the sixty-fifth", filled(65))?;
-    reply(rt, "slot 4", backup_value::arrive(three(), 4, 9))?;
+    reply(rt, "slot 4", arrive(three(), 4, 9))?;
     reply(
         rt,
         "slot 4 into a full record",
-        backup_value::arrive(filled(64).backup, 4, 9),
+        arrive(filled(64).backup, 4, 9),
     )?;
     Ok(())
 }
 
 fn counts(rt: &impl Print) -> io::Result<()> {
-    reply(rt, "count", backup_value::count(three()))?;
+    reply(rt, "count", count(three()))?;
     reply(rt, "thirty-two counts", counted(32))?;
     reply(rt, "the thirty-third", counted(33))?;
     Ok(())
 }
 
 fn syncs(rt: &impl Print) -> io::Result<()> {
-    synced(
-        rt,
-        "M12",
-        backup_value::sync(three(), checkpoint(5, 1, 0, 0, 0)),
-    )?;
-    synced(
-        rt,
-        "nothing taken",
-        backup_value::sync(three(), checkpoint(64, 0, 0, 0, 0)),
-    )?;
-    synced(
-        rt,
-        "everything taken",
-        backup_value::sync(three(), checkpoint(0, 2, 1, 0, 0)),
-    )?;
+    synced(rt, "M12", three(), checkpoint(5, 1, 0, 0, 0))?;
+    synced(rt, "nothing taken", three(), checkpoint(64, 0, 0, 0, 0))?;
+    synced(rt, "everything taken", three(), checkpoint(0, 2, 1, 0, 0))?;
     synced(
         rt,
         "everything of a full record",
-        backup_value::sync(filled(64).backup, checkpoint(7, 16, 16, 16, 16)),
+        filled(64).backup,
+        checkpoint(7, 16, 16, 16, 16),
     )?;
     synced(
         rt,
         "slot by slot",
-        backup_value::sync(filled(9).backup, checkpoint(7, 1, 2, 0, 1)),
+        filled(9).backup,
+        checkpoint(7, 1, 2, 0, 1),
     )?;
     synced(
         rt,
         "the count goes to 0",
-        backup_value::sync(counted(32).backup, checkpoint(1, 0, 0, 0, 0)),
+        counted(32).backup,
+        checkpoint(1, 0, 0, 0, 0),
     )?;
-    synced(
-        rt,
-        "place 65",
-        backup_value::sync(three(), checkpoint(65, 0, 0, 0, 0)),
-    )?;
+    synced(rt, "place 65", three(), checkpoint(65, 0, 0, 0, 0))?;
     synced(
         rt,
         "place 65 and too many taken",
-        backup_value::sync(three(), checkpoint(65, 9, 9, 9, 9)),
+        three(),
+        checkpoint(65, 9, 9, 9, 9),
     )?;
     synced(
         rt,
         "three taken on slot 0",
-        backup_value::sync(three(), checkpoint(1, 3, 0, 0, 0)),
+        three(),
+        checkpoint(1, 3, 0, 0, 0),
     )?;
     synced(
         rt,
         "two taken on slot 1",
-        backup_value::sync(three(), checkpoint(1, 0, 2, 0, 0)),
+        three(),
+        checkpoint(1, 0, 2, 0, 0),
     )?;
     synced(
         rt,
         "one taken on slot 2",
-        backup_value::sync(three(), checkpoint(1, 0, 0, 1, 0)),
+        three(),
+        checkpoint(1, 0, 0, 1, 0),
     )?;
     synced(
         rt,
         "one taken on slot 3",
-        backup_value::sync(three(), checkpoint(1, 0, 0, 0, 1)),
+        three(),
+        checkpoint(1, 0, 0, 0, 1),
     )
 }
 
 fn promotions(rt: &impl Print) -> io::Result<()> {
-    promoted(
-        rt,
-        "take over of an empty record",
-        backup_value::fail_over(backup_value::new()),
-    )?;
+    promoted(rt, "take over of an empty record", Backup::new())?;
     promoted(
         rt,
         "take over of three words",
-        backup_value::fail_over(
-            backup_value::sync(
-                backup_value::count(three()).backup,
-                checkpoint(3, 1, 0, 0, 0),
-            )
-            .backup,
-        ),
+        landing(count(three()).backup, checkpoint(3, 1, 0, 0, 0)).backup,
     )?;
-    promoted(
-        rt,
-        "take over of a full record",
-        backup_value::fail_over(filled(64).backup),
-    )?;
-    promoted(
-        rt,
-        "take over with thirty-two counted",
-        backup_value::fail_over(counted(32).backup),
-    )
+    promoted(rt, "take over of a full record", filled(64).backup)?;
+    promoted(rt, "take over with thirty-two counted", counted(32).backup)
 }
 
 // Every call on a record that is unfit in one way: 20 before the call's own numbers.
 fn unfit(rt: &impl Print, case: &str, b: Backup) -> io::Result<()> {
     text(rt, case)?;
-    number(rt, backup_value::arrive(b, 4, 0).number as u64)?;
-    number(rt, backup_value::arrive(b, 0, 0).number as u64)?;
-    number(rt, backup_value::count(b).number as u64)?;
-    number(
-        rt,
-        backup_value::sync(b, checkpoint(65, 9, 9, 9, 9)).number as u64,
-    )?;
-    number(
-        rt,
-        backup_value::sync(b, checkpoint(0, 0, 0, 0, 0)).number as u64,
-    )?;
-    promoted(rt, " then", backup_value::fail_over(b))?;
-    reply(rt, "  and it comes back", backup_value::arrive(b, 0, 0))?;
-    Ok(())
+    number(rt, arrive(b, 4, 0).number as u64)?;
+    number(rt, arrive(b, 0, 0).number as u64)?;
+    number(rt, count(b).number as u64)?;
+    number(rt, landing(b, checkpoint(65, 9, 9, 9, 9)).number as u64)?;
+    number(rt, landing(b, checkpoint(0, 0, 0, 0, 0)).number as u64)?;
+    promoted(rt, " then", b)?;
+    reply(rt, "  and it comes back", arrive(b, 0, 0))
 }
 
 fn unfits(rt: &impl Print) -> io::Result<()> {
@@ -286,20 +299,13 @@ fn unfits(rt: &impl Print) -> io::Result<()> {
     reply(
         rt,
         "what lies beyond the length doesn't matter",
-        backup_value::arrive(b, 2, 13),
+        arrive(b, 2, 13),
     )?;
     Ok(())
 }
 
 fn main(rt: HostRuntime) -> io::Result<()> {
-    reply(
-        &rt,
-        "new",
-        Reply {
-            number: 0,
-            backup: backup_value::new(),
-        },
-    )?;
+    reply(&rt, "new", untried(Backup::new()))?;
     arrivals(&rt)?;
     counts(&rt)?;
     syncs(&rt)?;

@@ -9,15 +9,14 @@ use lib.Dec.{ltb}
 use lib.ListN.{length, get_or, set, length-set}
 use lib.Seq.{get_or-set_same, get_or-set_other}
 use borrow.Author.Tests.{ltb-true, lt-ltb}
-use Rattle.facts.specs.Tests.{all_at, all_append, and_both, by_eq, no_way}
+use Rattle.facts.specs.Tests.{all_at, all_append, and_both, by_eq}
 use Rattle.facts.specs.Counts.{same_yes, same_no}
 use Rattle.facts.specs.Lists.{prefix, prefix-more}
 use Rattle.backup.specs.Limits.{ports}
 use Rattle.backup.specs.Replica.{Message, on_ports, saved_on}
 use Rattle.backup.specs.Laws.{saved_append, saved_cons}
 use Rattle.backup.specs.Place.{port_in, unpack, messages}
-use Rattle.backup_lent.specs.Steps.{Census}
-use Rattle.backup_lent.specs.declared.Tallies.{Tallies}
+use Rattle.backup_lent.specs.Steps.{Tallied}
 use Rattle.backup.proofs.InPlace.{saved-few}
 use Rattle.backup.proofs.Compacting.{messages-length, message_at_lem}
 
@@ -67,8 +66,8 @@ looked_on log len n i q h l e g =
     }
 
 -- one that is on no port
-pub census_false : (log : List ℕ) (len i q : ℕ) (r : Tallies) → i < len → q ≡ port_in (get_or log i 0) → ports ≤ q → r.fits ≡ false → Census log len r
-census_false log len i q r l e g z = record { says = z ∙ sym (go (on_ports (messages len log)) refl); tallies = λ y. absurd (no_way (cc)) }
+pub census_none : (log : List ℕ) (len i q : ℕ) → i < len → q ≡ port_in (get_or log i 0) → ports ≤ q → on_ports (messages len log) ≡ false
+census_none log len i q l e g = go (on_ports (messages len log)) refl
   where
     go : (b : Bool) → on_ports (messages len log) ≡ b → on_ports (messages len log) ≡ false
     go false h = h
@@ -79,13 +78,5 @@ census_false log len i q r l e g z = record { says = z ∙ sym (go (on_ports (me
         absurd (omega arith)
 
 -- all of them
-pub census_true : (log : List ℕ) (len : ℕ) (n : List ℕ) (r : Tallies) → Looked log len n len → r.fits ≡ true
-    → r.n0 ≡ get_or n 0 0 → r.n1 ≡ get_or n 1 0 → r.n2 ≡ get_or n 2 0 → r.n3 ≡ get_or n 3 0 → Census log len r
-census_true log len n r h z a b c d = record { says = z ∙ sym h.on_ports_lem; tallies = λ _ p k. at p k ∙ h.tallies p k }
-  where
-    at : (p : ℕ) → p < ports → get_or (r.n0 ∷ r.n1 ∷ r.n2 ∷ r.n3 ∷ []) p 0 ≡ get_or n p 0
-    at zero k = a
-    at (suc zero) k = b
-    at (suc (suc zero)) k = c
-    at (suc (suc (suc zero))) k = d
-    at (suc (suc (suc (suc p)))) k = absurd (omega arith)
+pub census_some : (log : List ℕ) (len : ℕ) (n : List ℕ) → Looked log len n len → Tallied log len n
+census_some log len n h = record { on_ports_lem = h.on_ports_lem; four = h.four; tallies = h.tallies }

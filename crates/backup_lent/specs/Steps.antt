@@ -1,36 +1,61 @@
 -- What the private steps of a call on lent numbers do.
-use Rattle.std.specs.Prelude.{◌≡◌, Bool, true, ◌&&◌, List, [], ◌∷◌, ℕ, ◌<◌, leb, length, get_or}
+use Rattle.std.specs.Prelude.{◌≡◌, Bool, true, false, ◌&&◌, List, [], ◌∷◌, ℕ, ◌<◌, leb, length, get_or, Option, Some, None, Result, Ok, Err}
+use Rattle.numbers.specs.declared.backup.BackupRefusal.{BackupRefusal}
+use Rattle.numbers.specs.Backup.{number_of}
 use Rattle.backup.specs.Limits.{log_most, ports, sent_most, pc_most}
 use Rattle.backup.specs.Replica.{fit, on_ports, saved_on}
-use Rattle.backup.specs.Place.{messages, view_in, head_len, head_sent, head_pc, head_register, Sound}
-use Rattle.backup_lent.specs.Lent.{lent_length}
-use Rattle.backup_lent.specs.declared.Tallies.{Tallies}
-use Rattle.backup_lent.specs.declared.Looked.{Looked}
+use Rattle.backup.specs.Place.{messages, Sound}
+use Rattle.backup.specs.Place as place
+use Rattle.backup.specs.declared.place.Head.{Head}
+use Rattle.backup_lent.specs.Lent.{lent_length, lent_len, view_in}
+
+-- how many of the first len saved words are on each port, where each is on one
+pub record Tallied (saved : List ℕ) (len : ℕ) (n : List ℕ) : Type 0 where
+  pub on_ports_lem : on_ports (messages len saved) ≡ true
+  pub four : length n ≡ ports
+  pub tallies : (p : ℕ) → p < ports → get_or n p 0 ≡ saved_on p (messages len saved)
 
 -- a look through the first len saved words
-pub record Census (saved : List ℕ) (len : ℕ) (r : Tallies) : Type 0 where
-  pub says : r.fits ≡ on_ports (messages len saved)
-  pub tallies : r.fits ≡ true → (p : ℕ) → p < ports → get_or (r.n0 ∷ r.n1 ∷ r.n2 ∷ r.n3 ∷ []) p 0 ≡ saved_on p (messages len saved)
+abbrev pub Census : List ℕ → ℕ → Option (List ℕ) → Type 0
+Census saved len (Some n) = Tallied saved len n
+Census saved len None = on_ports (messages len saved) ≡ false
 
 -- a head in range: what 20 asks of it
 abbrev pub within_in : List ℕ → Bool
-within_in head = leb (head_len head) log_most && (leb (head_sent head) sent_most && leb (head_pc head) pc_most)
+within_in head = leb (lent_len head) log_most && (leb (get_or head 1 0) sent_most && leb (get_or head 2 0) pc_most)
 
--- the first seven numbers of a head in place
-abbrev pub lent_front : List ℕ → List ℕ
-lent_front head =
-    head_len head ∷ head_sent head ∷ head_pc head ∷ head_register head 0 ∷ head_register head 1 ∷ head_register head 2 ∷ head_register head 3 ∷ []
+-- a head in place without its tallies, as a lent one
+abbrev pub lent_front : Head → List ℕ
+lent_front head = head.len ∷ head.sent ∷ head.pc ∷ head.r0 ∷ head.r1 ∷ head.r2 ∷ head.r3 ∷ []
 
--- a record that was looked through: whether it is fit, and if so a head for the calls in place, with true tallies
-pub record Looks (saved head : List ℕ) (r : Looked) : Type 0 where
+-- a lent head, with how many words are on each port
+abbrev pub whole_of : List ℕ → List ℕ → Head
+whole_of head n = record {
+  len = lent_len head;
+  sent = get_or head 1 0;
+  pc = get_or head 2 0;
+  r0 = get_or head 3 0;
+  r1 = get_or head 4 0;
+  r2 = get_or head 5 0;
+  r3 = get_or head 6 0;
+  saved = n;
+}
+
+-- a fit record, and a head with true tallies that stands for it in the calls in place
+pub record Fits (saved head : List ℕ) (whole : Head) : Type 0 where
   pub head_length_lem : length head ≡ lent_length
-  pub says : r.fits ≡ fit (view_in saved head)
-  pub sound : r.fits ≡ true → Sound saved r.head
-  pub same : r.fits ≡ true → view_in saved r.head ≡ view_in saved head
-  pub front : r.fits ≡ true → lent_front r.head ≡ head
+  pub is-fit : fit (view_in saved head) ≡ true
+  pub sound : Sound saved whole
+  pub same : place.view_in saved whole ≡ view_in saved head
+  pub front : lent_front whole ≡ head
 
--- what a call in place left of a head, written unless it was refused
-pub record Settled (head : List ℕ) (number : ℕ) (left : List ℕ) (n : ℕ) (head' : List ℕ) : Type 0 where
-  pub number_is : n ≡ number
-  pub refused : (number ≡ 0 → ⊥) → head' ≡ head
-  pub accepted : number ≡ 0 → head' ≡ lent_front left
+-- one that is not fit
+pub record Unfits (saved head : List ℕ) (number : ℕ) : Type 0 where
+  pub head_length_lem : length head ≡ lent_length
+  pub not-fit : fit (view_in saved head) ≡ false
+  pub number_is : number ≡ 20
+
+-- a record that was looked through
+abbrev pub Looks : List ℕ → List ℕ → Result Head BackupRefusal → Type 0
+Looks saved head (Ok whole) = Fits saved head whole
+Looks saved head (Err r) = Unfits saved head (number_of r)

@@ -3,89 +3,60 @@
 // the call in place of crate `backup`. Nothing is copied but the head.
 #![tactic(auto)]
 
-ghost use Rattle.std.specs.Prelude.{◌≡◌, List, ℕ, ◌≤◌, length};
+ghost use Rattle.std.specs.Prelude.{◌≡◌, List, ℕ, ◌≤◌};
+ghost use Rattle.numbers.specs.Backup.{number_in};
 ghost use Rattle.backup.specs.Limits.{log_most};
 ghost use Rattle.backup.specs.Replica.{initial, arrive as arrive_of, count as count_of, sync as sync_of};
-ghost use Rattle.backup.specs.Place.{view_in};
 ghost use Rattle.backup.specs.Report.{sync_report};
 ghost use Rattle.backup.specs.Rounds.{OnePass};
-ghost use Rattle.backup_lent.specs.Lent.{lent_length, fresh_lent, Answered, HandsOver, checkpoint_lent, told};
-ghost use Rattle.backup_lent.specs.Steps.{Census, within_in, Looks, Settled};
+ghost use Rattle.backup_lent.specs.Lent.{view_in, fresh_lent, Answered, HandsOver, checkpoint_lent, told, rounds_in};
+ghost use Rattle.backup_lent.specs.Steps.{Census, within_in, whole_of, lent_front, Looks};
 
 use backup::limits::{LOG, PC_MOST, PORTS, SENT_MOST};
 use backup::pack::port_of;
-use backup::place::{
-    Checkpoint, HEAD, LEN, PC, R0, R1, R2, R3, SENT, arrive_in, count_in, metered_sync_in,
-};
-use numbers::backup::{BACKUP_OK, BACKUP_UNFIT};
+use backup::place::{Checkpoint, Head, arrive_in, count_in, metered_sync_in};
+use numbers::backup::BackupRefusal;
 use words::wide;
 
-// How many numbers a lent head has: how many words are saved, count, place, four registers. They are the first of a head in place.
+// How many numbers a lent head has, and where: how many words are saved, count, place, four registers.
 pub const LENT: usize = 7;
+
+pub const LEN: usize = 0;
+
+pub const SENT: usize = 1;
+
+pub const PC: usize = 2;
+
+pub const R0: usize = 3;
+
+pub const R1: usize = 4;
+
+pub const R2: usize = 5;
+
+pub const R3: usize = 6;
 
 // What a sync tells: for each port how many words were dropped, and then for each how many remain.
 pub const TOLD: usize = 8;
 
-// A sync's number, and the rounds of all its loops but the look for 20.
-#[derive(Drop)]
-pub struct Metered {
-    pub number: u8,
-    pub rounds: usize,
-}
-
-// What a look through saved words finds: whether each is on a port, and how many are on each.
-#[derive(Clone, Copy)]
-struct Tallies {
-    fits: bool,
-    n0: u32,
-    n1: u32,
-    n2: u32,
-    n3: u32,
-}
-
-// Whether a record is fit, and if so its head for the calls in place.
-#[derive(Drop)]
-struct Looked {
-    fits: bool,
-    head: [u32; HEAD],
-}
-
-// Looks through the first len saved words, once.
-fn census(saved: &[u64], len: usize) -> Tallies
-    requires len_le_log_most { len ≤ log_most }
-    requires len_in_bounds { len ≤ length saved.now }
+// Looks through the first len saved words, once: how many are on each port, if each is on one.
+fn census(saved: &[u64; LOG], len: usize) -> Option<[u32; 4]>
+    requires { len ≤ log_most }
     ensures { Census saved.now len result }
 {
-    let mut n = [0u32; 4];
-    let mut i = 0;
-    while i < len {
+    let mut n = [0; 4];
+    for i in 0..len {
         let port = port_of(saved[i]);
         if port >= PORTS {
-            return Tallies {
-                fits: false,
-                n0: 0,
-                n1: 0,
-                n2: 0,
-                n3: 0,
-            };
+            return None;
         }
-        let s = port as usize;
-        n[s] = n[s] + 1;
-        i += 1;
+        n[wide(port)] += 1;
     }
-    Tallies {
-        fits: true,
-        n0: n[0],
-        n1: n[1],
-        n2: n[2],
-        n3: n[3],
-    }
+    Some(n)
 }
 
 // Whether a head says no more words than there is room for, and count and place are in range.
 #[tactic(auto, using(std::proofs::lemmas::Bool::Decides::nat_tests))]
-fn within(head: &[u32]) -> bool
-    requires { length head.now ≡ lent_length }
+fn within(head: &[u32; LENT]) -> bool
     ensures { result ≡ within_in head.now }
 {
     if wide(head[LEN]) > LOG {
@@ -97,36 +68,42 @@ fn within(head: &[u32]) -> bool
     head[PC] <= PC_MOST
 }
 
-// Document 01's 20, and the head with its tallies.
-fn look(saved: &[u64; LOG], head: &[u32; LENT]) -> Looked
-    ensures { Looks saved.now head.now result }
+// A lent head as one for the calls in place, with how many words are on each port.
+fn whole(head: &[u32; LENT], saved: [u32; 4]) -> Head
+    ensures { result ≡ whole_of head.now saved }
 {
-    if within(head) {
-        let t = census(saved, wide(head[LEN]));
-        return Looked {
-            fits: t.fits,
-            head: [
-                head[LEN], head[SENT], head[PC], head[R0], head[R1], head[R2], head[R3], t.n0,
-                t.n1, t.n2, t.n3,
-            ],
-        };
-    }
-    Looked {
-        fits: false,
-        head: [0; HEAD],
+    Head {
+        len: head[LEN],
+        sent: head[SENT],
+        pc: head[PC],
+        r0: head[R0],
+        r1: head[R1],
+        r2: head[R2],
+        r3: head[R3],
+        saved: saved,
     }
 }
 
-// Writes what a call in place left of the head, unless it was refused, and hands on its number.
-fn settle(head: &mut [u32; LENT], number: u8, left: [u32; HEAD]) -> u8
-    ensures { Settled head.old number left result head.new }
+// What a call in place left of it, as a lent head.
+fn front(head: Head) -> [u32; LENT]
+    ensures { result ≡ lent_front head }
 {
-    if number == 0 {
-        *head = [
-            left[LEN], left[SENT], left[PC], left[R0], left[R1], left[R2], left[R3],
-        ];
+    [
+        head.len, head.sent, head.pc, head.r0, head.r1, head.r2, head.r3,
+    ]
+}
+
+// Document 01's 20, or the head with its tallies.
+fn look(saved: &[u64; LOG], head: &[u32; LENT]) -> Result<Head, BackupRefusal>
+    ensures { Looks saved.now head.now result }
+{
+    if !within(head) {
+        return Err(BackupRefusal::Unfit);
     }
-    number
+    match census(saved, wide(head[LEN])) {
+        Some(n) => Ok(whole(head, n)),
+        None => Err(BackupRefusal::Unfit),
+    }
 }
 
 // A record as it starts: no words, and the rest 0. What lies in the saved words' array doesn't matter.
@@ -137,33 +114,32 @@ pub fn new(head: &mut [u32; LENT])
     *head = [0; LENT];
 }
 
-// A word arrives on a port: 0, or 20, 21, 22.
-pub fn arrive(saved: &mut [u64; LOG], head: &mut [u32; LENT], port: u32, word: u32) -> u8
-    ensures { Answered saved.old head.old saved.new head.new result (λ v. arrive_of v port word) }
+// A word arrives on a port; refused: 20, 21, 22.
+pub fn arrive(
+    saved: &mut [u64; LOG],
+    head: &mut [u32; LENT],
+    port: u32,
+    word: u32,
+) -> Result<(), BackupRefusal>
+    ensures { Answered saved.old head.old saved.new head.new (number_in result) (λ v. arrive_of v port word) }
 {
-    let looked = look(saved, head);
-    if looked.fits {
-        let mut whole = looked.head;
-        let number = arrive_in(saved, &mut whole, port, word);
-        return settle(head, number, whole);
-    }
-    BACKUP_UNFIT
+    let mut whole = look(saved, head)?;
+    arrive_in(saved, &mut whole, port, word)?;
+    *head = front(whole);
+    Ok(())
 }
 
-// A word of the process was carried: 0, or 20, 24.
-pub fn count(saved: &[u64; LOG], head: &mut [u32; LENT]) -> u8
-    ensures { Answered saved.now head.old saved.now head.new result count_of }
+// A word of the process was carried; refused: 20, 24.
+pub fn count(saved: &[u64; LOG], head: &mut [u32; LENT]) -> Result<(), BackupRefusal>
+    ensures { Answered saved.now head.old saved.now head.new (number_in result) count_of }
 {
-    let looked = look(saved, head);
-    if looked.fits {
-        let mut whole = looked.head;
-        let number = count_in(&mut whole);
-        return settle(head, number, whole);
-    }
-    BACKUP_UNFIT
+    let mut whole = look(saved, head)?;
+    count_in(&mut whole)?;
+    *head = front(whole);
+    Ok(())
 }
 
-// A sync lands, with its rounds counted: 0, or 20, 21, 23. The look through the words that tells 20 is not among them.
+// A sync lands, and says the rounds of all its loops; refused: 20, 21, 23. The look through the words that tells 20 is not among the rounds.
 pub fn metered_sync(
     saved: &mut [u64; LOG],
     head: &mut [u32; LENT],
@@ -171,46 +147,36 @@ pub fn metered_sync(
     registers: &[u32; 4],
     taken: &[u32; 4],
     report: &mut [u32; TOLD],
-) -> Metered
-    ensures answered { Answered saved.old head.old saved.new head.new result.number
+) -> Result<usize, BackupRefusal>
+    ensures answered { Answered saved.old head.old saved.new head.new (number_in result)
         (λ v. sync_of v (checkpoint_lent place registers.now taken.now)) }
     ensures report_after { report.new ≡ told (sync_report (view_in saved.old head.old)
         (checkpoint_lent place registers.now taken.now)) }
     ensures one_pass { OnePass (view_in saved.old head.old)
-        (checkpoint_lent place registers.now taken.now) result.number result.rounds }
+        (checkpoint_lent place registers.now taken.now) (number_in result) (rounds_in result) }
 {
-    let looked = look(saved, head);
-    if looked.fits {
-        let mut whole = looked.head;
-        let c = Checkpoint {
-            pc: place,
-            r0: registers[0],
-            r1: registers[1],
-            r2: registers[2],
-            r3: registers[3],
-            t0: taken[0],
-            t1: taken[1],
-            t2: taken[2],
-            t3: taken[3],
-        };
-        let m = metered_sync_in(saved, &mut whole, c);
-        let l = m.landed;
-        let d = l.dropped;
-        let e = l.remained;
-        *report = [d[0], d[1], d[2], d[3], e[0], e[1], e[2], e[3]];
-        return Metered {
-            number: settle(head, l.number, whole),
-            rounds: m.rounds,
-        };
-    }
     *report = [0; TOLD];
-    Metered {
-        number: BACKUP_UNFIT,
-        rounds: 0,
-    }
+    let mut whole = look(saved, head)?;
+    let c = Checkpoint {
+        pc: place,
+        r0: registers[0],
+        r1: registers[1],
+        r2: registers[2],
+        r3: registers[3],
+        t0: taken[0],
+        t1: taken[1],
+        t2: taken[2],
+        t3: taken[3],
+    };
+    let m = metered_sync_in(saved, &mut whole, c)?;
+    *head = front(whole);
+    let d = m.landed.dropped;
+    let e = m.landed.remained;
+    *report = [d[0], d[1], d[2], d[3], e[0], e[1], e[2], e[3]];
+    Ok(m.rounds)
 }
 
-// A sync lands: 0, or 20, 21, 23; and for each port how many words were dropped, and how many remain, all 0 where it was refused.
+// A sync lands, and tells for each port how many words were dropped, and how many remain, all 0 where it is refused: 20, 21, 23.
 pub fn sync(
     saved: &mut [u64; LOG],
     head: &mut [u32; LENT],
@@ -218,25 +184,26 @@ pub fn sync(
     registers: &[u32; 4],
     taken: &[u32; 4],
     report: &mut [u32; TOLD],
-) -> u8
-    ensures answered { Answered saved.old head.old saved.new head.new result
+) -> Result<(), BackupRefusal>
+    ensures answered { Answered saved.old head.old saved.new head.new (number_in result)
         (λ v. sync_of v (checkpoint_lent place registers.now taken.now)) }
     ensures report_after { report.new ≡ told (sync_report (view_in saved.old head.old)
         (checkpoint_lent place registers.now taken.now)) }
 {
-    let m = metered_sync(saved, head, place, registers, taken, report);
-    m.number
+    metered_sync(saved, head, place, registers, taken, report)?;
+    Ok(())
 }
 
-// The record takes over: 0, or 20. What is handed over is the saved words with the head that is handed; refused, no words and the rest 0.
-pub fn take_over(saved: &[u64; LOG], head: &[u32; LENT], handed: &mut [u32; LENT]) -> u8
-    ensures { HandsOver saved.now head.now result handed.new }
+// The record takes over; refused: 20. What is handed over is the saved words with the head that is handed; refused, no words and the rest 0.
+pub fn take_over(
+    saved: &[u64; LOG],
+    head: &[u32; LENT],
+    handed: &mut [u32; LENT],
+) -> Result<(), BackupRefusal>
+    ensures { HandsOver saved.now head.now (number_in result) handed.new }
 {
-    let looked = look(saved, head);
-    if looked.fits {
-        *handed = *head;
-        return BACKUP_OK;
-    }
     *handed = [0; LENT];
-    BACKUP_UNFIT
+    look(saved, head)?;
+    *handed = *head;
+    Ok(())
 }

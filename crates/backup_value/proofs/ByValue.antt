@@ -1,42 +1,58 @@
 -- The calls by value: a backup is laid out as a log and a head, called there, and put together again.
 use mathlib.Core.Path.{◌≡◌, refl, ap, sym, ◌∙◌}
+use mathlib.Core.Bool.{Bool, true, false}
 use mathlib.Core.List.{List, [], ◌∷◌, ◌++◌}
 use Prim.Native.Nat.{ℕ}
 use lib.ListN.{get_or}
+use Rattle.std.proofs.Common.{Ok, Err}
 use Rattle.facts.specs.Lists.{written_out}
+use Rattle.numbers.specs.declared.backup.BackupRefusal.{BackupRefusal}
+use Rattle.numbers.specs.Backup.{number_of}
 use Rattle.backup.specs.Limits.{ports}
 use Rattle.backup.specs.Replica as value
-use Rattle.backup.specs.Replica.{Replica, fit, fail_over}
-use Rattle.backup.specs.Report.{Report, sync_report}
-use Rattle.backup.specs.Place.{view_in}
+use Rattle.backup.specs.Replica.{Replica, no_registers, fit, fail_over, sync, sync_number, synced}
+use Rattle.backup.specs.Accepts.{answer-number, fail_over_accepted, fail_over_unfit}
+use Rattle.backup.specs.Report.{Report, no_report, sync_report}
+use Rattle.backup.proofs.InPlace.{some-number}
+use Rattle.backup.proofs.ReportLaws.{sync_report-refused}
 use Rattle.backup_lent.specs.Lent as lent
 use Rattle.backup_lent.specs.Lent.{HandsOver, told}
 use Rattle.backup_lent.proofs.Lending.{four-ports}
 use Rattle.backup_value.specs.Value.{view, promoted_by, head_of, backup_of, Answered}
 use Rattle.backup_value.specs.declared.Backup.{Backup}
-use Rattle.backup_value.specs.declared.Reply.{Reply}
-use Rattle.backup_value.specs.declared.FailOver.{FailOver}
 
 -- a struct and its two lists stand for the same value
-pub view_laid : (b : Backup) → view_in b.log (head_of b) ≡ view b
-unfolding view view_in
+pub view_laid : (b : Backup) → lent.view_in b.log (head_of b) ≡ view b
+unfolding view lent.view_in
 view_laid b = refl
 
-pub view_closed : (log head : List ℕ) → view (backup_of log head) ≡ view_in log head
-unfolding view view_in
+view_closed : (log head : List ℕ) → view (backup_of log head) ≡ lent.view_in log head
+unfolding view lent.view_in
 view_closed log head = refl
 
-pub answered_so : (b : Backup) (r : Reply) (log' head' : List ℕ) (call : Replica → value.Reply)
-    → lent.Answered b.log (head_of b) log' head' r.number call → r.backup ≡ backup_of log' head' → Answered b r call
-unfolding view view_in
-answered_so b r log' head' call a e =
-    let v : view r.backup ≡ view_in log' head' = ap view e in
-    record {
-      number_is = a.number_is;
-      value_is = v ∙ a.value_is;
-      untouched = λ n. let u = a.untouched n in e ∙ (λ i. backup_of (u.0 i) (u.1 i));
-      fit_again = λ f. ap fit v ∙ a.fit_again f;
-    }
+module _ (b : Backup) (log' head' : List ℕ) (call : Replica → value.Reply) where
+  -- done: the two arrays, put together
+  pub answered-done : lent.Answered b.log (head_of b) log' head' 0 call → Answered b (Ok (backup_of log' head')) call
+  unfolding view lent.view_in
+  answered-done a = record {
+    number_is = a.number_is;
+    value_is = view_closed log' head' ∙ a.value_is;
+    untouched = λ n. absurd (n refl);
+    fit_again = λ f. ap fit (view_closed log' head') ∙ a.fit_again f;
+  }
+
+  -- refused: the arrays are as they were, and so the definition leaves the value
+  pub answered-refused : (r : BackupRefusal) → lent.Answered b.log (head_of b) log' head' (number_of r) call → Answered b (Err r) call
+  unfolding view lent.view_in
+  answered-refused r a =
+      let u = a.untouched (some-number r) in
+      let v : lent.view_in log' head' ≡ lent.view_in b.log (head_of b) = λ i. lent.view_in (u.0 i) (u.1 i) in
+      record {
+        number_is = a.number_is;
+        value_is = sym v ∙ a.value_is;
+        untouched = λ _. refl;
+        fit_again = λ f. f;
+      }
 
 -- a sync's eight numbers give its report again
 pub report_so : (t : List ℕ) (v : Replica) (c : value.Checkpoint) → t ≡ told (sync_report v c)
@@ -50,11 +66,27 @@ report_so t v c h =
     let e = written_out r.remained ports 0 (four-ports v c).1 in
     rw (h ∙ (λ i. d i ++ e i)) (λ i. record { dropped = sym d i; remained = sym e i })
 
+-- a refused sync reports nothing, as the definition has it, whose number is the same
+pub report-refused : (b : Backup) (r : BackupRefusal) (c : value.Checkpoint) → Answered b (Err r) (λ v. sync v c) → no_report ≡ sync_report (view b) c
+unfolding sync
+report-refused b r c a =
+    sym (sync_report-refused (view b) c (λ z. some-number r (a.number_is ∙ answer-number (sync_number (view b) c) (view b) (synced (view b) c) ∙ z)))
+
 -- what is handed over: the saved words by the head that was handed
-pub promoted_so : (b : Backup) (r : FailOver) (handed : List ℕ) → HandsOver b.log (head_of b) r.number handed → r.promoted ≡ backup_of b.log handed
-    → promoted_by r ≡ fail_over (view b)
-unfolding promoted_by view view_in
-promoted_so b r handed h e =
-    let p : promoted_by r ≡ promoted_by (record { number = r.number; promoted = backup_of b.log handed }) =
-    λ i. promoted_by (record { number = r.number; promoted = e i }) in
-    p ∙ h.handed_is
+pub promoted-done : (b : Backup) (handed : List ℕ) → HandsOver b.log (head_of b) 0 handed → promoted_by (Ok (backup_of b.log handed)) ≡ fail_over (view b)
+unfolding promoted_by view lent.view_in
+promoted-done b handed h = h.handed_is
+
+-- refused: what the definition hands over is known by its number
+pub promoted-refused : (b : Backup) (r : BackupRefusal) (handed : List ℕ) → HandsOver b.log (head_of b) (number_of r) handed → promoted_by (Err r) ≡ fail_over (view b)
+unfolding promoted_by
+promoted-refused b r handed h = go (fit (view b)) refl
+  where
+    number : number_of r ≡ (fail_over (view b)).number
+    number = ap (λ (f : value.FailOver). f.number) h.handed_is ∙ ap (λ (v : Replica). (fail_over v).number) (view_laid b)
+
+    go : (f : Bool) → fit (view b) ≡ f → promoted_by (Err r) ≡ fail_over (view b)
+    go true e = absurd (some-number r (number ∙ ap (λ (f : value.FailOver). f.number) (fail_over_accepted (view b) e)))
+    go false e =
+        let u = fail_over_unfit (view b) e in
+        ap (λ (n : ℕ). record { number = n; log = []; pc = 0; registers = no_registers; sent = 0 }) (number ∙ ap (λ (f : value.FailOver). f.number) u) ∙ sym u

@@ -1,17 +1,19 @@
-// The backup record by value: each call takes a backup and gives one back. It is laid out in two arrays, called there (crate
-// `backup_lent`), and put together again.
+// The backup record by value: each call takes a backup and gives the one that it comes to, or says why it is refused, and then the caller's
+// own is the one that stays. It is laid out in two arrays, called there (crate `backup_lent`), and put together again.
 #![tactic(auto)]
 
 ghost use Rattle.std.specs.Prelude.{◌≡◌};
+ghost use Rattle.numbers.specs.Backup.{number_in};
 ghost use Rattle.backup.specs.Replica.{initial, arrive as arrive_of, count as count_of, sync as sync_of, fail_over};
 ghost use Rattle.backup.specs.Place.{checkpoint_of};
 ghost use Rattle.backup.specs.Rounds.{OnePass};
 ghost use Rattle.backup.specs.Report.{sync_report};
-ghost use Rattle.backup_value.specs.Value.{view, promoted_by, replied_of, reported_of, head_of, backup_of, Answered};
+ghost use Rattle.backup_value.specs.Value.{view, promoted_by, synced_by, backup_by, rounds_by, reported_of, head_of, backup_of, Answered};
 
 use backup::limits::LOG;
-use backup::place::{Checkpoint, LEN, PC, R0, R1, R2, R3, SENT};
-use backup_lent::{LENT, TOLD};
+use backup::place::Checkpoint;
+use backup_lent::{LEN, LENT, PC, R0, R1, R2, R3, SENT, TOLD};
+use numbers::backup::BackupRefusal;
 
 // Passive replica of a process (document 01: backup record). A message of the log is one number, port times 2^32 plus word (see
 // `pack`); the log's first len numbers count.
@@ -27,57 +29,19 @@ pub struct Backup {
     pub r3: u32,
 }
 
-// What a call replies: 0 or the refusal's number, and the backup afterwards.
+// What a sync gives: the backup afterwards, and for each port how many messages were dropped and how many remain.
 #[derive(Drop)]
-pub struct Reply {
-    pub number: u8,
-    pub backup: Backup,
-}
-
-// What a sync replies: a reply, and for each port how many messages were dropped and how many remain, all 0 where it was refused.
-#[derive(Drop)]
-pub struct SyncReply {
-    pub number: u8,
+pub struct Synced {
     pub backup: Backup,
     pub dropped: [u32; 4],
     pub remained: [u32; 4],
 }
 
-// A sync's reply, and the rounds of all its loops but the check for 20.
+// That, and the rounds of all its loops but the check for 20.
 #[derive(Drop)]
-pub struct MeteredReply {
-    pub reply: SyncReply,
+pub struct Metered {
+    pub synced: Synced,
     pub rounds: usize,
-}
-
-// What a promotion hands over (document 01: take over): 0 or 20, and words, program counter, registers and count.
-#[derive(Drop)]
-pub struct FailOver {
-    pub number: u8,
-    pub promoted: Backup,
-}
-
-// A backup as it starts: no messages, and the rest 0.
-pub fn new() -> Backup
-    ensures { view result ≡ initial }
-{
-    Backup {
-        log: [0; LOG],
-        len: 0,
-        sent: 0,
-        pc: 0,
-        r0: 0,
-        r1: 0,
-        r2: 0,
-        r3: 0,
-    }
-}
-
-// A backup's head.
-fn opened(b: Backup) -> [u32; LENT]
-    ensures { result ≡ head_of b }
-{
-    [b.len, b.sent, b.pc, b.r0, b.r1, b.r2, b.r3]
 }
 
 // The backup that a log and a head stand for.
@@ -96,74 +60,93 @@ fn closed(log: [u64; LOG], head: [u32; LENT]) -> Backup
     }
 }
 
-// A message arrives on a port: 20, 21, 22.
-pub fn arrive(b: Backup, port: u32, word: u32) -> Reply
-    ensures { Answered b result (λ v. arrive_of v port word) }
-{
-    let mut log = b.log;
-    let mut head = opened(b);
-    let number = backup_lent::arrive(&mut log, &mut head, port, word);
-    Reply {
-        number: number,
-        backup: closed(log, head),
+impl Backup {
+    // A backup as it starts: no messages, and the rest 0.
+    pub fn new() -> Backup
+        ensures { view result ≡ initial }
+    {
+        Backup {
+            log: [0; LOG],
+            len: 0,
+            sent: 0,
+            pc: 0,
+            r0: 0,
+            r1: 0,
+            r2: 0,
+            r3: 0,
+        }
     }
-}
 
-// A message of the process was transmitted: 20, 24.
-pub fn count(b: Backup) -> Reply
-    ensures { Answered b result count_of }
-{
-    let log = b.log;
-    let mut head = opened(b);
-    let number = backup_lent::count(&log, &mut head);
-    Reply {
-        number: number,
-        backup: closed(log, head),
+    // Its head, as it is lent.
+    fn head(&self) -> [u32; LENT]
+        ensures { result ≡ head_of self.now }
+    {
+        [
+            self.len, self.sent, self.pc, self.r0, self.r1, self.r2, self.r3,
+        ]
     }
-}
 
-// A checkpoint lands, with its rounds counted: 20, 21, 23. The look through the messages that tells 20 is not among them.
-pub fn metered_sync(b: Backup, c: Checkpoint) -> MeteredReply
-    ensures answered { Answered b (replied_of result.reply) (λ v. sync_of v (checkpoint_of c)) }
-    ensures reply_value { reported_of result.reply ≡ sync_report (view b) (checkpoint_of c) }
-    ensures one_pass { OnePass (view b) (checkpoint_of c) result.reply.number result.rounds }
-{
-    let mut log = b.log;
-    let mut head = opened(b);
-    let registers = [c.r0, c.r1, c.r2, c.r3];
-    let taken = [c.t0, c.t1, c.t2, c.t3];
-    let mut t = [0; TOLD];
-    let m = backup_lent::metered_sync(&mut log, &mut head, c.pc, &registers, &taken, &mut t);
-    MeteredReply {
-        reply: SyncReply {
-            number: m.number,
-            backup: closed(log, head),
-            dropped: [t[0], t[1], t[2], t[3]],
-            remained: [t[4], t[5], t[6], t[7]],
-        },
-        rounds: m.rounds,
+    // A message arrives on a port; refused: 20, 21, 22.
+    pub fn arrive(self, port: u32, word: u32) -> Result<Backup, BackupRefusal>
+        ensures { Answered self result (λ v. arrive_of v port word) }
+    {
+        let mut log = self.log;
+        let mut head = self.head();
+        backup_lent::arrive(&mut log, &mut head, port, word)?;
+        Ok(closed(log, head))
     }
-}
 
-// A checkpoint lands: 20, 21, 23, and what it dropped and left.
-pub fn sync(b: Backup, c: Checkpoint) -> SyncReply
-    ensures answered { Answered b (replied_of result) (λ v. sync_of v (checkpoint_of c)) }
-    ensures result_value { reported_of result ≡ sync_report (view b) (checkpoint_of c) }
-{
-    let m = metered_sync(b, c);
-    m.reply
-}
+    // A message of the process was transmitted; refused: 20, 24.
+    pub fn count(self) -> Result<Backup, BackupRefusal>
+        ensures { Answered self result count_of }
+    {
+        let log = self.log;
+        let mut head = self.head();
+        backup_lent::count(&log, &mut head)?;
+        Ok(closed(log, head))
+    }
 
-// The backup takes over: 20, and then no words and the rest 0.
-pub fn fail_over(b: Backup) -> FailOver
-    ensures { promoted_by result ≡ fail_over (view b) }
-{
-    let log = b.log;
-    let head = opened(b);
-    let mut handed = [0; LENT];
-    let number = backup_lent::take_over(&log, &head, &mut handed);
-    FailOver {
-        number: number,
-        promoted: closed(log, handed),
+    // A checkpoint lands, with its rounds counted; refused: 20, 21, 23. The look through the messages that tells 20 is not among them.
+    pub fn metered_sync(self, c: Checkpoint) -> Result<Metered, BackupRefusal>
+        ensures answered { Answered self (backup_by (synced_by result)) (λ v. sync_of v (checkpoint_of c)) }
+        ensures reported { reported_of (synced_by result) ≡ sync_report (view self) (checkpoint_of c) }
+        ensures one_pass { OnePass (view self) (checkpoint_of c) (number_in result) (rounds_by result) }
+    {
+        let mut log = self.log;
+        let mut head = self.head();
+        let registers = [c.r0, c.r1, c.r2, c.r3];
+        let taken = [c.t0, c.t1, c.t2, c.t3];
+        let mut t = [0; TOLD];
+        let rounds = backup_lent::metered_sync(
+            &mut log, &mut head, c.pc, &registers, &taken, &mut t,
+        )?;
+        Ok(Metered {
+            synced: Synced {
+                backup: closed(log, head),
+                dropped: [t[0], t[1], t[2], t[3]],
+                remained: [t[4], t[5], t[6], t[7]],
+            },
+            rounds: rounds,
+        })
+    }
+
+    // A checkpoint lands, and what it dropped and left is told; refused: 20, 21, 23.
+    pub fn sync(self, c: Checkpoint) -> Result<Synced, BackupRefusal>
+        ensures answered { Answered self (backup_by result) (λ v. sync_of v (checkpoint_of c)) }
+        ensures reported { reported_of result ≡ sync_report (view self) (checkpoint_of c) }
+    {
+        let m = self.metered_sync(c)?;
+        Ok(m.synced)
+    }
+
+    // The backup takes over: words, program counter, registers and count (document 01: take over); refused: 20, and nothing is handed over.
+    pub fn fail_over(self) -> Result<Backup, BackupRefusal>
+        ensures { promoted_by result ≡ fail_over (view self) }
+    {
+        let log = self.log;
+        let head = self.head();
+        let mut handed = [0; LENT];
+        backup_lent::take_over(&log, &head, &mut handed)?;
+        Ok(closed(log, handed))
     }
 }

@@ -1,21 +1,61 @@
 // The inputs of the cases, each a table and a schedule given byte by byte: a byte is a number that its place makes, so that the same input is
 // soon written in another language.
 
-// The sample, or the largest table, of version 1 or 2; one byte of the input that is changed; the schedule's length field.
+// The table: the sample, or the largest one, of version 1 or 2.
+#[derive(Clone, Copy)]
+pub enum Table {
+    Sample,
+    Largest,
+    Limited,
+}
+
+// A table; the place of a byte of the input that is changed, and what it becomes; the schedule's length field.
 #[derive(Clone, Copy)]
 pub struct Case {
-    pub large: bool,
-    pub limited: bool,
-    pub at: usize,
-    pub byte: u8,
+    pub table: Table,
+    pub changed: Option<(usize, u8)>,
     pub field: usize,
 }
 
-// No byte is changed at this place.
-pub const NOWHERE: usize = 1000000;
+impl Case {
+    // A byte of the input is changed.
+    pub fn with_byte(self, at: usize, byte: u8) -> Case {
+        Case {
+            changed: Some((at, byte)),
+            ..self
+        }
+    }
+
+    // The schedule says another length.
+    pub fn with_field(self, field: usize) -> Case {
+        Case {
+            field: field,
+            ..self
+        }
+    }
+}
+
+// The three tables, with a schedule that says ten records.
+pub const SAMPLE: Case = Case {
+    table: Table::Sample,
+    changed: None,
+    field: 61,
+};
+
+pub const LARGEST: Case = Case {
+    table: Table::Largest,
+    changed: None,
+    field: 61,
+};
+
+pub const LIMITED: Case = Case {
+    table: Table::Limited,
+    changed: None,
+    field: 61,
+};
 
 // Document 01's sample.
-const SAMPLE: [u8; 37] = [
+const FIRST: [u8; 37] = [
     0, 35, 1, 2, 1, 2, 255, 0, 0, 255, 0, 1, 4, 3, 0, 0, 0, 0, 0, 2, 1, 0, 0, 0, 0, 5, 1, 0, 0, 0,
     1, 6, 0, 0, 0, 0, 0,
 ];
@@ -157,36 +197,43 @@ fn record_byte(r: usize, byte: usize) -> u8 {
     }
 }
 
-fn schedule_byte(c: Case, i: usize) -> u8 {
+fn schedule_byte(field: usize, i: usize) -> u8 {
     match i {
-        0 => low(c.field / 256),
-        1 => low(c.field),
+        0 => low(field / 256),
+        1 => low(field),
         2 => 1,
         _ => record_byte((i - 3) / 6, (i - 3) % 6),
     }
 }
 
 fn input_byte(c: Case, i: usize) -> u8 {
-    if i == c.at {
-        return c.byte;
+    if let Some((at, byte)) = c.changed {
+        if i == at {
+            return byte;
+        }
     }
-    if c.large {
-        let end = if c.limited { 6278 } else { 6262 };
-        return if i < end {
-            large_byte(c.limited, i)
+    match c.table {
+        Table::Sample => if i < 37 {
+            FIRST[i]
         } else {
-            schedule_byte(c, i - end)
-        };
+            schedule_byte(c.field, i - 37)
+        },
+        Table::Largest => if i < 6262 {
+            large_byte(false, i)
+        } else {
+            schedule_byte(c.field, i - 6262)
+        },
+        Table::Limited => if i < 6278 {
+            large_byte(true, i)
+        } else {
+            schedule_byte(c.field, i - 6278)
+        },
     }
-    if i < 37 {
-        return SAMPLE[i];
-    }
-    schedule_byte(c, i - 37)
 }
 
 // All of a buffer.
 pub fn fill(input: &mut [u8], c: Case) {
-    for i in 0..input.len() {
-        input[i] = input_byte(c, i);
+    for (i, byte) in input.iter_mut().enumerate() {
+        *byte = input_byte(c, i);
     }
 }

@@ -6,26 +6,12 @@
 
 mod input;
 
-use crate::input::{Case, NOWHERE, fill};
+ghost use Rattle.std.specs.Prelude.{◌≤◌};
+
+use crate::input::{Case, LARGEST, LIMITED, SAMPLE, fill};
 use bench_input::bench::{PAGE_ROOM, bench};
 use bench_input::wanted::wanted;
 use std::io;
-
-fn text(rt: &impl Print, s: &str) -> io::Result<()> {
-    rt.print(s)
-}
-
-fn number(rt: &impl Print, n: u64) -> io::Result<()> {
-    rt.print(n)
-}
-
-// The first bytes of a slice.
-fn front(s: &[u8], length: usize) -> &[u8] {
-    if length > s.len() {
-        return s;
-    }
-    &s[..length]
-}
 
 fn mix(sum: u64, byte: u8) -> u64 {
     (sum % 4294967291 * 31 + byte as u64) % 4294967291
@@ -44,186 +30,151 @@ fn show(rt: &impl Print, page: &[u8]) -> io::Result<()> {
     if page.len() < 2000 {
         return rt.write_all(page);
     }
-    text(rt, "length ")?;
-    number(rt, page.len() as u64)?;
-    text(rt, " sum ")?;
-    number(rt, checksum(page))?;
-    text(rt, "\n")
+    println!(rt; "length {} sum {}", page.len(), checksum(page))
 }
 
 fn run_case(rt: &impl Print, name: &str, input: &[u8]) -> io::Result<()> {
+    println!(rt; "{name}: wants {}", wanted(input))?;
     let mut page = [0u8; PAGE_ROOM];
-    text(rt, name)?;
-    text(rt, ": wants ")?;
-    number(rt, wanted(input) as u64)?;
-    text(rt, "\n")?;
     let length = bench(input, &mut page);
-    show(rt, front(&page, length))
+    show(rt, &page[..length])
 }
 
 // The first so many bytes of an input.
-fn case(rt: &impl Print, name: &str, c: Case, length: usize) -> io::Result<()> {
+fn case(rt: &impl Print, name: &str, c: Case, length: usize) -> io::Result<()>
+    requires { length ≤ 70000 }
+{
     let mut input = [0u8; 70000];
     fill(&mut input, c);
-    run_case(rt, name, front(&input, length))
-}
-
-// The sample and a schedule with this length field, and so many bytes of both.
-fn sample(rt: &impl Print, name: &str, field: usize, length: usize) -> io::Result<()> {
-    changed(rt, name, NOWHERE, 0, field, length)
-}
-
-// A byte of the input is changed.
-fn changed(
-    rt: &impl Print,
-    name: &str,
-    at: usize,
-    byte: u8,
-    field: usize,
-    length: usize,
-) -> io::Result<()> {
-    let c = Case {
-        large: false,
-        limited: false,
-        at: at,
-        byte: byte,
-        field: field,
-    };
-    case(rt, name, c, length)
-}
-
-// The same with the largest table.
-fn largest(
-    rt: &impl Print,
-    name: &str,
-    at: usize,
-    byte: u8,
-    field: usize,
-    length: usize,
-) -> io::Result<()> {
-    let c = Case {
-        large: true,
-        limited: false,
-        at: at,
-        byte: byte,
-        field: field,
-    };
-    case(rt, name, c, length)
-}
-
-// The same with the largest table of version 2.
-fn limited(
-    rt: &impl Print,
-    name: &str,
-    at: usize,
-    byte: u8,
-    field: usize,
-    length: usize,
-) -> io::Result<()> {
-    let c = Case {
-        large: true,
-        limited: true,
-        at: at,
-        byte: byte,
-        field: field,
-    };
-    case(rt, name, c, length)
+    run_case(rt, name, &input[..length])
 }
 
 fn early(rt: &impl Print) -> io::Result<()> {
-    sample(rt, "no input", 1, 0)?;
-    sample(rt, "one byte", 1, 1)?;
-    sample(rt, "two bytes", 1, 2)?;
-    sample(rt, "a table less a byte", 1, 36)?;
-    sample(rt, "a table", 1, 37)
+    case(rt, "no input", SAMPLE.with_field(1), 0)?;
+    case(rt, "one byte", SAMPLE.with_field(1), 1)?;
+    case(rt, "two bytes", SAMPLE.with_field(1), 2)?;
+    case(rt, "a table less a byte", SAMPLE.with_field(1), 36)?;
+    case(rt, "a table", SAMPLE.with_field(1), 37)
 }
 
 fn short(rt: &impl Print) -> io::Result<()> {
-    sample(rt, "two bytes of schedule", 1, 39)?;
-    sample(rt, "no records", 1, 40)?;
-    sample(rt, "a schedule less a byte", 61, 99)?;
-    sample(rt, "ten records", 61, 100)?;
-    sample(rt, "a byte behind them", 61, 101)
+    case(rt, "two bytes of schedule", SAMPLE.with_field(1), 39)?;
+    case(rt, "no records", SAMPLE.with_field(1), 40)?;
+    case(rt, "a schedule less a byte", SAMPLE, 99)?;
+    case(rt, "ten records", SAMPLE, 100)?;
+    case(rt, "a byte behind them", SAMPLE, 101)
 }
 
 fn lengths(rt: &impl Print) -> io::Result<()> {
-    changed(rt, "length 00 22", 1, 34, 61, 100)?;
-    changed(rt, "length 00 24", 1, 36, 61, 100)?;
-    changed(rt, "length 3", 1, 3, 61, 100)?;
-    changed(rt, "length 4", 1, 4, 61, 100)
+    case(rt, "length 00 22", SAMPLE.with_byte(1, 34), 100)?;
+    case(rt, "length 00 24", SAMPLE.with_byte(1, 36), 100)?;
+    case(rt, "length 3", SAMPLE.with_byte(1, 3), 100)?;
+    case(rt, "length 4", SAMPLE.with_byte(1, 4), 100)
 }
 
 fn too_long(rt: &impl Print) -> io::Result<()> {
-    largest(rt, "length 6261", 1, 117, 61, 6325)?;
-    largest(rt, "length 6276 of version 1", 1, 132, 61, 6341)?;
-    limited(rt, "length 6277", 1, 133, 61, 6341)?;
-    limited(rt, "length 6277 and no more", 1, 133, 61, 2)?;
-    limited(rt, "length 6276 and no more", NOWHERE, 0, 61, 2)?;
-    changed(rt, "length 65280", 0, 255, 61, 100)
+    case(rt, "length 6261", LARGEST.with_byte(1, 117), 6325)?;
+    case(
+        rt,
+        "length 6276 of version 1",
+        LARGEST.with_byte(1, 132),
+        6341,
+    )?;
+    case(rt, "length 6277", LIMITED.with_byte(1, 133), 6341)?;
+    case(rt, "length 6277 and no more", LIMITED.with_byte(1, 133), 2)?;
+    case(rt, "length 6276 and no more", LIMITED, 2)?;
+    case(rt, "length 65280", SAMPLE.with_byte(0, 255), 100)
 }
 
 fn versions(rt: &impl Print) -> io::Result<()> {
-    changed(rt, "version 9", 2, 9, 61, 100)?;
-    changed(rt, "version 2 with a head of 3", 2, 2, 61, 100)?;
-    limited(rt, "version 1 with a head of 4", 2, 1, 61, 6341)
+    case(rt, "version 9", SAMPLE.with_byte(2, 9), 100)?;
+    case(
+        rt,
+        "version 2 with a head of 3",
+        SAMPLE.with_byte(2, 2),
+        100,
+    )?;
+    case(
+        rt,
+        "version 1 with a head of 4",
+        LIMITED.with_byte(2, 1),
+        6341,
+    )
 }
 
 fn schedules(rt: &impl Print) -> io::Result<()> {
-    changed(rt, "version 2 of the schedule", 39, 2, 61, 100)?;
-    sample(rt, "60003 bytes of schedule", 60001, 60040)?;
-    sample(rt, "60004, length as it was", 60001, 60041)
+    case(
+        rt,
+        "version 2 of the schedule",
+        SAMPLE.with_byte(39, 2),
+        100,
+    )?;
+    case(
+        rt,
+        "60003 bytes of schedule",
+        SAMPLE.with_field(60001),
+        60040,
+    )?;
+    case(
+        rt,
+        "60004, length as it was",
+        SAMPLE.with_field(60001),
+        60041,
+    )
 }
 
 fn over(rt: &impl Print) -> io::Result<()> {
-    sample(rt, "60004, length true", 60002, 60041)?;
-    changed(rt, "60004 and code 7", 13, 7, 60002, 60041)?;
-    sample(rt, "60009, length true", 60007, 60046)?;
-    sample(rt, "69963 bytes", 60001, 70000)
+    case(rt, "60004, length true", SAMPLE.with_field(60002), 60041)?;
+    case(
+        rt,
+        "60004 and code 7",
+        SAMPLE.with_byte(13, 7).with_field(60002),
+        60041,
+    )?;
+    case(rt, "60009, length true", SAMPLE.with_field(60007), 60046)?;
+    case(rt, "69963 bytes", SAMPLE.with_field(60001), 70000)
 }
 
 fn large(rt: &impl Print) -> io::Result<()> {
-    largest(rt, "16 processes", NOWHERE, 0, 1, 6265)?;
-    largest(
+    case(rt, "16 processes", LARGEST.with_field(1), 6265)?;
+    case(
         rt,
         "16 processes and 9999 records",
-        NOWHERE,
-        0,
-        59995,
+        LARGEST.with_field(59995),
         66259,
     )?;
-    largest(
+    case(
         rt,
         "16 processes and 10000 records",
-        NOWHERE,
-        0,
-        60001,
+        LARGEST.with_field(60001),
         66265,
     )?;
-    largest(rt, "and a byte more", NOWHERE, 0, 60001, 66266)?;
-    largest(rt, "and a word more", NOWHERE, 0, 60007, 66271)
+    case(rt, "and a byte more", LARGEST.with_field(60001), 66266)?;
+    case(rt, "and a word more", LARGEST.with_field(60007), 66271)
 }
 
 fn limits(rt: &impl Print) -> io::Result<()> {
-    limited(rt, "limits 1 to 16", NOWHERE, 0, 1, 6281)?;
-    limited(
+    case(rt, "limits 1 to 16", LIMITED.with_field(1), 6281)?;
+    case(
         rt,
         "limits 1 to 16 and 10000 records",
-        NOWHERE,
-        0,
-        60001,
+        LIMITED.with_field(60001),
         66281,
     )?;
-    limited(
+    case(
         rt,
         "limits 1 to 16 and a byte more",
-        NOWHERE,
-        0,
-        60001,
+        LIMITED.with_field(60001),
         66282,
     )?;
-    limited(rt, "limit 0", 72, 0, 61, 6341)?;
-    limited(rt, "limit 17", 5892, 17, 61, 6341)?;
-    limited(rt, "limit 17 and 60004 bytes", 5892, 17, 60002, 66282)
+    case(rt, "limit 0", LIMITED.with_byte(72, 0), 6341)?;
+    case(rt, "limit 17", LIMITED.with_byte(5892, 17), 6341)?;
+    case(
+        rt,
+        "limit 17 and 60004 bytes",
+        LIMITED.with_byte(5892, 17).with_field(60002),
+        66282,
+    )
 }
 
 fn main(rt: HostRuntime) -> io::Result<()> {

@@ -1,30 +1,33 @@
 -- The page that the program writes is that of the input that it has read.
+use Rattle.std.specs.Prelude.{Result, Ok, Err}
 use mathlib.Core.Path.{◌≡◌, refl, ap, sym, ◌∙◌, subst}
-use mathlib.Core.Bool.{Bool}
 use mathlib.Core.List.{List, [], ◌∷◌}
 use Prim.Native.Nat.{ℕ, zero, suc, ◌+◌, ◌-◌, ◌≤◌, ◌<◌, min}
 use native.Mathlib.Omega.{arith}
 use lib.ListN.{length, take, drop, length-append}
 use lib.Seq.{length-take-le, take_all, take-length, drop-length}
+use borrow.Author.Tests.{ne_eqb}
 use Rattle.facts.specs.Tests.{by_lt}
 use Rattle.facts.specs.Lists.{part-rest}
+use Rattle.numbers.specs.Runs.{number_of, refuses}
+use Rattle.numbers.specs.declared.runs.Refusal.{Refusal}
 use Rattle.rules.specs.Bytes.{byte_at}
 use Rattle.rules.specs.Format.{length_field, processes_in}
-use Rattle.rules.specs.Run.{Buffers, Ran, ran_of, run}
-use Rattle.rules.specs.Page.{accepted_page, page_of, table_in, schedule_in, bench_buffers, bench_page}
+use Rattle.rules.specs.Run.{Buffers, Ran, run}
+use Rattle.rules.specs.Page.{accepted_page, refused_line, page_of, table_in, schedule_in, bench_buffers, bench_page}
 use Rattle.cabinet.specs.Runs.{ran_by, Runs}
-use Rattle.cabinet.specs.declared.run.Verdict.{Verdict}
+use Rattle.cabinet.specs.declared.run.Ended.{Ended}
 use Rattle.cabinet.proofs.Running.{run-few}
 use Rattle.page.specs.Written.{Written, shown_of}
 use Rattle.bench_input.specs.Benched.{page_room, Benched}
 use Rattle.bench_input.specs.Parts.{parts_page, Printed, RunPrinted}
 use Rattle.bench_input.proofs.Reading.{parts_page_lem, enough}
-use Rattle.bench_input.proofs.Room.{page_long, few-processes}
+use Rattle.bench_input.proofs.Room.{page_long, number_small, few-processes}
 
 -- ---- the run and its page
 
 -- the bytes of two lent slices are below 256, and so is a number in a byte
-pub printed : (ran : Ran) → ran.number < 256 → (processes : ℕ)
+printed : (ran : Ran) → ran.number < 256 → (processes : ℕ)
     → ((i : ℕ) → byte_at ran.buffers.answers i < 256) → ((i : ℕ) → byte_at ran.buffers.report i < 256) → (out : List ℕ) (r : ℕ) (out' : List ℕ)
     → Written (page_of processes ran) out r out' → Printed processes ran out r out'
 printed ran hn processes sa sr out r out' w = record {
@@ -32,24 +35,49 @@ printed ran hn processes sa sr out r out' w = record {
   room = λ hp hr. page_long processes ran (record { at = sa }) (record { at = sr }) hn hp hr;
 }
 
--- the page of a run is that of what it shows
-shown-whole : (processes number records : ℕ) (quiet : Bool) (b : Buffers)
-    → page_of processes (ran_of number records quiet (shown_of b.answers b.report)) ≡ page_of processes (ran_of number records quiet b)
-unfolding page_of accepted_page
-shown-whole processes number records quiet b = refl
+module _ (processes : ℕ) (answers report : List ℕ) (sa : (i : ℕ) → byte_at answers i < 256) (sr : (i : ℕ) → byte_at report i < 256)
+    {out : List ℕ} {r : ℕ} {out' : List ℕ} where
+  pub printed-accepted : (e : Ended) → Written (accepted_page processes (ran_by (Ok e) (shown_of answers report))) out r out'
+      → Printed processes (ran_by (Ok e) (shown_of answers report)) out r out'
+  unfolding page_of
+  printed-accepted e w = printed (ran_by (Ok e) (shown_of answers report)) (omega arith) processes sa sr out r out' w
 
-pub run_page_lem : (table schedule : List ℕ) (v : Verdict) (after : Buffers) → Runs table schedule bench_buffers v after
+  pub printed-refused : (n : Refusal) → Written (refused_line (number_of n)) out r out'
+      → Printed processes (ran_by (Err n) (shown_of answers report)) out r out'
+  unfolding page_of
+  printed-refused n w =
+      printed (ran_by (Err n) (shown_of answers report)) (number_small n) processes sa sr out r out'
+      (rw (ne_eqb (number_of n) 0 (refuses n)) w)
+
+-- the page of a run is that of what it shows
+shown-whole : (processes : ℕ) (ended : Result Ended Refusal) (b : Buffers)
+    → page_of processes (ran_by ended (shown_of b.answers b.report)) ≡ page_of processes (ran_by ended b)
+unfolding page_of accepted_page
+shown-whole processes (Ok e) b = refl
+shown-whole processes (Err n) b = rw (ne_eqb (number_of n) 0 (refuses n))
+
+records-shown : (ended : Result Ended Refusal) (b : Buffers) → (ran_by ended (shown_of b.answers b.report)).records ≡ (ran_by ended b).records
+records-shown (Ok e) b = refl
+records-shown (Err n) b = refl
+
+number-shown : (ended : Result Ended Refusal) (b : Buffers) → (ran_by ended (shown_of b.answers b.report)).number ≡ (ran_by ended b).number
+number-shown (Ok e) b = refl
+number-shown (Err n) b = refl
+
+pub run_page_lem : (table schedule : List ℕ) (ended : Result Ended Refusal) (after : Buffers) → Runs table schedule bench_buffers ended after
     → (processes : ℕ) → processes ≡ processes_in table → (out : List ℕ) (r : ℕ) (out' : List ℕ)
-    → Printed processes (ran_of v.number v.records v.quiet (shown_of after.answers after.report)) out r out' → RunPrinted table schedule out r out'
+    → Printed processes (ran_by ended (shown_of after.answers after.report)) out r out' → RunPrinted table schedule out r out'
 unfolding parts_page
-run_page_lem table schedule v after ran processes e out r out' shown =
-    let same = shown-whole processes v.number v.records v.quiet after in
-    let w : Printed processes (ran_by v after) out r out' = record {
+run_page_lem table schedule ended after ran processes e out r out' shown =
+    let same = shown-whole processes ended after in
+    let w : Printed processes (ran_by ended after) out r out' = record {
       wrote = subst (λ (l : List ℕ). Written l out r out') same shown.wrote;
-      room = λ hp hr. subst (λ (l : List ℕ). length l ≤ page_room) same (shown.room hp hr);
+      room = λ hp hr.
+          subst (λ (l : List ℕ). length l ≤ page_room) same
+          (shown.room (λ z. hp (sym (number-shown ended after) ∙ z)) (rw (records-shown ended after) hr));
     } in
     let p : Printed (processes_in table) (run table schedule bench_buffers) out r out' =
-    subst (λ (x : Ran). Printed (processes_in table) x out r out') ran.ran (subst (λ (n : ℕ). Printed n (ran_by v after) out r out') e w) in
+    subst (λ (x : Ran). Printed (processes_in table) x out r out') ran.ran (subst (λ (n : ℕ). Printed n (ran_by ended after) out r out') e w) in
     record { wrote = p.wrote; room = p.room (few-processes table schedule bench_buffers) (run-few table schedule bench_buffers) }
 
 -- ---- the cut

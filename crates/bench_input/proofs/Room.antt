@@ -9,6 +9,9 @@ use lib.Dec.{eqb, ltb}
 use lib.ListN.{length, drop, length-append}
 use lib.Seq.{get_or-drop}
 use borrow.Author.Tests.{eqb-true, ltb-false}
+use Rattle.numbers.specs.Runs.{number_of}
+use Rattle.numbers.specs.declared.runs.Refusal.{Refusal}
+use Rattle.numbers.specs.declared.runs.Refusal.TheVariants.{TableLength, TableVersion, TableCounts, TableExtent, ChannelEnds, ChannelsRead, Boards, Instruction, ScheduleLength, ScheduleVersion, AnswersShort, ReportShort, NoRoom, FirstSerial, Limit, OriginsShort, Unswept, ViewShort}
 use Rattle.facts.specs.Counts.{total}
 use Rattle.rules.specs.Bytes.{byte_at}
 use Rattle.rules.specs.Format.{processes_in}
@@ -149,6 +152,27 @@ accepted-long processes r sa sr hp hr =
     (processes-long 0 processes r.buffers.report sr (omega arith))
     (two_long quiet_text 0 (cond r.quiet 1 0) (quiet_small r.quiet))
     (omega arith)
+
+-- a refusal's number fits a byte
+pub number_small : (n : Refusal) → number_of n < 256
+number_small TableLength = omega arith
+number_small TableVersion = omega arith
+number_small TableCounts = omega arith
+number_small TableExtent = omega arith
+number_small ChannelEnds = omega arith
+number_small ChannelsRead = omega arith
+number_small Boards = omega arith
+number_small Instruction = omega arith
+number_small ScheduleLength = omega arith
+number_small ScheduleVersion = omega arith
+number_small AnswersShort = omega arith
+number_small ReportShort = omega arith
+number_small NoRoom = omega arith
+number_small FirstSerial = omega arith
+number_small Limit = omega arith
+number_small OriginsShort = omega arith
+number_small Unswept = omega arith
+number_small ViewShort = omega arith
 
 refused-long : (n : ℕ) → n < 256 → length (refused_line n) ≤ page_room
 refused-long n h = let a = two_long refused_text 2 n (omega arith) in omega arith

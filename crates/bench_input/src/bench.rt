@@ -1,13 +1,14 @@
 // The page of what was read: "The program reads the table (as long as its length bytes say) and then, up to the end of input, the schedule
 // from standard input. Input that ends early is run as it is."
-ghost use Rattle.rules.specs.Run.{ran_of};
+ghost use Rattle.cabinet.specs.Runs.{ran_by};
 ghost use Rattle.page.specs.Written.{shown_of};
 ghost use Rattle.bench_input.specs.Benched.{Benched};
 ghost use Rattle.bench_input.specs.Parts.{Printed, RunPrinted};
 
 use crate::bytes::length_field;
-use cabinet::run::run;
-use page::write_page;
+use cabinet::run::{Ended, run};
+use numbers::runs::Refusal;
+use page::{write_accepted, write_refused};
 use plan::PROCESSES as PROCESSES_MOST;
 use records::bytes::byte;
 use records::schedule::COMMANDS_MOST;
@@ -26,18 +27,18 @@ pub const PAGE_ROOM: usize = 14 + 25 * COMMANDS_MOST + 71 * PROCESSES_MOST + 8;
 
 // What a run returned and wrote, as a page.
 fn print(
-    number: u8,
-    records: usize,
-    quiet: bool,
+    ended: Result<Ended, Refusal>,
     answers: &[u8],
     processes: usize,
     report: &[u8],
     out: &mut [u8],
 ) -> usize
-    ensures { Printed processes (ran_of number records quiet (shown_of answers.now report.now))
-        out.old result out.new }
+    ensures { Printed processes (ran_by ended (shown_of answers.now report.now)) out.old result out.new }
 {
-    write_page(number, records, quiet, answers, processes, report, out)
+    match ended {
+        Ok(e) => write_accepted(e.records, e.quiet, answers, processes, report, out),
+        Err(refusal) => write_refused(refusal, out),
+    }
 }
 
 // A run with buffers of these lengths, and its page.
@@ -48,7 +49,7 @@ fn run_page(table: &[u8], schedule: &[u8], out: &mut [u8]) -> usize
     let mut reasons = [0u8; COMMANDS_MOST];
     let mut report = [0u8; REPORT];
     let mut origins = [0u8; ORIGINS];
-    let v = run(
+    let ended = run(
         table,
         schedule,
         &mut answers,
@@ -56,11 +57,8 @@ fn run_page(table: &[u8], schedule: &[u8], out: &mut [u8]) -> usize
         &mut report,
         &mut origins,
     );
-    let number = v.number;
-    let records = v.records;
-    let quiet = v.quiet;
     let processes = byte_wide(byte(table, PROCESSES_AT));
-    print(number, records, quiet, &answers, processes, &report, out)
+    print(ended, &answers, processes, &report, out)
 }
 
 // The input is cut where its length bytes say that the table ends.

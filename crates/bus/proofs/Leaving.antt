@@ -2,25 +2,28 @@
 use Rattle.std.proofs.Common.{◌≡◌, ℕ, suc, ◌+◌, ◌*◌, ◌%◌, ◌<◌, Bool, false, ◌||◌, List, [], ◌∷◌, map, length, get_or, set, sym, refl, ap, ◌∙◌, arith, length-set, get_or-set_other, get_or-set_same, eq-eqb, ne_eqb}
 use Rattle.facts.specs.Tests.{by_eq}
 use Rattle.facts.specs.Rings.{ring, ring_pop}
-use Rattle.process.specs.Row.{waits_in}
+use Rattle.process.specs.declared.process.Process as code
+use Rattle.process.specs.Row.{no_process}
 use Rattle.rules.specs.Table.{Table}
 use Rattle.rules.specs.Cabinet as rules
 use Rattle.rules.specs.Cabinet.{Cabinet, Process, nobody, process_at, outbox_at, waiting}
 use Rattle.rules.specs.Moves.{with_process, with_outbox}
 use Rattle.rules.proofs.Counting.{flight_leave}
 use Rattle.state.specs.declared.entry.Entry.{Entry}
-use Rattle.state.specs.Queue.{first_in, count_in, queue_count, Popped}
-use Rattle.state.specs.Store.{Store, store_of, Holds, item_of, blank_entry, outbox_in, flag}
+use Rattle.state.specs.declared.queue.Queue.{Queue}
+use Rattle.state.specs.declared.store.Store.{Store}
+use Rattle.state.specs.Queue.{no_queue, first_in, count_in, Popped}
+use Rattle.state.specs.Store.{Holds, item_of, blank_entry, outbox_in}
 use Rattle.state.specs.Moved.{Reachable}
 use Rattle.state.proofs.Reading.{at_outbox, how_many, how_many_boards}
 use Rattle.state.proofs.Flagging.{with_flag, flag_here, flag-there, flagged_one}
-use Rattle.state.proofs.Queueing.{QueueThen, entry_leaves}
+use Rattle.state.proofs.Queueing.{put_queue, QueueThen, entry_leaves}
 use Rattle.state.proofs.Totals.{occupancy_outbox, totalled-same}
 use Rattle.state.proofs.Joining.{Waiter}
 use Rattle.state.proofs.Waits.{one_waits}
 
 -- the oldest entry, if the rules' queue has one, is the one at the ring's first place
-oldest-is : {t : Table} {s : Store} {entries : List Entry} {c : Cabinet} (h : Holds t s entries c) (b : ℕ) → b < t.boards
+pub oldest-is : {t : Table} {s : Store} {entries : List Entry} {c : Cabinet} (h : Holds t s entries c) (b : ℕ) → b < t.boards
     → (count : ℕ) (item : rules.Item) (rest : List rules.Item) → count_in s.queues b ≡ suc count → outbox_at c b ≡ item ∷ rest
     → outbox_at c b ≡ item_of (get_or entries (32 * b + first_in s.queues b % 32) blank_entry).item ∷ rest
 unfolding outbox_in
@@ -32,13 +35,21 @@ oldest-is {s = s} {entries = entries} h b hb count item rest e o =
     let same : item ≡ item_of (get_or entries (32 * b + first % 32) blank_entry).item = cc in
     o ∙ ap (λ (i : rules.Item). i ∷ rest) same
 
+-- process p is x, and nothing of it waits
+abbrev pub at_rest : Store → ℕ → code.Process → Store
+at_rest s p x = record { processes = with_flag (set s.processes p x) p false; queues = s.queues; totals = s.totals }
+
 -- of a cabinet that was reached, process p is x by now
 module _ {t : Table} {s : Store} {entries : List Entry} {c : Cabinet} (reach : Reachable t c) (p : ℕ) (x : Process)
     (h : Holds t s entries (with_process p x c)) (b : ℕ) (hb : b < t.boards) (item : rules.Item) (waiter : Waiter p item) (rest : List rules.Item)
     (oldest : outbox_at c b ≡ item ∷ rest) (its_process : p < length t.processes) (runs : x.board ≡ b)
-    (queue' : List ℕ) (popped : Popped (get_or s.queues b []) queue') where
+    (queue' : Queue) (popped : Popped (get_or s.queues b no_queue) queue') where
   abbrev now : Cabinet
   now = with_process p x c
+
+  -- nothing of p waits by then
+  abbrev processes' : List code.Process
+  processes' = with_flag s.processes p false
 
   there : b < length c.outboxes
   there = rw (how_many_boards h) hb
@@ -49,9 +60,9 @@ module _ {t : Table} {s : Store} {entries : List Entry} {c : Cabinet} (reach : R
       (let a = how_many h in let l = length-set c.processes p x in omega arith))
       ∙ runs
 
-  -- the flags afterwards: p's is off
+  -- what waits afterwards
   waits_then : (q : ℕ) → q < length t.processes
-      → waits_in (get_or (with_flag s.rows p 0) q []) ≡ flag (waiting q (get_or (set c.outboxes b rest) (process_at now q).board []))
+      → (get_or processes' q no_process).waits ≡ waiting q (get_or (set c.outboxes b rest) (process_at now q).board [])
   waits_then q hq =
       let old = h.waits-is q hq in
       by_eq q p
@@ -60,34 +71,31 @@ module _ {t : Table} {s : Store} {entries : List Entry} {c : Cabinet} (reach : R
       ∙ get_or-set_same c.outboxes b rest [] there in
       let none_left : waiting q rest ≡ false = rw f (one_waits reach b p item rest oldest (waiter.its p ∙ eq-eqb p p refl)) in
       rw (same, none_left)
-      (rw f (flag_here s.rows p 0 (let l = h.shape.rows-length in let z = reach.accepted.processes_high in omega arith)
-      (h.kept p its_process).row_length_lem)))
+      (rw f (flag_here s.processes p false (let l = h.shape.processes-length in let z = reach.accepted.processes_high in omega arith))))
       (λ n. by_eq (process_at now q).board b
       (λ e. let same : get_or (set c.outboxes b rest) (process_at now q).board [] ≡ rest = rw e (get_or-set_same c.outboxes b rest [] there) in
       let before : waiting q (outbox_at c b) ≡ waiting q rest =
       ap (waiting q) oldest ∙ ap (λ (y : Bool). y || waiting q rest) (waiter.its q ∙ ne_eqb q p n) in
-      rw same (flag-there s.rows p q 0 n ∙ old ∙ ap (λ (i : ℕ). flag (waiting q (outbox_at c i))) e ∙ ap flag before))
-      (λ m. rw (get_or-set_other c.outboxes b (process_at now q).board rest [] m) (flag-there s.rows p q 0 n ∙ old)))
+      rw same (flag-there s.processes p q false n ∙ old ∙ ap (λ (i : ℕ). waiting q (outbox_at c i)) e ∙ before))
+      (λ m. rw (get_or-set_other c.outboxes b (process_at now q).board rest [] m) (flag-there s.processes p q false n ∙ old)))
 
-  queue_then : QueueThen t s now b (with_flag s.rows p 0) queue' s.totals ((first_in s.queues b + 1) % 32) (queue_count queue') rest
+  queue_then : QueueThen t s now b processes' queue' s.totals ((first_in s.queues b + 1) % 32) queue'.count rest
   queue_then = record {
     is-first = popped.first-is;
     is-count = refl;
     is-dead = popped.dead-is;
-    three = popped.three;
     totalled_then = totalled-same h.totalled (λ i.
         let a = flight_leave i c.outboxes b item rest oldest in
         let w = waiter.no_word i in
         let d = occupancy_outbox t now b rest i 0 0 (omega arith) in
         omega arith);
-    flagged = flagged_one t s.rows p 0 (h.kept p its_process).row_length_lem (omega arith);
+    flagged = flagged_one t s.processes p false;
     waiting-there = waits_then;
   }
 
-  -- the lists then hold that cabinet without the entry
-  pub waiter_leaves : Holds t (store_of (with_flag s.rows p 0) s.mails s.logs s.heads (set s.queues b queue') s.totals) entries
-      (with_outbox b rest now)
+  -- the store then holds that cabinet without the entry
+  pub waiter_leaves : Holds t (put_queue s b processes' queue' s.totals) entries (with_outbox b rest now)
   waiter_leaves =
-      let count-is : count_in s.queues b ≡ suc (queue_count queue') = sym popped.count-is in
-      entry_leaves h reach.accepted.boards_high b hb (with_flag s.rows p 0) queue' s.totals (queue_count queue') rest count-is
-      (oldest-is h b hb (queue_count queue') item rest count-is oldest) queue_then
+      let count-is : count_in s.queues b ≡ suc queue'.count = sym popped.count-is in
+      entry_leaves h reach.accepted.boards_high b hb processes' queue' s.totals queue'.count rest count-is
+      (oldest-is h b hb queue'.count item rest count-is oldest) queue_then

@@ -11,8 +11,9 @@ use Rattle.rules.specs.Origins.{oldest_origin, told_by}
 use Rattle.state.specs.declared.entry.Entry.{Entry}
 use Rattle.state.specs.declared.entry.Item.{Item}
 use Rattle.state.specs.declared.entry.Item.TheVariants.{Word, Sync, Transfer}
-use Rattle.state.specs.Queue.{count_in, oldest_of}
-use Rattle.state.specs.Store.{item_of, Store, Holds, blank_entry}
+use Rattle.state.specs.declared.store.Store.{Store}
+use Rattle.state.specs.Queue.{no_queue, count_in, oldest_of}
+use Rattle.state.specs.Store.{item_of, Holds, blank_entry}
 use Rattle.state.specs.Moved.{Reachable}
 use Rattle.state.proofs.Ends.{sent-inside}
 use Rattle.state.proofs.Owners.{word_owner}
@@ -36,8 +37,8 @@ module _ {t : Table} {l : Plan} {s : Store} {entries : List Entry} {c : Cabinet}
   from_front (Transfer p) rest e o f = sym f
 
   -- x stands where the board's oldest entry does
-  pub carried_told : (x : Entry) → x ≡ get_or entries (oldest_of (get_or s.queues a []) a) blank_entry → (code : ℕ) (o : Origin) → CarriedFrom l.wires code x o
-      → (code ≡ 4 → outbox_at c a ≡ [] → ⊥) → told_by t (outbox_at c a) code transmit_move ≡ o
+  pub carried_told : (x : Entry) → x ≡ get_or entries (oldest_of (get_or s.queues a no_queue) a) blank_entry → (code : ℕ) (o : Origin)
+      → CarriedFrom l.wires code x o → (code ≡ 4 → outbox_at c a ≡ [] → ⊥) → told_by t (outbox_at c a) code transmit_move ≡ o
   carried_told x is_x code o f waited =
       by_eq code 4
       (λ e. rw (eq-eqb code 4 e)

@@ -1,27 +1,29 @@
--- Move 3 in the lists: the two refusals, and the oldest entry that leaves, a word, a checkpoint or a state transfer.
-use Rattle.std.proofs.Common.{◌≡◌, ℕ, zero, suc, ◌+◌, ◌%◌, ◌<◌, ◌≢◌, List, [], ◌∷◌, map, length, get_or, set, sym, refl, ap, ◌∙◌, subst, arith, length-set, get_or-set_other, get_or-set_same, eq-eqb, ne_eqb}
+-- Move 3: the two refusals, and the oldest entry that leaves, a word, a checkpoint or a state transfer.
+use Rattle.std.proofs.Common.{◌≡◌, ℕ, zero, suc, ◌+◌, ◌%◌, ◌<◌, true, false, ◌≢◌, List, [], ◌∷◌, map, length, get_or, set, sym, refl, ap, ◌∙◌, subst, arith, length-set, get_or-set_other, get_or-set_same, Some, None}
 use Rattle.facts.specs.Tests.{by_eq}
 use Rattle.facts.specs.Counts.{same}
 use Rattle.facts.specs.Lists.{listed}
 use Rattle.facts.specs.Rings.{ring, ring_pop}
+use Rattle.numbers.specs.Answers.{code_in}
+use Rattle.numbers.specs.declared.answers.Reason.TheVariants.{CarryOfDead, QueueEmpty}
 use Rattle.backup.specs.declared.place.Checkpoint as code
 use Rattle.backup.specs.Place.{checkpoint_of}
-use Rattle.plan.specs.declared.Counts.{Counts}
+use Rattle.plan.specs.declared.Plan as plan
 use Rattle.plan.specs.Plan.{plan_of, Planned}
-use Rattle.process.specs.Row.{waits_in}
-use Rattle.rules.specs.Table.{Table}
+use Rattle.rules.specs.Table.{Table, channel_at}
 use Rattle.rules.specs.Cabinet as rules
 use Rattle.rules.specs.Cabinet.{Cabinet, outbox_at, process_at, occupancy, waiting}
-use Rattle.rules.specs.Moves.{Command, Result, refuse, guard, transmit_dead, outbox_empty, refusal_number, transmit, transmit_oldest, transmit_item, with_outbox, numbers}
-use Rattle.rules.specs.Reasons.{refusal_cause, cause_of}
+use Rattle.rules.specs.Moves.{Command, Result, refuse, guard, transmit_dead, outbox_empty, transmit, transmit_oldest, transmit_item, with_outbox, numbers}
+use Rattle.rules.specs.Reasons.{cause_of}
 use Rattle.rules.proofs.Counting.{flight_leave}
 use Rattle.state.specs.declared.entry.Entry.{Entry}
 use Rattle.state.specs.declared.entry.Item.{Item}
 use Rattle.state.specs.declared.entry.Item.TheVariants.{Word, Sync, Transfer}
 use Rattle.state.specs.declared.moved.Answer.{Answer}
-use Rattle.state.specs.declared.queue.Front.TheVariants.{Oldest, Empty}
-use Rattle.state.specs.Queue.{first_in, count_in, oldest_of, front_of, popped_in}
-use Rattle.state.specs.Store.{Store, store_of, Holds, item_of, blank_entry, outbox_in, flag}
+use Rattle.state.specs.declared.queue.Queue.{Queue}
+use Rattle.state.specs.declared.store.Store.{Store}
+use Rattle.state.specs.Queue.{no_queue, first_in, count_in, dead_in, oldest_of, front_of, popped_in}
+use Rattle.state.specs.Store.{Holds, lists_at, item_of, blank_entry, outbox_in}
 use Rattle.state.specs.Moved.{Reachable, Answered, SameLengths, refusal_of, alone_of}
 use Rattle.state.proofs.Reading.{at_outbox, at_dead, how_many_boards}
 use Rattle.state.proofs.Totals.{occupancy_outbox, totalled-afresh}
@@ -29,15 +31,18 @@ use Rattle.state.proofs.Flagging.{flagged_none}
 use Rattle.state.proofs.Queueing.{entry_leaves}
 use Rattle.state.proofs.Popping.{front-none, front-some, row_then}
 use Rattle.state.proofs.Refusing.{turned_away_lem, makes-refused}
-use Rattle.state.proofs.Making.{its_board, makes_alone}
+use Rattle.state.proofs.Making.{its_board, dead_so, makes_alone}
 use Rattle.state.proofs.Ends.{sent-inside}
 use Rattle.state.proofs.Owners.{word_owner}
 use Rattle.state.proofs.Arrivals.{room_for_oldest}
+use Rattle.bus.specs.Parts.{with_totals, Left}
 use Rattle.bus.specs.Delivers.{mail_of}
 use Rattle.bus.specs.Carries.{OnBus, Carries}
 use Rattle.bus.specs.Syncs.{Syncs}
 use Rattle.bus.specs.Transfers.{Transfers}
-use Rattle.bus.specs.Transmits.{Oldest as OldestAt, Transmits}
+use Rattle.bus.specs.Transmits.{Transmits}
+use Rattle.bus.proofs.Delivering.{lengths_only}
+use Rattle.bus.proofs.Leaving.{oldest-is}
 
 -- ---- what an entry is
 
@@ -58,29 +63,30 @@ pub record Begins (c : Cabinet) (b count : ℕ) (i : rules.Item) : Type 0 where
   pub is_queue : outbox_at c b ≡ i ∷ rest
 
 module _ {t : Table} {s : Store} {entries : List Entry} {c : Cabinet} (h : Holds t s entries c) (b : ℕ) (hb : b < t.boards) where
-  refused_34 : get_or (get_or s.queues b []) 2 0 ≢ 0 → transmit t c b ≡ refuse transmit_dead
+  refused_34 : dead_in s.queues b ≡ true → transmit t c b ≡ refuse transmit_dead
   unfolding transmit guard
-  refused_34 n = rw (at_dead h b hb, ne_eqb _ 0 n)
+  refused_34 e = rw (at_dead h b hb, e)
 
-  live : get_or (get_or s.queues b []) 2 0 ≡ 0 → transmit t c b ≡ transmit_oldest t c b (outbox_at c b)
+  live : dead_in s.queues b ≡ false → transmit t c b ≡ transmit_oldest t c b (outbox_at c b)
   unfolding transmit guard
-  live z = rw (at_dead h b hb, eq-eqb _ 0 z)
+  live e = rw (at_dead h b hb, e)
 
   pub none-waits : count_in s.queues b ≡ 0 → outbox_at c b ≡ []
   unfolding outbox_in ring
   none-waits e =
       at_outbox h b hb ∙ ap (λ (n : ℕ). map (λ (x : Entry). item_of x.item) (ring blank_entry entries b (first_in s.queues b) n)) e
 
-  refused_42 : get_or (get_or s.queues b []) 2 0 ≡ 0 → count_in s.queues b ≡ 0 → transmit t c b ≡ refuse outbox_empty
+  refused_42 : dead_in s.queues b ≡ false → count_in s.queues b ≡ 0 → transmit t c b ≡ refuse outbox_empty
   unfolding transmit_oldest
   refused_42 z e = live z ∙ ap (transmit_oldest t c b) (none-waits e)
 
-  pub begins : count_in s.queues b ≢ 0 → Begins c b (count_in s.queues b) (item_of (get_or entries (oldest_of (get_or s.queues b []) b) blank_entry).item)
+  pub begins : count_in s.queues b ≢ 0
+      → Begins c b (count_in s.queues b) (item_of (get_or entries (oldest_of (get_or s.queues b no_queue) b) blank_entry).item)
   unfolding outbox_in
   begins n = go (count_in s.queues b) n (at_outbox h b hb)
     where
       go : (count : ℕ) → count ≢ 0 → outbox_at c b ≡ map (λ (x : Entry). item_of x.item) (ring blank_entry entries b (first_in s.queues b) count)
-          → Begins c b count (item_of (get_or entries (oldest_of (get_or s.queues b []) b) blank_entry).item)
+          → Begins c b count (item_of (get_or entries (oldest_of (get_or s.queues b no_queue) b) blank_entry).item)
       go zero k e = absurd (k refl)
       go (suc count) k e = record {
         fewer = count;
@@ -92,174 +98,140 @@ module _ {t : Table} {s : Store} {entries : List Entry} {c : Cabinet} (h : Holds
 -- ---- a word leaves
 
 module _ {t : Table} {s : Store} {entries : List Entry} {c : Cabinet} (reach : Reachable t c) (h : Holds t s entries c) (b : ℕ) (hb : b < t.boards)
-    (channel word pc fewer : ℕ) (rest : List rules.Item) (is-count : count_in s.queues b ≡ suc fewer)
-    (is_IsWord : item_of (get_or entries (oldest_of (get_or s.queues b []) b) blank_entry).item ≡ rules.message (mail_of channel word) pc)
-    (is_queue : outbox_at c b ≡ rules.message (mail_of channel word) pc ∷ rest) where
-  there : channel < length t.channels
-  there = sent-inside reach.accepted channel (word_owner reach b (mail_of channel word) pc rest is_queue).0
+    (channel word pc : ℕ) (q : Begins c b (count_in s.queues b) (rules.message (mail_of channel word) pc)) where
+  its_end : (channel_at t channel).sender < length t.processes
+  its_end = (word_owner reach b (mail_of channel word) pc q.rest q.is_queue).0
 
   abbrev left_cabinet : Cabinet
-  left_cabinet = with_outbox b rest c
+  left_cabinet = with_outbox b q.rest c
 
   -- the totals count the word still
   on_bus_lem : OnBus t s.totals channel left_cabinet
   on_bus_lem = record {
     total-is = λ k l.
-        let a = flight_leave k c.outboxes b (rules.message (mail_of channel word) pc) rest is_queue in
-        let d = occupancy_outbox t c b rest k (same k channel) 0 (omega arith) in
+        let a = flight_leave k c.outboxes b (rules.message (mail_of channel word) pc) q.rest q.is_queue in
+        let d = occupancy_outbox t c b q.rest k (same k channel) 0 (omega arith) in
         h.totalled.total-is k l ∙ omega arith;
     totals-length = h.totalled.totals-length;
   }
 
   -- no checkpoint waits less
   waits_still : (p : ℕ) → p < length t.processes
-      → waits_in (get_or s.rows p []) ≡ flag (waiting p (get_or (set c.outboxes b rest) (process_at c p).board []))
+      → (lists_at s p).waits ≡ waiting p (get_or (set c.outboxes b q.rest) (process_at c p).board [])
   waits_still p l =
       by_eq (process_at c p).board b
       (λ e. h.waits-is p l
-      ∙ ap (λ (q : List rules.Item). flag (waiting p q)) (ap (outbox_at c) e ∙ is_queue)
-      ∙ ap (λ (q : List rules.Item). flag (waiting p q))
-      (sym (ap (λ (i : ℕ). get_or (set c.outboxes b rest) i []) e ∙ get_or-set_same c.outboxes b rest [] (rw (how_many_boards h) hb))))
+      ∙ ap (waiting p) (ap (outbox_at c) e ∙ q.is_queue)
+      ∙ ap (waiting p)
+      (sym (ap (λ (i : ℕ). get_or (set c.outboxes b q.rest) i []) e ∙ get_or-set_same c.outboxes b q.rest [] (rw (how_many_boards h) hb))))
       (λ n. h.waits-is p l
-      ∙ ap (λ (q : List rules.Item). flag (waiting p q)) (sym (get_or-set_other c.outboxes b (process_at c p).board rest [] n)))
+      ∙ ap (waiting p) (sym (get_or-set_other c.outboxes b (process_at c p).board q.rest [] n)))
 
   -- what a count made afresh gives meanwhile
   abbrev between : List ℕ
   between = listed (occupancy t left_cabinet) 32
 
-  word_left : Holds t (store_of s.rows s.mails s.logs s.heads (set s.queues b (popped_in (get_or s.queues b []))) between)
-      entries left_cabinet
-  word_left =
-      let row = row_then h b hb fewer is-count in
-      entry_leaves h reach.accepted.boards_high b hb s.rows (popped_in (get_or s.queues b [])) between fewer rest is-count
-      (is_queue ∙ ap (λ (i : rules.Item). i ∷ rest) (sym is_IsWord))
-      (record {
-        is-first = row.first-is;
-        is-count = let z = row.count-is in omega arith;
-        is-dead = row.dead-is;
-        three = row.three;
-        totalled_then = totalled-afresh t left_cabinet reach.accepted.channels_high;
-        flagged = flagged_none t s.rows;
-        waiting-there = waits_still;
-      })
+  -- the store s₁ is s without the entry
+  module _ {s₁ : Store} (gone : Left s b s₁) where
+    word_left : Holds t (with_totals s₁ between) entries left_cabinet
+    word_left =
+        subst (λ (y : Store). Holds t (with_totals y between) entries left_cabinet) (sym gone.left-is)
+        (entry_leaves h reach.accepted.boards_high b hb s.processes gone.queue between q.fewer q.rest q.is-count
+        (oldest-is h b hb q.fewer (rules.message (mail_of channel word) pc) q.rest q.is-count q.is_queue)
+        (record {
+          is-first = gone.popped.first-is;
+          is-count = let z = gone.popped.count-is in let y = q.is-count in omega arith;
+          is-dead = gone.popped.dead-is;
+          totalled_then = totalled-afresh t left_cabinet reach.accepted.channels_high;
+          flagged = flagged_none t s.processes;
+          waiting-there = waits_still;
+        }))
 
-  -- and what the rules make of it
-  word-answered : {table : List ℕ} {counts : Counts} {programs wires : List ℕ} (rows' mails' logs' heads' : List (List ℕ)) (totals' : List ℕ)
-      (r : Answer) (command : Command) → Planned t (plan_of table counts programs wires)
-      → Carries wires s.rows s.mails s.logs s.heads s.totals channel word rows' mails' logs' heads' totals' r
-      → Answered t (store_of rows' mails' logs' heads' (set s.queues b (popped_in (get_or s.queues b []))) totals') entries c command
-      (transmit_item t left_cabinet (rules.message (mail_of channel word) pc)) r
-  unfolding transmit_item numbers cause_of
-  word-answered {table} {counts} {programs} rows' mails' logs' heads' totals' r command planned carried =
-      let queues' : List (List ℕ) = set s.queues b (popped_in (get_or s.queues b [])) in
-      let after = carried.holds t table counts programs queues' between entries left_cabinet reach.accepted planned word_left on_bus_lem there
-      (word_owner reach b (mail_of channel word) pc rest is_queue).0 (room_for_oldest reach b (mail_of channel word) pc rest is_queue) in
-      subst (λ (z : Answer). Answered t (store_of rows' mails' logs' heads' queues' totals') entries c command
-      (transmit_item t left_cabinet (rules.message (mail_of channel word) pc)) z) (sym carried.answer-is)
-      (record { answer-is = refl; cause_is = refl; holds = after })
+    -- and what the rules make of it
+    word-answered : {table : List ℕ} {l : plan.Plan} (s' : Store) (r : Answer) (command : Command) → Planned t (plan_of table l)
+        → Carries l s₁ channel word s' r
+        → Answered t s' entries c command (transmit_item t left_cabinet (rules.message (mail_of channel word) pc)) r
+    unfolding transmit_item numbers cause_of
+    word-answered {table} s' r command planned carried =
+        let counted : OnBus t s₁.totals channel left_cabinet =
+        subst (λ (y : Store). OnBus t y.totals channel left_cabinet) (sym gone.left-is) on_bus_lem in
+        let after = carried.holds t table between entries left_cabinet reach.accepted planned word_left counted
+        (sent-inside reach.accepted channel its_end) its_end (room_for_oldest reach b (mail_of channel word) pc q.rest q.is_queue) in
+        subst (λ (z : Answer). Answered t s' entries c command (transmit_item t left_cabinet (rules.message (mail_of channel word) pc)) z)
+        (sym carried.answer-is) (record { answer-is = refl; cause_is = refl; holds = after })
 
 -- ---- what the move promises
 
-module _ (wires : List ℕ) (rows mails logs heads queues : List (List ℕ)) (totals : List ℕ) (a b : ℕ) (x : Entry) (r : Answer)
-    (is_b : a < 16 → b ≡ a) where
-  pub transmits_34 : get_or (get_or queues b []) 2 0 ≢ 0 → r ≡ refusal_of 34 0 a
-      → Transmits wires rows mails logs heads queues totals a x rows mails logs heads queues totals r
-  unfolding refusal_number refusal_cause
-  transmits_34 n e table counts programs =
-      makes-refused 34 0 (ap alone_of e) (λ t entries c command reach planned h f o.
-      let same : b ≡ a = its_board reach o.board-there is_b in
-      turned_away_lem command a transmit_dead h (refused_34 h a o.board-there (subst (λ (i : ℕ). get_or (get_or queues i []) 2 0 ≢ 0) same n)) f refl)
+module _ (l : plan.Plan) (s : Store) (a b : ℕ) (x : Entry) (r : Answer) (is_b : a < 16 → b ≡ a) where
+  pub transmits_34 : dead_in s.queues b ≡ true → r ≡ refusal_of CarryOfDead a → Transmits l s a x s r
+  transmits_34 n e table =
+      makes-refused CarryOfDead (ap alone_of e) (λ t entries c command reach planned h f o.
+      turned_away_lem command a transmit_dead h (refused_34 h a o.board-there (dead_so s.queues true n reach o.board-there is_b)) f refl)
 
-  module _ (alive : get_or (get_or queues b []) 2 0 ≡ 0) where
-    alive_there : b ≡ a → get_or (get_or queues a []) 2 0 ≡ 0
-    alive_there e = ap (λ (i : ℕ). get_or (get_or queues i []) 2 0) (sym e) ∙ alive
-
-    pub transmits_42 : front_of (get_or queues b []) x ≡ Empty → r ≡ refusal_of 42 0 a
-        → Transmits wires rows mails logs heads queues totals a x rows mails logs heads queues totals r
-    unfolding refusal_number refusal_cause
-    transmits_42 none e table counts programs =
-        makes-refused 42 0 (ap alone_of e) (λ t entries c command reach planned h f o.
+  module _ (alive : dead_in s.queues b ≡ false) where
+    pub transmits_42 : front_of (get_or s.queues b no_queue) x ≡ None → r ≡ refusal_of QueueEmpty a → Transmits l s a x s r
+    transmits_42 none e table =
+        makes-refused QueueEmpty (ap alone_of e) (λ t entries c command reach planned h f o.
         let same : b ≡ a = its_board reach o.board-there is_b in
-        let empty : count_in queues a ≡ 0 = ap (count_in queues) (sym same) ∙ front-none (get_or queues b []) x none in
-        turned_away_lem command a outbox_empty h (refused_42 h a o.board-there (alive_there same) empty) f refl)
+        let empty : count_in s.queues a ≡ 0 = ap (count_in s.queues) (sym same) ∙ front-none (get_or s.queues b no_queue) x none in
+        turned_away_lem command a outbox_empty h (refused_42 h a o.board-there (dead_so s.queues false alive reach o.board-there is_b) empty) f refl)
 
-    module _ (i : Item) (some : front_of (get_or queues b []) x ≡ Oldest i) (queue' : List ℕ) (leaves : queue' ≡ popped_in (get_or queues b [])) where
-      -- the entry in front is the queue's oldest
-      oldest-there : {t : Table} {entries : List Entry} → OldestAt queues a x t entries
-          → item_of (get_or entries (oldest_of (get_or queues a []) a) blank_entry).item ≡ item_of i
-      oldest-there o = ap (λ (y : Entry). item_of y.item) (sym o.oldest-is) ∙ ap item_of (front-some (get_or queues b []) x i some).1
+    module _ (i : Item) (some : front_of (get_or s.queues b no_queue) x ≡ Some i) (queue' : Queue)
+        (leaves : queue' ≡ popped_in (get_or s.queues b no_queue)) where
+      -- the store without the entry
+      abbrev left : Store
+      left = record { processes = s.processes; queues = set s.queues b queue'; totals = s.totals }
 
-      -- what was made of the lists where the oldest entry is this one
-      abbrev Carried : rules.Item → List (List ℕ) → List (List ℕ) → List (List ℕ) → List (List ℕ) → List ℕ → Type 0
-      Carried item rows' mails' logs' heads' totals' =
-          (t : Table) (table : List ℕ) (counts : Counts) (programs : List ℕ) (entries : List Entry) (c : Cabinet) (command : Command) → Reachable t c
-          → Planned t (plan_of table counts programs wires) → Holds t (store_of rows mails logs heads queues totals) entries c → a < t.boards
-          → item_of (get_or entries (oldest_of (get_or queues a []) a) blank_entry).item ≡ item → (q : Begins c a (count_in queues a) item)
-          → Answered t (store_of rows' mails' logs' heads' (set queues a (popped_in (get_or queues a []))) totals') entries c command
-          (transmit_item t (with_outbox a q.rest c) item) r
+      -- what was made of it where the oldest entry is this one
+      abbrev Carried : rules.Item → Store → Type 0
+      Carried item s' =
+          (t : Table) (table : List ℕ) (entries : List Entry) (c : Cabinet) (command : Command) → Reachable t c → Planned t (plan_of table l)
+          → Holds t s entries c → a < t.boards → Left s a left → (q : Begins c a (count_in s.queues a) item)
+          → Answered t s' entries c command (transmit_item t (with_outbox a q.rest c) item) r
 
-      transmits_so : (item : rules.Item) → item_of i ≡ item → (rows' mails' logs' heads' : List (List ℕ)) (totals' : List ℕ) → r.code < 32
-          → SameLengths (store_of rows mails logs heads queues totals) (store_of rows' mails' logs' heads' queues totals')
-          → Carried item rows' mails' logs' heads' totals'
-          → Transmits wires rows mails logs heads queues totals a x rows' mails' logs' heads' (set queues b queue') totals' r
+      transmits_so : (item : rules.Item) → item_of i ≡ item → (s' : Store) → code_in r.reason < 32 → SameLengths left s' → Carried item s' → Transmits l s a x s' r
       unfolding transmit_oldest
-      transmits_so item m rows' mails' logs' heads' totals' done long carried table counts programs =
+      transmits_so item m s' done long carried table =
           makes_alone r done
           (record {
-            rows_same = long.rows_same;
-            mails-same = long.mails-same;
-            logs-same = long.logs-same;
-            heads-same = long.heads-same;
-            queues-same = length-set queues b queue';
+            processes-same = long.processes-same;
+            queues-same = long.queues-same ∙ length-set s.queues b queue';
             totals-same = long.totals-same;
           })
           refl
           (λ t entries c command reach planned h f o.
           let hb : a < t.boards = o.board-there in
           let same : b ≡ a = its_board reach hb is_b in
-          let first = oldest-there o ∙ m in
-          let some-wait : count_in queues a ≢ 0 = λ e. (front-some (get_or queues b []) x i some).0 (ap (count_in queues) same ∙ e) in
-          let q = subst (Begins c a (count_in queues a)) first (begins h a hb some-wait) in
+          let front = front-some (get_or s.queues b no_queue) x i some in
+          let first : item_of (get_or entries (oldest_of (get_or s.queues a no_queue) a) blank_entry).item ≡ item =
+          ap (λ (y : Entry). item_of y.item) (sym o.oldest-is) ∙ ap item_of front.1 ∙ m in
+          let q = subst (Begins c a (count_in s.queues a)) first (begins h a hb (λ e. front.0 (ap (count_in s.queues) same ∙ e))) in
+          let then_is : set s.queues b queue' ≡ set s.queues a (popped_in (get_or s.queues a no_queue)) =
+          ap (set s.queues b) leaves ∙ ap (λ (k : ℕ). set s.queues k (popped_in (get_or s.queues k no_queue))) same in
+          let gone : Left s a left = record {
+            queue = popped_in (get_or s.queues a no_queue);
+            popped = row_then h a hb q.fewer q.is-count;
+            left-is = ap (λ (y : List Queue). record { processes = s.processes; queues = y; totals = s.totals }) then_is;
+          } in
           let rule : transmit t c a ≡ transmit_item t (with_outbox a q.rest c) item =
-          live h a hb (alive_there same) ∙ ap (transmit_oldest t c a) q.is_queue in
-          let then_is : set queues a (popped_in (get_or queues a [])) ≡ set queues b queue' =
-          ap (λ (k : ℕ). set queues k (popped_in (get_or queues k []))) (sym same) ∙ ap (set queues b) (sym leaves) in
-          subst (λ (l : List (List ℕ)). Answered t (store_of rows' mails' logs' heads' l totals') entries c command (transmit t c a) r) then_is
-          (subst (λ (y : Result). Answered t (store_of rows' mails' logs' heads' (set queues a (popped_in (get_or queues a []))) totals') entries c command y r)
-          (sym rule) (carried t table counts programs entries c command reach planned h hb first q)))
+          live h a hb (dead_so s.queues false alive reach hb is_b) ∙ ap (transmit_oldest t c a) q.is_queue in
+          subst (λ (y : Result). Answered t s' entries c command y r) (sym rule) (carried t table entries c command reach planned h hb gone q))
 
-      pub transmits-word : (channel word pc : ℕ) → i ≡ Word channel word pc → (rows' mails' logs' heads' : List (List ℕ)) (totals' : List ℕ)
-          → Carries wires rows mails logs heads totals channel word rows' mails' logs' heads' totals' r
-          → Transmits wires rows mails logs heads queues totals a x rows' mails' logs' heads' (set queues b queue') totals' r
-      transmits-word channel word pc is_IsWord rows' mails' logs' heads' totals' carried =
-          transmits_so (rules.message (mail_of channel word) pc) (ap item_of is_IsWord) rows' mails' logs' heads' totals'
-          (let z = ap (λ (y : Answer). y.code) carried.answer-is in omega arith) (carried.same_lengths queues)
-          (λ t table counts programs entries c command reach planned h hb first q.
-          word-answered reach h a hb channel word pc q.fewer q.rest q.is-count first q.is_queue
-          rows' mails' logs' heads' totals' r command planned carried)
+      pub transmits-word : (channel word pc : ℕ) → i ≡ Word channel word pc → (s' : Store) → Carries l left channel word s' r → Transmits l s a x s' r
+      transmits-word channel word pc is_IsWord s' carried =
+          transmits_so (rules.message (mail_of channel word) pc) (ap item_of is_IsWord) s'
+          (let z = ap (λ (y : Answer). code_in y.reason) carried.answer-is in omega arith) carried.same_lengths
+          (λ t table entries c command reach planned h hb gone q. word-answered reach h a hb channel word pc q gone s' r command planned carried)
 
-      pub transmits-sync : (process : ℕ) (checkpoint : code.Checkpoint) → i ≡ Sync process checkpoint → (rows' logs' heads' : List (List ℕ))
-          → Syncs rows logs heads process checkpoint rows' logs' heads' r
-          → Transmits wires rows mails logs heads queues totals a x rows' mails logs' heads' (set queues b queue') totals r
-      transmits-sync process checkpoint is-sync rows' logs' heads' carried =
-          transmits_so (rules.checkpoint process (checkpoint_of checkpoint)) (ap item_of is-sync) rows' mails logs' heads' totals
-          carried.done (carried.same_lengths mails queues totals)
-          (λ t table counts programs entries c command reach planned h hb first q.
-          carried.answered t mails queues totals entries c command a (popped_in (get_or queues a [])) q.rest reach h hb
-          (row_then h a hb q.fewer q.is-count) q.is_queue)
+      pub transmits-sync : (process : ℕ) (checkpoint : code.Checkpoint) → i ≡ Sync process checkpoint → (s' : Store)
+          → Syncs left process checkpoint s' r → Transmits l s a x s' r
+      transmits-sync process checkpoint is-sync s' carried =
+          transmits_so (rules.checkpoint process (checkpoint_of checkpoint)) (ap item_of is-sync) s' carried.done (lengths_only carried.only)
+          (λ t table entries c command reach planned h hb gone q.
+          carried.answered t s entries c command a q.rest reach h hb gone q.is_queue)
 
-      pub transmits-transfer : (process : ℕ) → i ≡ Transfer process → (rows' : List (List ℕ)) → Transfers rows process rows' r
-          → Transmits wires rows mails logs heads queues totals a x rows' mails logs heads (set queues b queue') totals r
-      transmits-transfer process is-transfer rows' carried =
-          transmits_so (rules.transfer process) (ap item_of is-transfer) rows' mails logs heads totals carried.done
-          (record {
-            rows_same = carried.same_length;
-            mails-same = refl;
-            logs-same = refl;
-            heads-same = refl;
-            queues-same = refl;
-            totals-same = refl;
-          })
-          (λ t table counts programs entries c command reach planned h hb first q.
-          carried.answered t mails logs heads queues totals entries c command a (popped_in (get_or queues a [])) q.rest reach h hb
-          (row_then h a hb q.fewer q.is-count) q.is_queue)
+      pub transmits-transfer : (process : ℕ) → i ≡ Transfer process → (s' : Store) → Transfers left process s' r → Transmits l s a x s' r
+      transmits-transfer process is-transfer s' carried =
+          transmits_so (rules.transfer process) (ap item_of is-transfer) s' carried.done (lengths_only carried.only)
+          (λ t table entries c command reach planned h hb gone q.
+          carried.answered t s entries c command a q.rest reach h hb gone q.is_queue)

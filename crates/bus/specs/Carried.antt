@@ -1,11 +1,13 @@
 -- Move 3 with where the word comes from that it puts on the bus.
-use Rattle.std.specs.Prelude.{ℕ, List}
+use Rattle.std.specs.Prelude.{ℕ}
+use Rattle.numbers.specs.Answers.{code_in}
+use Rattle.plan.specs.declared.Plan.{Plan}
 use Rattle.state.specs.declared.entry.Entry.{Entry}
+use Rattle.state.specs.declared.store.Store.{Store}
 use Rattle.bus.specs.declared.carry.Carried.{Carried}
 use Rattle.bus.specs.Origins.{origin_in, CarriedFrom}
 use Rattle.bus.specs.Transmits.{Transmits}
 
-pub record CarriedBy (wires : List ℕ) (rows mails logs heads queues : List (List ℕ)) (totals : List ℕ) (a : ℕ) (oldest : Entry)
-    (rows' mails' logs' heads' queues' : List (List ℕ)) (totals' : List ℕ) (r : Carried) : Type 0 where
-  pub transmits : Transmits wires rows mails logs heads queues totals a oldest rows' mails' logs' heads' queues' totals' r.answer
-  pub from_there : CarriedFrom wires r.answer.code oldest (origin_in r.origin)
+pub record CarriedBy (l : Plan) (s : Store) (a : ℕ) (oldest : Entry) (s' : Store) (r : Carried) : Type 0 where
+  pub transmits : Transmits l s a oldest s' r.answer
+  pub from_there : CarriedFrom l.wires (code_in r.answer.reason) oldest (origin_in r.origin)

@@ -1,4 +1,4 @@
--- What the carrying of a word makes of the lists, once its entry has left its queue: the sender's half, and then the reader's.
+-- What the carrying of a word makes of the store, once its entry has left its queue: the sender's half, and then the reader's.
 use Rattle.std.specs.Prelude.{◌≡◌, ℕ, ◌+◌, ◌<◌, List, length, slice_index}
 use Rattle.facts.specs.Counts.{same}
 use Rattle.rules.specs.Table.{Table, channel_at}
@@ -7,11 +7,13 @@ use Rattle.rules.specs.Cabinet.{Cabinet, process_at, occupancy}
 use Rattle.rules.specs.Moves.{deliver, counts, with_process}
 use Rattle.state.specs.declared.entry.Entry.{Entry}
 use Rattle.state.specs.declared.moved.Answer.{Answer}
-use Rattle.state.specs.Store.{store_of, Holds}
+use Rattle.state.specs.declared.store.Store.{Store}
+use Rattle.state.specs.Store.{Holds}
 use Rattle.state.specs.Moved.{SameLengths}
-use Rattle.plan.specs.declared.Counts.{Counts}
+use Rattle.plan.specs.declared.Plan.{Plan}
 use Rattle.plan.specs.Plan.{plan_of, Planned}
 use Rattle.rules.specs.Sizes.{channels_most}
+use Rattle.bus.specs.Parts.{with_totals}
 use Rattle.bus.specs.Delivers.{mail_of, Room}
 use Rattle.bus.specs.Transmitted.{transmitted_of}
 
@@ -24,14 +26,13 @@ pub record OnBus (t : Table) (totals : List ℕ) (channel : ℕ) (c : Cabinet) :
   pub total-is : (k : ℕ) → k < length t.channels → slice_index totals k ≡ occupancy t c k + same k channel
   pub totals-length : length totals ≡ channels_most
 
--- whatever the plan and the lists are that it isn't lent
-pub record Carries (wires : List ℕ) (rows mails logs heads : List (List ℕ)) (totals : List ℕ) (channel word : ℕ)
-    (rows' mails' logs' heads' : List (List ℕ)) (totals' : List ℕ) (r : Answer) : Type 0 where
+-- Whatever the table's bytes are, which it isn't lent. The store holds the cabinet but for its totals, which count the word still: `between` are
+-- those that don't.
+pub record Carries (l : Plan) (s : Store) (channel word : ℕ) (s' : Store) (r : Answer) : Type 0 where
   pub answer-is : r ≡ transmitted_of channel word
-  pub holds : (t : Table) (table : List ℕ) (counts : Counts) (programs : List ℕ) (queues : List (List ℕ)) (between : List ℕ)
-      (entries : List Entry) (c : Cabinet)
-      → Accepted t → Planned t (plan_of table counts programs wires) → Holds t (store_of rows mails logs heads queues between) entries c
-      → OnBus t totals channel c → channel < length t.channels → (channel_at t channel).sender < length t.processes → Room t c channel
-      → Holds t (store_of rows' mails' logs' heads' queues totals') entries (deliver t (mail_of channel word) (counted_at t channel c))
-  pub same_lengths : (queues : List (List ℕ))
-      → SameLengths (store_of rows mails logs heads queues totals) (store_of rows' mails' logs' heads' queues totals')
+  pub holds : (t : Table) (table between : List ℕ) (entries : List Entry) (c : Cabinet)
+      → Accepted t → Planned t (plan_of table l) → Holds t (with_totals s between) entries c
+      → OnBus t s.totals channel c → channel < length t.channels → (channel_at t channel).sender < length t.processes → Room t c channel
+      → Holds t s' entries (deliver t (mail_of channel word) (counted_at t channel c))
+  pub queues-is : s'.queues ≡ s.queues
+  pub same_lengths : SameLengths s s'

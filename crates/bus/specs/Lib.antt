@@ -1,4 +1,5 @@
 -- What moves 3 and 4 promise.
+pub mod Parts
 pub mod Delivers
 pub mod Syncs
 pub mod Transfers

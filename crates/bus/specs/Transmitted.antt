@@ -1,12 +1,13 @@
 -- What the moves on the bus answer.
 use Rattle.std.specs.Prelude.{ℕ}
+use Rattle.numbers.specs.declared.answers.Reason.TheVariants.{Carried, Fed}
 use Rattle.state.specs.declared.moved.Answer.{Answer}
 use Rattle.state.specs.Moved.{answer_of}
 
 -- "4 word on the bus (channel, word)"
 abbrev pub transmitted_of : ℕ → ℕ → Answer
-transmitted_of channel word = answer_of 4 0 channel word
+transmitted_of channel word = answer_of Carried channel word
 
 -- "a feed answers 4", and W-206: "Code 4: 1 for a feed."
 abbrev pub injected_of : ℕ → ℕ → Answer
-injected_of channel word = answer_of 4 1 channel word
+injected_of channel word = answer_of Fed channel word

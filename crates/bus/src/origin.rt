@@ -1,13 +1,14 @@
 // Where the word that a record puts on the bus comes from (W-212): "sender and place, 255 and 0 for a feed that answers 4, 255 and 255 where no
 // word was on the bus".
-ghost use Rattle.std.specs.Prelude.{◌≡◌};
+ghost use Rattle.std.specs.Prelude.{◌≡◌, ◌==◌};
 ghost use Rattle.rules.specs.Moves.{no_origin};
+ghost use Rattle.numbers.specs.Answers.{code_in};
 ghost use Rattle.bus.specs.Origins.{origin_in, fed_from, CarriedFrom};
 
-use numbers::answers::ON_THE_BUS;
-use plan::{ENVIRONMENT, WIRES, sender};
+use numbers::answers::Reason;
+use plan::{CHANNELS, ENVIRONMENT, Wire};
 use state::entry::{Entry, Item};
-use words::{index32, low_byte};
+use words::{index, low_byte};
 
 #[derive(Clone, Copy)]
 pub struct Origin {
@@ -25,11 +26,18 @@ pub fn nowhere() -> Origin
     }
 }
 
-// Of a feed with an answer of this code.
-pub fn fed(code: u32) -> Origin
-    ensures { origin_in result ≡ fed_from code }
+// Whether an answer says that a word was on the bus: one that was carried, or one that was fed.
+fn on_the_bus(reason: Reason) -> bool
+    ensures { result ≡ (code_in reason == 4) }
 {
-    if code == ON_THE_BUS {
+    reason == Reason::Carried || reason == Reason::Fed
+}
+
+// Of a feed that was answered so.
+pub fn fed(reason: Reason) -> Origin
+    ensures { origin_in result ≡ fed_from (code_in reason) }
+{
+    if on_the_bus(reason) {
         return Origin {
             sender: ENVIRONMENT,
             place: 0,
@@ -38,11 +46,11 @@ pub fn fed(code: u32) -> Origin
     nowhere()
 }
 
-// Of a carry with an answer of this code: `oldest` is what stood where the board's oldest entry does, before it.
-pub fn carried(wires: &[u32; WIRES], code: u32, oldest: Entry) -> Origin
-    ensures { CarriedFrom wires.now code oldest (origin_in result) }
+// Of a carry that was answered so: `oldest` is what stood where the board's oldest entry does, before it.
+pub fn carried(wires: &[Wire; CHANNELS], reason: Reason, oldest: Entry) -> Origin
+    ensures { CarriedFrom wires.now (code_in reason) oldest (origin_in result) }
 {
-    if code != ON_THE_BUS {
+    if !on_the_bus(reason) {
         return nowhere();
     }
     let item = oldest.item;
@@ -55,7 +63,7 @@ pub fn carried(wires: &[u32; WIRES], code: u32, oldest: Entry) -> Origin
         return nowhere();
     };
     Origin {
-        sender: low_byte(sender(wires, index32(channel))),
+        sender: low_byte(wires[index::<CHANNELS>(channel)].sender),
         place: place,
     }
 }

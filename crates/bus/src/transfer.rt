@@ -3,23 +3,20 @@
 // cause 3.
 ghost use Rattle.bus.specs.Transfers.{Transfers};
 
-use numbers::answers::SYNC_CARRIED;
-use numbers::causes::RESYNC_CARRIED;
+use numbers::answers::Reason;
 use plan::PROCESSES;
-use process::row::{ROW, WAITS};
-use process::transfer::end_transfer;
 use state::moved::Answer;
-use words::index16;
+use state::store::Store;
+use words::index;
 
-pub fn transmit_transfer(rows: &mut [[u32; ROW]; PROCESSES], process: u32) -> Answer
-    ensures { Transfers rows.old process rows.new result }
+pub fn transmit_transfer(store: &mut Store, process: u32) -> Answer
+    ensures { Transfers store.old process store.new result }
 {
-    let p = index16(process);
-    end_transfer(&mut rows[p]);
-    rows[p][WAITS] = 0;
+    let p = index::<PROCESSES>(process);
+    store.processes[p].end_transfer();
+    store.processes[p].waits = false;
     Answer {
-        code: SYNC_CARRIED,
-        cause: RESYNC_CARRIED,
+        reason: Reason::ResyncCarried,
         a: process,
         word: 0,
     }

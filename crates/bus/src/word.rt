@@ -3,46 +3,30 @@
 ghost use Rattle.bus.specs.Carries.{Carries};
 
 use crate::delivery::deliver;
-use backup::limits::LOG;
-use backup::place::HEAD;
-use numbers::answers::ON_THE_BUS;
-use numbers::causes::CARRIED;
-use plan::{CHANNELS, PROCESSES, WIRES, reader, sender};
-use process::delivery::counts;
-use process::row::ROW;
+use numbers::answers::Reason;
+use plan::{CHANNELS, PROCESSES, Plan};
 use state::channel::ENVIRONMENT;
 use state::moved::Answer;
-use words::{index16, index32};
+use state::store::Store;
+use words::index;
 
 // The sender's half, and then the reader's, which may be the same process. The sender of a word in a queue is a process, never the outside. The
 // channel's total stays, with a word less in the queues and one more unread; of a word that the outside reads it is one less.
-pub fn transmit_word(
-    wires: &[u32; WIRES],
-    rows: &mut [[u32; ROW]; PROCESSES],
-    mails: &mut [[u64; LOG]; PROCESSES],
-    logs: &mut [[u64; LOG]; PROCESSES],
-    heads: &mut [[u32; HEAD]; PROCESSES],
-    totals: &mut [u32; CHANNELS],
-    channel: u32,
-    word: u32,
-) -> Answer
-    ensures { Carries wires.now rows.old mails.old logs.old heads.old
-        totals.old channel word rows.new mails.new logs.new heads.new
-        totals.new result }
+pub fn transmit_word(plan: &Plan, store: &mut Store, channel: u32, word: u32) -> Answer
+    ensures { Carries plan.now store.old channel word store.new result }
 {
-    let k = index32(channel);
-    let p = index16(sender(wires, k));
-    counts(&rows[p], &mut heads[p]);
+    let k = index::<CHANNELS>(channel);
+    let p = index::<PROCESSES>(plan.sender(k));
+    store.processes[p].counts();
     let answer = Answer {
-        code: ON_THE_BUS,
-        cause: CARRIED,
+        reason: Reason::Carried,
         a: channel,
         word: word,
     };
-    if reader(wires, k) == ENVIRONMENT {
-        totals[k] = std::num::wrapping_sub_u32(totals[k], 1);
+    if plan.reader(k) == ENVIRONMENT {
+        store.totals[k] = std::num::wrapping_sub_u32(store.totals[k], 1);
         return answer;
     }
-    deliver(wires, rows, mails, logs, heads, channel, word);
+    deliver(plan, store, channel, word);
     answer
 }

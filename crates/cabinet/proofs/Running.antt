@@ -1,4 +1,5 @@
 -- A whole run: the plan suits the table, the records are played, and what comes of it is the rules' run.
+use Rattle.std.specs.Prelude.{Ok, Err}
 use mathlib.Core.Path.{◌≡◌, refl, ap, sym, ◌∙◌, subst}
 use mathlib.Core.Bool.{Bool, true, false, cond}
 use mathlib.Core.List.{List}
@@ -7,12 +8,11 @@ use native.Mathlib.Omega.{arith}
 use lib.Dec.{eqb}
 use lib.ListN.{length}
 use borrow.Author.Tests.{eqb-true, ne_eqb}
-use Rattle.records.specs.Commands.{ScheduleJudged}
+use Rattle.numbers.specs.Runs.{number_of, refuses}
+use Rattle.numbers.specs.declared.runs.Refusal.{Refusal}
 use Rattle.rules.specs.Transparency.{FailureTransparency}
-use Rattle.records.specs.declared.schedule.Judged.{Judged}
-use Rattle.table.specs.Plan.{Decodes}
+use Rattle.table.specs.Plan.{Plans}
 use Rattle.table.specs.declared.Decoded.{Decoded}
-use Rattle.table.specs.declared.Plan.{Plan}
 use Rattle.rules.specs.Table.{Table}
 use Rattle.rules.specs.Judge.{Accepted}
 use Rattle.rules.specs.Format.{decode_table}
@@ -26,7 +26,7 @@ use Rattle.rules.proofs.AcceptedRun.{one_shown-each, table-valid, schedule_valid
 use Rattle.rules.proofs.Standing.{standing_in, ended_is}
 use Rattle.rules.proofs.Theorem.{failure_transparency}
 use Rattle.state.specs.declared.entry.Entry.{Entry}
-use Rattle.state.specs.Store.{Store}
+use Rattle.state.specs.declared.store.Store.{Store}
 use Rattle.state.specs.Moved.{Reachable}
 use Rattle.plan.specs.Plan.{plan_of}
 use Rattle.stretch.specs.Plays.{sheets_of, Roomy}
@@ -36,8 +36,6 @@ use Rattle.undo.specs.Sessions.{PlaysAll}
 use Rattle.outcome.specs.Starts.{Placed}
 use Rattle.outcome.specs.Reports.{Reports}
 use Rattle.outcome.specs.Quiets.{Quiets}
-use Rattle.cabinet.specs.Judged.{judged_run}
-use Rattle.cabinet.proofs.Judging.{run_is}
 use Rattle.cabinet.specs.Conducts.{Conducts}
 use Rattle.cabinet.specs.Runs.{Runs}
 
@@ -56,12 +54,10 @@ has_room table schedule buffers acc = record {
   origins-room = origins-fit table schedule buffers acc;
 }
 
-module _ (table schedule : List ℕ) (plan : Plan) (answers reasons report origins answers' reasons' report' origins' : List ℕ) (s : Store)
+module _ (table schedule : List ℕ) (d : Decoded) (answers reasons report origins answers' reasons' report' origins' : List ℕ) (s : Store)
     (entries : List Entry) (quiet : Bool)
-    (plays : PlaysAll (plan_of table plan.counts plan.programs plan.wires) schedule plan.primary plan.standby
-    (sheets_of answers reasons origins) s entries (sheets_of answers' reasons' origins'))
-    (reports : Reports s.rows plan.counts.processes report report')
-    (quiets : Quiets table plan.counts plan.programs s.rows s.mails s.queues quiet) where
+    (plays : PlaysAll (plan_of table d.plan) schedule d.placements (sheets_of answers reasons origins) s entries (sheets_of answers' reasons' origins'))
+    (reports : Reports s d.plan.counts.processes report report') (quiets : Quiets table d.plan s quiet) where
   abbrev t : Table
   t = decode_table table
 
@@ -72,7 +68,7 @@ module _ (table schedule : List ℕ) (plan : Plan) (answers reasons report origi
   reach : Accepted t → Reachable t (ended t commands)
   reach ok = record { accepted = ok; commands = standing_in t commands; is-reached = ended_is t commands }
 
-  pub conducts : Conducts table schedule plan (buffers_of answers reasons report origins) quiet (buffers_of answers' reasons' report' origins')
+  pub conducts : Conducts table schedule d (buffers_of answers reasons report origins) quiet (buffers_of answers' reasons' report' origins')
   unfolding ran_from
   conducts = record {
     conducted = λ ok plans.
@@ -80,16 +76,16 @@ module _ (table schedule : List ℕ) (plan : Plan) (answers reasons report origi
         let acc = passed table schedule before ok in
         let at : Accepted t = decoded_accepted table (table-valid table schedule before acc) in
         let planned = plans.planned in
-        let placed : Placed t plan.primary plan.standby plan.counts.processes =
-        record { processes-is = planned.processes-is; primary_at = plans.primary_at; standby_at = plans.standby_at } in
+        let placed : Placed t d.placements d.plan.counts.processes =
+        record { processes-is = planned.processes-is; placement_at_lem = λ p h. (plans.primary_at p h, plans.standby_at p h) } in
         let shown = plays.shown t at planned placed in
         let many : commands_in schedule ≡ length commands = sym (commands-counted schedule) in
         let roomy : Roomy (length (play_from t (opened t) commands).answers) (sheets_of answers reasons origins) =
         rw (one_shown-each t (opened t) commands, commands-counted schedule) (has_room table schedule before acc) in
-        let room : 20 * plan.counts.processes ≤ length report = rw (planned.processes-is, processes-counted table) (report-fits table schedule before acc) in
+        let room : 20 * d.plan.counts.processes ≤ length report = rw (planned.processes-is, processes-counted table) (report-fits table schedule before acc) in
         let end = ended t commands in
-        let w = reports.reported t s.mails s.logs s.heads s.queues s.totals entries end (reach at) shown.holds planned.processes-is room in
-        let q = quiets.answers t plan.wires s.logs s.heads s.totals entries end (reach at) planned shown.holds in
+        let w = reports.reported t entries end (reach at) shown.holds planned.processes-is room in
+        let q = quiets.answers t entries end (reach at) planned shown.holds in
         let a = answers-front shown.wrote roomy in
         let b = reasons-front shown.wrote roomy in
         let o = origins-front shown.wrote roomy in
@@ -98,46 +94,31 @@ module _ (table schedule : List ℕ) (plan : Plan) (answers reasons report origi
 
 -- ---- the call
 
-module _ (table schedule : List ℕ) (before : Buffers) (d : Decoded) (j : Judged) (is-d : Decodes table d) (is-j : ScheduleJudged schedule j) where
-  abbrev number : ℕ
-  number =
-      judged_run d.number d.plan.counts.processes j
-      (record {
-        answers = length before.answers;
-        reasons = length before.reasons;
-        report = length before.report;
-        origins = length before.origins;
-      })
-
-  judged : number ≡ validate_run table schedule (lengths_of before)
-  judged = run_is table schedule _ d.number d.plan.counts.processes j is-d.number_is (λ z. (is-d.accepted z).planned.processes-is ∙ processes-counted table) is-j
-
-  pub refuses : (n : ℕ) → n ≡ number → (n ≡ 0 → ⊥) → Runs table schedule before (record { number = n; records = 0; quiet = false }) before
+module _ (table schedule : List ℕ) (before : Buffers) where
+  -- refused
+  pub refuses_run : (r : Refusal) → number_of r ≡ validate_run table schedule (lengths_of before) → Runs table schedule before (Err r) before
   unfolding run refused_with
-  refuses n e h = record {
-    ran = rw (← judged, ← e, ne_eqb n 0 h);
-    failure_transparent = λ z. absurd (h z);
+  refuses_run r e = record {
+    ran = rw (← e, ne_eqb (number_of r) 0 (refuses r));
+    failure_transparent = λ z. absurd (refuses r z);
   }
 
-  -- a run that is not refused has room for its records
-  pub roomy : (n : ℕ) → n ≡ number → n ≡ 0 → Roomy (commands_in schedule) (sheets_of before.answers before.reasons before.origins)
-  roomy n e z = has_room table schedule before (passed table schedule before (sym judged ∙ sym e ∙ z))
+  module _ (ok : 0 ≡ validate_run table schedule (lengths_of before)) where
+    -- not refused, it has room for its records
+    pub roomy : Roomy (commands_in schedule) (sheets_of before.answers before.reasons before.origins)
+    roomy = has_room table schedule before (passed table schedule before (sym ok))
 
-  pub accepts : (n : ℕ) → n ≡ number → n ≡ 0 → (quiet : Bool) (after : Buffers) → Conducts table schedule d.plan before quiet after
-      → Runs table schedule before (record { number = 0; records = j.records; quiet = quiet }) after
-  unfolding run
-  accepts n e z quiet after h =
-      let ok : validate_run table schedule (lengths_of before) ≡ 0 = sym judged ∙ sym e ∙ z in
-      let acc = passed table schedule before ok in
-      let fine : d.number ≡ 0 = is-d.number_is ∙ table-valid table schedule before acc in
-      let sv = schedule_valid table schedule before acc in
-      let many : j.records ≡ commands_in schedule = is-j.records_is ∙ ap (λ (m : ℕ). cond (eqb m 0) (commands_in schedule) 0) sv in
-      let same : ran_of 0 j.records quiet after ≡ run table schedule before =
-      ap (λ (m : ℕ). ran_of 0 m quiet after) many ∙ h.conducted ok (is-d.accepted fine) ∙ sym (ap (λ (m : ℕ). cond (eqb m 0) (ran_from (decode_table table) (decode_schedule schedule) before) (refused_with m before)) ok) in
-      record {
-        ran = same;
-        failure_transparent = λ _. subst (FailureTransparency table schedule) (sym same) (failure_transparency table schedule before acc);
-      }
+    pub accepts : {d : Decoded} {records : ℕ} → Plans table d → records ≡ commands_in schedule → (quiet : Bool) (after : Buffers)
+        → Conducts table schedule d before quiet after → Runs table schedule before (Ok (record { records = records; quiet = quiet })) after
+    unfolding run
+    accepts plans many quiet after h =
+        let acc = passed table schedule before (sym ok) in
+        let same : ran_of 0 _ quiet after ≡ run table schedule before =
+        ap (λ (m : ℕ). ran_of 0 m quiet after) many ∙ h.conducted (sym ok) plans ∙ ap (λ (m : ℕ). cond (eqb m 0) (ran_from (decode_table table) (decode_schedule schedule) before) (refused_with m before)) ok in
+        record {
+          ran = same;
+          failure_transparent = λ _. subst (FailureTransparency table schedule) (sym same) (failure_transparency table schedule before acc);
+        }
 
 -- ---- a run has at most 10,000 records
 

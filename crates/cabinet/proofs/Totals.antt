@@ -1,4 +1,4 @@
--- W-208 in one statement: the records before any place of a schedule are a schedule's, and lists that hold the cabinet after them have its totals.
+-- W-208 in one statement: the records before any place of a schedule are a schedule's, and a store that holds the cabinet after them has its totals.
 use mathlib.Core.Path.{◌≡◌, refl, ap, ◌∙◌}
 use mathlib.Core.List.{List, [], ◌∷◌}
 use Prim.Native.Nat.{ℕ, zero, suc, ◌+◌, ◌*◌, ◌≤◌}
@@ -58,7 +58,7 @@ totals-afresh table schedule = record {
   after = λ valid n few plans plays k inside.
       let t = decode_table table in
       let planned = plans.planned in
-      let placed : Placed t _ _ _ = record { processes-is = planned.processes-is; primary_at = plans.primary_at; standby_at = plans.standby_at } in
+      let placed : Placed t _ _ = record { processes-is = planned.processes-is; placement_at_lem = λ p h. (plans.primary_at p h, plans.standby_at p h) } in
       let shown = plays.shown t (decoded_accepted table valid) planned placed in
       shown.holds.totalled.total-is k inside ∙ ap (λ (l : List Command). occupancy t (ended t l) k) (front_decoded schedule n few);
 }

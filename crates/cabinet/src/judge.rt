@@ -1,9 +1,11 @@
 // Whether a run is refused, and by which number, before any of it is made.
 ghost use Rattle.std.specs.Prelude.{◌≡◌};
-ghost use Rattle.cabinet.specs.Judged.{judged_run};
+ghost use Rattle.numbers.specs.Runs.{number_in};
+ghost use Rattle.cabinet.specs.Judged.{judged_buffers, RunJudged};
 
-use numbers::runs::{ACCEPTED, ANSWERS_SHORT, ORIGINS_SHORT, REPORT_SHORT};
-use records::schedule::Judged;
+use numbers::runs::Refusal;
+use records::schedule::judge_schedule;
+use table::{Decoded, decode};
 
 // How long the lent buffers are.
 #[derive(Clone, Copy)]
@@ -14,35 +16,49 @@ pub struct Lengths {
     pub origins: usize,
 }
 
-// 0, or the number that refuses a run, lowest first: those of the table, those of the schedule, then
-// "11 answer buffer under six bytes a record; 12 report buffer under 20 bytes a process"; W-206: 11 also for a buffer of reasons under one
-// byte a record; W-212: "51, that buffer is under two bytes a record, after 12".
-pub fn judge_run(table_number: u8, processes: usize, schedule: Judged, lengths: Lengths) -> u8
-    ensures { result ≡ judged_run table_number processes schedule lengths }
+// A run that is not refused: what its table says, and how many records its schedule has.
+#[derive(Clone, Copy)]
+pub struct Admitted {
+    pub decoded: Decoded,
+    pub records: usize,
+}
+
+// The buffers, for so many records and processes: "11 answer buffer under six bytes a record; 12 report buffer under 20 bytes a process"; W-206: 11
+// also for a buffer of reasons under one byte a record; W-212: "51, that buffer is under two bytes a record, after 12".
+fn judge_buffers(records: usize, processes: usize, lengths: Lengths) -> Result<(), Refusal>
+    ensures { number_in result ≡ judged_buffers records processes lengths }
 {
-    let schedule_number = schedule.number;
-    let records = schedule.records;
-    let answers = lengths.answers;
-    let reasons = lengths.reasons;
-    let report = lengths.report;
-    let origins = lengths.origins;
-    if table_number != 0 {
-        return table_number;
-    }
-    if schedule_number != 0 {
-        return schedule_number;
-    }
+    let Lengths {
+        answers,
+        reasons,
+        report,
+        origins,
+    } = lengths;
     if answers / 6 < records {
-        return ANSWERS_SHORT;
+        return Err(Refusal::AnswersShort);
     }
     if reasons < records {
-        return ANSWERS_SHORT;
+        return Err(Refusal::AnswersShort);
     }
     if report / 20 < processes {
-        return REPORT_SHORT;
+        return Err(Refusal::ReportShort);
     }
     if origins / 2 < records {
-        return ORIGINS_SHORT;
+        return Err(Refusal::OriginsShort);
     }
-    ACCEPTED
+    Ok(())
+}
+
+// The run of a table and a schedule with buffers of these lengths, lowest number first: those of the table, those of the schedule, those of the
+// buffers.
+pub fn judge_run(table: &[u8], schedule: &[u8], lengths: Lengths) -> Result<Admitted, Refusal>
+    ensures { RunJudged table.now schedule.now lengths result }
+{
+    let decoded = decode(table)?;
+    let records = judge_schedule(schedule)?;
+    judge_buffers(records, decoded.plan.counts.processes, lengths)?;
+    Ok(Admitted {
+        decoded: decoded,
+        records: records,
+    })
 }

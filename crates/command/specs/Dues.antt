@@ -11,14 +11,14 @@ use Rattle.command.specs.Judges.{judge_of}
 abbrev pub command_in : Due → Command
 command_in d = record { mv = d.mv; a = d.a; word = d.word }
 
--- d is this command, with the number that the judging answers of it
+-- d is this command, with what the judging says of it
 pub record DueOf (counts : Counts) (c : Command) (d : Due) : Type 0 where
   pub command-is : command_of (command_in d) ≡ command_of c
   pub a_small : d.a < 256
-  pub number_is : d.number ≡ judge_of counts (command_in d)
+  pub refused-is : d.refused ≡ judge_of counts (command_in d)
 
--- d is the i-th record of a schedule, with the number that the judging answers of it
+-- d is the i-th record of a schedule, with what the judging says of it
 pub record DueAt (schedule : List ℕ) (counts : Counts) (i : ℕ) (d : Due) : Type 0 where
   pub command-is : command_of (command_in d) ≡ get_or (decode_schedule schedule) i (command 0 0 0)
   pub a_small : d.a < 256
-  pub number_is : d.number ≡ judge_of counts (command_in d)
+  pub refused-is : d.refused ≡ judge_of counts (command_in d)

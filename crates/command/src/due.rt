@@ -1,18 +1,17 @@
-// A schedule's record, read and judged before its move is made; and what it is answered where that refuses it.
+// A schedule's record, read and judged before its move is made.
 ghost use Rattle.std.specs.Prelude.{◌≡◌};
-ghost use Rattle.command.specs.Judges.{turned_away};
 ghost use Rattle.command.specs.Dues.{DueOf};
 
-use crate::judge::{cause, judge};
+use crate::judge::judge;
+use numbers::answers::Reason;
 use plan::Counts;
 use records::schedule::Command;
-use state::moved::{Answer, refusal};
 use words::byte_word;
 
-// The record's move, a and word, and 32, 33 or 0 for neither.
+// The record's move, a and word, and why it is refused before its move is made, if it is: what it is then answered is `state`'s `refusal`.
 #[derive(Clone, Copy)]
 pub struct Due {
-    pub number: u32,
+    pub refused: Option<Reason>,
     pub mv: u8,
     pub a: u32,
     pub word: u32,
@@ -23,16 +22,9 @@ pub fn due_of(counts: Counts, c: Command) -> Due
     ensures { DueOf counts c result }
 {
     Due {
-        number: judge(counts, c),
+        refused: judge(counts, c),
         mv: c.mv,
         a: byte_word(c.a),
         word: c.word,
     }
-}
-
-// The answer to one with a number.
-pub fn turned_away(d: Due) -> Answer
-    ensures { result ≡ turned_away d.number d.mv d.a }
-{
-    refusal(d.number, cause(d.number, d.mv), d.a)
 }

@@ -1,5 +1,5 @@
--- The lists after a crash hold the rules' cabinet after it.
-use Rattle.std.proofs.Common.{◌≡◌, ℕ, zero, suc, ◌+◌, ◌<◌, ◌≤◌, min, Bool, true, false, cond, not, eqb, ltb, ◌≢◌, List, [], ◌∷◌, length, get_or, set, sym, refl, ap, ◌∙◌, arith, get_or-set_other, get_or-set_same, le-ltb, lt-ltb, eq-eqb, ne_eqb, eqb-true}
+-- The store after a crash holds the rules' cabinet after it.
+use Rattle.std.proofs.Common.{◌≡◌, ℕ, zero, suc, ◌+◌, ◌<◌, ◌≤◌, min, Bool, true, false, cond, not, eqb, ltb, ◌≢◌, List, [], ◌∷◌, length, get_or, set, sym, refl, ap, ◌∙◌, arith, get_or-set_other, get_or-set_same, le-ltb, lt-ltb, eq-eqb, ne_eqb}
 use mathlib.Core.Bool.{not-not}
 use mathlib.Core.Option.{Option, none, some}
 use lib.ListN.{get_or-eq_default}
@@ -9,7 +9,10 @@ use Rattle.facts.specs.Lists.{listed}
 use Rattle.facts.specs.Rings.{get_or_listed, listed-length}
 use Rattle.backup.specs.Limits.{log_most}
 use Rattle.plan.specs.Plan.{Plan, Planned, arity_in, sender_in, reader_in}
-use Rattle.process.specs.Row.{board_in, flag_in, unread_in, oldest_in, waits_in, mail_in, packed_at, mails_in, process_of, machine_of}
+use Rattle.process.specs.declared.process.Process as code
+use Rattle.process.specs.declared.process.Protection.{Protection}
+use Rattle.process.specs.declared.process.Protection.TheVariants.{Unprotected, Complete, Coming}
+use Rattle.process.specs.Row.{no_process, backed, recorded, mail_in, packed_at, mails_in, process_of, machine_of}
 use Rattle.process.specs.Promotion.{Routes, promoted_by, BecameAtCrash}
 use Rattle.rules.specs.Table.{Table, environment, inputs, channel_at}
 use Rattle.rules.specs.Machine.{booted}
@@ -18,8 +21,10 @@ use Rattle.rules.specs.Cabinet.{Cabinet, Process, Standby, nobody, process_at, o
 use Rattle.rules.specs.Moves.{unprotected, after_crash, all_after_crash}
 use Rattle.rules.proofs.Counting.{flight_total, flight_lost}
 use Rattle.state.specs.declared.entry.Entry.{Entry}
-use Rattle.state.specs.Queue.{reset_in}
-use Rattle.state.specs.Store.{Store, store_of, Totalled, Holds, process_in, flag}
+use Rattle.state.specs.Queue.{no_queue, reset_in}
+use Rattle.state.specs.declared.queue.Queue.{Queue}
+use Rattle.state.specs.declared.store.Store.{Store}
+use Rattle.state.specs.Store.{Totalled, Holds, lists_at, process_in}
 use Rattle.state.specs.Moved.{Reachable}
 use Rattle.state.proofs.Reading.{at_process, how_many, how_many_boards}
 use Rattle.state.proofs.Boards.{Boarded, boards_emptied}
@@ -29,7 +34,8 @@ use Rattle.state.proofs.Ends.{sender-inside, reader-inside}
 use Rattle.state.proofs.Owners.{waiting_elsewhere, queued_elsewhere, fed-not-queued}
 use Rattle.crash.specs.Losses.{runs_on_board, lost_words, unbacked_in, Zeroed}
 use Rattle.crash.specs.Processes.{port_channel, port_channels, AllCrashed}
-use Rattle.crash.specs.Recount.{unread_here, unread_at, Dropped, Added}
+use Rattle.crash.specs.declared.recount.Unread.TheVariants.{Out, In}
+use Rattle.crash.specs.Recount.{unread_here, unread_at, Recounted}
 
 -- ---- the rules' functions
 
@@ -84,64 +90,71 @@ routes {t} {l} plan p hp i few =
     (λ h. rw (lt-ltb i n (rw (plan.arity_at p hp) h)) (plan.input_at_lem p hp i h))
     (λ h. rw (le-ltb i n (rw (plan.arity_at p hp) h)) (sym (get_or-eq_default (inputs t p) 0 {n = i} h))))
 
+-- a backup is a record
+is-record : (q : Protection) → backed q ≡ true → recorded q ≡ true
+is-record Unprotected e = e
+is-record Complete e = refl
+is-record Coming e = refl
+
 -- ---- unread words
 
 -- no more than a mailbox has
-unread_below : (rows mails : List (List ℕ)) (p k : ℕ) → unread_at rows mails p k ≤ log_most
-unread_below rows mails p k = go (ltb p 16)
+unread_below : (processes : List code.Process) (p k : ℕ) → unread_at processes p k ≤ log_most
+unread_below processes p k = go (ltb p 16)
   where
-    go : (a : Bool) → cond a (unread_here (get_or rows p []) (get_or mails p []) k) 0 ≤ log_most
+    go : (a : Bool) → cond a (unread_here (get_or processes p no_process) k) 0 ≤ log_most
     go true =
-        let n : ℕ = min (unread_in (get_or rows p [])) log_most in
-        let first : ℕ = oldest_in (get_or rows p []) in
-        let few = unread-few k (mails_in first n (get_or mails p [])) in
-        let long = listed-length (λ i. mail_in (packed_at first (get_or mails p []) i)) n in
+        let x : code.Process = get_or processes p no_process in
+        let n : ℕ = min x.unread log_most in
+        let first : ℕ = x.oldest in
+        let few = unread-few k (mails_in first n x.mail) in
+        let long = listed-length (λ i. mail_in (packed_at first x.mail i)) n in
         omega arith
     go false = omega arith
 
 -- those of a channel, in the mailbox of its reader; the outside has none
-unread-there : {t : Table} {l : Plan} {c₀ : Cabinet} → Reachable t c₀ → (c : Cabinet) (rows mails logs heads : List (List ℕ))
-    → ((p : ℕ) → p < length t.processes → process_at c p ≡ process_of (get_or rows p []) (get_or mails p []) (get_or logs p []) (get_or heads p []))
-    → length c.processes ≡ length t.processes → ((p : ℕ) → p < length t.processes → unread_in (get_or rows p []) ≤ log_most) → Planned t l
-    → (k : ℕ) → k < length t.channels → unread_at rows mails (reader_in l.wires k) k ≡ unread_on k (process_at c (channel_at t k).reader).machine.mailbox
+unread-there : {t : Table} {l : Plan} {c₀ : Cabinet} → Reachable t c₀ → (c : Cabinet) (processes : List code.Process)
+    → ((p : ℕ) → p < length t.processes → process_at c p ≡ process_of (get_or processes p no_process))
+    → length c.processes ≡ length t.processes → ((p : ℕ) → p < length t.processes → (get_or processes p no_process).unread ≤ log_most) → Planned t l
+    → (k : ℕ) → k < length t.channels → unread_at processes (reader_in l.wires k) k ≡ unread_on k (process_at c (channel_at t k).reader).machine.mailbox
 unfolding process_of machine_of nobody booted
-unread-there {t} {l} reach c rows mails logs heads is many kept plan k hk =
+unread-there {t} {l} reach c processes is many kept plan k hk =
     let r : ℕ = (channel_at t k).reader in
-    ap (λ (p : ℕ). unread_at rows mails p k) (plan.reader_at k hk)
+    ap (λ (p : ℕ). unread_at processes p k) (plan.reader_at k hk)
     ∙ by_eq r environment
     (λ e.
     let none : process_at c r ≡ nobody = get_or-eq_default c.processes nobody {n = r} (let z = reach.accepted.processes_high in omega arith) in
     rw (le-ltb r 16 (omega arith)) (ap (λ (x : Process). unread_on k x.machine.mailbox) (sym none)))
     (λ n.
     let inside = reader-inside reach.accepted k hk n in
-    let whole : min (unread_in (get_or rows r [])) log_most ≡ unread_in (get_or rows r []) = (let z = kept r inside in omega arith) in
+    let whole : min (get_or processes r no_process).unread log_most ≡ (get_or processes r no_process).unread =
+    (let z = kept r inside in omega arith) in
     rw (lt-ltb r 16 (let z = reach.accepted.processes_high in omega arith), whole) (ap (λ (x : Process). unread_on k x.machine.mailbox) (sym (is r inside))))
 
 -- ---- the cabinet afterwards
 
-module _ {t : Table} {l : Plan} {s : Store} {entries : List Entry} {c : Cabinet} {b : ℕ} {rows' mails' : List (List ℕ)} {queued queued' totals' : List ℕ}
+module _ {t : Table} {l : Plan} {s : Store} {entries : List Entry} {c : Cabinet} {b : ℕ} {processes' : List code.Process} {queued queued' totals' : List ℕ}
     (reach : Reachable t c) (h : Holds t s entries c) (plan : Planned t l) (hb : b < t.boards)
-    (backed : any_below (unbacked_in s.rows) (length t.processes) ≡ false)
-    (dropped : Dropped (length t.channels) l.wires s.rows s.mails s.totals queued)
-    (words : Zeroed (lost_words l.wires s.rows b) (length t.channels) queued queued')
-    (all : AllCrashed (length t.processes) l.programs s.rows s.mails s.logs s.heads b rows' mails')
-    (added : Added (length t.channels) l.wires rows' mails' queued' totals') where
-  abbrev queues' : List (List ℕ)
-  queues' = set s.queues b (reset_in (get_or s.queues b []) 1)
+    (all-backed : any_below (unbacked_in s.processes) (length t.processes) ≡ false)
+    (dropped : Recounted Out (length t.channels) l.wires s.processes s.totals queued)
+    (words : Zeroed (lost_words l.wires s.processes b) (length t.channels) queued queued')
+    (all : AllCrashed (length t.processes) l.programs s.processes b processes')
+    (added : Recounted In (length t.channels) l.wires processes' queued' totals') where
+  abbrev queues' : List Queue
+  queues' = set s.queues b (reset_in (get_or s.queues b no_queue) true)
 
   abbrev after : Store
-  after = store_of rows' mails' s.logs s.heads queues' totals'
+  after = record { processes = processes'; queues = queues'; totals = totals' }
 
   -- ---- the processes
 
   became : (p : ℕ) → p < length t.processes
-      → BecameAtCrash (get_or s.rows p []) (get_or s.mails p []) (get_or s.logs p []) (get_or s.heads p []) (get_or rows' p []) (get_or mails' p [])
-      (λ x. after_crash t b p x x.standby) (cond (promoted_by b (get_or s.rows p [])) 0 (waits_in (get_or s.rows p [])))
+      → BecameAtCrash (lists_at s p) (lists_at after p) (λ x. after_crash t b p x x.standby)
+      (cond (promoted_by b (lists_at s p)) false (lists_at s p).waits)
   became p hp =
       let small = reach.accepted.processes_high in
-      let r = h.shape.rows-length in
-      let m = h.shape.mails-length in
-      all.crashed_at p hp (omega arith) (omega arith) (h.kept p hp) t p (routes plan p hp)
+      let r = h.shape.processes-length in
+      all.crashed_at p hp (omega arith) (h.kept p hp) t p (routes plan p hp)
 
   processes_then : all_after_crash t b 0 c.processes ≡ listed (process_in after) (length t.processes)
   processes_then =
@@ -155,15 +168,15 @@ module _ {t : Table} {l : Plan} {s : Store} {entries : List Entry} {c : Cabinet}
   -- ---- the boards: "its queue is lost"
 
   boards : Boarded t queues' entries (set c.outboxes b []) (set c.dead b true)
-  boards = boards_emptied h reach.accepted.boards_high b hb 1
+  boards = boards_emptied h reach.accepted.boards_high b hb true
 
   -- ---- the totals
 
-  board-is : (p : ℕ) → p < length t.processes → (process_at c p).board ≡ board_in (get_or s.rows p [])
+  board-is : (p : ℕ) → p < length t.processes → (process_at c p).board ≡ (lists_at s p).board
   unfolding process_of
   board-is p hp = ap (λ (x : Process). x.board) (at_process h p hp)
 
-  runs-is : (p : ℕ) → p < length t.processes → runs_on_board s.rows b p ≡ eqb (process_at c p).board b
+  runs-is : (p : ℕ) → p < length t.processes → runs_on_board s.processes b p ≡ eqb (process_at c p).board b
   runs-is p hp = rw (lt-ltb p 16 (let z = reach.accepted.processes_high in omega arith)) (ap (λ (n : ℕ). eqb n b) (sym (board-is p hp)))
 
   there_are : b < length c.outboxes
@@ -177,9 +190,9 @@ module _ {t : Table} {l : Plan} {s : Store} {entries : List Entry} {c : Cabinet}
       let few = reach.accepted.channels_high in
       let at = dropped.each_at k hk (omega arith) in
       let was = h.totalled.total-is k hk in
-      let out = unread-there reach c s.rows s.mails s.logs s.heads (at_process h) (how_many h) (λ p hp. (h.kept p hp).unread) plan k hk in
+      let out = unread-there reach c s.processes (at_process h) (how_many h) (λ p hp. (h.kept p hp).unread) plan k hk in
       let small = (channel_bounds reach k).few in
-      let less = unread_below s.rows s.mails (reader_in l.wires k) k in
+      let less = unread_below s.processes (reader_in l.wires k) k in
       omega arith
 
   -- and those of the dead queue
@@ -195,12 +208,12 @@ module _ {t : Table} {l : Plan} {s : Store} {entries : List Entry} {c : Cabinet}
       (λ e.
       let none = fed-not-queued reach k e in
       let less = flight_lost k c.outboxes b in
-      let off : lost_words l.wires s.rows b k ≡ false = rw (le-ltb (sender_in l.wires k) 16 (omega arith)) in
+      let off : lost_words l.wires s.processes b k ≡ false = rw (le-ltb (sender_in l.wires k) 16 (omega arith)) in
       at ∙ rw off (omega arith))
       (λ n.
       let inside = sender-inside reach.accepted k hk n in
-      let test : lost_words l.wires s.rows b k ≡ eqb (process_at c (channel_at t k).sender).board b =
-      ap (runs_on_board s.rows b) from ∙ runs-is (channel_at t k).sender inside in
+      let test : lost_words l.wires s.processes b k ≡ eqb (process_at c (channel_at t k).sender).board b =
+      ap (runs_on_board s.processes b) from ∙ runs-is (channel_at t k).sender inside in
       by_eq (process_at c (channel_at t k).sender).board b
       (λ e.
       let its = (channel_bounds reach k).queued ∙ ap (λ (i : ℕ). queued_on k (outbox_at c i)) e in
@@ -218,11 +231,11 @@ module _ {t : Table} {l : Plan} {s : Store} {entries : List Entry} {c : Cabinet}
         let few = reach.accepted.channels_high in
         let at = added.each_at k hk (omega arith) in
         let was = queued_then k hk in
-        let back = unread-there reach (crashed_cabinet t c b) rows' mails' s.logs s.heads process_then
+        let back = unread-there reach (crashed_cabinet t c b) processes' process_then
         (ap (λ (x : List Process). length x) processes_then ∙ listed-length (process_in after) (length t.processes)) (λ p hp. (became p hp).kept_again.unread) plan k hk in
         let small = (channel_bounds reach k).few in
         let fewer = flight_lost k c.outboxes b in
-        let more = unread_below rows' mails' (reader_in l.wires k) k in
+        let more = unread_below processes' (reader_in l.wires k) k in
         omega arith;
     totals-length = added.same_length ∙ words.same_length ∙ dropped.same_length ∙ h.totalled.totals-length;
   }
@@ -237,16 +250,15 @@ module _ {t : Table} {l : Plan} {s : Store} {entries : List Entry} {c : Cabinet}
       (λ n. ap (waiting p) (get_or-set_other c.outboxes b i [] [] n) ∙ waiting_elsewhere reach p i (λ f. n (sym f ∙ e)))
 
   -- and it went on as its backup, since every process has one
-  has_backup_lem : (p : ℕ) → p < length t.processes → flag_in (get_or s.rows p []) ≡ 1
+  has_backup_lem : (p : ℕ) → p < length t.processes → recorded (lists_at s p).protection ≡ true
   has_backup_lem p hp =
-      let f : ℕ = flag_in (get_or s.rows p []) in
-      eqb-true f 1 (sym (not-not (eqb f 1)) ∙ ap not (none_below (unbacked_in s.rows) (length t.processes) backed p hp))
+      let q : Protection = (lists_at s p).protection in
+      is-record q (sym (not-not (backed q)) ∙ ap not (none_below (unbacked_in s.processes) (length t.processes) all-backed p hp))
 
-  waits_then : (p : ℕ) → p < length t.processes → waits_in (get_or rows' p []) ≡ flag (waiting p (get_or (set c.outboxes b []) (process_in after p).board []))
+  waits_then : (p : ℕ) → p < length t.processes → (lists_at after p).waits ≡ waiting p (get_or (set c.outboxes b []) (process_in after p).board [])
   waits_then p hp =
-      let row : List ℕ = get_or s.rows p [] in
       let at = (became p hp).waits-is in
-      let runs : promoted_by b row ≡ eqb (process_at c p).board b = rw (has_backup_lem p hp) (ap (λ (i : ℕ). eqb i b) (sym (board-is p hp))) in
+      let runs : promoted_by b (lists_at s p) ≡ eqb (process_at c p).board b = rw (has_backup_lem p hp) (ap (λ (i : ℕ). eqb i b) (sym (board-is p hp))) in
       by_eq (process_at c p).board b
       (λ e. at ∙ rw (runs, eq-eqb (process_at c p).board b e, nothing-waits p (process_in after p).board e))
       (λ n.
@@ -255,7 +267,7 @@ module _ {t : Table} {l : Plan} {s : Store} {entries : List Entry} {c : Cabinet}
       ∙ stays t b p (process_at c p) (process_at c p).standby n in
       let queue : get_or (set c.outboxes b []) (process_in after p).board [] ≡ outbox_at c (process_at c p).board =
       ap (λ (i : ℕ). get_or (set c.outboxes b []) i []) same ∙ get_or-set_other c.outboxes b (process_at c p).board [] [] n in
-      at ∙ rw (runs, ne_eqb (process_at c p).board b n) (h.waits-is p hp ∙ ap (λ (q : List rules.Item). flag (waiting p q)) (sym queue)))
+      at ∙ rw (runs, ne_eqb (process_at c p).board b n) (h.waits-is p hp ∙ ap (waiting p) (sym queue)))
 
   pub crash-holds : Holds t after entries (crashed_cabinet t c b)
   crash-holds = record {
@@ -264,16 +276,12 @@ module _ {t : Table} {l : Plan} {s : Store} {entries : List Entry} {c : Cabinet}
     dead = boards.dead_are;
     kept = λ p hp. (became p hp).kept_again;
     seated = λ p hp. (became p hp).seated_again _ _ (h.seated p hp);
-    waits-is = λ p hp. waits_then p hp ∙ ap (λ (x : Process). flag (waiting p (get_or (set c.outboxes b []) x.board []))) (sym (process_then p hp));
+    waits-is = λ p hp. waits_then p hp ∙ ap (λ (x : Process). waiting p (get_or (set c.outboxes b []) x.board [])) (sym (process_then p hp));
     first_small = boards.first_small;
     count_small = boards.count_small;
-    queue_three = boards.queue_three;
     totalled = totals_then;
     shape = record {
-      rows-length = all.rows-length ∙ h.shape.rows-length;
-      mails-length = all.mails-length ∙ h.shape.mails-length;
-      logs-length = h.shape.logs-length;
-      heads-length = h.shape.heads-length;
+      processes-length = all.same_length ∙ h.shape.processes-length;
       queues-length = boards.queues-length;
       entries-length = h.shape.entries-length;
     };

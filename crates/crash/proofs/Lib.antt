@@ -1,6 +1,4 @@
 -- Why move 5 is the rules'.
-pub mod Passing
-pub mod Losing
 pub mod Recounting
 pub mod Promoting
 pub mod Holding

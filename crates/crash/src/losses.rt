@@ -1,44 +1,34 @@
 // What a board's crash takes with it: "its queue is lost", and with it the words of the processes that run there.
-ghost use Rattle.std.specs.Prelude.{◌≡◌, ◌<◌, ◌≤◌};
+ghost use Rattle.std.specs.Prelude.{◌≡◌, ◌≤◌};
 ghost use Rattle.facts.specs.Tests.{any_below};
 ghost use Rattle.rules.specs.Sizes.{processes_most, channels_most};
 ghost use Rattle.crash.specs.Losses.{runs_on_board, unbacked_in, Zeroed, lost_words};
 
-use plan::{CHANNELS, PROCESSES, WIRES, sender};
-use process::row::{BOARD, COMPLETE, PROTECTED, ROW};
+use plan::{CHANNELS, PROCESSES, Plan};
+use process::process::Process;
 use words::wide;
 
 // Whether p is a process that runs on board a.
-pub fn runs_on(rows: &[[u32; ROW]; PROCESSES], p: usize, a: u32) -> bool
-    ensures { result ≡ runs_on_board rows.now a p }
+fn runs_on(processes: &[Process; PROCESSES], p: usize, a: u32) -> bool
+    ensures { result ≡ runs_on_board processes.now a p }
 {
     if p < PROCESSES {
-        rows[p][BOARD] == a
+        processes[p].board == a
     } else {
         false
     }
 }
 
-// Whether process p has no backup, or one that is being made.
-fn unbacked(rows: &[[u32; ROW]; PROCESSES], p: usize) -> bool
-    requires { p < processes_most }
-    ensures { result ≡ unbacked_in rows.now p }
-{
-    rows[p][PROTECTED] != COMPLETE
-}
-
-// Whether one of n processes has no backup.
-pub fn some_unbacked(n: usize, rows: &[[u32; ROW]; PROCESSES]) -> bool
+// Whether one of n processes has no backup, or one that is being made.
+pub fn some_unbacked(n: usize, processes: &[Process; PROCESSES]) -> bool
     requires { n ≤ processes_most }
-    ensures { result ≡ any_below (unbacked_in rows.now) n }
+    ensures { result ≡ any_below (unbacked_in processes.now) n }
 {
     let mut found = false;
-    let mut p = 0;
-    while p < n {
-        if unbacked(rows, p) {
+    for p in 0..n {
+        if !processes[p].is_backed() {
             found = true;
         }
-        p += 1;
     }
     found
 }
@@ -46,19 +36,17 @@ pub fn some_unbacked(n: usize, rows: &[[u32; ROW]; PROCESSES]) -> bool
 // Of the words in queues those of a process that runs on board a are lost.
 pub fn lose_words(
     n: usize,
-    wires: &[u32; WIRES],
-    rows: &[[u32; ROW]; PROCESSES],
+    plan: &Plan,
+    processes: &[Process; PROCESSES],
     a: u32,
     totals: &mut [u32; CHANNELS],
 )
     requires { n ≤ channels_most }
-    ensures { Zeroed (lost_words wires.now rows.now a) n totals.old totals.new }
+    ensures { Zeroed (lost_words plan.now.wires processes.now a) n totals.old totals.new }
 {
-    let mut k = 0;
-    while k < n {
-        if runs_on(rows, wide(sender(wires, k)), a) {
+    for k in 0..n {
+        if runs_on(processes, wide(plan.sender(k)), a) {
             totals[k] = 0;
         }
-        k += 1;
     }
 }

@@ -1,7 +1,6 @@
--- What one instruction does to the process that the arrays stand for.
+-- What one instruction does to the process.
 pub mod Mailboxes
 pub mod Examining
-pub mod Cells
-pub mod Done
+pub mod Counting
 pub mod Computing
 pub mod Taking

@@ -1,11 +1,11 @@
 -- Laws for the crates above: the instruction at a process's place, in an accepted table, is one that the calls promise something of.
-use Rattle.std.specs.Prelude.{◌≡◌, ℕ, zero, suc, ◌<◌, true, ◌≢◌, List, length, nat_lt, slice_index_or, refl}
+use Rattle.std.specs.Prelude.{◌≡◌, ℕ, zero, suc, ◌<◌, true, ◌≢◌, length, nat_lt, slice_index_or, refl}
 use Rattle.std.proofs.Common.{arith, ltb-true}
 use Rattle.facts.specs.Tests.{no_way, and_left, and_right, all_of, all_below_lem, all_at}
 use Rattle.rules.specs.Table.{Table, SET, code_of}
 use Rattle.rules.specs.Format.{instruction}
 use Rattle.rules.specs.Judge.{reads, sends, instruction_ok, instructions_ok, Accepted}
-use Rattle.process.specs.Row.{pc_in}
+use Rattle.process.specs.declared.process.Process.{Process}
 use Rattle.instruction.specs.Instruction.{InRange, Fetched}
 
 one_register : (code a operand : ℕ) → nat_lt a 4 ≡ true → code ≢ 2 → code ≢ 4 → InRange code a operand
@@ -33,18 +33,18 @@ in_range t p n (suc (suc (suc (suc (suc (suc zero)))))) a operand h =
 in_range t p n (suc (suc (suc (suc (suc (suc (suc code))))))) a operand h = absurd (no_way (cc))
 
 -- a program of an accepted table
-pub fetched : (t : Table) (p : ℕ) → Accepted t → p < length t.processes → (row : List ℕ) (code a operand : ℕ)
-    → (pc_in row < length (code_of t p) → slice_index_or (code_of t p) (pc_in row) (SET 0 0) ≡ instruction code a operand)
-    → Fetched (code_of t p) row (length (code_of t p)) code a operand
+pub fetched : (t : Table) (p : ℕ) → Accepted t → p < length t.processes → (x : Process) (code a operand : ℕ)
+    → (x.pc < length (code_of t p) → slice_index_or (code_of t p) x.pc (SET 0 0) ≡ instruction code a operand)
+    → Fetched (code_of t p) x (length (code_of t p)) code a operand
 unfolding instructions_ok
-fetched t p ok h row code a operand e = record {
+fetched t p ok h x code a operand e = record {
   length-is = refl;
   few = ok.short p h;
   instruction-is = e;
   in_range = λ l.
       in_range t p (length (code_of t p)) code a operand
       (rw (← e l)
-      (all_at (instruction_ok t p (length (code_of t p))) (code_of t p) (pc_in row) (SET 0 0)
+      (all_at (instruction_ok t p (length (code_of t p))) (code_of t p) x.pc (SET 0 0)
       (all_below_lem (λ q. all_of (instruction_ok t q (length (code_of t q))) (code_of t q)) (length t.processes) ok.instructions p h)
       l));
 }

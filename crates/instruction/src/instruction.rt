@@ -1,17 +1,15 @@
-// One instruction of a process: what it would do, looked at before anything is changed, and then what it does to the process's row and
-// mailbox. Document 01: "Instructions, each moving the place on by one unless said". Codes 1 to 6 are SET, ADD, TAKE, FIRST, SEND and
-// JUMP; any other, which no accepted table has, is not executed.
-ghost use Rattle.std.specs.Prelude.{◌≡◌, ◌+◌, ◌%◌, ◌^◌, ◌<◌, slice_index};
-ghost use Rattle.process.specs.Row.{row_length};
-ghost use Rattle.instruction.specs.Instruction.{Sorted, bumped, one_in, tallied, Loads, Examined, Sought, word_after, place_after, Evaluates};
+// One instruction of a process: what it would do, looked at before anything is changed, and then what it does to the process.
+// Document 01: "Instructions, each moving the place on by one unless said". Codes 1 to 6 are SET, ADD, TAKE, FIRST, SEND and JUMP; any other,
+// which no accepted table has, is not executed.
+ghost use Rattle.std.specs.Prelude.{◌≡◌, ◌+◌, ◌%◌, ◌^◌, slice_index};
+ghost use Rattle.process.specs.Change.{BackupStays, ListsStay};
+ghost use Rattle.instruction.specs.Instruction.{Sorted, one_in, tallied, loaded_in, event_in, Examined, Sought, word_after, place_after, evaluated_in, computed_in, suppressed_in};
 ghost use Rattle.instruction.specs.Instruction.{Computes, Takes, Suppresses, Queues};
 
 use crate::mailbox::{look, remove};
 use backup::limits::LOG;
 use process::mail::{PLACES, channel_of, place, word_of};
-use process::row::{
-    EVENTS, INSTRUCTIONS, OLDEST, PC, PROTECTED, R0, R1, ROW, SUPPRESS, T0, UNREAD,
-};
+use process::process::Process;
 use words::wide;
 
 // What the instruction at a process's place would do.
@@ -57,54 +55,46 @@ fn kind_of(code: u8) -> Kind
     }
 }
 
-// The cell of register a; a is 0 to 3, and any other number stands for one of these.
-fn cell(a: u32) -> usize
-    ensures { result ≡ 2 + a % 4 }
+// The place of register a; a is 0 to 3, and any other number stands for one of these.
+fn lane(a: u32) -> usize
+    ensures { result ≡ a % 4 }
 {
-    R0 + wide(a % 4)
+    wide(a % 4)
 }
 
-// The cell of register a + 1, a being 0 to 2.
-fn next_cell(a: u32) -> usize
-    ensures { result ≡ 3 + a % 3 }
+// The place of register a + 1, a being 0 to 2.
+fn next_lane(a: u32) -> usize
+    ensures { result ≡ 1 + a % 3 }
 {
-    R1 + wide(a % 3)
+    1 + wide(a % 3)
 }
 
-fn register(row: &[u32; ROW], a: u32) -> u32
-    ensures { result ≡ slice_index row.now (2 + a % 4) }
+fn register(x: &Process, a: u32) -> u32
+    ensures { result ≡ slice_index x.now.registers (a % 4) }
 {
-    row[cell(a)]
-}
-
-// One more in a cell of the row.
-fn bump(row: &mut [u32; ROW], i: usize)
-    requires { i < row_length }
-    ensures { row.new ≡ bumped row.old i }
-{
-    row[i] = std::num::wrapping_add_u32(row[i], 1);
+    x.registers[lane(a)]
 }
 
 // What an act or an instruction of the process counts for. Document 01: "A backed process has acts".
-fn one(row: &[u32; ROW]) -> u32
-    ensures { result ≡ one_in row.now }
+fn one(x: &Process) -> u32
+    ensures { result ≡ one_in x.now }
 {
-    if row[PROTECTED] == 0 { 0 } else { 1 }
+    if x.has_record() { 1 } else { 0 }
 }
 
-// One more in a counter, if the process's acts and instructions are counted.
-fn tally(row: &mut [u32; ROW], i: usize)
-    requires { i < row_length }
-    ensures { row.new ≡ tallied row.old i }
+// A counter with one more, if the process's acts and instructions are counted.
+fn tally(x: &Process, counter: u32) -> u32
+    ensures { result ≡ tallied x.now counter }
 {
-    row[i] = std::num::wrapping_add_u32(row[i], one(row));
+    std::num::wrapping_add_u32(counter, one(x))
 }
 
 // A TAKE or a FIRST would take the oldest word that it names.
-fn seek(mail: &[u64; LOG], first: usize, unread: usize, code: u8, operand: u32) -> Intent
-    ensures { Sought mail.now first unread code operand result }
+fn seek(x: &Process, code: u8, operand: u32) -> Intent
+    ensures { Sought x.now code operand result }
 {
-    let at = look(mail, first, unread, code, operand);
+    let unread = wide(x.unread);
+    let at = look(&x.mail, wide(x.oldest), unread, code, operand);
     if at < unread {
         Intent::Take { at: at }
     } else {
@@ -113,35 +103,28 @@ fn seek(mail: &[u64; LOG], first: usize, unread: usize, code: u8, operand: u32) 
 }
 
 // What the instruction with this code, a and operand would do, `length` being how many the program has. Nothing is changed.
-pub fn examine(
-    row: &[u32; ROW],
-    mail: &[u64; LOG],
-    length: u32,
-    code: u8,
-    a: u32,
-    operand: u32,
-) -> Intent
-    ensures { Examined row.now mail.now length code a operand result }
+pub fn examine(x: &Process, length: u32, code: u8, a: u32, operand: u32) -> Intent
+    ensures { Examined x.now length code a operand result }
 {
-    if row[PC] >= length {
+    if x.pc >= length {
         return Intent::Halted;
     }
     match kind_of(code) {
         Kind::Calculation => Intent::Internal,
-        Kind::Taking => seek(mail, wide(row[OLDEST]), wide(row[UNREAD]), code, operand),
+        Kind::Taking => seek(x, code, operand),
         Kind::Sending => Intent::Send {
             channel: operand,
-            word: register(row, a),
+            word: register(x, a),
         },
         Kind::Unknown => Intent::Halted,
     }
 }
 
 // ADD: register a plus register b, modulo 2^32.
-fn sum(row: &[u32; ROW], a: u32, b: u32) -> u32
-    ensures { result ≡ (slice_index row.now (2 + a % 4) + slice_index row.now (2 + b % 4)) % 2 ^ 32 }
+fn sum(x: &Process, a: u32, b: u32) -> u32
+    ensures { result ≡ (slice_index x.now.registers (a % 4) + slice_index x.now.registers (b % 4)) % 2 ^ 32 }
 {
-    std::num::wrapping_add_u32(register(row, a), register(row, b))
+    std::num::wrapping_add_u32(register(x, a), register(x, b))
 }
 
 // What register a, which held `old`, holds after a SET, an ADD, whose sum this is, or a JUMP.
@@ -172,82 +155,83 @@ fn place_after(code: u8, old: u32, next: u32, operand: u32) -> u32
 
 // What a SET, an ADD or a JUMP does to registers and place. Word and place are chosen by the code and stored once, with no branch: which of the
 // three comes next nobody can foretell.
-fn evaluate(row: &mut [u32; ROW], code: u8, a: u32, operand: u32)
-    ensures { Evaluates row.old code a operand row.new }
+fn evaluate(x: &mut Process, code: u8, a: u32, operand: u32)
+    ensures { x.new ≡ evaluated_in code a operand x.old }
 {
-    let old = register(row, a);
-    let both = sum(row, a, operand);
-    let next = std::num::wrapping_add_u32(row[PC], 1);
-    row[cell(a)] = word_after(code, old, both, operand);
-    row[PC] = place_after(code, old, next, operand);
+    let old = register(x, a);
+    let both = sum(x, a, operand);
+    let next = std::num::wrapping_add_u32(x.pc, 1);
+    x.registers[lane(a)] = word_after(code, old, both, operand);
+    x.pc = place_after(code, old, next, operand);
 }
 
 // A SET, an ADD or a JUMP is done, an instruction more.
-pub fn compute(row: &mut [u32; ROW], code: u8, a: u32, operand: u32)
-    ensures { Computes row.old code a operand row.new }
+pub fn compute(x: &mut Process, code: u8, a: u32, operand: u32)
+    ensures exact { x.new ≡ computed_in code a operand x.old }
+    ensures became { Computes x.old code a operand x.new }
+    ensures lists_stay { ListsStay x.old x.new }
 {
-    evaluate(row, code, a, operand);
-    tally(row, INSTRUCTIONS);
+    evaluate(x, code, a, operand);
+    x.instructions = tally(x, x.instructions);
 }
 
 // One more event, the place moves on, and an instruction more.
-fn event(row: &mut [u32; ROW])
-    ensures { row.new ≡ tallied (bumped (tallied row.old 7) 1) 15 }
+fn event(x: &mut Process)
+    ensures { x.new ≡ event_in x.old }
 {
-    tally(row, EVENTS);
-    bump(row, PC);
-    tally(row, INSTRUCTIONS);
+    x.events = tally(x, x.events);
+    x.pc = std::num::wrapping_add_u32(x.pc, 1);
+    x.instructions = tally(x, x.instructions);
 }
 
 // A word goes into register a; of a FIRST its channel goes into register a + 1.
-fn load(row: &mut [u32; ROW], code: u8, a: u32, x: u64)
-    ensures { Loads row.old code a x row.new }
+fn load(x: &mut Process, code: u8, a: u32, word: u64)
+    ensures { x.new ≡ loaded_in code a word x.old }
 {
-    row[cell(a)] = word_of(x);
+    x.registers[lane(a)] = word_of(word);
     if code == 4 {
-        row[next_cell(a)] = channel_of(x);
+        x.registers[next_lane(a)] = channel_of(word);
     }
 }
 
 // A TAKE or a FIRST is done: the word at a position of the mailbox leaves it, and counts as an event and a receive on its port. Where no
 // unread word stands there nothing changes.
-pub fn take_word(
-    row: &mut [u32; ROW],
-    mail: &mut [u64; LOG],
-    code: u8,
-    a: u32,
-    at: usize,
-    port: u32,
-)
-    ensures { Takes row.old mail.old code a at port row.new mail.new }
+pub fn take_word(x: &mut Process, code: u8, a: u32, at: usize, port: u32)
+    ensures became { Takes x.old code a at port x.new }
+    ensures backup_stays { BackupStays x.old x.new }
 {
-    let unread = wide(row[UNREAD]);
+    let unread = wide(x.unread);
     if unread > LOG {
         return;
     }
     if at >= unread {
         return;
     }
-    let first = wide(row[OLDEST]);
-    load(row, code, a, mail[place(first, at)]);
-    remove(mail, first, at);
-    row[UNREAD] = std::num::wrapping_sub_u32(row[UNREAD], 1);
-    row[OLDEST] = std::num::wrapping_add_u32(row[OLDEST], 1) % PLACES;
-    tally(row, T0 + wide(port % 4));
-    event(row);
+    let first = wide(x.oldest);
+    load(x, code, a, x.mail[place(first, at)]);
+    remove(&mut x.mail, first, at);
+    x.unread = std::num::wrapping_sub_u32(x.unread, 1);
+    x.oldest = std::num::wrapping_add_u32(x.oldest, 1) % PLACES;
+    let i = lane(port);
+    x.taken[i] = tally(x, x.taken[i]);
+    event(x);
 }
 
 // A SEND is done that is to be suppressed: one less is left to suppress.
-pub fn suppress_send(row: &mut [u32; ROW])
-    ensures { Suppresses row.old row.new }
+pub fn suppress_send(x: &mut Process)
+    ensures exact { x.new ≡ suppressed_in x.old }
+    ensures became { Suppresses x.old x.new }
+    ensures lists_stay { ListsStay x.old x.new }
 {
-    row[SUPPRESS] = std::num::wrapping_sub_u32(row[SUPPRESS], 1);
-    bump(row, PC);
+    x.suppress = std::num::wrapping_sub_u32(x.suppress, 1);
+    x.pc = std::num::wrapping_add_u32(x.pc, 1);
 }
 
 // A SEND is done whose word joins the outbox: an event.
-pub fn queue_send(row: &mut [u32; ROW])
-    ensures { Queues row.old row.new }
+pub fn queue_send(x: &mut Process)
+    ensures exact { x.new ≡ event_in x.old }
+    ensures became { Queues x.old x.new }
+    ensures lists_stay { ListsStay x.old x.new }
 {
-    event(row);
+    event(x);
 }

@@ -34,12 +34,10 @@ pub fn named(code: u8, operand: u32, channel: u32) -> bool
 pub fn look(mail: &[u64; LOG], first: usize, unread: usize, code: u8, operand: u32) -> usize
     ensures { Looks (names code operand) mail.now first unread result }
 {
-    let mut i = 0;
-    while i < unread {
+    for i in 0..unread {
         if named(code, operand, channel_of(mail[place(first, i)])) {
             return i;
         }
-        i += 1;
     }
     unread
 }
@@ -50,9 +48,8 @@ pub fn remove(mail: &mut [u64; LOG], first: usize, at: usize)
     requires { at < log_most }
     ensures { Removed mail.old first at mail.new }
 {
-    let mut i = at;
-    while i > 0 {
+    for moved in 0..at {
+        let i = at - moved;
         mail[place(first, i)] = mail[place(first, i - 1)];
-        i -= 1;
     }
 }

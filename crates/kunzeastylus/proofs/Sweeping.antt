@@ -1,11 +1,16 @@
 -- What a sweep returns, in one number and out of it again.
-use mathlib.Core.Path.{◌≡◌, ap, sym, subst, ◌∙◌}
+use Rattle.std.specs.Prelude.{Result, Ok, Err, IfOk}
+use mathlib.Core.Path.{◌≡◌, ap, ◌∙◌}
 use mathlib.Core.List.{List}
 use Prim.Native.Nat.{ℕ, ◌+◌, ◌*◌, ◌/◌, ◌%◌, ◌≤◌, ◌<◌}
 use native.Mathlib.Omega.{arith}
-use Rattle.sweep.specs.Sweeps.{runs_most, Sweeps}
-use Rattle.sweep.specs.declared.Swept.{Swept}
+use Rattle.numbers.specs.Runs.{number_in}
+use Rattle.numbers.specs.declared.runs.Refusal.{Refusal}
+use Rattle.rules.specs.Sweep.{Swept}
+use Rattle.sweep.specs.Sweeps.{runs_most, swept_by, Sweeps}
+use Rattle.sweep.specs.declared.tally.Tally.{Tally}
 use Rattle.kunzeastylus.specs.Sweep.{packed_swept, swept_in, SweepsPacked}
+use Rattle.kunzeastylus.proofs.Packing.{keeps_packed}
 
 swept_in-packed_swept : (r : Swept) → r.number < 256 → r.quiet + (r.held + r.free) ≤ runs_most → swept_in (packed_swept r) ≡ r
 swept_in-packed_swept r small few =
@@ -23,8 +28,10 @@ swept_in-packed_swept r small few =
     let e3 : n / 281474976710656 ≡ r.free = omega arith in
     λ i. record { number = e0 i; quiet = e1 i; held = e2 i; free = e3 i }
 
-pub sweeps_packed : (table schedule : List ℕ) (r : Swept) → Sweeps table schedule r → r.quiet + (r.held + r.free) ≤ runs_most → (n : ℕ)
-    → r.number < 256 → n ≡ packed_swept r → SweepsPacked table schedule n
-sweeps_packed table schedule r h few n small e =
-    let same : swept_in n ≡ r = ap swept_in e ∙ swept_in-packed_swept r small few in
-    record { exact = e ∙ ap packed_swept (sym same); sweeps = subst (λ w. Sweeps table schedule w) (sym same) h }
+back : (r : Result Tally Refusal) → number_in r < 256 → IfOk r (λ x. x.quiet + (x.held + x.free) ≤ runs_most) → swept_in (packed_swept (swept_by r)) ≡ swept_by r
+back (Ok x) small few = swept_in-packed_swept (swept_by (Ok x)) small few
+back (Err n) small few = swept_in-packed_swept (swept_by (Err n)) small (omega arith)
+
+pub sweeps_packed : (table schedule : List ℕ) (r : Result Tally Refusal) → Sweeps table schedule r
+    → IfOk r (λ x. x.quiet + (x.held + x.free) ≤ runs_most) → {n : ℕ} → number_in r < 256 → n ≡ packed_swept (swept_by r) → SweepsPacked table schedule n
+sweeps_packed table schedule r h few small e = keeps_packed (Sweeps table schedule) r h (back r small few) e

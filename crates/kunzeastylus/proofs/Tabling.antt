@@ -1,14 +1,17 @@
 -- What the writer's calls return, in one number and out of it again.
-use mathlib.Core.Path.{◌≡◌, ap, sym, subst, ◌∙◌}
+use Rattle.std.specs.Prelude.{Result, Ok, Err}
+use mathlib.Core.Path.{◌≡◌, ap, ◌∙◌}
 use mathlib.Core.List.{List}
 use Prim.Native.Nat.{ℕ, ◌+◌, ◌*◌, ◌/◌, ◌%◌, ◌<◌}
 use native.Mathlib.Omega.{arith}
+use Rattle.numbers.specs.Runs.{number_in}
+use Rattle.numbers.specs.declared.runs.Refusal.{Refusal}
 use Rattle.rules.specs.Encode.{Lists}
-use Rattle.writer.specs.declared.write.Written.{Written}
 use Rattle.apart.specs.declared.Taken.{Taken}
 use Rattle.writer.specs.Writes.{Writes}
 use Rattle.apart.specs.Taken.{Lent, TakesApart}
-use Rattle.kunzeastylus.specs.Tables.{packed_written, unpacked_written, WritesPacked, packed_taken, unpacked_taken, Small, TakesPacked}
+use Rattle.kunzeastylus.specs.Tables.{Written, written_by, packed_written, unpacked_written, WritesPacked, Apart, taken_by, packed_taken, unpacked_taken, Small, TakesPacked}
+use Rattle.kunzeastylus.proofs.Packing.{keeps_packed}
 
 written_in-packed_written : (r : Written) → r.number < 256 → unpacked_written (packed_written r) ≡ r
 written_in-packed_written r h =
@@ -17,12 +20,15 @@ written_in-packed_written r h =
     let e1 : n / 4294967296 ≡ r.length = omega arith in
     λ i. record { number = e0 i; length = e1 i }
 
-pub writes_packed : (l : Lists) (out : List ℕ) (r : Written) (out' : List ℕ) → Writes l out r out' → (n : ℕ) → r.number < 256 → n ≡ packed_written r → WritesPacked l out n out'
-writes_packed l out r out' h n small e =
-    let same : unpacked_written n ≡ r = ap unpacked_written e ∙ written_in-packed_written r small in
-    record { exact = e ∙ ap packed_written (sym same); writes = subst (λ w. Writes l out w out') (sym same) h }
+written_back : (r : Result ℕ Refusal) → number_in r < 256 → unpacked_written (packed_written (written_by r)) ≡ written_by r
+written_back (Ok n) small = written_in-packed_written (written_by (Ok n)) small
+written_back (Err n) small = written_in-packed_written (written_by (Err n)) small
 
-taken_in-packed_taken : (r : Taken) → Small r → unpacked_taken (packed_taken r) ≡ r
+pub writes_packed : (l : Lists) (out : List ℕ) (r : Result ℕ Refusal) (out' : List ℕ) → Writes l out r out' → {n : ℕ} → number_in r < 256
+    → n ≡ packed_written (written_by r) → WritesPacked l out n out'
+writes_packed l out r out' h small e = keeps_packed (λ w. Writes l out w out') r h (written_back r small) e
+
+taken_in-packed_taken : (r : Apart) → Small r → unpacked_taken (packed_taken r) ≡ r
 taken_in-packed_taken r h =
     let n = packed_taken r in
     let h0 = h.number_fits in
@@ -51,8 +57,6 @@ taken_in-packed_taken r h =
     let e5 : n / 281474976710656 ≡ r.version = omega arith in
     λ i. record { number = e0 i; version = e5 i; boards = e1 i; processes = e2 i; channels = e3 i; instructions = e4 i }
 
-pub takes_packed : (table : List ℕ) (before : Lent) (r : Taken) (after : Lent) → TakesApart table before r after → (n : ℕ) → Small r → n ≡ packed_taken r
-    → TakesPacked table before n after
-takes_packed table before r after h n small e =
-    let same : unpacked_taken n ≡ r = ap unpacked_taken e ∙ taken_in-packed_taken r small in
-    record { exact = e ∙ ap packed_taken (sym same); takes = subst (λ w. TakesApart table before w after) (sym same) h }
+pub takes_packed : (table : List ℕ) (before : Lent) (r : Result Taken Refusal) (after : Lent) → TakesApart table before r after → {n : ℕ}
+    → Small (taken_by r) → n ≡ packed_taken (taken_by r) → TakesPacked table before n after
+takes_packed table before r after h small e = keeps_packed (λ w. TakesApart table before w after) r h (taken_in-packed_taken (taken_by r) small) e

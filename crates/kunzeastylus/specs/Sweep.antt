@@ -1,7 +1,8 @@
 -- The promise of `ks_sweep`: the sweep's, with its number and its three counts in one.
-use Rattle.std.specs.Prelude.{◌≡◌, List, ℕ, ◌+◌, ◌*◌, ◌/◌, ◌%◌}
-use Rattle.sweep.specs.Sweeps.{Sweeps}
-use Rattle.sweep.specs.declared.Swept.{Swept}
+use Rattle.std.specs.Prelude.{List, ℕ, ◌+◌, ◌*◌, ◌/◌, ◌%◌}
+use Rattle.rules.specs.Sweep.{Swept}
+use Rattle.sweep.specs.Sweeps.{swept_by, Sweeps}
+use Rattle.kunzeastylus.specs.Packed.{Packed}
 
 -- number and counts as one number, and out of it again, as a caller takes it apart: sixteen bits each
 abbrev pub packed_swept : Swept → ℕ
@@ -11,6 +12,5 @@ abbrev pub swept_in : ℕ → Swept
 swept_in n = record { number = n % 65536; quiet = n / 65536 % 65536; held = n / 4294967296 % 65536; free = n / 281474976710656 }
 
 -- of any bytes of a table and a schedule
-pub record SweepsPacked (table schedule : List ℕ) (n : ℕ) : Type 0 where
-  pub exact : n ≡ packed_swept (swept_in n)
-  pub sweeps : Sweeps table schedule (swept_in n)
+abbrev pub SweepsPacked : List ℕ → List ℕ → ℕ → Type 0
+SweepsPacked table schedule n = Packed swept_by packed_swept swept_in (Sweeps table schedule) n

@@ -2,8 +2,6 @@
 ghost use Rattle.kunzeastylus.specs.Judges.{Judges};
 
 use cabinet::judge::{Lengths, judge_run};
-use records::schedule::judge_schedule;
-use table::decode;
 
 // 0, or the number, 1 to 12, 47 or 51, that refuses the run of a table and a schedule with buffers of these lengths.
 pub fn ks_judge(
@@ -16,16 +14,14 @@ pub fn ks_judge(
 ) -> u32
     ensures { Judges table.now schedule.now answers reasons report origins result }
 {
-    let d = decode(table);
-    let number = d.number;
-    let plan = d.plan;
-    let counts = plan.counts;
-    let s = judge_schedule(schedule);
     let lengths = Lengths {
         answers: answers,
         reasons: reasons,
         report: report,
         origins: origins,
     };
-    judge_run(number, counts.processes, s, lengths) as u32
+    match judge_run(table, schedule, lengths) {
+        Ok(_) => 0,
+        Err(refusal) => refusal.number() as u32,
+    }
 }

@@ -9,14 +9,13 @@ use label_line::{TABLE, make_table, run_line};
 pub fn ks_label_table(first: u32, table: &mut [u8; TABLE]) -> u32
     ensures { MakesInto first table.old result table.new }
 {
-    let made = make_table(first);
-    let number = made.number;
-    if number != 0 {
-        return number as u32;
+    match make_table(first) {
+        Ok(bytes) => {
+            *table = bytes;
+            0
+        }
+        Err(refusal) => refusal.number() as u32,
     }
-    let bytes = made.bytes;
-    *table = bytes;
-    0
 }
 
 // A schedule on the table of a first serial, with four lent buffers: as `ks_run` of that table, or 46.

@@ -1,19 +1,23 @@
 // The run, exported: its three numbers in one, since an exported call returns one.
-ghost use Rattle.std.specs.Prelude.{◌≡◌, ◌≤◌, ◌<◌};
+ghost use Rattle.std.specs.Prelude.{◌≡◌, ◌≤◌, ◌<◌, IfOk};
+ghost use Rattle.numbers.specs.Runs.{number_in};
 ghost use Rattle.rules.specs.Schedule.{commands_most};
 ghost use Rattle.rules.specs.Run.{buffers_of};
-ghost use Rattle.kunzeastylus.specs.Packed.{packed_of, RunsPacked};
+ghost use Rattle.kunzeastylus.specs.Packed.{verdict_of, packed_of, RunsPacked};
 
-use cabinet::run::{Verdict, run};
+use cabinet::run::{Ended, run};
+use numbers::runs::Refusal;
 use words::flag;
 
 // number + 256 quiet + 2^32 records
-pub fn packed(r: Verdict) -> u64
-    requires { r.records ≤ commands_most }
-    ensures { (result ≡ packed_of r) × (r.number < 256) }
+pub fn packed(r: Result<Ended, Refusal>) -> u64
+    requires { IfOk r (λ e. e.records ≤ commands_most) }
+    ensures { (result ≡ packed_of (verdict_of r)) × (number_in r < 256) }
 {
-    let records = r.records as u64;
-    (r.number as u64) + 256 * flag(r.quiet) + 4294967296 * records
+    match r {
+        Ok(e) => 256 * flag(e.quiet) + 4294967296 * (e.records as u64),
+        Err(refusal) => refusal.number() as u64,
+    }
 }
 
 // The run of a table and a schedule, whatever bytes they are, with four lent buffers.

@@ -7,5 +7,8 @@ use view::view;
 pub fn ks_view(table: &[u8], schedule: &[u8], out: &mut [u32]) -> u32
     ensures { Views table.now schedule.now out.old result out.new }
 {
-    view(table, schedule, out) as u32
+    match view(table, schedule, out) {
+        Ok(()) => 0,
+        Err(refusal) => refusal.number() as u32,
+    }
 }

@@ -1,16 +1,14 @@
 -- The table of any first serial: its bytes as the code makes them, what they say, and that the reader accepts them.
+use Rattle.std.specs.Prelude.{Ok, Err}
 use mathlib.Core.Path.{◌≡◌, refl, ap, ◌∙◌}
 use mathlib.Core.List.{List}
-use mathlib.Core.Bool.{true, false}
 use Prim.Native.Nat.{ℕ, ◌^◌, ◌≤◌, ◌<◌}
-use native.Mathlib.Omega.{arith}
-use lib.Dec.{leb}
-use lib.ListN.{replicate}
 use borrow.Author.Tests.{le-leb, lt-leb}
+use Rattle.numbers.specs.declared.runs.Refusal.TheVariants.{FirstSerial}
 use Rattle.rules.specs.Format.{decode_table, validate_table}
 use Rattle.rules.specs.Encode.{encode, validate_lists}
 use Rattle.rules.proofs.ReadBack.{word_back}
-use Rattle.label_line.specs.Line.{serial_most, line_table, line_length, line_lists, line_bytes}
+use Rattle.label_line.specs.Line.{serial_most, line_table, line_lists, line_bytes}
 use Rattle.label_line.specs.Puts.{frame_bytes, instruction_in}
 use Rattle.label_line.specs.Labels.{MakesTable}
 use Rattle.label_line.proofs.Spacing.{takes_often}
@@ -46,29 +44,20 @@ line-valid first = refl
 
 -- ---- the call
 
-pub makes : (first : ℕ) → first < 2 ^ 32 → first ≤ serial_most → (bytes : List ℕ) → bytes ≡ line_bytes first → MakesTable first (record { number = 0; bytes = bytes })
-makes first word small bytes e =
-    let within : leb first serial_most ≡ true = le-leb first serial_most small in
-    let decoded : decode_table bytes ≡ line_table first = ap decode_table e ∙ line_decoded first in
+pub makes : (first : ℕ) → first < 2 ^ 32 → first ≤ serial_most → {bytes : List ℕ} → bytes ≡ line_bytes first → MakesTable first (Ok bytes)
+makes first word small e =
+    let decoded : decode_table _ ≡ line_table first = ap decode_table e ∙ line_decoded first in
     record {
-      number_is = rw within;
-      bytes_are = rw within e;
-      writable = λ _. line-writable first;
-      written = λ _. e ∙ line-written first;
-      accepted = λ _. ap validate_table e ∙ line-valid first;
-      says = λ _. decoded;
-      takes_often = λ _. rw decoded (takes_often first word);
+      number_is = rw (le-leb first serial_most small);
+      made = record {
+        bytes_are = e;
+        writable = line-writable first;
+        written = e ∙ line-written first;
+        accepted = ap validate_table e ∙ line-valid first;
+        says = decoded;
+        takes_often = rw decoded (takes_often first word);
+      };
     }
 
-pub refuses : (first : ℕ) → serial_most < first → MakesTable first (record { number = 46; bytes = replicate line_length 0 })
-refuses first high =
-    let beyond : leb first serial_most ≡ false = lt-leb first serial_most high in
-    record {
-      number_is = rw beyond;
-      bytes_are = rw beyond;
-      writable = λ z. absurd (omega arith);
-      written = λ z. absurd (omega arith);
-      accepted = λ z. absurd (omega arith);
-      says = λ z. absurd (omega arith);
-      takes_often = λ z. absurd (omega arith);
-    }
+pub refuses : (first : ℕ) → serial_most < first → MakesTable first (Err FirstSerial)
+refuses first high = record { number_is = rw (lt-leb first serial_most high); made = tt }

@@ -50,9 +50,6 @@ line_table first = record {
 
 -- ---- the table's bytes
 
-abbrev pub line_length : ℕ
-line_length = 84
-
 -- the lists of numbers from which the writer of W-201 makes them
 abbrev pub line_lists : ℕ → Lists
 line_lists first = record {

@@ -8,8 +8,8 @@ ghost use Rattle.label_line.specs.Line.{line_bytes};
 ghost use Rattle.label_line.specs.Puts.{frame_bytes, instruction_in};
 ghost use Rattle.label_line.specs.Labels.{MakesTable, RunsLine};
 
-use cabinet::run::{Verdict, run};
-use numbers::runs::{ACCEPTED, FIRST_SERIAL};
+use cabinet::run::{Ended, run};
+use numbers::runs::Refusal;
 use plan::ENVIRONMENT;
 use records::store::put_six;
 
@@ -29,13 +29,6 @@ const TAKE: u8 = 3;
 const SEND: u8 = 5;
 
 const JUMP: u8 = 6;
-
-// 0 and the table, or 46 and no table.
-#[derive(Drop)]
-pub struct MadeTable {
-    pub number: u8,
-    pub bytes: [u8; TABLE],
-}
 
 // The table but for its instructions.
 fn frame() -> [u8; TABLE]
@@ -84,21 +77,14 @@ fn line_bytes(first: u32) -> [u8; TABLE]
     t
 }
 
-// The table of a first serial.
-pub fn make_table(first: u32) -> MadeTable
+// The table of a first serial, or 46.
+pub fn make_table(first: u32) -> Result<[u8; TABLE], Refusal>
     ensures { MakesTable first result }
 {
     if first > SERIAL_MOST {
-        return MadeTable {
-            number: FIRST_SERIAL,
-            bytes: [0; TABLE],
-        };
+        return Err(Refusal::FirstSerial);
     }
-    let bytes = line_bytes(first);
-    MadeTable {
-        number: ACCEPTED,
-        bytes: bytes,
-    }
+    Ok(line_bytes(first))
 }
 
 // A schedule on the table of a first serial.
@@ -109,20 +95,11 @@ pub fn run_line(
     reasons: &mut [u8],
     report: &mut [u8],
     origins: &mut [u8],
-) -> Verdict
+) -> Result<Ended, Refusal>
     ensures { RunsLine first schedule.now
         (buffers_of answers.old reasons.old report.old origins.old) result
         (buffers_of answers.new reasons.new report.new origins.new) }
 {
-    let made = make_table(first);
-    let number = made.number;
-    let table = made.bytes;
-    if number != 0 {
-        return Verdict {
-            number: number,
-            records: 0,
-            quiet: false,
-        };
-    }
+    let table = make_table(first)?;
     run(&table, schedule, answers, reasons, report, origins)
 }

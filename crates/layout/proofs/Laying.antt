@@ -1,40 +1,22 @@
 -- Numbers laid one behind the other: from a list, and of each of n things in turn, so many numbers a thing.
 use mathlib.Core.Path.{◌≡◌, refl, ap, sym, ◌∙◌}
-use mathlib.Core.List.{List, [], ◌∷◌, ◌++◌}
+use mathlib.Core.List.{List, ◌++◌, append_assoc}
 use Prim.Native.Nat.{ℕ, zero, suc, ◌+◌, ◌*◌, ◌≤◌, ◌<◌}
 use native.Mathlib.Omega.{arith}
 use native.Mathlib.Numerals.{add-one}
-use lib.ListN.{length, get_or, take, set, length-append}
-use lib.Seq.{sets, length-sets, length-take-le, take-suc, take_all}
+use lib.ListN.{length, take, drop, length-append}
+use lib.Seq.{sets, sets-eq, length-sets, drop-drop}
 use Rattle.facts.specs.Laying.{sets_more}
 use Rattle.layout.specs.View.{each}
 
 -- ---- a list
 
--- its first i numbers are laid
-pub record Laid (out₀ numbers : List ℕ) (at : ℕ) (out : List ℕ) (i : ℕ) : Type 0 where
-  pub within : i ≤ length numbers
-  pub same_length : length out ≡ length out₀
-  pub laid : out ≡ sets out₀ at (take i numbers)
-
-pub laid_start : (out₀ numbers : List ℕ) (at : ℕ) → Laid out₀ numbers at out₀ 0
-laid_start out₀ numbers at = record { within = omega arith; same_length = refl; laid = refl }
-
-pub laid_more : (out₀ numbers : List ℕ) (at : ℕ) (out : List ℕ) (i : ℕ) → Laid out₀ numbers at out i → i < length numbers
-    → Laid out₀ numbers at (set out (at + i) (get_or numbers i 0)) (i + 1)
-laid_more out₀ numbers at out i h l =
-    let e : set out (at + i) (get_or numbers i 0) ≡ sets out₀ at (take (i + 1) numbers) =
-    ap (λ (x : List ℕ). set x (at + i) (get_or numbers i 0)) h.laid
-    ∙ sets_more (take i numbers) (get_or numbers i 0 ∷ []) out₀ at (at + i) (let k = length-take-le i numbers h.within in omega arith)
-    ∙ ap (λ (x : List ℕ). sets out₀ at x) (sym (take-suc numbers i 0 l) ∙ ap (λ (k : ℕ). take k numbers) (sym (add-one i))) in
-    record {
-      within = omega arith;
-      same_length = ap (λ (x : List ℕ). length x) e ∙ length-sets out₀ at (take (i + 1) numbers);
-      laid = e;
-    }
-
-pub laid_end : (out₀ numbers : List ℕ) (at : ℕ) (out : List ℕ) (i : ℕ) → Laid out₀ numbers at out i → length numbers ≤ i → out ≡ sets out₀ at numbers
-laid_end out₀ numbers at out i h l = h.laid ∙ ap (λ (x : List ℕ). sets out₀ at x) (take_all i numbers l)
+-- what was copied to a part of a list, in that part's place, is a store of it
+pub laid : (l src part : List ℕ) (at k : ℕ) → at + length src ≤ length l → k ≡ length src → part ≡ src
+    → take at l ++ (part ++ drop k (drop at l)) ≡ sets l at src
+laid l src part at k h m e =
+    (λ i. take at l ++ (e i ++ drop (m i) (drop at l))) ∙ ap (λ (rest : List ℕ). take at l ++ (src ++ rest)) (drop-drop (length src) at l)
+    ∙ sym (append_assoc (take at l) src (drop (at + length src) l)) ∙ sym (sets-eq src l at h)
 
 -- ---- of each of n things
 
@@ -62,14 +44,14 @@ pub record EachLaid (f : ℕ → List ℕ) (w n : ℕ) (out₀ : List ℕ) (at :
   pub same_length : length out ≡ length out₀
   pub laid : out ≡ sets out₀ at (each f i)
 
-module _ (f : ℕ → List ℕ) (w n : ℕ) (wide : (i : ℕ) → length (f i) ≡ w) (out₀ : List ℕ) (at : ℕ) where
+module _ {f : ℕ → List ℕ} {w n : ℕ} {out₀ : List ℕ} {at : ℕ} where
   pub each_start : EachLaid f w n out₀ at out₀ 0
   unfolding each
   each_start = record { within = omega arith; same_length = refl; laid = refl }
 
-  pub each_on : (out out' numbers : List ℕ) (i k : ℕ) → EachLaid f w n out₀ at out i → i < n → k ≡ at + w * i → numbers ≡ f i → out' ≡ sets out k numbers
-      → EachLaid f w n out₀ at out' (i + 1)
-  each_on out out' numbers i k h l e g put =
+  pub each_on : {out out' numbers : List ℕ} {i k : ℕ} → ((j : ℕ) → length (f j) ≡ w) → EachLaid f w n out₀ at out i → i < n → k ≡ at + w * i
+      → numbers ≡ f i → out' ≡ sets out k numbers → EachLaid f w n out₀ at out' (i + 1)
+  each_on {out} {out'} {numbers} {i} {k} wide h l e g put =
       let all : out' ≡ sets out₀ at (each f (i + 1)) =
       put
       ∙ (λ j. sets (h.laid j) k (g j))
@@ -81,5 +63,5 @@ module _ (f : ℕ → List ℕ) (w n : ℕ) (wide : (i : ℕ) → length (f i) �
         laid = all;
       }
 
-  pub each-end : (out : List ℕ) (i : ℕ) → EachLaid f w n out₀ at out i → n ≤ i → out ≡ sets out₀ at (each f n)
-  each-end out i h l = let x = h.within in h.laid ∙ ap (λ (m : ℕ). sets out₀ at (each f m)) (omega arith)
+  pub each-end : {out : List ℕ} {i : ℕ} → EachLaid f w n out₀ at out i → n ≤ i → out ≡ sets out₀ at (each f n)
+  each-end h l = let x = h.within in h.laid ∙ ap (λ (m : ℕ). sets out₀ at (each f m)) (omega arith)

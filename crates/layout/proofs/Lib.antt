@@ -1,6 +1,5 @@
 -- What the proofs of the calls share.
 pub mod Laying
-pub mod Choosing
 pub mod Widths
 pub mod Blocks
 pub mod OfProcess

@@ -1,11 +1,11 @@
--- The numbers of four lists are those of the process that they stand for.
+-- The numbers of a process of the code are those of the process that it stands for.
 use mathlib.Core.Path.{◌≡◌, refl, ap, sym, ◌∙◌}
-use mathlib.Core.Bool.{Bool, true, false, cond}
+use mathlib.Core.Bool.{cond}
 use mathlib.Core.Option.{Option, none, some}
 use mathlib.Core.List.{List, [], ◌∷◌, ◌++◌, map}
 use Prim.Native.Nat.{ℕ}
 use native.Mathlib.Omega.{arith}
-use lib.Dec.{eqb, ltb}
+use lib.Dec.{ltb}
 use lib.ListN.{length, get_or, replicate, length-map, get_or-eq_default}
 use borrow.Author.Tests.{lt-ltb, le-ltb}
 use Rattle.facts.specs.Tests.{by_lt}
@@ -13,13 +13,15 @@ use Rattle.facts.specs.Lists.{listed, prefix, prefix-listed, map-listed, length-
 use Rattle.facts.specs.Rings.{listed-length, get_or_listed}
 use Rattle.backup.specs.Limits.{log_most}
 use Rattle.backup.specs.Replica.{Message}
-use Rattle.backup.specs.Place.{unpack, messages, head_len, head_sent, head_pc, head_register, view_in}
-use Rattle.process.specs.Row.{row_length, board_in, pc_in, registers_in, suppress_in, events_in, taken_in, flag_in, standby_board_in, unread_in, instructions_in}
-use Rattle.process.specs.Row.{mail_at, machine_of, standby_of, process_of}
+use Rattle.backup.specs.Place.{unpack, messages, view_in}
+use Rattle.process.specs.declared.process.Process as code
+use Rattle.process.specs.declared.process.Protection.{Protection}
+use Rattle.process.specs.declared.process.Protection.TheVariants.{Unprotected, Complete, Coming}
+use Rattle.process.specs.Row.{mail_at, backed, recorded, zero_process, machine_of, standby_of, process_of}
 use Rattle.rules.specs.Machine.{booted}
 use Rattle.rules.specs.Cabinet.{Standby, nobody}
-use Rattle.layout.specs.View.{each, machine_numbers, mail_numbers, no_mail, inbox_numbers, backup_numbers, saved_word, no_message, log_of, saved_numbers, process_numbers}
-use Rattle.layout.specs.Lists.{machine_in, behind_state, backup_in, inbox_at, saved_at, process_numbers_in}
+use Rattle.layout.specs.View.{each, four, machine_numbers, mail_numbers, no_mail, inbox_numbers, backup_numbers, saved_word, no_message, log_of, saved_numbers, process_numbers}
+use Rattle.layout.specs.Lists.{machine_in, state_in, behind_state, backup_in, inbox_at, saved_at, process_numbers_in}
 use Rattle.layout.proofs.Laying.{each_same}
 
 -- ---- an element of a list given by a function of the place, or what stands for none
@@ -34,16 +36,16 @@ get_or_chosen numbers f n i d =
 
 -- ---- machine and inbox
 
-module _ (row mail log head : List ℕ) where
-  machine-is : machine_in row ≡ machine_numbers (process_of row mail log head)
+module _ (x : code.Process) where
+  machine-is : machine_in x ≡ machine_numbers (process_of x)
   unfolding process_of machine_of
   machine-is =
-      ap (λ (n : ℕ). board_in row ∷ pc_in row ∷ (registers_in row ++ (suppress_in row ∷ events_in row ∷ instructions_in row ∷ (taken_in row ++ (n ∷ [])))))
-      (sym (listed-length (mail_at row mail) (unread_in row)))
+      ap (λ (n : ℕ). x.board ∷ x.pc ∷ (four x.registers ++ (x.suppress ∷ x.events ∷ x.instructions ∷ (four x.taken ++ (n ∷ [])))))
+      (sym (listed-length (mail_at x) x.unread))
 
-  inbox_is : each (inbox_at row mail) log_most ≡ inbox_numbers (machine_of row mail).mailbox
+  inbox_is : each (inbox_at x) log_most ≡ inbox_numbers (machine_of x).mailbox
   unfolding inbox_numbers machine_of
-  inbox_is = each_same _ _ log_most (λ i l. get_or_chosen mail_numbers (mail_at row mail) (unread_in row) i no_mail)
+  inbox_is = each_same _ _ log_most (λ i l. get_or_chosen mail_numbers (mail_at x) x.unread i no_mail)
 
 -- ---- the backup
 
@@ -53,51 +55,63 @@ saved-long n log = length-map (prefix n log) unpack ∙ length-prefix n log
 saved-listed : (n : ℕ) (log : List ℕ) → messages n log ≡ listed (λ i. unpack (get_or log i 0)) n
 saved-listed n log = ap (map unpack) (prefix-listed n log) ∙ map-listed unpack (λ i. get_or log i 0) n
 
--- by whether there is none
-module _ (row log head : List ℕ) where
-  abbrev standby_by : Bool → Option Standby
-  standby_by b = cond b none (some (record { board = standby_board_in row; replica = view_in log head; complete = eqb (flag_in row) 1 }))
+-- by what it is
+module _ (x : code.Process) where
+  abbrev standby_by : Protection → Option Standby
+  standby_by y = cond (recorded y) (some (record { board = x.standby; replica = view_in x.log x.head; complete = backed y })) none
 
-  backup_by : (b : Bool) → cond b (replicate 9 0) (cond (eqb (flag_in row) 1) 1 2 ∷ behind_state row head) ≡ backup_numbers (standby_by b)
-  unfolding view_in
-  backup_by true = refl
-  backup_by false =
-      ap (λ (n : ℕ).
-      cond (eqb (flag_in row) 1) 1 2
-      ∷ standby_board_in row
-      ∷ head_pc head
-      ∷ head_register head 0
-      ∷ head_register head 1
-      ∷ head_register head 2
-      ∷ head_register head 3
-      ∷ head_sent head
+  -- the numbers of one that is there, n words being saved
+  abbrev numbered : ℕ → ℕ → List ℕ
+  numbered state n =
+      state
+      ∷ x.standby
+      ∷ x.head.pc
+      ∷ x.head.r0
+      ∷ x.head.r1
+      ∷ x.head.r2
+      ∷ x.head.r3
+      ∷ x.head.sent
       ∷ n
-      ∷ []) (sym (saved-long (head_len head) log))
+      ∷ []
 
-  saved_by : (b : Bool) (i : ℕ)
-      → cond (ltb i (cond b 0 (head_len head))) (saved_word (unpack (get_or log i 0))) (0 ∷ 0 ∷ []) ≡ saved_word (get_or (log_of (standby_by b)) i no_message)
+  behind-is : (state : ℕ) → state ∷ behind_state x ≡ numbered state (length (messages x.head.len x.log))
+  behind-is state = ap (numbered state) (sym (saved-long x.head.len x.log))
+
+  backup_by : (y : Protection) → cond (recorded y) (state_in y ∷ behind_state x) (replicate 9 0) ≡ backup_numbers (standby_by y)
   unfolding view_in
-  saved_by true i = rw (le-ltb i 0 (omega arith))
-  saved_by false i =
-      get_or_chosen saved_word (λ k. unpack (get_or log k 0)) (head_len head) i no_message
-      ∙ ap (λ (l : List Message). saved_word (get_or l i no_message)) (sym (saved-listed (head_len head) log))
+  backup_by Unprotected = refl
+  backup_by Complete = behind-is 1
+  backup_by Coming = behind-is 2
 
-  backup-is : backup_in row head ≡ backup_numbers (standby_of row log head)
+  some_saved : (i : ℕ)
+      → cond (ltb i x.head.len) (saved_word (unpack (get_or x.log i 0))) (0 ∷ 0 ∷ []) ≡ saved_word (get_or (messages x.head.len x.log) i no_message)
+  some_saved i =
+      get_or_chosen saved_word (λ k. unpack (get_or x.log k 0)) x.head.len i no_message
+      ∙ ap (λ (l : List Message). saved_word (get_or l i no_message)) (sym (saved-listed x.head.len x.log))
+
+  saved_by : (y : Protection) (i : ℕ)
+      → cond (ltb i (cond (recorded y) x.head.len 0)) (saved_word (unpack (get_or x.log i 0))) (0 ∷ 0 ∷ [])
+      ≡ saved_word (get_or (log_of (standby_by y)) i no_message)
+  unfolding view_in
+  saved_by Unprotected i = rw (le-ltb i 0 (omega arith))
+  saved_by Complete i = some_saved i
+  saved_by Coming i = some_saved i
+
+  backup-is : backup_in x ≡ backup_numbers (standby_of x)
   unfolding standby_of
-  backup-is = backup_by (eqb (flag_in row) 0)
+  backup-is = backup_by x.protection
 
-  saved-is : each (saved_at row log head) log_most ≡ saved_numbers (log_of (standby_of row log head))
+  saved-is : each (saved_at x) log_most ≡ saved_numbers (log_of (standby_of x))
   unfolding saved_numbers standby_of
-  saved-is = each_same _ _ log_most (λ i l. saved_by (eqb (flag_in row) 0) i)
+  saved-is = each_same _ _ log_most (λ i l. saved_by x.protection i)
 
 -- ---- the whole process
 
-pub process-is : (row mail log head : List ℕ) → process_numbers_in row mail log head ≡ process_numbers (process_of row mail log head)
+pub process-is : (x : code.Process) → process_numbers_in x ≡ process_numbers (process_of x)
 unfolding process_numbers_in process_numbers process_of
-process-is row mail log head =
-    λ j. machine-is row mail log head j ++ (inbox_is row mail log head j ++ (backup-is row log head j ++ saved-is row log head j))
+process-is x = λ j. machine-is x j ++ (inbox_is x j ++ (backup-is x j ++ saved-is x j))
 
--- a row of zeros is that of a process that the table doesn't have
-pub nobody-is : (mail log head : List ℕ) → process_of (replicate row_length 0) mail log head ≡ nobody
+-- zeros are those of a process that the table doesn't have
+pub nobody-is : process_of zero_process ≡ nobody
 unfolding process_of machine_of standby_of nobody booted
-nobody-is mail log head = refl
+nobody-is = refl

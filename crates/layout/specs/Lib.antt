@@ -1,3 +1,3 @@
--- The whole cabinet as numbers: View is the definition; Lists has the same numbers from the lists that hold a cabinet.
+-- The whole cabinet as numbers: View is the definition; Lists has the same numbers from the store that holds a cabinet.
 pub mod View
 pub mod Lists

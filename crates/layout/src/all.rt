@@ -1,20 +1,18 @@
-// The numbers of all processes, of all boards and of all channels, from the lists that hold a cabinet: zeros for those that the table doesn't have.
+// The numbers of all processes, of all boards and of all channels, from the store that holds a cabinet: zeros for those that the table doesn't have.
 ghost use Rattle.std.specs.Prelude.{◌≡◌, ◌+◌, ◌%◌, ◌^◌, ◌≤◌, ◌<◌, length};
 ghost use Rattle.std.proofs.lemmas.List.Edits.{sets};
 ghost use Rattle.rules.specs.Sizes.{processes_most, boards_most, channels_most};
-ghost use Rattle.state.specs.Store.{store_of};
 ghost use Rattle.layout.specs.View.{each, view_most};
-ghost use Rattle.layout.specs.Lists.{row_for, queue_for, total_for, process_block, board_block, total_block, view_of};
+ghost use Rattle.layout.specs.Lists.{process_for, queue_for, total_for, process_block, board_block, total_block, view_of};
 
 use crate::boards::{BOARD, put_board};
 use crate::lay::lay;
 use crate::processes::{PROCESS, put_process};
-use backup::limits::LOG;
-use backup::place::HEAD;
 use plan::{BOARDS, CHANNELS, Counts, PROCESSES};
-use process::row::ROW;
+use process::process::{NO_PROCESS, Process};
 use state::entry::Entry;
-use state::queue::{ENTRIES, QUEUE_ROW};
+use state::queue::{ENTRIES, NO_QUEUE, Queue};
+use state::store::Store;
 
 // Where the view has its parts: first the counts, then processes, boards and totals.
 const AT_PROCESSES: usize = 3;
@@ -34,70 +32,57 @@ fn short(n: usize) -> u32
 
 // ---- processes
 
-fn row_of(rows: &[[u32; ROW]; PROCESSES], processes: usize, p: usize) -> [u32; ROW]
+fn process_at(processes: &[Process; PROCESSES], count: usize, p: usize) -> Process
     requires { p < processes_most }
-    ensures { result ≡ row_for rows.now processes p }
+    ensures { result ≡ process_for processes.now count p }
 {
-    if p >= processes {
-        return [0u32; ROW];
+    if p >= count {
+        return NO_PROCESS;
     }
-    rows[p]
+    processes[p]
 }
 
-fn put_processes(
-    processes: usize,
-    rows: &[[u32; ROW]; PROCESSES],
-    mails: &[[u64; LOG]; PROCESSES],
-    logs: &[[u64; LOG]; PROCESSES],
-    heads: &[[u32; HEAD]; PROCESSES],
-    out: &mut [u32],
-    at: usize,
-)
+fn put_processes(count: usize, processes: &[Process; PROCESSES], out: &mut [u32], at: usize)
     requires { at + 4464 ≤ length out.old }
-    ensures { out.new ≡ sets out.old at (each
-        (process_block processes rows.now mails.now logs.now heads.now) processes_most) }
+    ensures { out.new ≡ sets out.old at (each (process_block count processes.now) processes_most) }
 {
-    let mut p = 0;
-    while p < PROCESSES {
-        let row = row_of(rows, processes, p);
-        put_process(&row, &mails[p], &logs[p], &heads[p], out, at + PROCESS * p);
-        p += 1;
+    for p in 0..PROCESSES {
+        let x = process_at(processes, count, p);
+        put_process(&x, out, at + PROCESS * p);
     }
 }
 
 // ---- boards
 
-fn queue_of(queues: &[[u32; QUEUE_ROW]; BOARDS], boards: usize, b: usize) -> [u32; QUEUE_ROW]
+fn queue_at(queues: &[Queue; BOARDS], boards: usize, b: usize) -> Queue
     requires { b < boards_most }
     ensures { result ≡ queue_for queues.now boards b }
 {
     if b >= boards {
-        return [0u32; QUEUE_ROW];
+        return NO_QUEUE;
     }
     queues[b]
 }
 
 fn put_boards(
     boards: usize,
-    queues: &[[u32; QUEUE_ROW]; BOARDS],
-    entries: [Entry; ENTRIES],
+    queues: &[Queue; BOARDS],
+    entries: &[Entry; ENTRIES],
     out: &mut [u32],
     at: usize,
 )
     requires { at + 6688 ≤ length out.old }
-    ensures { out.new ≡ sets out.old at (each (board_block boards queues.now entries) boards_most) }
+    ensures { out.new ≡ sets out.old at (each (board_block boards queues.now entries.now) boards_most) }
 {
-    let mut b = 0;
-    while b < BOARDS {
-        let queue = queue_of(queues, boards, b);
+    for b in 0..BOARDS {
+        let queue = queue_at(queues, boards, b);
         put_board(&queue, entries, b, out, at + BOARD * b);
-        b += 1;
     }
 }
 
 // ---- channels
 
-fn total_of(totals: &[u32; CHANNELS], channels: usize, k: usize) -> u32
+fn total_at(totals: &[u32; CHANNELS], channels: usize, k: usize) -> u32
     requires { k < channels_most }
     ensures { result ≡ total_for totals.now channels k }
 {
@@ -111,30 +96,17 @@ fn put_totals(channels: usize, totals: &[u32; CHANNELS], out: &mut [u32], at: us
     requires { at + 32 ≤ length out.old }
     ensures { out.new ≡ sets out.old at (each (total_block channels totals.now) channels_most) }
 {
-    let mut k = 0;
-    while k < CHANNELS {
-        let x = [total_of(totals, channels, k)];
+    for k in 0..CHANNELS {
+        let x = [total_at(totals, channels, k)];
         lay(&x, out, at + k);
-        k += 1;
     }
 }
 
 // ---- the whole view
 
-pub fn put_view(
-    counts: Counts,
-    rows: &[[u32; ROW]; PROCESSES],
-    mails: &[[u64; LOG]; PROCESSES],
-    logs: &[[u64; LOG]; PROCESSES],
-    heads: &[[u32; HEAD]; PROCESSES],
-    queues: &[[u32; QUEUE_ROW]; BOARDS],
-    totals: &[u32; CHANNELS],
-    entries: [Entry; ENTRIES],
-    out: &mut [u32],
-)
+pub fn put_view(counts: Counts, store: &Store, entries: &[Entry; ENTRIES], out: &mut [u32])
     requires { view_most ≤ length out.old }
-    ensures { out.new ≡ sets out.old 0 (view_of counts (store_of rows.now mails.now
-        logs.now heads.now queues.now totals.now) entries) }
+    ensures { out.new ≡ sets out.old 0 (view_of counts store.now entries.now) }
 {
     let head = [
         short(counts.boards),
@@ -142,15 +114,7 @@ pub fn put_view(
         short(counts.channels),
     ];
     lay(&head, out, 0);
-    put_processes(
-        counts.processes,
-        rows,
-        mails,
-        logs,
-        heads,
-        out,
-        AT_PROCESSES,
-    );
-    put_boards(counts.boards, queues, entries, out, AT_BOARDS);
-    put_totals(counts.channels, totals, out, AT_TOTALS);
+    put_processes(counts.processes, &store.processes, out, AT_PROCESSES);
+    put_boards(counts.boards, &store.queues, entries, out, AT_BOARDS);
+    put_totals(counts.channels, &store.totals, out, AT_TOTALS);
 }

@@ -1,16 +1,15 @@
 // The numbers of one board: dead or live, and its queue, oldest entry first.
-ghost use Rattle.std.specs.Prelude.{◌≡◌, cond, ◌+◌, ◌≤◌, ◌<◌, eqb, length};
+ghost use Rattle.std.specs.Prelude.{◌≡◌, cond, ◌+◌, ◌≤◌, ◌<◌, length};
 ghost use Rattle.std.proofs.lemmas.List.Edits.{sets};
 ghost use Rattle.rules.specs.Sizes.{boards_most};
 ghost use Rattle.state.specs.Store.{item_of};
-ghost use Rattle.state.specs.Queue.{queue_dead};
 ghost use Rattle.layout.specs.View.{item_numbers};
 ghost use Rattle.layout.specs.Lists.{entry_place, entry_at, board_numbers_in};
 
 use crate::lay::lay;
 use plan::BOARDS;
 use state::entry::{Entry, Item};
-use state::queue::{COUNT, DEAD, ENTRIES, FIRST, QUEUE_ROW, RING};
+use state::queue::{ENTRIES, Queue, RING};
 use words::{byte_word, wide};
 
 // The numbers of an entry, where a board's entries begin, and how many numbers a board has.
@@ -67,18 +66,18 @@ fn numbers_of(item: Item) -> [u32; ENTRY]
 }
 
 // Where entry i of board b's queue stands, the oldest at 0.
-fn place_of(queue: &[u32; QUEUE_ROW], b: usize, i: usize) -> usize
+fn place_of(queue: &Queue, b: usize, i: usize) -> usize
     requires { (b < boards_most) × (i < 32) }
     ensures { (result ≡ entry_place queue.now b i) × (result < 512) }
 {
-    RING * b + (wide(queue[FIRST]) + i) % RING
+    RING * b + (wide(queue.first) + i) % RING
 }
 
 // Entry i, from what stands there: zeros where the queue is shorter.
-fn entry(queue: &[u32; QUEUE_ROW], e: Entry, i: usize) -> [u32; ENTRY]
+fn entry(queue: &Queue, e: Entry, i: usize) -> [u32; ENTRY]
     ensures { result ≡ entry_at queue.now e i }
 {
-    if i >= wide(queue[COUNT]) {
+    if i >= wide(queue.count) {
         return [0u32; ENTRY];
     }
     let item = e.item;
@@ -86,30 +85,22 @@ fn entry(queue: &[u32; QUEUE_ROW], e: Entry, i: usize) -> [u32; ENTRY]
 }
 
 // 1 for a dead board.
-fn dead(queue: &[u32; QUEUE_ROW]) -> u32
-    ensures { result ≡ cond (eqb (queue_dead queue.now) 0) 0 1 }
+fn dead(queue: &Queue) -> u32
+    ensures { result ≡ cond queue.now.dead 1 0 }
 {
-    if queue[DEAD] == 0 { 0 } else { 1 }
+    if queue.dead { 1 } else { 0 }
 }
 
-// All of them, of board b, whose row this is.
-pub fn put_board(
-    queue: &[u32; QUEUE_ROW],
-    entries: [Entry; ENTRIES],
-    b: usize,
-    out: &mut [u32],
-    at: usize,
-)
+// All of them, of board b, whose queue this is.
+pub fn put_board(queue: &Queue, entries: &[Entry; ENTRIES], b: usize, out: &mut [u32], at: usize)
     requires { (b < boards_most) × (at + 418 ≤ length out.old) }
-    ensures { out.new ≡ sets out.old at (board_numbers_in queue.now entries b) }
+    ensures { out.new ≡ sets out.old at (board_numbers_in queue.now entries.now b) }
 {
-    let head = [dead(queue), queue[COUNT]];
+    let head = [dead(queue), queue.count];
     lay(&head, out, at);
-    let mut i = 0;
-    while i < RING {
+    for i in 0..RING {
         let e = entries[place_of(queue, b, i)];
         let x = entry(queue, e, i);
         lay(&x, out, at + QUEUE + ENTRY * i);
-        i += 1;
     }
 }

@@ -7,9 +7,5 @@ pub fn lay(numbers: &[u32], out: &mut [u32], at: usize)
     requires { at + length numbers.now ≤ length out.old }
     ensures { out.new ≡ sets out.old at numbers.now }
 {
-    let mut i = 0;
-    while i < numbers.len() {
-        out[at + i] = numbers[i];
-        i += 1;
-    }
+    out[at..at + numbers.len()].copy_from_slice(numbers);
 }

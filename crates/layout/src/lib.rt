@@ -1,4 +1,4 @@
-// A cabinet's lists as numbers in a fixed layout (docs/FORMATS.md, "View").
+// A cabinet as numbers in a fixed layout (docs/FORMATS.md, "View").
 #![tactic(auto)]
 
 pub mod all;

@@ -1,55 +1,89 @@
-// The code of the answer to a record: `enum ks_answer`. Each has its cause beside it (causes.rt).
+// What a record is answered, and why (W-206): `enum ks_reason`, "the answer's code times 4, plus a cause", and by it the code, `enum ks_answer`.
+ghost use Rattle.std.specs.Prelude.{◌≡◌};
+ghost use Rattle.numbers.specs.Answers.{reason_number, code_in};
 
-// Done, with a and word (0, 0); then with (channel, word).
-pub const DONE: u32 = 0;
-// A word left the inbox for a register.
-pub const TOOK: u32 = 1;
-// A word waits to be carried.
-pub const QUEUED: u32 = 2;
-// A SEND whose word was on the bus before the crash.
-pub const HELD_BACK: u32 = 3;
-// A word was carried or fed.
-pub const ON_THE_BUS: u32 = 4;
-// A sync was carried, with (process, how many saved words it dropped), or a resync, with (process, 0).
-pub const SYNC_CARRIED: u32 = 5;
-// A sync was carried and no backup is left, with (process, 0).
-pub const SYNC_UNBACKED: u32 = 6;
-// A record was taken back, with (0, 0).
-pub const TAKEN_BACK: u32 = 7;
+#[derive(Clone, Copy, PartialEq, Eq)]
+pub enum Reason {
+    // Done (code 0), with a and word (0, 0): a SET, ADD or JUMP.
+    Calculated = 0,
+    SyncIssued = 1,
+    BoardCrashed = 2,
+    // "cause 3 under code 0 means a return or a resync, which there count as one cause"
+    ReturnedOrResync = 3,
+    // Then with (channel, word). 1: a word left the inbox for a register.
+    Took = 4,
+    // 2: a word waits to be carried.
+    Queued = 8,
+    // 3: a SEND whose word was on the bus before the crash.
+    HeldBack = 12,
+    // 4: a word was carried or fed.
+    Carried = 16,
+    Fed = 17,
+    // 5: a sync was carried, with (process, how many saved words it dropped), or a resync, with (process, 0).
+    SyncCarried = 20,
+    ResyncCarried = 23,
+    // 6: a sync was carried and no backup is left, with (process, 0).
+    SyncUnbacked = 24,
+    // 7: a record was taken back, with (0, 0).
+    TakenBack = 28,
+    // Refused, with the record's a and word 0. 32: "an unknown move or a word that should be 0".
+    NoSuchMove = 128,
+    WordNotZero = 129,
+    // 33: "a is no process, board or channel of this table".
+    NoSuchProcess = 132,
+    NoSuchBoard = 133,
+    NoSuchChannel = 134,
+    // 34, of a carry and of a crash: the board is dead.
+    CarryOfDead = 136,
+    CrashOfDead = 137,
+    // 35, of a step, as the four below: the process has halted.
+    Halted = 140,
+    // 36, of TAKE or FIRST: "no such word".
+    NoWordForTake = 144,
+    NoWordForFirst = 145,
+    // 37: the process is backed, and has as many acts as its limit, or 64 instructions.
+    OwesForActs = 148,
+    OwesForInstructions = 149,
+    // 38, also of a sync and a resync: "queue full".
+    QueueFullForSend = 152,
+    QueueFullForSync = 153,
+    QueueFullForResync = 155,
+    // 39, also of a feed: the channel is held.
+    HeldForSend = 156,
+    HeldForFeed = 157,
+    // 40, of a sync: "no backup".
+    NoBackup = 160,
+    // 41, of a sync: "one waiting"; of a resync, one or a resync.
+    SyncWaiting = 164,
+    ResyncWaiting = 167,
+    // 42, of a carry: "queue empty".
+    QueueEmpty = 168,
+    // 43, of a feed: "sender not outside".
+    NotFromOutside = 172,
+    // 44, of a crash: "some process has no backup".
+    SomeUnbacked = 176,
+    // 48, W-210: "a return of a live board".
+    BoardLive = 192,
+    // 49, W-210, of a resync: "hold-back above 0 or, on one channel it reads, more than 8 words unread and in queues together".
+    NotReady = 196,
+    // 50, W-210, of a resync: "the process has a backup or its other table board is dead".
+    HasBackup = 200,
+    // 53, W-214: "no record is kept to go back to".
+    NoneKept = 212,
+}
 
-// Refused, with the record's a and word 0.
+impl Reason {
+    // The byte of the list of reasons.
+    pub fn number(self) -> u8
+        ensures { result ≡ reason_number self }
+    {
+        self as u8
+    }
 
-// "an unknown move or a word that should be 0"
-pub const BAD_RECORD: u32 = 32;
-// "a is no process, board or channel of this table"
-pub const BAD_INDEX: u32 = 33;
-// Of a carry and of a crash: the board is dead.
-pub const BOARD_DEAD: u32 = 34;
-// Of a step, as the four below: the process has halted.
-pub const HALTED: u32 = 35;
-// TAKE or FIRST: "no such word".
-pub const NO_WORD: u32 = 36;
-// The process is backed, and has as many acts as its limit, or 64 instructions.
-pub const OWES_SYNC: u32 = 37;
-// Also of a sync and a resync: "queue full".
-pub const QUEUE_FULL: u32 = 38;
-// Also of a feed: the channel is held.
-pub const CHANNEL_HELD: u32 = 39;
-// Of a sync: "no backup".
-pub const NO_BACKUP: u32 = 40;
-// Of a sync: "one waiting"; of a resync, one or a resync.
-pub const SYNC_WAITING: u32 = 41;
-// Of a carry: "queue empty".
-pub const QUEUE_EMPTY: u32 = 42;
-// Of a feed: "sender not outside".
-pub const NOT_FROM_OUTSIDE: u32 = 43;
-// Of a crash: "some process has no backup".
-pub const SOME_UNBACKED: u32 = 44;
-// W-210: "a return of a live board".
-pub const BOARD_LIVE: u32 = 48;
-// W-210, of a resync: "hold-back above 0 or, on one channel it reads, more than 8 words unread and in queues together".
-pub const NOT_READY: u32 = 49;
-// W-210, of a resync: "the process has a backup or its other table board is dead".
-pub const HAS_BACKUP: u32 = 50;
-// W-214: "no record is kept to go back to".
-pub const NONE_KEPT: u32 = 53;
+    // The answer's first byte.
+    pub fn code(self) -> u8
+        ensures { result ≡ code_in self }
+    {
+        self.number() / 4
+    }
+}

@@ -5,26 +5,29 @@ use mathlib.Core.List.{List, [], ◌∷◌}
 use Prim.Native.Nat.{ℕ, suc, ◌+◌, ◌≤◌, ◌<◌}
 use native.Mathlib.Omega.{arith}
 use lib.Dec.{eqb}
-use lib.ListN.{length, get_or}
+use lib.ListN.{length}
 use borrow.Author.Tests.{eq-eqb, ne_eqb, not-true, not-false}
 use Rattle.facts.specs.Tests.{all_below, all_of}
 use Rattle.facts.specs.Ranges.{all_same, all_listed}
-use Rattle.facts.specs.Walks.{Walked, walk_start, walk_on, walk_fails, walk_end}
-use Rattle.plan.specs.declared.Counts.{Counts}
+use Rattle.facts.specs.Walks.{Walked, walk_on, walk_fails, walk_end}
+use Rattle.plan.specs.declared.Plan.{Plan}
 use Rattle.plan.specs.Plan.{plan_of, Planned, start_in, length_in}
 use Rattle.records.specs.Fetch.{fetched}
 use Rattle.records.specs.declared.fetch.Instruction.{Instruction}
 use Rattle.instruction.specs.declared.instruction.Intent.{Intent}
 use Rattle.instruction.specs.declared.instruction.Intent.TheVariants.{Halted, NoMail, Internal, Take, Send}
-use Rattle.process.specs.Row.{pc_in, process_of}
+use Rattle.process.specs.declared.process.Process as code
+use Rattle.process.specs.Row.{process_of}
 use Rattle.instruction.specs.Instruction.{Fetched, Examined, outcome_of}
 use Rattle.instruction.specs.Laws as laws
 use Rattle.rules.specs.Table.{Table, code_of}
 use Rattle.rules.specs.Machine.{local_step}
 use Rattle.rules.specs.Cabinet.{Cabinet, Process, outbox_at, idle, is_empty, quiescent}
 use Rattle.state.specs.declared.entry.Entry.{Entry}
+use Rattle.state.specs.declared.queue.Queue.{Queue}
+use Rattle.state.specs.declared.store.Store.{Store}
 use Rattle.state.specs.Queue.{count_in}
-use Rattle.state.specs.Store.{Store, store_of, Holds, outbox_in}
+use Rattle.state.specs.Store.{Holds, lists_at, outbox_in}
 use Rattle.state.specs.Moved.{Reachable}
 use Rattle.state.proofs.Reading.{at_process, at_outbox, how_many, how_many_boards}
 use Rattle.state.proofs.Reaching.{queue_length_lem}
@@ -33,80 +36,75 @@ use Rattle.outcome.specs.Quiets.{rests_of, Rests, rests_in, Hosts, AllRest, empt
 -- ---- one process
 
 -- an intent rests where its outcome does
-rests-outcome : (row mail : List ℕ) (code a operand : ℕ) (i : Intent) → rests_of i ≡ idle (outcome_of row mail code a operand i)
-rests-outcome row mail code a operand Halted = refl
-rests-outcome row mail code a operand NoMail = refl
-rests-outcome row mail code a operand Internal = refl
-rests-outcome row mail code a operand (Take at) = refl
-rests-outcome row mail code a operand (Send channel word) = refl
+rests-outcome : (x : code.Process) (c a operand : ℕ) (i : Intent) → rests_of i ≡ idle (outcome_of x c a operand i)
+rests-outcome x c a operand Halted = refl
+rests-outcome x c a operand NoMail = refl
+rests-outcome x c a operand Internal = refl
+rests-outcome x c a operand (Take at) = refl
+rests-outcome x c a operand (Send channel word) = refl
 
-pub rests_so : (table : List ℕ) (at n : ℕ) (row mail : List ℕ) (i : Instruction) (intent : Intent) (r : Bool) → i ≡ fetched table at (pc_in row)
-    → Examined row mail n i.code i.a i.operand intent → r ≡ rests_of intent → Rests table at n row mail r
-rests_so table at n row mail i intent r e examined is program f =
-    let g = subst (λ (x : Instruction). Fetched program row n x.code x.a x.operand) (sym e) f in
-    is ∙ rests-outcome row mail i.code i.a i.operand intent ∙ ap idle (sym (examined program g).outcome)
+pub rests_so : (table : List ℕ) (at n : ℕ) (x : code.Process) (i : Instruction) (intent : Intent) (r : Bool) → i ≡ fetched table at x.pc
+    → Examined x n i.code i.a i.operand intent → r ≡ rests_of intent → Rests table at n x r
+rests_so table at n x i intent r e examined is program f =
+    let g = subst (λ (y : Instruction). Fetched program x n y.code y.a y.operand) (sym e) f in
+    is ∙ rests-outcome x i.code i.a i.operand intent ∙ ap idle (sym (examined program g).outcome)
 
-module _ (table : List ℕ) (processes : ℕ) (programs : List ℕ) (rows mails : List (List ℕ)) where
+module _ (table : List ℕ) (plan : Plan) (s : Store) where
   -- the answer for process p, by its numbers in the plan
   abbrev pub RestsAt : ℕ → Bool → Type 0
-  RestsAt p r = Rests table (start_in programs p) (length_in programs p) (get_or rows p []) (get_or mails p []) r
+  RestsAt p r = Rests table (start_in plan.programs p) (length_in plan.programs p) (lists_at s p) r
 
-  pub at_plan : (p at n : ℕ) (r : Bool) → p < 16 → (p < 16 → at ≡ start_in programs p) → (p < 16 → n ≡ length_in programs p)
-      → Rests table at n (get_or rows p []) (get_or mails p []) r → RestsAt p r
+  pub at_plan : (p at n : ℕ) (r : Bool) → p < 16 → (p < 16 → at ≡ start_in plan.programs p) → (p < 16 → n ≡ length_in plan.programs p)
+      → Rests table at n (lists_at s p) r → RestsAt p r
   at_plan p at n r l e f =
-      subst (λ (x : ℕ). Rests table at n (get_or rows p []) (get_or mails p []) r → Rests table x (length_in programs p) (get_or rows p []) (get_or mails p []) r) (e l)
-      (subst (λ (x : ℕ). Rests table at x (get_or rows p []) (get_or mails p []) r) (f l))
+      subst (λ (k : ℕ). Rests table at n (lists_at s p) r → Rests table k (length_in plan.programs p) (lists_at s p) r) (e l)
+      (subst (λ (k : ℕ). Rests table at k (lists_at s p) r) (f l))
 
   -- is that of the process
-  rests_in_lem : (p : ℕ) (r : Bool) → RestsAt p r → (t : Table) (c : Cabinet) → Hosts table processes programs rows mails t c → p < length t.processes
+  rests_in_lem : {t : Table} {entries : List Entry} {c : Cabinet} (p : ℕ) (r : Bool) → RestsAt p r → Hosts table plan s entries t c → p < length t.processes
       → r ≡ rests_in t c p
   unfolding process_of
-  rests_in_lem p r rests t c x l =
-      let row : List ℕ = get_or rows p [] in
-      let i : Instruction = fetched table (start_in programs p) (pc_in row) in
-      let f = laws.fetched t p x.reach.accepted l row i.code i.a i.operand (λ k. sym (x.planned.code_at p l (pc_in row) k)) in
-      let g = subst (λ (n : ℕ). Fetched (code_of t p) row n i.code i.a i.operand) (sym (x.planned.length_at p l)) f in
+  rests_in_lem {t} p r rests x l =
+      let y : code.Process = lists_at s p in
+      let i : Instruction = fetched table (start_in plan.programs p) y.pc in
+      let f = laws.fetched t p x.reach.accepted l y i.code i.a i.operand (λ k. sym (x.planned.code_at p l y.pc k)) in
+      let g = subst (λ (n : ℕ). Fetched (code_of t p) y n i.code i.a i.operand) (sym (x.planned.length_at p l)) f in
       rests (code_of t p) g
       ∙ ap (λ (y : Process). idle (local_step (code_of t p) y.machine)) (sym (at_process x.holds p l))
 
-  -- ---- all of them: the first p of n rest
+  -- ---- all of them: the first p rest
 
-  pub record Resting (n p : ℕ) : Type 0 where
-    pub within : p ≤ n
-    pub walked : (t : Table) (c : Cabinet) → Hosts table processes programs rows mails t c → Walked (rests_in t c) (length t.processes) p
+  pub record Resting (p : ℕ) : Type 0 where
+    pub walked : (t : Table) (entries : List Entry) (c : Cabinet) → Hosts table plan s entries t c → Walked (rests_in t c) (length t.processes) p
 
-  module _ (n : ℕ) (clamp : processes ≤ 16 → n ≡ processes) where
-    n_is : (t : Table) (c : Cabinet) → Hosts table processes programs rows mails t c → n ≡ length t.processes
-    n_is t c x = let e = x.processes-is in let high = x.reach.accepted.processes_high in clamp (omega arith) ∙ e
+  module _ {n : ℕ} (clamp : plan.counts.processes ≤ 16 → n ≡ plan.counts.processes) where
+    n_is : {t : Table} {entries : List Entry} {c : Cabinet} → Hosts table plan s entries t c → n ≡ length t.processes
+    n_is x = let e = x.planned.processes-is in let high = x.reach.accepted.processes_high in clamp (omega arith) ∙ e
 
-    pub resting_start : Resting n 0
-    resting_start = record { within = omega arith; walked = λ t c x. walk_start (rests_in t c) (length t.processes) }
-
-    pub resting_on : (p : ℕ) (r : Bool) → Resting n p → p < n → RestsAt p r → not r ≡ false → Resting n (p + 1)
-    resting_on p r w l rests z = record {
-      within = omega arith;
-      walked = λ t c x.
-          let e = n_is t c x in
+    pub resting_on : {p : ℕ} {r : Bool} → Resting p → p < n → RestsAt p r → not r ≡ false → Resting (p + 1)
+    resting_on {p} {r} w l rests z = record {
+      walked = λ t entries c x.
+          let e = n_is x in
           let k : p < length t.processes = omega arith in
-          walk_on (rests_in t c) (length t.processes) p r (w.walked t c x) k (rests_in_lem p r rests t c x k) z;
+          walk_on (rests_in t c) (length t.processes) p r (w.walked t entries c x) k (rests_in_lem p r rests x k) z;
     }
 
-    pub resting_fails : (p : ℕ) (r : Bool) → p < n → RestsAt p r → not r ≡ true → AllRest table processes programs rows mails false
-    resting_fails p r l rests z = record {
-      answers = λ t c x.
-          let e = n_is t c x in
+    pub resting_fails : {p : ℕ} {r : Bool} → p < n → RestsAt p r → not r ≡ true → AllRest table plan s false
+    resting_fails {p} {r} l rests z = record {
+      answers = λ t entries c x.
+          let e = n_is x in
           let k : p < length t.processes = omega arith in
-          walk_fails (rests_in t c) (length t.processes) p r k (rests_in_lem p r rests t c x k) z;
+          walk_fails (rests_in t c) (length t.processes) p r k (rests_in_lem p r rests x k) z;
     }
 
-    pub resting_end : (p : ℕ) → Resting n p → n ≤ p → AllRest table processes programs rows mails true
-    resting_end p w h = record {
-      answers = λ t c x. let e = n_is t c x in walk_end (rests_in t c) (length t.processes) p (w.walked t c x) (omega arith);
+    pub resting_end : {p : ℕ} → Resting p → n ≤ p → AllRest table plan s true
+    resting_end {p} w h = record {
+      answers = λ t entries c x. let e = n_is x in walk_end (rests_in t c) (length t.processes) p (w.walked t entries c x) (omega arith);
     }
 
 -- ---- the queues
 
-module _ (queues : List (List ℕ)) (n : ℕ) where
+module _ (queues : List Queue) (n : ℕ) where
   pub empty_on : (b : ℕ) → Walked (empty_in queues) n b → b < n → count_in queues b ≡ 0 → Walked (empty_in queues) n (b + 1)
   empty_on b w l e = walk_on (empty_in queues) n b true w l (sym (eq-eqb (count_in queues b) 0 e)) refl
 
@@ -136,37 +134,21 @@ module _ {t : Table} {s : Store} {entries : List Entry} {c : Cabinet} (h : Holds
   quiet_is rest empty e f =
       λ j. (e ∙ ap (all_below (rests_in t c)) (sym (how_many h))) j && (f ∙ sym queues-empty) j
 
-module _ (table : List ℕ) (counts : Counts) (programs : List ℕ) (rows mails queues : List (List ℕ)) (r : Bool)
-    (rest : AllRest table counts.processes programs rows mails r) where
-  resting : {t : Table} {wires : List ℕ} {logs heads : List (List ℕ)} {totals : List ℕ} {entries : List Entry} {c : Cabinet} → Reachable t c
-      → Planned t (plan_of table counts programs wires) → Holds t (store_of rows mails logs heads queues totals) entries c
+module _ (table : List ℕ) (plan : Plan) (s : Store) (r : Bool) (rest : AllRest table plan s r) where
+  resting : {t : Table} {entries : List Entry} {c : Cabinet} → Reachable t c → Planned t (plan_of table plan) → Holds t s entries c
       → r ≡ all_below (rests_in t c) (length t.processes)
-  resting {t} {wires} {logs} {heads} {totals} {entries} {c} reach planned holds =
-      rest.answers t c
-      (record {
-        counts = counts;
-        wires = wires;
-        logs = logs;
-        heads = heads;
-        queues = queues;
-        totals = totals;
-        entries = entries;
-        reach = reach;
-        planned = planned;
-        processes-is = planned.processes-is;
-        holds = holds;
-      })
+  resting {t} {entries} {c} reach planned holds = rest.answers t entries c (record { reach = reach; planned = planned; holds = holds })
 
-  pub quiets_not : not r ≡ true → Quiets table counts programs rows mails queues false
+  pub quiets_not : not r ≡ true → Quiets table plan s false
   quiets_not z = record {
-    answers = λ t wires logs heads totals entries c reach planned holds.
-        quiet_is holds false (all_below (empty_in queues) t.boards) (sym (not-true r z) ∙ resting reach planned holds) refl;
+    answers = λ t entries c reach planned holds.
+        quiet_is holds false (all_below (empty_in s.queues) t.boards) (sym (not-true r z) ∙ resting reach planned holds) refl;
   }
 
-  pub quiets_so : (q : Bool) → not r ≡ false → AllEmpty counts.boards queues q → Quiets table counts programs rows mails queues q
+  pub quiets_so : (q : Bool) → not r ≡ false → AllEmpty plan.counts.boards s.queues q → Quiets table plan s q
   quiets_so q z empty = record {
-    answers = λ t wires logs heads totals entries c reach planned holds.
+    answers = λ t entries c reach planned holds.
         let e = planned.boards-is in
         let high = reach.accepted.boards_high in
-        quiet_is holds true q (sym (not-false r z) ∙ resting reach planned holds) (empty (omega arith) ∙ ap (all_below (empty_in queues)) e);
+        quiet_is holds true q (sym (not-false r z) ∙ resting reach planned holds) (empty (omega arith) ∙ ap (all_below (empty_in s.queues)) e);
   }

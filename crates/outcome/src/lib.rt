@@ -1,4 +1,4 @@
-// What stands at a run's two ends: the lists as the table gives them, the bytes of the report, and whether the cabinet is quiet.
+// What stands at a run's two ends: the store as the table gives it, the bytes of the report, and whether the cabinet is quiet.
 #![tactic(auto)]
 
 pub mod quiet;

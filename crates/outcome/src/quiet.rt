@@ -2,13 +2,13 @@
 ghost use Rattle.std.specs.Prelude.{◌≡◌};
 ghost use Rattle.outcome.specs.Quiets.{rests_of, Rests, AllRest, AllEmpty, Quiets};
 
-use backup::limits::LOG;
 use instruction::instruction::{Intent, examine};
-use plan::{BOARDS, Counts, PROCESSES, PROGRAMS, length, start};
-use process::row::{PC, ROW};
+use plan::{BOARDS, PROCESSES, Plan};
+use process::process::Process;
 use records::fetch::fetch;
-use state::queue::{COUNT, QUEUE_ROW};
-use words::{most16, wide};
+use state::queue::Queue;
+use state::store::Store;
+use words::{most, wide};
 
 // Halted, or waits for a word.
 fn idle(intent: Intent) -> bool
@@ -24,66 +24,42 @@ fn idle(intent: Intent) -> bool
 }
 
 // Whether a process rests whose program, of `length` instructions, begins at byte `at` of the table.
-fn rests(table: &[u8], at: u32, length: u32, row: &[u32; ROW], mail: &[u64; LOG]) -> bool
-    ensures { Rests table.now at length row.now mail.now result }
+fn rests(table: &[u8], at: u32, length: u32, x: &Process) -> bool
+    ensures { Rests table.now at length x.now result }
 {
-    let i = fetch(table, wide(at), wide(row[PC]));
-    idle(examine(row, mail, length, i.code, i.a, i.operand))
+    let i = fetch(table, wide(at), wide(x.pc));
+    idle(examine(x, length, i.code, i.a, i.operand))
 }
 
-fn all_rest(
-    table: &[u8],
-    processes: usize,
-    programs: &[u32; PROGRAMS],
-    rows: &[[u32; ROW]; PROCESSES],
-    mails: &[[u64; LOG]; PROCESSES],
-) -> bool
-    ensures { AllRest table.now processes programs.now rows.now mails.now result }
+fn all_rest(table: &[u8], plan: &Plan, store: &Store) -> bool
+    ensures { AllRest table.now plan.now store.now result }
 {
-    let n = most16(processes);
-    let mut p = 0;
-    while p < n {
-        if !rests(
-            table,
-            start(programs, p),
-            length(programs, p),
-            &rows[p],
-            &mails[p],
-        ) {
+    let n = most::<PROCESSES>(plan.counts.processes);
+    for p in 0..n {
+        if !rests(table, plan.start(p), plan.length(p), &store.processes[p]) {
             return false;
         }
-        p += 1;
     }
     true
 }
 
-fn all_empty(boards: usize, queues: &[[u32; QUEUE_ROW]; BOARDS]) -> bool
+fn all_empty(boards: usize, queues: &[Queue; BOARDS]) -> bool
     ensures { AllEmpty boards queues.now result }
 {
-    let n = most16(boards);
-    let mut b = 0;
-    while b < n {
-        if queues[b][COUNT] != 0 {
+    let n = most::<BOARDS>(boards);
+    for b in 0..n {
+        if queues[b].count != 0 {
             return false;
         }
-        b += 1;
     }
     true
 }
 
-pub fn quiescent(
-    table: &[u8],
-    counts: Counts,
-    programs: &[u32; PROGRAMS],
-    rows: &[[u32; ROW]; PROCESSES],
-    mails: &[[u64; LOG]; PROCESSES],
-    queues: &[[u32; QUEUE_ROW]; BOARDS],
-) -> bool
-    ensures { Quiets table.now counts programs.now rows.now mails.now
-        queues.now result }
+pub fn quiescent(table: &[u8], plan: &Plan, store: &Store) -> bool
+    ensures { Quiets table.now plan.now store.now result }
 {
-    if !all_rest(table, counts.processes, programs, rows, mails) {
+    if !all_rest(table, plan, store) {
         return false;
     }
-    all_empty(counts.boards, queues)
+    all_empty(plan.counts.boards, &store.queues)
 }

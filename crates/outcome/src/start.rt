@@ -1,64 +1,50 @@
 // The start: "every board live, each process on its primary board, inboxes and queues empty, each backup record as it starts, all else 0".
 ghost use Rattle.std.specs.Prelude.{◌≡◌};
-ghost use Rattle.state.specs.Store.{store_of};
 ghost use Rattle.outcome.specs.Starts.{seated_in, Seats, Starts};
 
-use backup::limits::LOG;
-use backup::place::HEAD;
-use plan::{BOARDS, CHANNELS, PROCESSES};
-use process::row::{BOARD, PROTECTED, ROW, STANDBY};
+use plan::{BOARDS, CHANNELS, PROCESSES, Placement};
+use process::process::{NO_PROCESS, Process, Protection};
 use state::entry::{Entry, blank};
-use state::queue::{ENTRIES, QUEUE_ROW};
+use state::queue::{ENTRIES, NO_QUEUE};
+use state::store::Store;
 use words::least;
 
-// One process's row.
-fn seat_row(row: &mut [u32; ROW], primary: u32, standby: u32)
-    ensures { row.new ≡ seated_in row.old primary standby }
+// A store with nothing in it.
+pub const EMPTY: Store = Store {
+    processes: [NO_PROCESS; PROCESSES],
+    queues: [NO_QUEUE; BOARDS],
+    totals: [0; CHANNELS],
+};
+
+// One process, by its two boards.
+fn seat_one(x: &mut Process, boards: Placement)
+    ensures { x.new ≡ seated_in x.old boards }
 {
-    row[BOARD] = primary;
-    row[PROTECTED] = 1;
-    row[STANDBY] = standby;
+    x.board = boards.primary;
+    x.standby = boards.standby;
+    x.protection = Protection::Complete;
 }
 
-// The rows of all processes, of which there are 16 at most.
-fn seat(
-    rows: &mut [[u32; ROW]; PROCESSES],
-    primary: &[u32; PROCESSES],
-    standby: &[u32; PROCESSES],
-    processes: usize,
-)
-    ensures { Seats rows.old primary.now standby.now processes rows.new }
+// All processes, of which there are 16 at most.
+fn seat(processes: &mut [Process; PROCESSES], placements: &[Placement; PROCESSES], count: usize)
+    ensures { Seats processes.old placements.now count processes.new }
 {
-    let most = least(processes, PROCESSES);
-    let mut p = 0;
-    while p < most {
-        seat_row(&mut rows[p], primary[p], standby[p]);
-        p += 1;
+    let most = least(count, PROCESSES);
+    for p in 0..most {
+        seat_one(&mut processes[p], placements[p]);
     }
 }
 
-// The lists as the table gives them, whatever they held, and the entries of all queues, which are handed back.
+// The store as the table gives it, whatever it held, and the entries of all queues, which are handed back.
 pub fn start(
-    rows: &mut [[u32; ROW]; PROCESSES],
-    mails: &mut [[u64; LOG]; PROCESSES],
-    logs: &mut [[u64; LOG]; PROCESSES],
-    heads: &mut [[u32; HEAD]; PROCESSES],
-    queues: &mut [[u32; QUEUE_ROW]; BOARDS],
-    totals: &mut [u32; CHANNELS],
-    primary: &[u32; PROCESSES],
-    standby: &[u32; PROCESSES],
+    store: &mut Store,
+    placements: &[Placement; PROCESSES],
     processes: usize,
 ) -> [Entry; ENTRIES]
-    ensures { Starts primary.now standby.now processes
-        (store_of rows.new mails.new logs.new heads.new queues.new totals.new) result }
+    ensures { Starts placements.now processes store.new result }
 {
-    *rows = [[0u32; ROW]; PROCESSES];
-    *mails = [[0u64; LOG]; PROCESSES];
-    *logs = [[0u64; LOG]; PROCESSES];
-    *heads = [[0u32; HEAD]; PROCESSES];
-    *queues = [[0u32; QUEUE_ROW]; BOARDS];
-    *totals = [0u32; CHANNELS];
-    seat(rows, primary, standby, processes);
+    *store = EMPTY;
+    seat(&mut store.processes, placements, processes);
     let none = blank();
     [none; ENTRIES]
 }

@@ -25,10 +25,8 @@ pub fn put_answers(out: &mut [u8], at: usize, records: usize, answers: &[u8]) ->
     ensures { Put (answer_lines 1 (read_answers records answers.now)) out.old at result out.new }
 {
     let mut to = at;
-    let mut i = 0;
-    while i < records {
+    for i in 0..records {
         to = put_answer(out, to, i, answers);
-        i += 1;
     }
     to
 }
@@ -72,10 +70,8 @@ pub fn put_processes(out: &mut [u8], at: usize, processes: usize, report: &[u8])
     ensures { Put (process_lines 0 processes report.now) out.old at result out.new }
 {
     let mut to = at;
-    let mut p = 0;
-    while p < processes {
+    for p in 0..processes {
         to = put_process(out, to, p, report);
-        p += 1;
     }
     to
 }

@@ -24,10 +24,8 @@ pub fn put_text(out: &mut [u8], at: usize, text: &[u8], from: usize) -> usize
     ensures { Put (drop from text.now) out.old at result out.new }
 {
     let mut to = at;
-    let mut i = from;
-    while i < text.len() {
+    for i in from..text.len() {
         to = put(out, to, text[i]);
-        i += 1;
     }
     to
 }

@@ -1,50 +1,64 @@
--- A table's plan as the moves are lent it, and that it is the table's: a row of eight numbers for each process, and one of three for each
--- channel.
-use Rattle.std.specs.Prelude.{◌≡◌, List, ℕ, ◌+◌, ◌*◌, ◌<◌, length, get_or}
+-- A table's plan as the moves are lent it, and that it is the table's: a program for each process, and a wire for each channel.
+use Rattle.std.specs.Prelude.{◌≡◌, List, [], ℕ, ◌<◌, length, get_or, slice_index, slice_index_or}
 use Rattle.records.specs.Fetch.{fetched, instruction_of}
 use Rattle.rules.specs.Table.{Table, SET, code_of, limit_of, channel_at, inputs, port_of, channel_on}
 use Rattle.plan.specs.declared.Counts.{Counts}
+use Rattle.plan.specs.declared.Program.{Program}
+use Rattle.plan.specs.declared.Wire.{Wire}
+use Rattle.plan.specs.declared.Placement.{Placement}
+use Rattle.plan.specs.declared.Plan as code
 
--- ---- the cells
+-- ---- by name
+
+-- of a process and of a channel that the plan doesn't have, and the boards of such a process
+abbrev pub no_program : Program
+no_program = record { start = 0; length = 0; limit = 0; arity = 0; inputs = [] }
+
+abbrev pub no_wire : Wire
+no_wire = record { sender = 0; reader = 0; port = 0 }
+
+abbrev pub no_placement : Placement
+no_placement = record { primary = 0; standby = 0 }
 
 -- of process p: where its program begins in the table's bytes, how many instructions it has, its limit (W-207), how many channels it reads, and
 -- the channel at a port
-abbrev pub start_in : List ℕ → ℕ → ℕ
-start_in programs p = get_or programs (8 * p + 0) 0
+abbrev pub start_in : List Program → ℕ → ℕ
+start_in programs p = (slice_index_or programs p no_program).start
 
-abbrev pub length_in : List ℕ → ℕ → ℕ
-length_in programs p = get_or programs (8 * p + 1) 0
+abbrev pub length_in : List Program → ℕ → ℕ
+length_in programs p = (slice_index_or programs p no_program).length
 
-abbrev pub limit_in : List ℕ → ℕ → ℕ
-limit_in programs p = get_or programs (8 * p + 2) 0
+abbrev pub limit_in : List Program → ℕ → ℕ
+limit_in programs p = (slice_index_or programs p no_program).limit
 
-abbrev pub arity_in : List ℕ → ℕ → ℕ
-arity_in programs p = get_or programs (8 * p + 3) 0
+abbrev pub arity_in : List Program → ℕ → ℕ
+arity_in programs p = (slice_index_or programs p no_program).arity
 
-abbrev pub input_in : List ℕ → ℕ → ℕ → ℕ
-input_in programs p port = get_or programs (8 * p + (4 + port)) 0
+abbrev pub input_in : List Program → ℕ → ℕ → ℕ
+input_in programs p port = slice_index (slice_index_or programs p no_program).inputs port
 
 -- of channel k: its ends, and its port within its reader
-abbrev pub sender_in : List ℕ → ℕ → ℕ
-sender_in wires k = get_or wires (3 * k + 0) 0
+abbrev pub sender_in : List Wire → ℕ → ℕ
+sender_in wires k = (slice_index_or wires k no_wire).sender
 
-abbrev pub reader_in : List ℕ → ℕ → ℕ
-reader_in wires k = get_or wires (3 * k + 1) 0
+abbrev pub reader_in : List Wire → ℕ → ℕ
+reader_in wires k = (slice_index_or wires k no_wire).reader
 
-abbrev pub port_in : List ℕ → ℕ → ℕ
-port_in wires k = get_or wires (3 * k + 2) 0
+abbrev pub port_in : List Wire → ℕ → ℕ
+port_in wires k = (slice_index_or wires k no_wire).port
 
 -- ---- the plan
 
--- The table's bytes, how many boards, processes and channels it has, and the two lists of rows.
+-- The table's bytes, how many boards, processes and channels it has, and the programs and wires.
 pub record Plan : Type 0 where
   pub table : List ℕ
   pub counts : Counts
-  pub programs : List ℕ
-  pub wires : List ℕ
+  pub programs : List Program
+  pub wires : List Wire
 
-abbrev pub plan_of : List ℕ → Counts → List ℕ → List ℕ → Plan
-plan_of table counts programs wires = record { table = table; counts = counts; programs = programs; wires = wires }
+-- the bytes of a table, and the plan as the code has it
+abbrev pub plan_of : List ℕ → code.Plan → Plan
+plan_of table plan = record { table = table; counts = plan.counts; programs = plan.programs; wires = plan.wires }
 
 -- it says what table t says
 pub record Planned (t : Table) (l : Plan) : Type 0 where

@@ -1,70 +1,120 @@
-// A stretch of a schedule's records: `play`, on copies of its own of the small lists.
+// The loop over a schedule's records: each is judged, its move made, and its answer written. The loop alone holds the entries of all queues, one
+// flat array: it hands a carry the oldest entry of a board, and makes the entry by which a step, a sync or a resync ends. A record's move is read
+// one record ahead: which move comes is what nobody can foretell, and so the processor knows it sooner.
 ghost use Rattle.plan.specs.Plan.{plan_of};
-ghost use Rattle.state.specs.Store.{store_of};
 ghost use Rattle.stretch.specs.Plays.{sheets_of, Roomy, Plays};
 
-use crate::rounds::rounds;
-use backup::limits::LOG;
-use backup::place::HEAD;
-use plan::{BOARDS, CHANNELS, Counts, PROCESSES, PROGRAMS, WIRES};
-use process::row::ROW;
-use state::queue::QUEUE_ROW;
-use stretch::stretch::Stretch;
+use bus::inject::inject;
+use bus::oldest::oldest_of;
+use bus::origin::{carried, fed};
+use bus::transmit::transmit;
+use command::due::due_of;
+use numbers::answers::Reason;
+use plan::Plan;
+use records::schedule::{UNDO, command_at, command_of, move_at};
+use rejoin::rebackup::transfer_entry;
+use state::moved::refusal;
+use state::store::Store;
+use step::entry::{checkpoint_of, place_of, sync_entry, word_entry};
+use step::issue::issue;
+use step::step::step;
+use stretch::answer::{write, write_from};
+use stretch::mend::mend;
+use stretch::stretch::{Stretch, last};
 
-// A stretch of a schedule's records, on lists that hold any cabinet that commands reach. It ends before a move 8, and with the schedule. What is
+// A stretch of a schedule's records, on a store that holds any cabinet that commands reach. It ends before a move 8, and with the schedule. What is
 // returned is what is left of the stretch: the next record's number, and the entries then. The buffers have room for all records before `to`.
-// It works on copies of its own of all lists but the two that hold words, some 3 KB once a stretch: the compiler then knows where they stand, and
-// keeps no pointer to them in the loop.
+// The buffers stay three parameters: of one struct that lends them each call on the way would have to promise that its references are still the same,
+// and each record would fetch them from it anew.
 pub fn play(
     table: &[u8],
     schedule: &[u8],
-    counts: Counts,
-    programs: &[u32; PROGRAMS],
-    wires: &[u32; WIRES],
-    rows: &mut [[u32; ROW]; PROCESSES],
-    mails: &mut [[u64; LOG]; PROCESSES],
-    logs: &mut [[u64; LOG]; PROCESSES],
-    heads: &mut [[u32; HEAD]; PROCESSES],
-    queues: &mut [[u32; QUEUE_ROW]; BOARDS],
-    totals: &mut [u32; CHANNELS],
+    plan: &Plan,
+    store: &mut Store,
     answers: &mut [u8],
     reasons: &mut [u8],
     origins: &mut [u8],
     stretch: Stretch,
 ) -> Stretch
     requires { Roomy stretch.to (sheets_of answers.old reasons.old origins.old) }
-    ensures { Plays (plan_of table.now counts programs.now wires.now) schedule.now stretch
-        (store_of rows.old mails.old logs.old heads.old queues.old totals.old)
-        (sheets_of answers.old reasons.old origins.old) result
-        (store_of rows.new mails.new logs.new heads.new queues.new totals.new)
+    ensures { Plays (plan_of table.now plan.now) schedule.now stretch store.old
+        (sheets_of answers.old reasons.old origins.old) result store.new
         (sheets_of answers.new reasons.new origins.new) }
 {
-    let own_programs = *programs;
-    let own_wires = *wires;
-    let mut own_rows = *rows;
-    let mut own_heads = *heads;
-    let mut own_queues = *queues;
-    let mut own_totals = *totals;
-    let r = rounds(
-        table,
-        schedule,
-        counts,
-        &own_programs,
-        &own_wires,
-        &mut own_rows,
-        mails,
-        logs,
-        &mut own_heads,
-        &mut own_queues,
-        &mut own_totals,
-        answers,
-        reasons,
-        origins,
-        stretch,
-    );
-    *rows = own_rows;
-    *heads = own_heads;
-    *queues = own_queues;
-    *totals = own_totals;
-    r
+    let to = stretch.to;
+    let end = last(schedule, to);
+    let mut entries = stretch.entries;
+    let mut i = stretch.from;
+    let mut ahead = command_at(schedule, i).mv;
+    // A while: it ends early before a move 8, and the number at which it ended is handed back.
+    while i < end {
+        let k = i;
+        i += 1;
+        let c = command_of(schedule, k, ahead);
+        ahead = move_at(schedule, i);
+        let d = due_of(plan.counts, c);
+        let mv = d.mv;
+        let a = d.a;
+        let r = if let Some(reason) = d.refused {
+            if mv == UNDO {
+                return Stretch {
+                    from: k,
+                    to: to,
+                    entries: entries,
+                };
+            }
+            refusal(reason, a)
+        } else {
+            match mv {
+                1 => {
+                    let place = place_of(store, a);
+                    let m = step(table, plan, store, a);
+                    if let Some(at) = m.at {
+                        entries[at] = word_entry(m.answer, place);
+                    }
+                    // The most frequent answer is written by itself: its bytes are then known beforehand.
+                    if m.answer.reason == Reason::Calculated {
+                        write(answers, reasons, origins, k, m.answer);
+                        continue;
+                    }
+                    write(answers, reasons, origins, k, m.answer);
+                    continue;
+                }
+                2 => {
+                    let checkpoint = checkpoint_of(store, a);
+                    let m = issue(store, a);
+                    if let Some(at) = m.at {
+                        entries[at] = sync_entry(a, checkpoint);
+                    }
+                    m.answer
+                }
+                3 => {
+                    let at = oldest_of(&store.queues, a);
+                    let e = entries[at];
+                    let r = transmit(plan, store, a, e);
+                    let o = carried(&plan.wires, r.reason, e);
+                    write_from(answers, reasons, origins, k, r, o);
+                    continue;
+                }
+                4 => {
+                    let r = inject(plan, store, a, d.word);
+                    write_from(answers, reasons, origins, k, r, fed(r.reason));
+                    continue;
+                }
+                _ => {
+                    let m = mend(plan, store, mv, a);
+                    if let Some(at) = m.at {
+                        entries[at] = transfer_entry(a);
+                    }
+                    m.answer
+                }
+            }
+        };
+        write(answers, reasons, origins, k, r);
+    }
+    Stretch {
+        from: i,
+        to: to,
+        entries: entries,
+    }
 }

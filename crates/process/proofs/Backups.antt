@@ -1,146 +1,179 @@
 -- A call of the backup, and a delivery, as changes of one process.
-use mathlib.Core.Path.{◌≡◌, refl, ap, sym, ◌∙◌}
-use mathlib.Core.Bool.{Bool, true, false, cond}
+use mathlib.Core.Path.{◌≡◌, refl, ap, sym, ◌∙◌, subst}
+use mathlib.Core.Bool.{true, false, cond}
 use mathlib.Core.Option.{Option, none, some}
 use mathlib.Core.List.{List, [], ◌∷◌, ◌++◌}
 use Prim.Native.Nat.{ℕ, ◌+◌, ◌%◌, ◌≤◌, ◌<◌, ◌^◌}
+use Rattle.std.proofs.Common.{Result}
 use native.Mathlib.Omega.{arith}
 use native.Mathlib.Numerals.{add-one}
-use lib.Dec.{eqb}
-use lib.ListN.{set, length-set}
-use borrow.Author.Tests.{eq-eqb, ne_eqb}
 use Rattle.backup.specs.Limits.{log_most}
 use Rattle.backup.specs.Replica.{Replica, Reply, Checkpoint, arrive, count, sync}
-use Rattle.backup.specs.declared.place.Checkpoint as code
+use Rattle.backup.specs.declared.place.Checkpoint as landing
+use Rattle.backup.specs.declared.place.Head.{Head}
 use Rattle.backup.specs.declared.place.Landed.{Landed}
+use Rattle.numbers.specs.declared.backup.BackupRefusal.{BackupRefusal}
 use Rattle.backup.specs.Report.{total_dropped, sync_report}
 use Rattle.backup.proofs.ReportLaws.{total_dropped_small}
 use Rattle.backup.specs.Place.{view_in, Called, checkpoint_of, report_of, Reports}
 use Rattle.rules.specs.Table.{port_of}
 use Rattle.rules.specs.Machine.{delivered}
 use Rattle.rules.specs.Cabinet.{Process, Standby}
-use Rattle.rules.specs.Moves.{with_standby, on_replica, on_backup, receive, counts, keeps}
-use Rattle.process.specs.Row.{flag_in, unread_in, oldest_in, machine_of, standby_of, process_of, mails_in}
+use Rattle.rules.specs.Moves.{with_standby, on_replica, on_backup, receive, counts, keeps, dropped_from}
+use Rattle.process.specs.Row.{backed, recorded, standby_in, machine_of, standby_of, process_of, mails_in}
+use Rattle.process.specs.declared.process.Process as code
+use Rattle.process.specs.declared.process.Protection.{Protection}
+use Rattle.process.specs.declared.process.Protection.TheVariants.{Unprotected, Complete, Coming}
 use Rattle.process.specs.Mailbox.{Appended}
-use Rattle.process.specs.Change.{BackupBecame, Backed, Drops, Received}
+use Rattle.process.specs.Change.{Changes, Backed, Drops, Received}
 use Rattle.facts.specs.Tests.{no_way}
-use Rattle.process.proofs.Rows.{stored, spelled, seated_cell, waits_cell, protected-is}
+use Rattle.process.proofs.Processes.{protected-is}
 
-module _ (row log head : List ℕ) (call : Replica → Reply) where
+-- a process with another backup
+abbrev pub with_backup : code.Process → List ℕ → Head → code.Process
+with_backup x log head = record x { log = log; head = head }
+
+module _ (x : code.Process) (call : Replica → Reply) where
   -- no record: nothing is called
-  pub saved-none : flag_in row ≡ 0 → Backed row log head log head on_replica call
+  pub saved-none : recorded x.protection ≡ false → Backed x x on_replica call
   unfolding standby_of
-  saved-none z = record { standby-is = λ s. rw (eq-eqb (flag_in row) 0 z); sound_again = λ s. s }
+  saved-none e = record { backup-alone = refl; standby-is = λ s. rw e; sound_again = λ s. s }
 
   -- the call's promise
-  pub saved_call : (log' head' : List ℕ) (number : ℕ) → (flag_in row ≡ 0 → ⊥) → Called log head log' head' number call
-      → Backed row log head log' head' on_replica call
+  pub saved_call : (log : List ℕ) (head : Head) (number : ℕ) → recorded x.protection ≡ true → Called x.log x.head log head number call
+      → Backed x (with_backup x log head) on_replica call
   unfolding standby_of
-  saved_call log' head' number n c = record {
-    standby-is = λ s. rw (ne_eqb (flag_in row) 0 n, c.value_is s);
-    sound_again = c.sound_again;
-  }
+  saved_call log head number e c = record { backup-alone = refl; standby-is = λ s. rw (e, c.value_is s); sound_again = c.sound_again }
 
   -- the same on a backup: with none, also while one is being made, nothing is called
-  pub backed_none : (flag_in row ≡ 1 → ⊥) → Backed row log head log head on_backup call
+  pub backed_none : backed x.protection ≡ false → Backed x x on_backup call
   unfolding standby_of
-  backed_none n = record { standby-is = λ s. go (eqb (flag_in row) 0) _ (ne_eqb (flag_in row) 1 n); sound_again = λ s. s }
+  backed_none e = record { backup-alone = refl; standby-is = λ s. go x.protection (standby_in x) e e; sound_again = λ s. s }
     where
-      go : (b : Bool) (x : Standby) → x.complete ≡ false → cond b none (some x) ≡ on_backup call (cond b none (some x))
-      go true x h = refl
-      go false x h = rw h
+      go : (q : Protection) (s : Standby) → backed q ≡ false → s.complete ≡ false → cond (recorded q) (some s) none ≡ on_backup call (cond (recorded q) (some s) none)
+      go Unprotected s e h = refl
+      go Complete s e h = absurd (no_way (cc))
+      go Coming s e h = rw h
 
-  pub backed_call : (log' head' : List ℕ) (number : ℕ) → flag_in row ≡ 1 → Called log head log' head' number call
-      → Backed row log head log' head' on_backup call
+  pub backed_call : (log : List ℕ) (head : Head) (number : ℕ) → backed x.protection ≡ true → Called x.log x.head log head number call
+      → Backed x (with_backup x log head) on_backup call
   unfolding standby_of
-  backed_call log' head' number e c = record {
-    standby-is = λ s. rw (e, c.value_is s);
-    sound_again = c.sound_again;
-  }
+  backed_call log head number e c = record { backup-alone = refl; standby-is = λ s. rw (c.value_is s) (go x.protection e); sound_again = c.sound_again }
+    where
+      replica : Replica
+      replica = view_in x.log x.head
+
+      at : Replica → Protection → Standby
+      at r q = record { board = x.standby; replica = r; complete = backed q }
+
+      go : (q : Protection) → backed q ≡ true
+          → cond (recorded q) (some (at (call replica).replica q)) none ≡ on_backup call (cond (recorded q) (some (at replica q)) none)
+      go Unprotected e = absurd (no_way (cc))
+      go Complete e = refl
+      go Coming e = absurd (no_way (cc))
 
 -- ---- calls that change the backup alone
 
-backed_became : (row log head log' head' : List ℕ) (call : Replica → Reply) → Backed row log head log' head' on_backup call
-    → BackupBecame row log head log' head' (λ x. with_standby (on_backup call x.standby) x)
-unfolding process_of
-backed_became row log head log' head' call b mail k = record {
-  process-is = ap (λ (s : Option Standby). with_standby s (process_of row mail log head)) (b.standby-is k.sound);
-  kept_again = record {
-    row_length_lem = k.row_length_lem;
-    mail-length = k.mail-length;
-    unread = k.unread;
-    oldest = k.oldest;
-    words = k.words;
-    flag = k.flag;
-    sound = b.sound_again k.sound;
-  };
-  seated_again = λ x y s. s;
-  waits_again = refl;
-}
+module _ (x : code.Process) (log : List ℕ) (head : Head) where
+  backed_became : (call : Replica → Reply) → Backed x (with_backup x log head) on_backup call
+      → Changes x (with_backup x log head) (λ y. with_standby (on_backup call y.standby) y)
+  unfolding process_of
+  backed_became call b k = record {
+    process-is = ap (λ (s : Option Standby). with_standby s (process_of x)) (b.standby-is k.sound);
+    kept_again = record {
+      registers-length = k.registers-length;
+      taken-length = k.taken-length;
+      mail-length = k.mail-length;
+      unread = k.unread;
+      oldest = k.oldest;
+      events = k.events;
+      taken = k.taken;
+      instructions = k.instructions;
+      sound = b.sound_again k.sound;
+    };
+    seated_again = λ a b s. record { runs_on = s.runs_on; other-is = s.other-is };
+    waits_again = refl;
+  }
 
-pub counts-became : (row log head log' head' : List ℕ) → Backed row log head log' head' on_backup count → BackupBecame row log head log' head' counts
-unfolding counts
-counts-became row log head log' head' = backed_became row log head log' head' count
+  pub counts-became : Backed x (with_backup x log head) on_backup count → Changes x (with_backup x log head) counts
+  unfolding counts
+  counts-became = backed_became count
 
-pub keeps-became : (row log head log' head' : List ℕ) (c : Checkpoint) → Backed row log head log' head' on_backup (λ v. sync v c)
-    → BackupBecame row log head log' head' (keeps c)
-unfolding keeps
-keeps-became row log head log' head' c = backed_became row log head log' head' (λ v. sync v c)
+  pub keeps-became : (c : Checkpoint) → Backed x (with_backup x log head) on_backup (λ v. sync v c) → Changes x (with_backup x log head) (keeps c)
+  unfolding keeps
+  keeps-became c = backed_became (λ v. sync v c)
 
 -- ---- what a landing checkpoint drops
 
-module _ (row log head : List ℕ) where
-  pub drops_none : (c : Checkpoint) → (flag_in row ≡ 1 → ⊥) → Drops row log head c 0
-  drops_none c n mail k h = absurd (no_way (let a = protected-is row mail log head ∙ ne_eqb (flag_in row) 1 n in cc))
+module _ (x : code.Process) where
+  pub drops_none : (c : Checkpoint) → backed x.protection ≡ false → Drops x c 0
+  drops_none c e k h = absurd (no_way (let a = protected-is x in cc))
 
   -- at most what a log holds, so that 32 bits are enough
-  pub drops_so : (c : code.Checkpoint) (l : Landed) (n : ℕ) → flag_in row ≡ 1 → Reports log head c l → n ≡ total_dropped (report_of l) % 2 ^ 32
-      → Drops row log head (checkpoint_of c) n
+  pub drops_so : (c : landing.Checkpoint) (l : Result Landed BackupRefusal) (n : ℕ) → backed x.protection ≡ true → Reports x.log x.head c l → n ≡ total_dropped (report_of l) % 2 ^ 32
+      → Drops x (checkpoint_of c) n
   unfolding process_of standby_of
-  drops_so c l n y r e mail k h =
-      let a : total_dropped (report_of l) ≡ total_dropped (sync_report (view_in log head) (checkpoint_of c)) = ap total_dropped (r.report-is k.sound) in
-      let b = total_dropped_small (view_in log head) (checkpoint_of c) in
-      rw y (omega arith)
+  drops_so c l n y r e k h = r-is ∙ sym (go x.protection (standby_in x) y)
+    where
+      d : Checkpoint
+      d = checkpoint_of c
+
+      go : (q : Protection) (s : Standby) → backed q ≡ true → dropped_from d (cond (recorded q) (some s) none) ≡ total_dropped (sync_report s.replica d)
+      go Unprotected s e = absurd (no_way (cc))
+      go Complete s e = refl
+      go Coming s e = absurd (no_way (cc))
+
+      r-is : n ≡ total_dropped (sync_report (view_in x.log x.head) d)
+      r-is =
+          let a : total_dropped (report_of l) ≡ total_dropped (sync_report (view_in x.log x.head) d) = ap total_dropped (r.report-is k.sound) in
+          let b = total_dropped_small (view_in x.log x.head) d in
+          omega arith
 
 -- ---- a delivery
 
-module _ (row mail log head : List ℕ) (port channel word : ℕ) where
-  pub received_none : log_most ≤ unread_in row → Received row mail log head row mail log head port channel word
-  received_none h = record { untouched = λ _. ((refl, refl), (refl, refl)); became = λ k l. absurd (omega arith) }
+module _ (x : code.Process) (port channel word : ℕ) where
+  pub received_none : log_most ≤ x.unread → Received x x port channel word
+  received_none h = record { untouched = λ _. refl; became = λ k l. absurd (omega arith) }
 
-  pub received_so : (mail' log' head' : List ℕ) → unread_in row < log_most → Backed row log head log' head' on_replica (λ v. arrive v port word)
-      → Appended mail (oldest_in row) (unread_in row) channel word mail' → Received row mail log head (set row 14 (unread_in row + 1)) mail' log' head' port channel word
+  saved_and_appended : (saved : code.Process) (mail : List ℕ) → x.unread < log_most → Backed x saved on_replica (λ v. arrive v port word)
+      → Appended x.mail x.oldest x.unread channel word mail
+      → Received x (record x { unread = x.unread + 1; mail = mail; log = saved.log; head = saved.head }) port channel word
   unfolding process_of machine_of standby_of receive delivered
-  received_so mail' log' head' h b a =
-      let n : ℕ = unread_in row in
-      record {
-        untouched = λ g. absurd (omega arith);
-        became = λ k l t p e.
-            let z = k.row_length_lem in
-            let m : mails_in (oldest_in row) (n + 1) mail' ≡ mails_in (oldest_in row) n mail ++ (record { channel = channel; word = word } ∷ []) =
-            rw add-one (a.more k.mail-length h) in
-            let s : standby_of row log' head' ≡ on_replica (λ r. arrive r (port_of t p channel) word) (standby_of row log head) =
-            b.standby-is k.sound ∙ ap (λ (q : ℕ). on_replica (λ r. arrive r q word) (standby_of row log head)) (sym e) in
-            let x : Process = process_of row mail log head in
-            record {
-              process-is = spelled row (λ (r : List ℕ). process_of (set r 14 (n + 1)) mail' log' head') z
-                  ∙ (λ i. record {
-                    machine = record { registers = x.machine.registers; pc = x.machine.pc; mailbox = m i };
-                    board = x.board;
-                    suppress = x.suppress;
-                    since = x.since;
-                    standby = s i;
-                  });
-              kept_again = record {
-                row_length_lem = length-set row 14 (n + 1) ∙ z;
-                mail-length = a.same_length ∙ k.mail-length;
-                unread = rw (spelled row (λ (r : List ℕ). unread_in (set r 14 (n + 1))) z) (omega arith);
-                oldest = rw (spelled row (λ (r : List ℕ). oldest_in (set r 14 (n + 1))) z) k.oldest;
-                words = (stored {l = row} 14 (n + 1) (omega arith) (record { word = k.words })).word;
-                flag = rw (spelled row (λ (r : List ℕ). flag_in (set r 14 (n + 1))) z) k.flag;
-                sound = b.sound_again k.sound;
-              };
-              seated_again = seated_cell 14 (n + 1) (λ e. omega arith) (λ e. omega arith);
-              waits_again = waits_cell row 14 (n + 1) (λ e. omega arith);
-            };
-      }
+  saved_and_appended saved mail h b a = record {
+    untouched = λ g. absurd (omega arith);
+    became = λ k l t p e.
+        let m : mails_in x.oldest (x.unread + 1) mail ≡ mails_in x.oldest x.unread x.mail ++ (record { channel = channel; word = word } ∷ []) =
+        rw add-one (a.more k.mail-length h) in
+        let s : standby_of (with_backup x saved.log saved.head) ≡ on_replica (λ r. arrive r (port_of t p channel) word) (standby_of x) =
+        (let y = b.standby-is k.sound in rw b.backup-alone at y) ∙ ap (λ (q : ℕ). on_replica (λ r. arrive r q word) (standby_of x)) (sym e) in
+        let y : Process = process_of x in
+        record {
+          process-is = λ i. record {
+            machine = record { registers = x.registers; pc = x.pc; mailbox = m i };
+            board = x.board;
+            suppress = x.suppress;
+            since = y.since;
+            standby = s i;
+          };
+          kept_again = record {
+            registers-length = k.registers-length;
+            taken-length = k.taken-length;
+            mail-length = a.same_length ∙ k.mail-length;
+            unread = omega arith;
+            oldest = k.oldest;
+            events = k.events;
+            taken = k.taken;
+            instructions = k.instructions;
+            sound = b.sound_again k.sound;
+          };
+          seated_again = λ a b s. record { runs_on = s.runs_on; other-is = s.other-is };
+          waits_again = refl;
+        };
+  }
+
+  -- the word is saved, then appended
+  pub received_so : (saved : code.Process) (mail : List ℕ) → x.unread < log_most → Backed x saved on_replica (λ v. arrive v port word)
+      → Appended saved.mail saved.oldest x.unread channel word mail → Received x (record saved { unread = x.unread + 1; mail = mail }) port channel word
+  received_so saved mail h b =
+      subst (λ (y : code.Process). Appended y.mail y.oldest x.unread channel word mail → Received x (record y { unread = x.unread + 1; mail = mail }) port channel word)
+      (sym b.backup-alone) (saved_and_appended saved mail h b)

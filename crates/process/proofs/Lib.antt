@@ -1,6 +1,6 @@
--- What the calls on one process do to the process that their arrays stand for.
+-- What the calls on one process make of the process that it stands for.
 pub mod Mailboxes
-pub mod Rows
+pub mod Processes
 pub mod Backups
 pub mod Readdressing
 pub mod Promoting

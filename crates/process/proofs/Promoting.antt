@@ -1,37 +1,26 @@
 -- A promotion, and a crash, as changes of one process.
 use mathlib.Core.Path.{◌≡◌, refl, ap, sym, ◌∙◌}
-use mathlib.Core.Bool.{true, cond}
+use mathlib.Core.Bool.{Bool, true, false, cond}
 use mathlib.Core.Option.{none}
 use mathlib.Core.List.{List, map}
-use Prim.Native.Nat.{ℕ, ◌%◌, ◌<◌, ◌^◌}
+use Prim.Native.Nat.{ℕ, ◌%◌, ◌<◌}
 use native.Mathlib.Omega.{arith}
 use lib.Dec.{ltb}
-use lib.ListN.{length, get_or, length-set}
+use lib.ListN.{get_or}
 use borrow.Author.Tests.{eq-eqb, ne_eqb, ltb-true}
-use Rattle.facts.specs.Indexing.{map_agree}
+use Rattle.facts.specs.Indexing.{map_agree, get_or_replicate_any}
 use Rattle.backup.specs.Limits.{log_most, ports}
 use Rattle.backup.specs.Replica.{Message, FailOver, on_ports}
-use Rattle.backup.specs.Place.{promotion_in, handed_over, head_len}
+use Rattle.backup.specs.Place.{promotion_in, handed_over}
 use Rattle.backup.specs.PlaceLaws.{fail_over_in_lem, promotion_few, promotion_ports}
-use Rattle.backup.specs.declared.place.Promotion.{Promotion}
 use Rattle.rules.specs.Table.{Table, channel_on}
 use Rattle.rules.specs.Machine.{Mail}
 use Rattle.rules.specs.Cabinet.{Process, none_since}
 use Rattle.rules.specs.Moves.{recovered, promoted, unprotected, after_crash}
-use Rattle.process.specs.Row.{board_in, flag_in, standby_board_in, unread_in, waits_in, oldest_in, machine_of, standby_of, process_of, Kept}
-use Rattle.process.specs.Change.{RowBecame}
-use Rattle.process.specs.Promotion.{readdressed, Readdressed, restored_in, Restored, standby_in, Routes, promoted_by, BecameAtCrash, Promoted, Crashed}
-use Rattle.process.proofs.Rows.{Words, stored, cleared, spelled}
-
--- ---- the row
-
-pub restored_words : (row : List ℕ) (p : Promotion) → p.pc < 2 ^ 32 → p.r0 < 2 ^ 32 → p.r1 < 2 ^ 32 → p.r2 < 2 ^ 32 → p.r3 < 2 ^ 32
-    → p.sent < 2 ^ 32 → p.len < 2 ^ 32 → Words row → Words (restored_in row p)
-unfolding restored_in
-restored_words row p a b c d e f g h =
-    stored 14 p.len g (cleared 17 (cleared 16 (cleared 12 (cleared 15 (cleared 11 (cleared 10 (cleared 9 (cleared 8 (cleared 7 (stored 6 p.sent f (stored 5 p.r3 e
-    (stored 4 p.r2 d (stored 3 p.r1 c (stored 2 p.r0 b (stored 1 p.pc a (stored 13 (board_in row) (h.word 0)
-    (stored 0 (standby_board_in row) (h.word 13) h)))))))))))))))))
+use Rattle.process.specs.Row.{recorded, standby_in, machine_of, standby_of, process_of, Kept}
+use Rattle.process.specs.declared.process.Process as code
+use Rattle.process.specs.Change.{Changes}
+use Rattle.process.specs.Promotion.{readdressed, Readdressed, restored_in, Routes, promoted_by, BecameAtCrash, Promoted, Crashed}
 
 -- ---- the mailbox
 
@@ -48,88 +37,80 @@ routed t p channels r =
 
 -- ---- the process
 
-module _ (row mail log head channels : List ℕ) where
-  pub promoted-none : log_most < head_len head → Promoted row mail log head row mail channels
-  promoted-none h k t p r = absurd (let s = promotion_few log head k.sound in omega arith)
+module _ (x : code.Process) (channels : List ℕ) where
+  pub promoted-none : log_most < x.head.len → Promoted x x channels
+  promoted-none h k t p r = absurd (let s = promotion_few x.log x.head k.sound in omega arith)
 
-  pub promoted_so : (mail' row' : List ℕ) → Readdressed mail log (head_len head) channels mail' → Restored row (promotion_in head) row'
-      → Promoted row mail log head row' mail' channels
-  unfolding process_of machine_of standby_of promoted recovered restored_in
-  promoted_so mail' row' m e k t p r =
-      let z = k.row_length_lem in
-      let v : FailOver = handed_over log (promotion_in head) in
+  -- its mailbox made of the log, and the rest of it restored
+  pub promoted_so : (mail : List ℕ) → Readdressed x.mail x.log x.head.len channels mail
+      → Promoted x (restored_in (record x { mail = mail }) (promotion_in x.head)) channels
+  unfolding process_of machine_of standby_of promoted recovered
+  promoted_so mail m k t p r =
+      let v : FailOver = handed_over x.log (promotion_in x.head) in
       let now : List Mail → Process = λ mailbox. record {
         machine = record { registers = v.registers; pc = v.pc; mailbox = mailbox };
-        board = standby_board_in row;
+        board = x.standby;
         suppress = v.sent;
         since = none_since;
         standby = none;
       } in
       record {
-        process-is =
-            rw (e.row_is, fail_over_in_lem log head k.sound)
-            (spelled row (λ (r : List ℕ). process_of (restored_in r (promotion_in head)) mail' log head) z
-            ∙ ap now (m.mails k.mail-length ∙ routed t p channels r v.log (promotion_ports log head k.sound)));
+        process-is = rw (fail_over_in_lem x.log x.head k.sound) (ap now (m.mails k.mail-length ∙ routed t p channels r v.log (promotion_ports x.log x.head k.sound)));
         kept_again = record {
-          row_length_lem = ap length e.row_is ∙ simp length-set z;
+          registers-length = refl;
+          taken-length = refl;
           mail-length = m.same_length ∙ k.mail-length;
-          unread = rw (e.row_is, spelled row (λ (r : List ℕ). unread_in (restored_in r (promotion_in head))) z) (promotion_few log head k.sound);
-          oldest = rw (e.row_is, spelled row (λ (r : List ℕ). oldest_in (restored_in r (promotion_in head))) z) (omega arith);
-          words = e.words k.words;
-          flag = rw (e.row_is, spelled row (λ (r : List ℕ). flag_in (restored_in r (promotion_in head))) z) (omega arith);
+          unread = promotion_few x.log x.head k.sound;
+          oldest = omega arith;
+          events = omega arith;
+          taken = λ i. rw (get_or_replicate_any {A = ℕ} ports i 0) (omega arith);
+          instructions = omega arith;
           sound = k.sound;
         };
-        seated_again = λ x y s.
-            let here : board_in row' ≡ standby_board_in row = ap (λ (r : List ℕ). board_in r) e.row_is ∙ spelled row (λ (r : List ℕ). board_in (restored_in r (promotion_in head))) z in
-            let there : standby_board_in row' ≡ board_in row = ap (λ (r : List ℕ). standby_board_in r) e.row_is ∙ spelled row (λ (r : List ℕ). standby_board_in (restored_in r (promotion_in head))) z in
-            record { runs_on = rw (here, there) s.other-is; other-is = rw (here, there) s.runs_on };
-        waits-is = ap waits_in e.row_is ∙ spelled row (λ (r : List ℕ). waits_in (restored_in r (promotion_in head))) z;
+        seated_again = λ a b s. record { runs_on = s.other-is; other-is = s.runs_on };
+        waits-is = refl;
       }
 
 -- ---- a crash
 
-module _ (row mail log head channels : List ℕ) (b : ℕ) where
+module _ (x : code.Process) (channels : List ℕ) (b : ℕ) where
   -- where the rules make of the process what a change makes of it, the change is the crash
-  so : (row' mail' : List ℕ) (t : Table) (p : ℕ) (change : Process → Process) (waits : ℕ)
-      → (let x : Process = process_of row mail log head in after_crash t b p x x.standby ≡ change x) → cond (promoted_by b row) 0 (waits_in row) ≡ waits
-      → BecameAtCrash row mail log head row' mail' change waits
-      → BecameAtCrash row mail log head row' mail' (λ x. after_crash t b p x x.standby) (cond (promoted_by b row) 0 (waits_in row))
-  so row' mail' t p change waits e f h =
+  so : (x' : code.Process) (t : Table) (p : ℕ) (change : Process → Process) (waits : Bool)
+      → (let y : Process = process_of x in after_crash t b p y y.standby ≡ change y) → cond (promoted_by b x) false x.waits ≡ waits
+      → BecameAtCrash x x' change waits
+      → BecameAtCrash x x' (λ y. after_crash t b p y y.standby) (cond (promoted_by b x) false x.waits)
+  so x' t p change waits e f h =
       record { process-is = h.process-is ∙ sym e; kept_again = h.kept_again; seated_again = h.seated_again; waits-is = h.waits-is ∙ sym f }
 
-  as_it_was : Kept row mail log head → BecameAtCrash row mail log head row mail (λ x. x) (waits_in row)
-  as_it_was k = record { process-is = refl; kept_again = k; seated_again = λ x y s. s; waits-is = refl }
+  as_it_was : Kept x → BecameAtCrash x x (λ y. y) x.waits
+  as_it_was k = record { process-is = refl; kept_again = k; seated_again = λ a b s. s; waits-is = refl }
 
-  -- a process with no backup
-  pub crashed_none : flag_in row ≡ 0 → Crashed row mail log head row mail b channels
+  -- a process with no record
+  pub crashed_none : recorded x.protection ≡ false → Crashed x x b channels
   unfolding process_of standby_of after_crash
-  crashed_none z k t p r = so row mail t p (λ x. x) (waits_in row) (rw (eq-eqb (flag_in row) 0 z)) (rw (eq-eqb (flag_in row) 0 z)) (as_it_was k)
+  crashed_none z k t p r = so x t p (λ y. y) x.waits (rw z) (rw z) (as_it_was k)
 
-  module _ (n : flag_in row ≡ 0 → ⊥) where
+  module _ (n : recorded x.protection ≡ true) where
     -- its board crashed
-    pub crashed_promoted : (row' mail' : List ℕ) → board_in row ≡ b → Promoted row mail log head row' mail' channels
-        → Crashed row mail log head row' mail' b channels
+    pub crashed_promoted : (x' : code.Process) → x.board ≡ b → Promoted x x' channels → Crashed x x' b channels
     unfolding process_of standby_of after_crash
-    crashed_promoted row' mail' e h k t p r =
-        so row' mail' t p (λ x. promoted t p (standby_in row log head)) 0 (rw (ne_eqb (flag_in row) 0 n, eq-eqb b (board_in row) (sym e)))
-        (rw (ne_eqb (flag_in row) 0 n, eq-eqb (board_in row) b e)) (h k t p r)
+    crashed_promoted x' e h k t p r =
+        so x' t p (λ y. promoted t p (standby_in x)) false (rw (n, eq-eqb b x.board (sym e))) (rw (n, eq-eqb x.board b e)) (h k t p r)
 
-    module _ (m : board_in row ≡ b → ⊥) where
-      stays : cond (promoted_by b row) 0 (waits_in row) ≡ waits_in row
-      stays = rw (ne_eqb (flag_in row) 0 n, ne_eqb (board_in row) b m)
+    module _ (m : x.board ≡ b → ⊥) where
+      stays : cond (promoted_by b x) false x.waits ≡ x.waits
+      stays = rw (n, ne_eqb x.board b m)
 
       -- its backup's board crashed
-      pub crashed_unprotected : (row' : List ℕ) → standby_board_in row ≡ b → RowBecame row row' unprotected → Crashed row mail log head row' mail b channels
+      pub crashed_unprotected : (x' : code.Process) → x.standby ≡ b → Changes x x' unprotected → Crashed x x' b channels
       unfolding process_of standby_of after_crash
-      crashed_unprotected row' e h k t p r =
-          let c = h mail log head k in
-          so row' mail t p unprotected (waits_in row)
-          (rw (ne_eqb (flag_in row) 0 n, ne_eqb b (board_in row) (λ z. m (sym z)), eq-eqb b (standby_board_in row) (sym e))) stays
+      crashed_unprotected x' e h k t p r =
+          let c = h k in
+          so x' t p unprotected x.waits (rw (n, ne_eqb b x.board (λ z. m (sym z)), eq-eqb b x.standby (sym e))) stays
           (record { process-is = c.process-is; kept_again = c.kept_again; seated_again = c.seated_again; waits-is = c.waits_again })
 
       -- another board crashed
-      pub crashed_elsewhere : (standby_board_in row ≡ b → ⊥) → Crashed row mail log head row mail b channels
+      pub crashed_elsewhere : (x.standby ≡ b → ⊥) → Crashed x x b channels
       unfolding process_of standby_of after_crash
       crashed_elsewhere e k t p r =
-          so row mail t p (λ x. x) (waits_in row)
-          (rw (ne_eqb (flag_in row) 0 n, ne_eqb b (board_in row) (λ z. m (sym z)), ne_eqb b (standby_board_in row) (λ z. e (sym z)))) stays (as_it_was k)
+          so x t p (λ y. y) x.waits (rw (n, ne_eqb b x.board (λ z. m (sym z)), ne_eqb b x.standby (λ z. e (sym z)))) stays (as_it_was k)

@@ -1,6 +1,6 @@
--- What the calls on one process promise: what they make of it is what the rules make of it, and the lists are kept again. What waits in a
+-- What the calls on one process promise: what they make of it is what the rules make of it, and what is kept of it is kept again. What waits in a
 -- queue is none of their concern.
-use Rattle.std.specs.Prelude.{◌≡◌, true, List, ℕ, ◌≤◌, ◌<◌}
+use Rattle.std.specs.Prelude.{◌≡◌, true, ℕ, ◌≤◌, ◌<◌}
 use Rattle.std.proofs.Math.Option.{Option}
 use Rattle.backup.specs.Limits.{log_most}
 use Rattle.backup.specs.Replica.{Replica, Reply, Checkpoint}
@@ -8,37 +8,59 @@ use Rattle.backup.specs.Place.{Sound}
 use Rattle.rules.specs.Table.{Table, port_of}
 use Rattle.rules.specs.Cabinet.{Process, Standby, protected}
 use Rattle.rules.specs.Moves.{receive, dropped_from}
-use Rattle.process.specs.Row.{unread_in, waits_in, standby_of, process_of, Kept, Seated}
+use Rattle.process.specs.Row.{standby_of, process_of, Kept, Seated}
+use Rattle.process.specs.declared.process.Process as code
 
--- from the four lists at entry and at exit, and the rules' function
-pub record Became (row mail log head row' mail' log' head' : List ℕ) (change : Process → Process) : Type 0 where
-  pub process-is : process_of row' mail' log' head' ≡ change (process_of row mail log head)
-  pub kept_again : Kept row' mail' log' head'
-  pub seated_again : (x y : ℕ) → Seated x y row → Seated x y row'
-  pub waits_again : waits_in row' ≡ waits_in row
+-- from the process at entry and at exit, and the rules' function
+pub record Became (x x' : code.Process) (change : Process → Process) : Type 0 where
+  pub process-is : process_of x' ≡ change (process_of x)
+  pub kept_again : Kept x'
+  pub seated_again : (a b : ℕ) → Seated a b x → Seated a b x'
+  pub waits_again : x'.waits ≡ x.waits
 
--- of a call that changes the row alone, whatever the other lists are
-abbrev pub RowBecame : List ℕ → List ℕ → (Process → Process) → Type 0
-RowBecame row row' change = (mail log head : List ℕ) → Kept row mail log head → Became row mail log head row' mail log head change
+-- of a call, for each process that is kept
+abbrev pub Changes : code.Process → code.Process → (Process → Process) → Type 0
+Changes x x' change = Kept x → Became x x' change
 
--- of one that changes the backup alone
-abbrev pub BackupBecame : List ℕ → List ℕ → List ℕ → List ℕ → List ℕ → (Process → Process) → Type 0
-BackupBecame row log head log' head' change = (mail : List ℕ) → Kept row mail log head → Became row mail log head row mail log' head' change
+-- ---- what a call leaves as it is, on every path, whatever the process
 
--- A call of the backup, on the record of a process that has one, or on a backup that is complete: the rules' `on_replica` or `on_backup`.
-pub record Backed (row log head log' head' : List ℕ) (on : (Replica → Reply) → Option Standby → Option Standby) (call : Replica → Reply)
-    : Type 0 where
-  pub standby-is : Sound log head → standby_of row log' head' ≡ on call (standby_of row log head)
-  pub sound_again : Sound log head → Sound log' head'
+-- the mailbox
+abbrev pub MailStays : code.Process → code.Process → Type 0
+MailStays x x' = x'.mail ≡ x.mail
+
+-- the backup's log and head
+pub record BackupStays (x x' : code.Process) : Type 0 where
+  pub log-stays : x'.log ≡ x.log
+  pub head-stays : x'.head ≡ x.head
+
+-- the mailbox, and the backup's log and head
+pub record ListsStay (x x' : code.Process) : Type 0 where
+  pub mail-stays : MailStays x x'
+  pub backup-stays : BackupStays x x'
+
+-- all but the backup's log and head
+abbrev pub BackupAlone : code.Process → code.Process → Type 0
+BackupAlone x x' = x' ≡ record x { log = x'.log; head = x'.head }
+
+-- all but the backup's head
+abbrev pub HeadAlone : code.Process → code.Process → Type 0
+HeadAlone x x' = x' ≡ record x { head = x'.head }
+
+-- ---- the calls
+
+-- A call of the backup, on the record of a process that has one, or on a backup that is complete: the rules' `on_replica` or `on_backup`. All
+-- else of the process is as it was.
+pub record Backed (x x' : code.Process) (on : (Replica → Reply) → Option Standby → Option Standby) (call : Replica → Reply) : Type 0 where
+  pub backup-alone : BackupAlone x x'
+  pub standby-is : Sound x.log x.head → standby_of x' ≡ on call (standby_of x)
+  pub sound_again : Sound x.log x.head → Sound x'.log x'.head
 
 -- how many messages a landing checkpoint drops from a backup, by the rules
-abbrev pub Drops : List ℕ → List ℕ → List ℕ → Checkpoint → ℕ → Type 0
-Drops row log head c dropped =
-    (mail : List ℕ) → Kept row mail log head → protected (process_of row mail log head) ≡ true
-    → dropped ≡ dropped_from c (process_of row mail log head).standby
+abbrev pub Drops : code.Process → Checkpoint → ℕ → Type 0
+Drops x c dropped = Kept x → protected (process_of x) ≡ true → dropped ≡ dropped_from c (process_of x).standby
 
 -- a word was received on a port; a full mailbox takes none, and nothing changes
-pub record Received (row mail log head row' mail' log' head' : List ℕ) (port channel word : ℕ) : Type 0 where
-  pub untouched : log_most ≤ unread_in row → ((row' ≡ row) × (mail' ≡ mail)) × ((log' ≡ log) × (head' ≡ head))
-  pub became : Kept row mail log head → unread_in row < log_most → (t : Table) (p : ℕ) → port_of t p channel ≡ port
-      → Became row mail log head row' mail' log' head' (receive t p (record { channel = channel; word = word }))
+pub record Received (x x' : code.Process) (port channel word : ℕ) : Type 0 where
+  pub untouched : log_most ≤ x.unread → x' ≡ x
+  pub became : Kept x → x.unread < log_most → (t : Table) (p : ℕ) → port_of t p channel ≡ port
+      → Became x x' (receive t p (record { channel = channel; word = word }))

@@ -1,4 +1,4 @@
--- One process in lent arrays: how the arrays stand for the rules' process, what is kept of them, and what the calls make of them.
+-- One process: how the code's stands for the rules', what is kept of it, and what the calls make of it.
 pub mod Row
 pub mod Mailbox
 pub mod Change

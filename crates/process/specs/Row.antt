@@ -1,63 +1,17 @@
--- How a row, a mailbox, a log and a head, four lists of numbers, stand for a process of the rules.
-use Rattle.std.specs.Prelude.{◌≡◌, cond, List, [], ◌∷◌, ℕ, ◌+◌, ◌%◌, ◌≤◌, ◌<◌, ◌^◌, eqb, length, get_or}
+-- How the code's process stands for a process of the rules, and what is kept of it.
+use Rattle.std.specs.Prelude.{◌≡◌, Bool, true, false, cond, List, [], ℕ, ◌+◌, ◌%◌, ◌≤◌, ◌<◌, ◌^◌, eqb, length, get_or, replicate}
 use Rattle.std.proofs.Math.Option.{Option, none, some}
 use Rattle.facts.specs.Lists.{listed}
 use Rattle.words.specs.Words.{pack, high_in, low_in}
-use Rattle.backup.specs.Limits.{log_most}
-use Rattle.backup.specs.Place.{view_in, Sound}
+use Rattle.backup.specs.Limits.{log_most, ports}
+use Rattle.backup.specs.Place.{view_in, Sound, fresh_head}
 use Rattle.backup.specs.declared.place.Checkpoint.{Checkpoint}
+use Rattle.backup.specs.declared.place.Head.{Head}
 use Rattle.rules.specs.Machine.{Mail, Machine}
-use Rattle.rules.specs.Cabinet.{Process, Standby}
-
--- ---- a row's cells by name
-
--- how many numbers a row has
-abbrev pub row_length : ℕ
-row_length = 18
-
-abbrev pub board_in : List ℕ → ℕ
-board_in row = get_or row 0 0
-
-abbrev pub pc_in : List ℕ → ℕ
-pc_in row = get_or row 1 0
-
-abbrev pub register_in : List ℕ → ℕ → ℕ
-register_in row a = get_or row (2 + a) 0
-
-abbrev pub registers_in : List ℕ → List ℕ
-registers_in row = register_in row 0 ∷ register_in row 1 ∷ register_in row 2 ∷ register_in row 3 ∷ []
-
-abbrev pub suppress_in : List ℕ → ℕ
-suppress_in row = get_or row 6 0
-
-abbrev pub events_in : List ℕ → ℕ
-events_in row = get_or row 7 0
-
--- the receives on each port
-abbrev pub taken_in : List ℕ → List ℕ
-taken_in row = get_or row 8 0 ∷ get_or row 9 0 ∷ get_or row 10 0 ∷ get_or row 11 0 ∷ []
-
--- 0 for no backup, 1 for a backup, 2 for a record that is being made (W-210: from a resync's issue until its carry)
-abbrev pub flag_in : List ℕ → ℕ
-flag_in row = get_or row 12 0
-
--- the process's other board of the table, whatever the flag says
-abbrev pub standby_board_in : List ℕ → ℕ
-standby_board_in row = get_or row 13 0
-
-abbrev pub unread_in : List ℕ → ℕ
-unread_in row = get_or row 14 0
-
-abbrev pub instructions_in : List ℕ → ℕ
-instructions_in row = get_or row 15 0
-
--- 1 where a checkpoint or a transfer of the process waits in its board's queue, 0 where none does
-abbrev pub waits_in : List ℕ → ℕ
-waits_in row = get_or row 16 0
-
--- where in the mailbox its oldest word stands
-abbrev pub oldest_in : List ℕ → ℕ
-oldest_in row = get_or row 17 0
+use Rattle.rules.specs.Cabinet.{Process, Standby, no_takes}
+use Rattle.process.specs.declared.process.Process as code
+use Rattle.process.specs.declared.process.Protection.{Protection}
+use Rattle.process.specs.declared.process.Protection.TheVariants.{Unprotected, Complete, Coming}
 
 -- ---- a mailbox
 
@@ -81,58 +35,126 @@ abbrev pub mails_in : ℕ → ℕ → List ℕ → List Mail
 mails_in first n mail = listed (λ i. mail_in (packed_at first mail i)) n
 
 -- the word at a position of a process's mailbox
-abbrev pub mail_at : List ℕ → List ℕ → ℕ → Mail
-mail_at row mail i = mail_in (packed_at (oldest_in row) mail i)
+abbrev pub mail_at : code.Process → ℕ → Mail
+mail_at x i = mail_in (packed_at x.oldest x.mail i)
+
+-- ---- its backup
+
+-- whether there is one (document 01: backed)
+abbrev pub backed : Protection → Bool
+backed Unprotected = false
+backed Complete = true
+backed Coming = false
+
+-- whether there is a record: a backup, or one that is being made (W-210: from a resync's issue until its carry)
+abbrev pub recorded : Protection → Bool
+recorded Unprotected = false
+recorded Complete = true
+recorded Coming = true
+
+-- the standby that a process shows, whether or not it has a record
+abbrev pub standby_in : code.Process → Standby
+standby_in x = record { board = x.standby; replica = view_in x.log x.head; complete = backed x.protection }
+
+unfoldable pub standby_of : code.Process → Option Standby
+standby_of x = cond (recorded x.protection) (some (standby_in x)) none
 
 -- ---- the process
 
-unfoldable pub machine_of : List ℕ → List ℕ → Machine
-machine_of row mail = record { registers = registers_in row; pc = pc_in row; mailbox = mails_in (oldest_in row) (unread_in row) mail }
+-- past the end of a list of them: no list has an element
+abbrev pub no_head : Head
+no_head = record { len = 0; sent = 0; pc = 0; r0 = 0; r1 = 0; r2 = 0; r3 = 0; saved = [] }
 
--- its backup, by the row's flag
-unfoldable pub standby_of : List ℕ → List ℕ → List ℕ → Option Standby
-standby_of row log head =
-    let flag = flag_in row in
-    cond (eqb flag 0) none (some (record { board = standby_board_in row; replica = view_in log head; complete = eqb flag 1 }))
+abbrev pub no_process : code.Process
+no_process = record {
+  board = 0;
+  standby = 0;
+  pc = 0;
+  registers = [];
+  suppress = 0;
+  events = 0;
+  taken = [];
+  instructions = 0;
+  protection = Unprotected;
+  waits = false;
+  oldest = 0;
+  unread = 0;
+  mail = [];
+  log = [];
+  head = no_head;
+}
+
+-- one of zeros, the code's NO_PROCESS: its backup is a record as it starts
+abbrev pub zero_process : code.Process
+zero_process = record {
+  board = 0;
+  standby = 0;
+  pc = 0;
+  registers = replicate 4 0;
+  suppress = 0;
+  events = 0;
+  taken = replicate 4 0;
+  instructions = 0;
+  protection = Unprotected;
+  waits = false;
+  oldest = 0;
+  unread = 0;
+  mail = replicate log_most 0;
+  log = replicate log_most 0;
+  head = fresh_head;
+}
+
+unfoldable pub machine_of : code.Process → Machine
+machine_of x = record { registers = x.registers; pc = x.pc; mailbox = mails_in x.oldest x.unread x.mail }
 
 -- whether something of it waits is no part of it: the rules look into the queue
-unfoldable pub process_of : List ℕ → List ℕ → List ℕ → List ℕ → Process
+unfoldable pub process_of : code.Process → Process
 unfolding machine_of standby_of
-process_of row mail log head = record {
-  machine = machine_of row mail;
-  board = board_in row;
-  suppress = suppress_in row;
-  since = record { instructions = instructions_in row; events = events_in row; taken = taken_in row };
-  standby = standby_of row log head;
+process_of x = record {
+  machine = machine_of x;
+  board = x.board;
+  suppress = x.suppress;
+  since = record { instructions = x.instructions; events = x.events; taken = x.taken };
+  standby = standby_of x;
 }
 
 -- the process as a checkpoint
-unfoldable pub checkpoint_in : List ℕ → Checkpoint
-checkpoint_in row = record {
-  pc = pc_in row;
-  r0 = get_or row 2 0;
-  r1 = get_or row 3 0;
-  r2 = get_or row 4 0;
-  r3 = get_or row 5 0;
-  t0 = get_or row 8 0;
-  t1 = get_or row 9 0;
-  t2 = get_or row 10 0;
-  t3 = get_or row 11 0;
+unfoldable pub checkpoint_in : code.Process → Checkpoint
+checkpoint_in x = record {
+  pc = x.pc;
+  r0 = get_or x.registers 0 0;
+  r1 = get_or x.registers 1 0;
+  r2 = get_or x.registers 2 0;
+  r3 = get_or x.registers 3 0;
+  t0 = get_or x.taken 0 0;
+  t1 = get_or x.taken 1 0;
+  t2 = get_or x.taken 2 0;
+  t3 = get_or x.taken 3 0;
 }
+
+-- one since whose last checkpoint there was nothing
+abbrev pub anew_in : code.Process → code.Process
+anew_in x = record x { events = 0; taken = no_takes; instructions = 0 }
+
+-- one whose record is a backup, if it has a record
+abbrev pub completed_in : code.Process → code.Process
+completed_in x = record x { protection = cond (recorded x.protection) Complete x.protection }
 
 -- ---- what is kept
 
--- What is kept of the four lists: lengths, that a word of the row or the mailbox is one of 32 bits, and the backup's soundness.
-pub record Kept (row mail log head : List ℕ) : Type 0 where
-  pub row_length_lem : length row ≡ row_length
-  pub mail-length : length mail ≡ log_most
-  pub unread : unread_in row ≤ log_most
-  pub oldest : oldest_in row < log_most
-  pub words : (i : ℕ) → get_or row i 0 < 2 ^ 32
-  pub flag : flag_in row ≤ 2
-  pub sound : Sound log head
+-- What is kept of a process: its lists' lengths, that its mailbox is a ring's, that a counter is a word of 32 bits, and the backup's soundness.
+pub record Kept (x : code.Process) : Type 0 where
+  pub registers-length : length x.registers ≡ 4
+  pub taken-length : length x.taken ≡ ports
+  pub mail-length : length x.mail ≡ log_most
+  pub unread : x.unread ≤ log_most
+  pub oldest : x.oldest < log_most
+  pub events : x.events < 2 ^ 32
+  pub taken : (i : ℕ) → get_or x.taken i 0 < 2 ^ 32
+  pub instructions : x.instructions < 2 ^ 32
+  pub sound : Sound x.log x.head
 
--- Of its two boards of the table, x and y, it runs on one, and the row's cell for a backup's board has the other: a promotion swaps the two.
-pub record Seated (x y : ℕ) (row : List ℕ) : Type 0 where
-  pub runs_on : board_in row ≡ cond (eqb (standby_board_in row) x) y x
-  pub other-is : standby_board_in row ≡ cond (eqb (board_in row) x) y x
+-- Of its two boards of the table, a and b, it runs on one, and the other is its backup's: a promotion swaps the two.
+pub record Seated (a b : ℕ) (x : code.Process) : Type 0 where
+  pub runs_on : x.board ≡ cond (eqb x.standby a) b a
+  pub other-is : x.standby ≡ cond (eqb x.board a) b a

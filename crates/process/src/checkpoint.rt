@@ -4,52 +4,57 @@
 ghost use Rattle.std.specs.Prelude.{◌≡◌};
 ghost use Rattle.backup.specs.Place.{checkpoint_of};
 ghost use Rattle.rules.specs.Moves.{issued, keeps};
-ghost use Rattle.process.specs.Row.{checkpoint_in};
-ghost use Rattle.process.specs.Change.{RowBecame, BackupBecame, Drops};
+ghost use Rattle.process.specs.Row.{checkpoint_in, anew_in};
+ghost use Rattle.process.specs.Change.{Changes, ListsStay, BackupAlone, Drops};
 
-use crate::row::{
-    COMPLETE, EVENTS, INSTRUCTIONS, PC, PROTECTED, R0, R1, R2, R3, ROW, T0, T1, T2, T3,
-};
-use backup::limits::LOG;
-use backup::place::{Checkpoint, HEAD, sync_total};
+use crate::process::Process;
+use backup::place::{Checkpoint, sync_total};
 
-// The process as a checkpoint.
-pub fn snapshot(row: &[u32; ROW]) -> Checkpoint
-    ensures { result ≡ checkpoint_in row.now }
-{
-    Checkpoint {
-        pc: row[PC],
-        r0: row[R0],
-        r1: row[R1],
-        r2: row[R2],
-        r3: row[R3],
-        t0: row[T0],
-        t1: row[T1],
-        t2: row[T2],
-        t3: row[T3],
+impl Process {
+    // No events, receives and instructions so far.
+    pub(crate) fn count_anew(&mut self)
+        ensures { self.new ≡ anew_in self.old }
+    {
+        self.events = 0;
+        self.taken = [0; 4];
+        self.instructions = 0;
     }
-}
 
-// A checkpoint was issued: no events since, no receives and no instructions.
-pub fn issue(row: &mut [u32; ROW])
-    ensures { RowBecame row.old row.new issued }
-{
-    row[EVENTS] = 0;
-    row[T0] = 0;
-    row[T1] = 0;
-    row[T2] = 0;
-    row[T3] = 0;
-    row[INSTRUCTIONS] = 0;
-}
-
-// A checkpoint lands: the backup keeps it, if there is one. How many messages that dropped.
-pub fn keep(row: &[u32; ROW], log: &mut [u64; LOG], head: &mut [u32; HEAD], c: Checkpoint) -> u32
-    ensures backup_became { BackupBecame row.now log.old head.old log.new head.new
-        (keeps (checkpoint_of c)) }
-    ensures drops { Drops row.now log.old head.old (checkpoint_of c) result }
-{
-    if row[PROTECTED] == COMPLETE {
-        return sync_total(log, head, c);
+    // The process as a checkpoint.
+    pub fn snapshot(&self) -> Checkpoint
+        ensures { result ≡ checkpoint_in self.now }
+    {
+        Checkpoint {
+            pc: self.pc,
+            r0: self.registers[0],
+            r1: self.registers[1],
+            r2: self.registers[2],
+            r3: self.registers[3],
+            t0: self.taken[0],
+            t1: self.taken[1],
+            t2: self.taken[2],
+            t3: self.taken[3],
+        }
     }
-    0
+
+    // A checkpoint was issued: no events since, no receives and no instructions.
+    pub fn issue(&mut self)
+        ensures exact { self.new ≡ anew_in self.old }
+        ensures became { Changes self.old self.new issued }
+        ensures lists_stay { ListsStay self.old self.new }
+    {
+        self.count_anew();
+    }
+
+    // A checkpoint lands: the backup keeps it, if there is one. How many messages that dropped.
+    pub fn keep(&mut self, c: Checkpoint) -> u32
+        ensures backup_became { Changes self.old self.new (keeps (checkpoint_of c)) }
+        ensures drops { Drops self.old (checkpoint_of c) result }
+        ensures rest_stays { BackupAlone self.old self.new }
+    {
+        if self.is_backed() {
+            return sync_total(&mut self.log, &mut self.head, c);
+        }
+        0
+    }
 }

@@ -4,53 +4,48 @@
 ghost use Rattle.std.specs.Prelude.{List, ℕ};
 ghost use Rattle.backup.specs.Replica.{arrive};
 ghost use Rattle.rules.specs.Moves.{on_replica, counts as counts_of};
-ghost use Rattle.process.specs.Change.{Backed, BackupBecame, Received};
+ghost use Rattle.process.specs.Change.{Backed, Changes, HeadAlone, Received};
 
 use crate::mailbox::append;
-use crate::row::{COMPLETE, OLDEST, PROTECTED, ROW, UNREAD};
+use crate::process::Process;
 use backup::limits::LOG;
-use backup::place::{HEAD, arrive_in, count_in};
+use backup::place::{arrive_in, count_in};
 use words::wide;
 
-// A word arrives at its backup too, also at one that is being made: "then all that have arrived since issue" (W-210).
-fn save(row: &[u32; ROW], log: &mut [u64; LOG], head: &mut [u32; HEAD], port: u32, word: u32)
-    ensures { Backed row.now log.old head.old log.new head.new on_replica
-        (λ v. arrive v port word) }
-{
-    if row[PROTECTED] != 0 {
-        arrive_in(log, head, port, word);
+impl Process {
+    // A word arrives at its backup too, also at one that is being made: "then all that have arrived since issue" (W-210). A backup that
+    // refuses it stays as it was.
+    fn save(&mut self, port: u32, word: u32)
+        ensures { Backed self.old self.new on_replica (λ v. arrive v port word) }
+    {
+        if self.has_record() {
+            let _ = arrive_in(&mut self.log, &mut self.head, port, word);
+        }
     }
-}
 
-// The reader's half: a word joins the mailbox. A full mailbox takes none, and nothing changes.
-pub fn receive(
-    row: &mut [u32; ROW],
-    mail: &mut [u64; LOG],
-    log: &mut [u64; LOG],
-    head: &mut [u32; HEAD],
-    port: u32,
-    channel: u32,
-    word: u32,
-)
-    ensures { Received row.old mail.old log.old head.old row.new
-        mail.new log.new head.new port channel word }
-{
-    let unread = row[UNREAD];
-    let end = wide(unread);
-    if end >= LOG {
-        return;
+    // The reader's half: a word joins the mailbox. A full mailbox takes none, and nothing changes.
+    pub fn receive(&mut self, port: u32, channel: u32, word: u32)
+        ensures { Received self.old self.new port channel word }
+    {
+        let unread = self.unread;
+        let end = wide(unread);
+        if end >= LOG {
+            return;
+        }
+        self.save(port, word);
+        append(&mut self.mail, wide(self.oldest), end, channel, word);
+        self.unread = unread + 1;
     }
-    save(row, log, head, port, word);
-    append(mail, wide(row[OLDEST]), end, channel, word);
-    row[UNREAD] = unread + 1;
-}
 
-// The sender's half: the backup counts the word, if there is one. A record that is being made counts none.
-pub fn counts(row: &[u32; ROW], head: &mut [u32; HEAD])
-    ensures { (log : List ℕ) → BackupBecame row.now log head.old log head.new counts_of }
-{
-    if row[PROTECTED] != COMPLETE {
-        return;
+    // The sender's half: the backup counts the word, if there is one, and stays as it was if it refuses. A record that is being made counts
+    // none.
+    pub fn counts(&mut self)
+        ensures became { (log : List ℕ) → Changes (record self.old { log = log }) (record self.new { log = log }) counts_of }
+        ensures rest_stays { HeadAlone self.old self.new }
+    {
+        if !self.is_backed() {
+            return;
+        }
+        let _ = count_in(&mut self.head);
     }
-    count_in(head);
 }

@@ -1,13 +1,13 @@
 // The words of a mailbox (document 01: inbox). A word is one number: channel times 2^32, plus word. A mailbox is a ring: its words stand from
 // the oldest's place on, and behind the last place comes the first.
 ghost use Rattle.std.specs.Prelude.{◌≡◌};
-ghost use Rattle.process.specs.Row.{oldest_in, place_in, packed_at, mail_in};
+ghost use Rattle.process.specs.Row.{place_in, packed_at, mail_in};
 
-use crate::row::{OLDEST, ROW};
+use crate::process::Process;
 use backup::limits::LOG;
 use words::{high_of, low_of, wide};
 
-// The places of the ring, as a cell of a row counts them.
+// The places of the ring, in the width in which a process counts them.
 pub const PLACES: u32 = LOG as u32;
 
 pub fn channel_of(x: u64) -> u32
@@ -29,9 +29,11 @@ pub fn place(first: usize, i: usize) -> usize
     (first % LOG + i % LOG) % LOG
 }
 
-// The word at a position of a process's mailbox.
-pub fn word_at(row: &[u32; ROW], mail: &[u64; LOG], i: usize) -> u64
-    ensures { result ≡ packed_at (oldest_in row.now) mail.now i }
-{
-    mail[place(wide(row[OLDEST]), i)]
+impl Process {
+    // The word at a position of the process's mailbox.
+    pub fn word_at(&self, i: usize) -> u64
+        ensures { result ≡ packed_at self.now.oldest self.now.mail i }
+    {
+        self.mail[place(wide(self.oldest), i)]
+    }
 }

@@ -1,4 +1,5 @@
 -- A schedule judged test by test.
+use Rattle.std.specs.Prelude.{Result}
 use mathlib.Core.Path.{◌≡◌, ap, sym, ◌∙◌}
 use mathlib.Core.Bool.{Bool, true, false, cond}
 use mathlib.Core.List.{List}
@@ -11,8 +12,9 @@ use Rattle.facts.specs.Tests.{and_both}
 use Rattle.facts.specs.Ranges.{and_fails}
 use Rattle.rules.specs.Format.{length_field, version_in, or_number}
 use Rattle.rules.specs.Schedule.{commands_most, commands_in, schedule_ok, validate_schedule}
-use Rattle.records.specs.Commands.{ScheduleJudged}
-use Rattle.records.specs.declared.schedule.Judged.{Judged}
+use Rattle.numbers.specs.declared.runs.Refusal.{Refusal}
+use Rattle.numbers.specs.Runs.{number_in}
+use Rattle.records.specs.Commands.{ScheduleJudged, records_in}
 
 module _ (bytes : List ℕ) where
   -- what all four tests ask
@@ -37,29 +39,29 @@ module _ (bytes : List ℕ) where
   unfolding validate_schedule
   passes w = ap (λ (test : Bool). or_number test 9 (or_number (eqb (version_in bytes) 1) 10 0)) (holds w)
 
-module _ (bytes : List ℕ) (r : Judged) where
-  judged_as : (n : ℕ) → validate_schedule bytes ≡ n → r.number ≡ n → r.records ≡ cond (eqb n 0) (commands_in bytes) 0 → ScheduleJudged bytes r
+module _ (bytes : List ℕ) (r : Result ℕ Refusal) where
+  judged_as : (n : ℕ) → validate_schedule bytes ≡ n → number_in r ≡ n → records_in r ≡ cond (eqb n 0) (commands_in bytes) 0 → ScheduleJudged bytes r
   judged_as n v e f = record { number_is = e ∙ sym v; records_is = f ∙ ap (λ (x : ℕ). cond (eqb x 0) (commands_in bytes) 0) (sym v) }
 
-  fails_9 : schedule_ok bytes ≡ false → (r.number ≡ 9) × (r.records ≡ 0) → ScheduleJudged bytes r
+  fails_9 : schedule_ok bytes ≡ false → (number_in r ≡ 9) × (records_in r ≡ 0) → ScheduleJudged bytes r
   unfolding validate_schedule
   fails_9 h e = judged_as 9 (ap (λ (test : Bool). or_number test 9 (or_number (eqb (version_in bytes) 1) 10 0)) h) e.0 e.1
 
-  pub short_9 : length bytes < 3 → (r.number ≡ 9) × (r.records ≡ 0) → ScheduleJudged bytes r
+  pub short_9 : length bytes < 3 → (number_in r ≡ 9) × (records_in r ≡ 0) → ScheduleJudged bytes r
   unfolding schedule_ok
   short_9 h = fails_9 (rw (lt-leb 3 (length bytes) h))
 
-  pub field_9 : (field : ℕ) → field ≡ length_field bytes → (field + 2 ≡ length bytes → ⊥) → (r.number ≡ 9) × (r.records ≡ 0) → ScheduleJudged bytes r
+  pub field_9 : (field : ℕ) → field ≡ length_field bytes → (field + 2 ≡ length bytes → ⊥) → (number_in r ≡ 9) × (records_in r ≡ 0) → ScheduleJudged bytes r
   unfolding schedule_ok
   field_9 field e h = fails_9 (and_fails (leb 3 (length bytes)) _ (rw (ne_eqb (2 + length_field bytes) (length bytes) (λ z. h (omega arith)))))
 
-  pub broken_9 : (3 + 6 * commands_in bytes ≡ length bytes → ⊥) → (r.number ≡ 9) × (r.records ≡ 0) → ScheduleJudged bytes r
+  pub broken_9 : (3 + 6 * commands_in bytes ≡ length bytes → ⊥) → (number_in r ≡ 9) × (records_in r ≡ 0) → ScheduleJudged bytes r
   unfolding schedule_ok
   broken_9 h =
       fails_9
       (and_fails (leb 3 (length bytes)) _ (and_fails (eqb (2 + length_field bytes) (length bytes)) _ (rw (ne_eqb (3 + 6 * commands_in bytes) (length bytes) h))))
 
-  pub many_9 : commands_most < commands_in bytes → (r.number ≡ 9) × (r.records ≡ 0) → ScheduleJudged bytes r
+  pub many_9 : commands_most < commands_in bytes → (number_in r ≡ 9) × (records_in r ≡ 0) → ScheduleJudged bytes r
   unfolding schedule_ok
   many_9 h =
       fails_9
@@ -67,8 +69,8 @@ module _ (bytes : List ℕ) (r : Judged) where
       (and_fails (eqb (2 + length_field bytes) (length bytes)) _
       (and_fails (eqb (3 + 6 * commands_in bytes) (length bytes)) _ (lt-leb (commands_in bytes) commands_most h))))
 
-  pub version_10 : Whole bytes → (version_in bytes ≡ 1 → ⊥) → (r.number ≡ 10) × (r.records ≡ 0) → ScheduleJudged bytes r
+  pub version_10 : Whole bytes → (version_in bytes ≡ 1 → ⊥) → (number_in r ≡ 10) × (records_in r ≡ 0) → ScheduleJudged bytes r
   version_10 w h e = judged_as 10 (passes bytes w ∙ ap (λ (test : Bool). or_number test 10 0) (ne_eqb (version_in bytes) 1 h)) e.0 e.1
 
-  pub accepted_0 : Whole bytes → version_in bytes ≡ 1 → r.number ≡ 0 → r.records ≡ commands_in bytes → ScheduleJudged bytes r
+  pub accepted_0 : Whole bytes → version_in bytes ≡ 1 → number_in r ≡ 0 → records_in r ≡ commands_in bytes → ScheduleJudged bytes r
   accepted_0 w h e f = judged_as 0 (passes bytes w ∙ ap (λ (test : Bool). or_number test 10 0) (eq-eqb (version_in bytes) 1 h)) e f

@@ -6,7 +6,7 @@ ghost use Rattle.records.specs.Commands.{command_of, move_in, ScheduleJudged};
 use crate::bytes::byte;
 use crate::head::VERSION;
 use crate::six::{six_at, six_of};
-use numbers::runs::{ACCEPTED, SCHEDULE_LENGTH, SCHEDULE_VERSION};
+use numbers::runs::Refusal;
 use words::pair;
 
 // Where the commands begin: behind the length's two bytes and the version.
@@ -19,13 +19,6 @@ pub const SCHEDULE_MOST: usize = FIRST_COMMAND + 6 * COMMANDS_MOST;
 // W-214's move 8, which takes a record back: no move of a cabinet.
 pub const UNDO: u8 = 8;
 
-// What judging a schedule finds: 0 or the number that refuses it, and how many commands it has (0 where it is refused).
-#[derive(Clone, Copy)]
-pub struct Judged {
-    pub number: u8,
-    pub records: usize,
-}
-
 // A schedule record: move, `a` and word.
 #[derive(Clone, Copy)]
 pub struct Command {
@@ -34,39 +27,31 @@ pub struct Command {
     pub word: u32,
 }
 
-fn refused(number: u8) -> Judged
-    ensures { (result.number ≡ number) × (result.records ≡ 0) }
-{
-    Judged { number, records: 0 }
-}
-
-// 9: "schedule under 3 bytes, wrong length field, broken record or over 10,000"; 10: "its version".
-pub fn judge_schedule(schedule: &[u8]) -> Judged
+// How many commands a schedule has, or what refuses it. 9: "schedule under 3 bytes, wrong length field, broken record or over 10,000"; 10: "its
+// version".
+pub fn judge_schedule(schedule: &[u8]) -> Result<usize, Refusal>
     ensures { ScheduleJudged schedule.now result }
 {
     let len = schedule.len();
     if len < FIRST_COMMAND {
-        return refused(SCHEDULE_LENGTH);
+        return Err(Refusal::ScheduleLength);
     }
     let field = pair(schedule[0], schedule[1]);
     let version = schedule[VERSION];
     let records = (len - FIRST_COMMAND) / 6;
     if field + 2 != len {
-        return refused(SCHEDULE_LENGTH);
+        return Err(Refusal::ScheduleLength);
     }
     if FIRST_COMMAND + 6 * records != len {
-        return refused(SCHEDULE_LENGTH);
+        return Err(Refusal::ScheduleLength);
     }
     if records > COMMANDS_MOST {
-        return refused(SCHEDULE_LENGTH);
+        return Err(Refusal::ScheduleLength);
     }
     if version != 1 {
-        return refused(SCHEDULE_VERSION);
+        return Err(Refusal::ScheduleVersion);
     }
-    Judged {
-        number: ACCEPTED,
-        records,
-    }
+    Ok(records)
 }
 
 // The i-th command of a schedule; one of zeros from its end on.

@@ -1,3 +1,3 @@
--- Moves 6 and 7 in the lists.
+-- Moves 6 and 7 in the store.
 pub mod Rejoining
 pub mod BackingUp

@@ -6,95 +6,70 @@ ghost use Rattle.facts.specs.Tests.{any_below};
 ghost use Rattle.backup.specs.Limits.{ports};
 ghost use Rattle.plan.specs.Plan.{arity_in};
 ghost use Rattle.rules.specs.Sizes.{processes_most};
+ghost use Rattle.state.specs.Moved.{MailsStay};
 ghost use Rattle.rejoin.specs.Rebackups.{crowded_on, transfer_entry, Rebackups};
 
-use backup::limits::LOG;
-use backup::place::HEAD;
-use numbers::answers::{DONE, HAS_BACKUP, NOT_READY, QUEUE_FULL, SYNC_WAITING};
-use numbers::causes::{QUEUE_FULL_FOR_RESYNC, RESYNC_WAITING, RETURNED_OR_RESYNC};
-use plan::{BOARDS, CHANNELS, PROCESSES, PROGRAMS, WIRES, arity, input};
-use process::row::{BOARD, COMPLETE, PROTECTED, ROW, STANDBY, SUPPRESS, WAITS};
-use process::transfer::begin_transfer;
+use numbers::answers::Reason;
+use plan::{BOARDS, CHANNELS, INPUTS, PROCESSES, Plan};
 use state::channel::OCCUPANCY;
 use state::entry::{Entry, Item};
 use state::moved::{Answer, Moved, refused};
-use state::queue::{COUNT, DEAD, QUEUE, QUEUE_ROW, place, push};
-use words::{index16, least, wide};
+use state::store::Store;
+use words::{index, least, wide};
 
-// Whether the channel at a port of process p has more words than it may.
-fn crowds(programs: &[u32; PROGRAMS], totals: &[u32; CHANNELS], p: usize, port: usize) -> bool
-    requires { (p < processes_most) × (port < ports) }
-    ensures { result ≡ crowded_on programs.now totals.now p port }
-{
-    let k = wide(input(programs, p, port)) % CHANNELS;
-    totals[k] > OCCUPANCY
-}
-
-// Whether one of them has.
-fn crowded(programs: &[u32; PROGRAMS], totals: &[u32; CHANNELS], p: usize) -> bool
+// Whether a channel at one of process p's ports has more words than it may.
+fn crowded(plan: &Plan, totals: &[u32; CHANNELS], p: usize) -> bool
     requires { p < processes_most }
-    ensures { result ≡ any_below (crowded_on programs.now totals.now p) (min (arity_in programs.now p) ports) }
+    ensures { result ≡ any_below (crowded_on plan.now.programs totals.now p) (min (arity_in plan.now.programs p) ports) }
 {
-    let n = least(wide(arity(programs, p)), 4);
+    let n = least(wide(plan.arity(p)), INPUTS);
     let mut found = false;
-    let mut port = 0;
-    while port < n {
-        if crowds(programs, totals, p, port) {
+    for port in 0..n {
+        let k = wide(plan.input(p, port)) % CHANNELS;
+        if totals[k] > OCCUPANCY {
             found = true;
         }
-        port += 1;
     }
     found
 }
 
-pub fn rebackup(
-    programs: &[u32; PROGRAMS],
-    wires: &[u32; WIRES],
-    rows: &mut [[u32; ROW]; PROCESSES],
-    mails: &[[u64; LOG]; PROCESSES],
-    logs: &mut [[u64; LOG]; PROCESSES],
-    heads: &mut [[u32; HEAD]; PROCESSES],
-    queues: &mut [[u32; QUEUE_ROW]; BOARDS],
-    totals: &[u32; CHANNELS],
-    a: u32,
-) -> Moved
-    ensures { Rebackups programs.now wires.now rows.old mails.now logs.old
-        heads.old
-        queues.old totals.now a rows.new logs.new heads.new queues.new result }
+pub fn rebackup(plan: &Plan, store: &mut Store, a: u32) -> Moved
+    ensures rebackups { Rebackups plan.now store.old a store.new result }
+    ensures mails_stay { MailsStay store.old store.new }
+    ensures totals_stay { store.new.totals ≡ store.old.totals }
 {
-    let p = index16(a);
-    if rows[p][PROTECTED] == COMPLETE {
-        return refused(HAS_BACKUP, 0, a);
+    let p = index::<PROCESSES>(a);
+    if store.processes[p].is_backed() {
+        return refused(Reason::HasBackup, a);
     }
-    let other = index16(rows[p][STANDBY]);
-    if queues[other][DEAD] != 0 {
-        return refused(HAS_BACKUP, 0, a);
+    let other = index::<BOARDS>(store.processes[p].standby);
+    if store.queues[other].dead {
+        return refused(Reason::HasBackup, a);
     }
-    if rows[p][SUPPRESS] != 0 {
-        return refused(NOT_READY, 0, a);
+    if store.processes[p].suppress != 0 {
+        return refused(Reason::NotReady, a);
     }
-    if crowded(programs, totals, p) {
-        return refused(NOT_READY, 0, a);
+    if crowded(plan, &store.totals, p) {
+        return refused(Reason::NotReady, a);
     }
-    if rows[p][WAITS] != 0 {
-        return refused(SYNC_WAITING, RESYNC_WAITING, a);
+    if store.processes[p].waits {
+        return refused(Reason::ResyncWaiting, a);
     }
-    let b = index16(rows[p][BOARD]);
-    if queues[b][COUNT] >= QUEUE {
-        return refused(QUEUE_FULL, QUEUE_FULL_FOR_RESYNC, a);
+    let b = index::<BOARDS>(store.processes[p].board);
+    if store.queues[b].is_full() {
+        return refused(Reason::QueueFullForResync, a);
     }
-    let at = place(&queues[b], b);
-    rows[p][WAITS] = 1;
-    begin_transfer(&mut rows[p], &mails[p], &mut logs[p], &mut heads[p], wires);
-    push(&mut queues[b]);
+    let at = store.queues[b].place(b);
+    store.processes[p].waits = true;
+    store.processes[p].begin_transfer(&plan.wires);
+    store.queues[b].push();
     Moved {
         answer: Answer {
-            code: DONE,
-            cause: RETURNED_OR_RESYNC,
+            reason: Reason::ReturnedOrResync,
             a: 0,
             word: 0,
         },
-        at: at,
+        at: Some(at),
     }
 }
 

@@ -1,24 +1,26 @@
 // Move 6: "Move 6 returns board a with an empty queue; nothing runs there yet." "48, a return of a live board, after 33".
+ghost use Rattle.std.specs.Prelude.{◌≡◌};
 ghost use Rattle.rejoin.specs.Rejoins.{Rejoins};
 
-use numbers::answers::{BOARD_LIVE, DONE};
-use numbers::causes::RETURNED_OR_RESYNC;
+use numbers::answers::Reason;
 use plan::BOARDS;
 use state::moved::{Answer, refusal};
-use state::queue::{DEAD, QUEUE_ROW, revive};
-use words::index16;
+use state::store::Store;
+use words::index;
 
-pub fn rejoin(queues: &mut [[u32; QUEUE_ROW]; BOARDS], a: u32) -> Answer
-    ensures { Rejoins queues.old a queues.new result }
+pub fn rejoin(store: &mut Store, a: u32) -> Answer
+    ensures rejoins { Rejoins store.old a store.new result }
+    ensures processes_stay { store.new.processes ≡ store.old.processes }
+    ensures totals_stay { store.new.totals ≡ store.old.totals }
 {
-    let b = index16(a);
-    if queues[b][DEAD] == 0 {
-        return refusal(BOARD_LIVE, 0, a);
+    let b = index::<BOARDS>(a);
+    let live = !store.queues[b].dead;
+    if live {
+        return refusal(Reason::BoardLive, a);
     }
-    revive(&mut queues[b]);
+    store.queues[b].revive();
     Answer {
-        code: DONE,
-        cause: RETURNED_OR_RESYNC,
+        reason: Reason::ReturnedOrResync,
         a: 0,
         word: 0,
     }

@@ -1,11 +1,10 @@
--- What the moves do to the cabinet that the lists hold.
+-- What the moves do to the cabinet that the store holds.
 pub mod Reading
 pub mod Totals
 pub mod Changing
 pub mod Boards
 pub mod Popping
 pub mod Queueing
-pub mod Backing
 pub mod Reaching
 pub mod Refusing
 pub mod Making
@@ -18,5 +17,4 @@ pub mod Counters
 pub mod Waits
 pub mod Flagging
 pub mod Joining
-pub mod Searching
 pub mod Held

@@ -1,4 +1,4 @@
--- What the lists say of the cabinet that they hold: processes, queues, dead boards.
+-- What a store says of the cabinet that it holds: processes, queues, dead boards.
 use Rattle.std.proofs.Common.{◌≡◌, ℕ, ◌<◌, Bool, false, List, [], length, get_or, ap, ◌∙◌}
 use Rattle.facts.specs.Rings.{get_or_listed, listed-length}
 use Rattle.rules.specs.Table.{Table}
@@ -6,7 +6,8 @@ use Rattle.rules.specs.Cabinet as rules
 use Rattle.rules.specs.Cabinet.{Cabinet, Process, nobody, process_at, outbox_at, dead_at}
 use Rattle.state.specs.declared.entry.Entry.{Entry}
 use Rattle.state.specs.Queue.{dead_in}
-use Rattle.state.specs.Store.{Store, Holds, process_in, outbox_in}
+use Rattle.state.specs.declared.store.Store.{Store}
+use Rattle.state.specs.Store.{Holds, process_in, outbox_in}
 
 module _ {t : Table} {s : Store} {entries : List Entry} {c : Cabinet} (h : Holds t s entries c) where
   pub at_process : (p : ℕ) → p < length t.processes → process_at c p ≡ process_in s p

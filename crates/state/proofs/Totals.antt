@@ -10,7 +10,8 @@ use Rattle.rules.specs.Machine.{Mail}
 use Rattle.rules.specs.Cabinet.{Cabinet, Process, Item, nobody, process_at, unread_on, in_flight, occupancy}
 use Rattle.rules.specs.Moves.{with_process, with_outbox}
 use Rattle.state.specs.declared.entry.Entry.{Entry}
-use Rattle.state.specs.Store.{Store, store_of, Totalled, Holds}
+use Rattle.state.specs.declared.store.Store.{Store}
+use Rattle.state.specs.Store.{Totalled, Holds}
 
 -- a mailbox has no more words of one channel than words
 pub unread-few : (k : ℕ) (l : List Mail) → unread_on k l ≤ length l
@@ -109,9 +110,13 @@ module _ {t : Table} {c : Cabinet} (totals : List ℕ) (few : length t.channels 
     totals-length = length-set totals i less ∙ long;
   }
 
--- lists that hold a cabinet hold it with any totals that are true
+-- the store with the totals replaced
+abbrev pub put_totals : Store → List ℕ → Store
+put_totals s totals = record { processes = s.processes; queues = s.queues; totals = totals }
+
+-- a store that holds a cabinet holds it with any totals that are true
 pub retotalled : {t : Table} {s : Store} {entries : List Entry} {c : Cabinet} → Holds t s entries c → (totals : List ℕ) → Totalled t totals c
-    → Holds t (store_of s.rows s.mails s.logs s.heads s.queues totals) entries c
+    → Holds t (put_totals s totals) entries c
 retotalled h totals u = record {
   processes = h.processes;
   outboxes = h.outboxes;
@@ -120,14 +125,10 @@ retotalled h totals u = record {
   seated = h.seated;
   first_small = h.first_small;
   count_small = h.count_small;
-  queue_three = h.queue_three;
   totalled = u;
   waits-is = h.waits-is;
   shape = record {
-    rows-length = h.shape.rows-length;
-    mails-length = h.shape.mails-length;
-    logs-length = h.shape.logs-length;
-    heads-length = h.shape.heads-length;
+    processes-length = h.shape.processes-length;
     queues-length = h.shape.queues-length;
     entries-length = h.shape.entries-length;
   };

@@ -1,4 +1,4 @@
--- The cabinet in lent arrays: how they stand for the rules' cabinet, what is kept of them, and what every move promises.
+-- The cabinet as the moves are lent it: how it stands for the rules' cabinet, what is kept of it, and what every move promises.
 pub mod Queue
 pub mod Channel
 pub mod Store

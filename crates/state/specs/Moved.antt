@@ -1,6 +1,9 @@
--- What every move promises: of lists that hold a cabinet, the answer is the rules', and the lists hold the rules' cabinet afterwards; and of any
--- lists at all, that a refused move leaves them as they were.
-use Rattle.std.specs.Prelude.{◌≡◌, ℕ, ◌<◌, ◌≤◌, cond, List, length, ◌≢◌, nat_lt, slice_set}
+-- What every move promises: of a store that holds a cabinet, the answer is the rules', and the store holds the rules' cabinet afterwards; and of
+-- any store at all, that a refused move leaves it as it was.
+use Rattle.std.specs.Prelude.{◌≡◌, ℕ, ◌<◌, ◌≤◌, List, length, ◌≢◌, slice_set, Option, Some, None}
+use Rattle.numbers.specs.declared.answers.Reason.{Reason}
+use Rattle.numbers.specs.Answers.{code_in, cause_in}
+use Rattle.process.specs.Change.{MailStays, BackupStays}
 use Rattle.rules.specs.Table.{Table}
 use Rattle.rules.specs.Judge.{Accepted}
 use Rattle.rules.specs.Cabinet.{Cabinet, started}
@@ -11,33 +14,35 @@ use Rattle.rules.specs.Sizes.{entries_most}
 use Rattle.state.specs.declared.entry.Entry.{Entry}
 use Rattle.state.specs.declared.moved.Answer.{Answer}
 use Rattle.state.specs.declared.moved.Moved.{Moved}
-use Rattle.state.specs.Store.{Store, Holds, blank_entry}
+use Rattle.state.specs.declared.store.Store.{Store}
+use Rattle.state.specs.Store.{Holds, blank_entry, lists_at}
 
 -- ---- answers
 
--- three numbers and a cause
-abbrev pub answer_of : ℕ → ℕ → ℕ → ℕ → Answer
-answer_of code cause a word = record { code = code; cause = cause; a = a; word = word }
+-- why, by which its code is told too, and its other two numbers
+abbrev pub answer_of : Reason → ℕ → ℕ → Answer
+answer_of reason a word = record { reason = reason; a = a; word = word }
 
-abbrev pub refusal_of : ℕ → ℕ → ℕ → Answer
-refusal_of code cause a = answer_of code cause a 0
+abbrev pub refusal_of : Reason → ℕ → Answer
+refusal_of reason a = answer_of reason a 0
 
 -- an answer, and where an entry joins
-abbrev pub moved_of : Answer → ℕ → Moved
+abbrev pub moved_of : Answer → Option ℕ → Moved
 moved_of answer at = record { answer = answer; at = at }
 
 -- no entry joins a queue
 abbrev pub alone_of : Answer → Moved
-alone_of answer = moved_of answer entries_most
+alone_of answer = moved_of answer None
 
-abbrev pub refused_with : ℕ → ℕ → ℕ → Moved
-refused_with code cause a = alone_of (refusal_of code cause a)
+abbrev pub refused_with : Reason → ℕ → Moved
+refused_with reason a = alone_of (refusal_of reason a)
 
 -- ---- entries
 
--- with an entry put at a place, or as they are where that is no place
-abbrev pub joined : List Entry → ℕ → Entry → List Entry
-joined entries at entry = cond (nat_lt at entries_most) (slice_set entries at entry) entries
+-- with an entry put at a place, or as they are where there is none
+abbrev pub joined : List Entry → Option ℕ → Entry → List Entry
+joined entries None entry = entries
+joined entries (Some at) entry = slice_set entries at entry
 
 -- ---- what a move makes
 
@@ -47,33 +52,42 @@ pub record Reachable (t : Table) (c : Cabinet) : Type 0 where
   pub commands : List Command
   pub is-reached : c ≡ (run_from t (started t) commands).cabinet
 
--- one move of the rules, as the code made it: the answer's numbers and its cause, and the cabinet that the lists hold afterwards
+-- one move of the rules, as the code made it: the answer's numbers and its cause, and the cabinet that the store holds afterwards
 pub record Answered (t : Table) (s : Store) (entries : List Entry) (c : Cabinet) (command : Command) (result : Result)
     (answer : Answer) : Type 0 where
-  pub answer-is : numbers (settle c command result).answer ≡ numbered answer.code answer.a answer.word
-  pub cause_is : cause_of (settle c command result).answer ≡ answer.cause
+  pub answer-is : numbers (settle c command result).answer ≡ numbered (code_in answer.reason) answer.a answer.word
+  pub cause_is : cause_of (settle c command result).answer ≡ cause_in answer.reason
   pub holds : Holds t s entries (settle c command result).cabinet
 
--- lists that are as long as they were
+-- ---- what a move leaves as it is, on every path, whatever the store holds
+
+-- of each process its mailbox
+abbrev pub MailsStay : Store → Store → Type 0
+MailsStay s s' = (p : ℕ) → MailStays (lists_at s p) (lists_at s' p)
+
+-- of each process its backup's log and head
+abbrev pub BackupsStay : Store → Store → Type 0
+BackupsStay s s' = (p : ℕ) → BackupStays (lists_at s p) (lists_at s' p)
+
+-- a store whose arrays are as long as they were
 pub record SameLengths (s s' : Store) : Type 0 where
-  pub rows_same : length s'.rows ≡ length s.rows
-  pub mails-same : length s'.mails ≡ length s.mails
-  pub logs-same : length s'.logs ≡ length s.logs
-  pub heads-same : length s'.heads ≡ length s.heads
+  pub processes-same : length s'.processes ≡ length s.processes
   pub queues-same : length s'.queues ≡ length s.queues
   pub totals-same : length s'.totals ≡ length s.totals
 
--- The move that the rules call `rule`, of the process, board or channel a, made on lists s that are then s'. `asks` is what it supposes of
+-- The move that the rules call `rule`, of the process, board or channel a, made on a store s that is then s'. `asks` is what it supposes of
 -- a, and of the entries; `entry` is the one that joins a queue by it, and `joins` the code of the answer that says so.
 pub record Makes (rule : Table → Cabinet → ℕ → Result) (asks : Table → List Entry → Type 0) (joins : ℕ) (l : Plan) (s : Store) (a : ℕ)
     (entry : Entry)
     (s' : Store) (r : Moved) : Type 0 where
-  -- of a plan that is the table's, and of lists that hold a cabinet which commands reach
+  -- of a plan that is the table's, and of a store that holds a cabinet which commands reach
   pub made : (t : Table) (entries : List Entry) (c : Cabinet) (command : Command) → Reachable t c → Planned t l → Holds t s entries c
       → command.a ≡ a → asks t entries → Answered t s' (joined entries r.at entry) c command (rule t c a) r.answer
-  -- of any lists: what is refused leaves every one of them as it was, an answer with no entry stores none, and all stay as long as they were
-  pub untouched : 32 ≤ r.answer.code → s' ≡ s
-  pub none_joins : (r.answer.code ≢ joins) → entries_most ≤ r.at
+  -- of any store: what is refused leaves it as it was, an answer with no entry stores none, one with an entry stores it at a place of the queues'
+  -- rings, and the store's arrays stay as long as they were
+  pub untouched : 32 ≤ code_in r.answer.reason → s' ≡ s
+  pub none_joins : (code_in r.answer.reason ≢ joins) → r.at ≡ None
+  pub at-inside : (k : ℕ) → r.at ≡ Some k → k < entries_most
   pub same_lengths : SameLengths s s'
 
 -- a move by which no entry joins, whatever it answers

@@ -1,9 +1,10 @@
--- How lent arrays of numbers and one flat array of entries stand for a cabinet of the rules.
-use Rattle.std.specs.Prelude.{◌≡◌, ℕ, ◌<◌, ◌≤◌, Bool, cond, List, [], map, length, slice_index, slice_index_or}
+-- How a store and one flat array of entries stand for a cabinet of the rules.
+use Rattle.std.specs.Prelude.{◌≡◌, ℕ, ◌<◌, ◌≤◌, List, map, length, slice_index, slice_index_or}
 use Rattle.facts.specs.Lists.{listed}
 use Rattle.facts.specs.Rings.{ring}
 use Rattle.backup.specs.Place.{checkpoint_of}
-use Rattle.process.specs.Row.{process_of, waits_in, Kept, Seated}
+use Rattle.process.specs.declared.process.Process as code
+use Rattle.process.specs.Row.{no_process, process_of, Kept, Seated}
 use Rattle.rules.specs.Table.{Table, placement_at}
 use Rattle.rules.specs.Cabinet as rules
 use Rattle.rules.specs.Cabinet.{Cabinet, Process, outbox_most, occupancy, waiting, process_at, outbox_at}
@@ -11,26 +12,19 @@ use Rattle.rules.specs.Sizes.{boards_most, processes_most, channels_most, entrie
 use Rattle.state.specs.declared.entry.Entry.{Entry}
 use Rattle.state.specs.declared.entry.Item.{Item}
 use Rattle.state.specs.declared.entry.Item.TheVariants.{Word, Sync, Transfer}
-use Rattle.state.specs.Queue.{first_in, count_in, dead_in, queue_length}
+use Rattle.state.specs.declared.queue.Queue.{Queue}
+use Rattle.state.specs.declared.store.Store.{Store}
+use Rattle.state.specs.Queue.{first_in, count_in, dead_in}
 
--- ---- the lists
+-- ---- processes
 
--- For each process a row, a mailbox, a log and a head; for each board a row of its queue; for each channel its total, its unread words and its
--- words in queues together.
-pub record Store : Type 0 where
-  pub rows : List (List ℕ)
-  pub mails : List (List ℕ)
-  pub logs : List (List ℕ)
-  pub heads : List (List ℕ)
-  pub queues : List (List ℕ)
-  pub totals : List ℕ
+-- what the store has of process p
+abbrev pub lists_at : Store → ℕ → code.Process
+lists_at s p = slice_index_or s.processes p no_process
 
-abbrev pub store_of : List (List ℕ) → List (List ℕ) → List (List ℕ) → List (List ℕ) → List (List ℕ) → List ℕ → Store
-store_of rows mails logs heads queues totals = record { rows = rows; mails = mails; logs = logs; heads = heads; queues = queues; totals = totals }
-
--- process p as the lists have it
+-- process p as the store has it
 abbrev pub process_in : Store → ℕ → Process
-process_in s p = process_of (slice_index_or s.rows p []) (slice_index_or s.mails p []) (slice_index_or s.logs p []) (slice_index_or s.heads p [])
+process_in s p = process_of (lists_at s p)
 
 -- ---- entries
 
@@ -44,15 +38,11 @@ unfoldable pub blank_entry : Entry
 blank_entry = record { item = Word 0 0 0 }
 
 -- board b's queue, oldest entry first
-unfoldable pub outbox_in : List (List ℕ) → List Entry → ℕ → List rules.Item
+unfoldable pub outbox_in : List Queue → List Entry → ℕ → List rules.Item
 unfolding blank_entry
 outbox_in queues entries b = map (λ (e : Entry). item_of e.item) (ring blank_entry entries b (first_in queues b) (count_in queues b))
 
 -- ---- the cabinet
-
--- a Bool as a number
-abbrev pub flag : Bool → ℕ
-flag b = cond b 1 0
 
 -- Each total is the count made afresh: W-208, "its unread words and its words in queues together", "one for each channel"; of a channel that
 -- the outside reads, its words in queues.
@@ -60,29 +50,25 @@ pub record Totalled (t : Table) (totals : List ℕ) (c : Cabinet) : Type 0 where
   pub total-is : (k : ℕ) → k < length t.channels → slice_index totals k ≡ occupancy t c k
   pub totals-length : length totals ≡ channels_most
 
--- How long the lists are, whatever they hold.
+-- How many processes, queues and entries there are, whatever they are.
 pub record Shaped (s : Store) (entries : List Entry) : Type 0 where
-  pub rows-length : length s.rows ≡ processes_most
-  pub mails-length : length s.mails ≡ processes_most
-  pub logs-length : length s.logs ≡ processes_most
-  pub heads-length : length s.heads ≡ processes_most
+  pub processes-length : length s.processes ≡ processes_most
   pub queues-length : length s.queues ≡ boards_most
   pub entries-length : length entries ≡ entries_most
 
--- The lists hold this cabinet of table t.
+-- The store and the entries hold this cabinet of table t.
 pub record Holds (t : Table) (s : Store) (entries : List Entry) (c : Cabinet) : Type 0 where
   pub processes : c.processes ≡ listed (process_in s) (length t.processes)
   pub outboxes : c.outboxes ≡ listed (outbox_in s.queues entries) t.boards
   pub dead : c.dead ≡ listed (dead_in s.queues) t.boards
-  -- each process's lists are kept, and each ring is one
-  pub kept : (p : ℕ) → p < length t.processes → Kept (slice_index_or s.rows p []) (slice_index_or s.mails p []) (slice_index_or s.logs p []) (slice_index_or s.heads p [])
-  -- each row has the process's two boards of the table,
-  pub seated : (p : ℕ) → p < length t.processes → Seated (placement_at t p).primary (placement_at t p).standby (slice_index_or s.rows p [])
+  -- each process is kept, and each ring is one
+  pub kept : (p : ℕ) → p < length t.processes → Kept (lists_at s p)
+  -- each has its two boards of the table,
+  pub seated : (p : ℕ) → p < length t.processes → Seated (placement_at t p).primary (placement_at t p).standby (lists_at s p)
   -- and whether a checkpoint or a transfer of it waits in its board's queue
-  pub waits-is : (p : ℕ) → p < length t.processes → waits_in (slice_index_or s.rows p []) ≡ flag (waiting p (outbox_at c (process_at c p).board))
+  pub waits-is : (p : ℕ) → p < length t.processes → (lists_at s p).waits ≡ waiting p (outbox_at c (process_at c p).board)
   pub first_small : (b : ℕ) → b < t.boards → first_in s.queues b < outbox_most
   pub count_small : (b : ℕ) → b < t.boards → count_in s.queues b ≤ outbox_most
-  pub queue_three : (b : ℕ) → b < t.boards → length (slice_index_or s.queues b []) ≡ queue_length
   -- W-208: "After every move of a run, a crash included, each total equals the count made afresh."
   pub totalled : Totalled t s.totals c
   pub shape : Shaped s entries

@@ -8,7 +8,7 @@ use backup::place::Checkpoint;
 
 // Document 01: "An entry of an outgoing queue is a word or a sync". W-210: or a resync, "its snapshot and copies of all its unread words [..]
 // as one entry". Snapshot and copies stand in the record that is being made. W-212: a word keeps "the place of its SEND"; its sender stands in
-// the channel's row.
+// the channel's wire.
 #[derive(Clone, Copy)]
 pub enum Item {
     Word {

@@ -1,7 +1,9 @@
-// The cabinet in lent arrays of numbers and one flat array of entries: a board's row, a channel's total, an entry, and what a move answers.
+// The cabinet as the moves are lent it, and one flat array of entries: its processes, its boards' queues, its channels' totals, an entry, and what
+// a move answers.
 #![tactic(auto)]
 
 pub mod channel;
 pub mod entry;
 pub mod moved;
 pub mod queue;
+pub mod store;

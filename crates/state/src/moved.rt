@@ -2,32 +2,30 @@
 ghost use Rattle.std.specs.Prelude.{◌≡◌};
 ghost use Rattle.state.specs.Moved.{refusal_of, alone_of, refused_with};
 
-use crate::queue::ENTRIES;
+use numbers::answers::Reason;
 
-// An answer's three numbers, and its cause (W-206).
+// An answer: why, by which its code is told too (W-206), and its other two numbers.
 #[derive(Clone, Copy)]
 pub struct Answer {
-    pub code: u32,
-    pub cause: u32,
+    pub reason: Reason,
     pub a: u32,
     pub word: u32,
 }
 
-// An answer, and the place of the entry that joins a queue by the move, which is no place where none does. Which entry that is the loop knows
-// from the move: it alone holds the entries.
+// An answer, and the place of the entry that joins a queue by the move, if one does. Which entry that is the loop knows from the move: it alone
+// holds the entries.
 #[derive(Clone, Copy)]
 pub struct Moved {
     pub answer: Answer,
-    pub at: usize,
+    pub at: Option<usize>,
 }
 
 // A refusal repeats a with word 0.
-pub fn refusal(code: u32, cause: u32, a: u32) -> Answer
-    ensures { result ≡ refusal_of code cause a }
+pub fn refusal(reason: Reason, a: u32) -> Answer
+    ensures { result ≡ refusal_of reason a }
 {
     Answer {
-        code: code,
-        cause: cause,
+        reason: reason,
         a: a,
         word: 0,
     }
@@ -39,12 +37,12 @@ pub fn alone(answer: Answer) -> Moved
 {
     Moved {
         answer: answer,
-        at: ENTRIES,
+        at: None,
     }
 }
 
-pub fn refused(code: u32, cause: u32, a: u32) -> Moved
-    ensures { result ≡ refused_with code cause a }
+pub fn refused(reason: Reason, a: u32) -> Moved
+    ensures { result ≡ refused_with reason a }
 {
-    alone(refusal(code, cause, a))
+    alone(refusal(reason, a))
 }

@@ -1,28 +1,33 @@
--- A step that sends a word, in the lists: one that is suppressed, the refusals 37, 38 and 39, and the word that joins its board's queue.
-use Rattle.std.proofs.Common.{◌≡◌, ℕ, suc, ◌+◌, ◌-◌, ◌%◌, ◌^◌, ◌<◌, ◌≤◌, Bool, true, false, ◌||◌, leb, List, [], ◌∷◌, ◌++◌, length, get_or, set, sym, refl, ap, ◌∙◌, ap₂, subst₂, arith, length-set, get_or-set_other, get_or-set_same, le-leb}
-use borrow.Author.Tests.{lt-leb}
+-- A step that sends a word, in a store: one that is suppressed, the refusals 37, 38 and 39, and the word that joins its board's queue.
+use Rattle.std.proofs.Common.{◌≡◌, ℕ, suc, ◌+◌, ◌-◌, ◌%◌, ◌^◌, ◌<◌, Bool, true, false, ◌||◌, leb, List, [], ◌∷◌, ◌++◌, length, get_or, set, sym, refl, ap, ◌∙◌, subst₂, arith, length-set, get_or-set_other, get_or-set_same, Some}
+use borrow.Author.Tests.{leb-false}
 use Rattle.facts.specs.Tests.{by_eq}
 use Rattle.facts.specs.Counts.{same}
-use Rattle.process.specs.Row.{pc_in, board_in, suppress_in, waits_in, machine_of, process_of}
+use Rattle.process.specs.declared.process.Process as lent
+use Rattle.process.specs.Row.{machine_of, process_of}
 use Rattle.instruction.specs.Instruction.{Intends, Suppresses, Queues, after_send}
 use Rattle.instruction.specs.declared.instruction.Intent.TheVariants.{Send}
+use Rattle.plan.specs.declared.Plan as code
 use Rattle.plan.specs.Plan.{reader_in}
 use Rattle.rules.specs.Table.{Table, code_of, limit_of, channel_at}
 use Rattle.rules.specs.Machine.{Mail, Machine, sent}
 use Rattle.rules.specs.Cabinet as rules
 use Rattle.rules.specs.Cabinet.{Cabinet, Process, outbox_most, is_waiter_of, process_at, outbox_at, full, waiting}
 use Rattle.rules.specs.Moves as moves
-use Rattle.rules.specs.Moves.{guard, refuse, accept, owed_for, send_blocked, send_held, refusal_number, suppressed, numbers, advanced, counting, one_sent, step, step_from, with_process, with_outbox, enqueue}
-use Rattle.rules.specs.Reasons.{refusal_cause, cause_of}
+use Rattle.rules.specs.Moves.{guard, refuse, accept, owed_for, send_blocked, send_held, suppressed, numbers, advanced, counting, one_sent, step, step_from, with_process, with_outbox, enqueue}
+use Rattle.rules.specs.Reasons.{cause_of}
+use Rattle.numbers.specs.declared.answers.Reason.{Reason}
+use Rattle.numbers.specs.declared.answers.Reason.TheVariants.{HeldBack, Queued, QueueFullForSend, HeldForSend}
 use Rattle.rules.proofs.Steps.{Steps, executes}
 use Rattle.rules.proofs.Counting.{weight, flight_joined}
-use Rattle.rules.proofs.Decoded.{owed_number}
 use Rattle.rules.proofs.Tables.{step_own}
 use Rattle.state.specs.declared.entry.Entry.{Entry}
 use Rattle.state.specs.declared.moved.Moved.{Moved}
-use Rattle.state.specs.Queue.{first_in, count_in, place_of, pushed_in, queue_count}
-use Rattle.state.specs.Store.{item_of, Store, store_of, Totalled, Holds, flag}
-use Rattle.state.specs.Moved.{Reachable, answer_of, refusal_of, moved_of, alone_of, refused_with}
+use Rattle.state.specs.declared.queue.Queue.{Queue}
+use Rattle.state.specs.declared.store.Store.{Store}
+use Rattle.state.specs.Queue.{no_queue, first_in, count_in, place_of, pushed_in}
+use Rattle.state.specs.Store.{item_of, lists_at, Totalled, Holds}
+use Rattle.state.specs.Moved.{Reachable, SameLengths, answer_of, refusal_of, moved_of, alone_of, refused_with}
 use Rattle.state.proofs.Reading.{at_process, how_many_boards}
 use Rattle.state.proofs.Queueing.{QueueThen, entry_joins}
 use Rattle.state.proofs.Flagging.{flagged_none}
@@ -34,8 +39,8 @@ use Rattle.step.specs.Parts.{owing_in, blame_in, word_entry, SendTurns}
 use Rattle.state.specs.Channel.{full_in}
 use Rattle.state.proofs.Held.{full_is, occupancy_small}
 use Rattle.state.proofs.Joining.{board-is, board-there, queue_has}
-use Rattle.state.proofs.Making.{its_index, its_board, answered, lengths, makes_alone, makes-joined}
-use Rattle.step.proofs.Stepping.{machine-is, step_is, owing-is, blame_is, instructions-room, events-room}
+use Rattle.state.proofs.Making.{its_index, its_board, answered, makes_alone, makes-joined}
+use Rattle.step.proofs.Stepping.{with_process_in, same_lengths, machine-is, step_is, owing-is, blame_is, instructions-room, events-room}
 
 -- a word that joins a queue is no checkpoint
 waiting-joined : (q : ℕ) (l : List rules.Item) (x : Mail) (pc : ℕ) → waiting q (l ++ (rules.message x pc ∷ [])) ≡ waiting q l
@@ -43,38 +48,29 @@ waiting-joined q [] x pc = refl
 waiting-joined q (i ∷ l) x pc = ap (λ (b : Bool). is_waiter_of q i || b) (waiting-joined q l x pc)
 
 module _ {t : Table} {s : Store} {entries : List Entry} {c : Cabinet} (reach : Reachable t c) (h : Holds t s entries c) (p : ℕ) (hp : p < length t.processes)
-    (n code a operand channel word : ℕ) (i : Intends (code_of t p) (get_or s.rows p []) (get_or s.mails p []) n code a operand (Send channel word)) where
-  abbrev row : List ℕ
-  row = get_or s.rows p []
-
-  abbrev mail : List ℕ
-  mail = get_or s.mails p []
-
-  abbrev log : List ℕ
-  log = get_or s.logs p []
-
-  abbrev head : List ℕ
-  head = get_or s.heads p []
+    (n code a operand channel word : ℕ) (i : Intends (code_of t p) (lists_at s p) n code a operand (Send channel word)) where
+  abbrev its : lent.Process
+  its = lists_at s p
 
   -- its board
   abbrev b : ℕ
-  b = board_in row
+  b = its.board
 
   abbrev x : Mail
   x = record { channel = channel; word = word }
 
   abbrev m1 : Machine
-  m1 = after_send (machine_of row mail)
+  m1 = after_send (machine_of its)
 
-  went : Steps (code_of t p) (machine_of row mail) (sent x) m1
+  went : Steps (code_of t p) (machine_of its) (sent x) m1
   went = record { is = i.outcome }
 
-  -- its place, as the row has it, and in a byte
-  at_place : (process_at c p).machine.pc ≡ pc_in row
+  -- its place, as the code has it, and in a byte
+  at_place : (process_at c p).machine.pc ≡ its.pc
   unfolding machine_of
   at_place = ap (λ (m : Machine). m.pc) (machine-is h p hp)
 
-  pub place_fits : pc_in row % 256 ≡ pc_in row
+  pub place_fits : its.pc % 256 ≡ its.pc
   unfolding machine_of
   place_fits = let w = (executes went).within in let z = reach.accepted.short p hp in omega arith
 
@@ -85,7 +81,7 @@ module _ {t : Table} {s : Store} {entries : List Entry} {c : Cabinet} (reach : R
   pub channel-inside : channel < length t.channels
   channel-inside = sent-inside reach.accepted channel (rw own hp)
 
-  sends_so : (held : ℕ) → suppress_in row ≡ held → step t c p ≡ moves.send t c p (process_at c p) m1 x held
+  sends_so : (held : ℕ) → its.suppress ≡ held → step t c p ≡ moves.send t c p (process_at c p) m1 x held
   unfolding step_from process_of
   sends_so held e =
       step_is h p hp _ i.outcome ∙ ap (moves.send t c p (process_at c p) m1 x) (ap (λ (y : Process). y.suppress) (at_process h p hp) ∙ e)
@@ -95,19 +91,19 @@ module _ {t : Table} {s : Store} {entries : List Entry} {c : Cabinet} (reach : R
   abbrev suppressing : ℕ → Process → Process
   suppressing left y = advanced m1 y.since left y
 
-  pub suppressed_so : (left : ℕ) → suppress_in row ≡ suc left → step t c p ≡ accept (with_process p (suppressing left (process_at c p)) c) (suppressed x)
+  pub suppressed_so : (left : ℕ) → its.suppress ≡ suc left → step t c p ≡ accept (with_process p (suppressing left (process_at c p)) c) (suppressed x)
   unfolding moves.send
   suppressed_so left e = sends_so (suc left) e
 
   same-mailbox : m1.mailbox ≡ (process_at c p).machine.mailbox
   same-mailbox = ap (λ (m : Machine). m.mailbox) (sym (machine-is h p hp))
 
-  pub suppress-holds : (left : ℕ) (row' : List ℕ) → suppress_in row ≡ suc left → Suppresses row row'
-      → Holds t (store_of (set s.rows p row') s.mails s.logs s.heads s.queues s.totals) entries (with_process p (suppressing left (process_at c p)) c)
+  pub suppress-holds : (left : ℕ) (x' : lent.Process) → its.suppress ≡ suc left → Suppresses its x'
+      → Holds t (with_process_in s p x') entries (with_process p (suppressing left (process_at c p)) c)
   unfolding advanced
-  suppress-holds left row' e became =
-      row_changed h reach.accepted.processes_high p hp row' (suppressing left)
-      (became (code_of t p) n code a operand channel word left mail log head (h.kept p hp) i e) refl same-mailbox
+  suppress-holds left x' e became =
+      row_changed h reach.accepted.processes_high p hp x' (suppressing left)
+      (became (code_of t p) n code a operand channel word left (h.kept p hp) i e) refl same-mailbox
 
   -- ---- the refusals
 
@@ -117,8 +113,8 @@ module _ {t : Table} {s : Store} {entries : List Entry} {c : Cabinet} (reach : R
   abbrev then : Cabinet
   then = with_process p (queueing (process_at c p)) (enqueue (process_at c p).board (rules.message x (process_at c p).machine.pc) c)
 
-  module _ (none : suppress_in row ≡ 0) (reader : ℕ) (is-reader : reader ≡ (channel_at t channel).reader) where
-    queues_so : (b1 b2 b3 : Bool) → owing_in (limit_of t p) row ≡ b1 → leb outbox_most (count_in s.queues b) ≡ b2 → full_in reader (get_or s.totals channel 0) ≡ b3
+  module _ (none : its.suppress ≡ 0) (reader : ℕ) (is-reader : reader ≡ (channel_at t channel).reader) where
+    queues_so : (b1 b2 b3 : Bool) → owing_in (limit_of t p) its ≡ b1 → leb outbox_most (count_in s.queues b) ≡ b2 → full_in reader (get_or s.totals channel 0) ≡ b3
         → step t c p ≡ guard b1 (owed_for (limit_of t p) (process_at c p)) (guard b2 send_blocked (guard b3 send_held (accept then (moves.queued x))))
     unfolding moves.send
     queues_so b1 b2 b3 e1 e2 e3 =
@@ -127,32 +123,32 @@ module _ {t : Table} {s : Store} {entries : List Entry} {c : Cabinet} (reach : R
         ∙ ap (λ (z : Bool). guard b1 (owed_for (limit_of t p) (process_at c p)) (guard z send_blocked (guard (full t c channel) send_held (accept then (moves.queued x))))) (ap (leb outbox_most) (queue_has reach h p hp) ∙ e2)
         ∙ ap (λ (z : Bool). guard b1 (owed_for (limit_of t p) (process_at c p)) (guard b2 send_blocked (guard z send_held (accept then (moves.queued x))))) (full_is h.totalled channel channel-inside reader is-reader ∙ e3)
 
-    pub refused_37 : owing_in (limit_of t p) row ≡ true → step t c p ≡ refuse (owed_for (limit_of t p) (process_at c p))
+    pub refused_37 : owing_in (limit_of t p) its ≡ true → step t c p ≡ refuse (owed_for (limit_of t p) (process_at c p))
     unfolding guard
     refused_37 e = queues_so true _ _ e refl refl
 
-    pub refused_38 : owing_in (limit_of t p) row ≡ false → leb outbox_most (count_in s.queues b) ≡ true → step t c p ≡ refuse send_blocked
+    pub refused_38 : owing_in (limit_of t p) its ≡ false → leb outbox_most (count_in s.queues b) ≡ true → step t c p ≡ refuse send_blocked
     unfolding guard
     refused_38 e f = queues_so false true _ e f refl
 
-    pub refused_39 : owing_in (limit_of t p) row ≡ false → leb outbox_most (count_in s.queues b) ≡ false → full_in reader (get_or s.totals channel 0) ≡ true
+    pub refused_39 : owing_in (limit_of t p) its ≡ false → leb outbox_most (count_in s.queues b) ≡ false → full_in reader (get_or s.totals channel 0) ≡ true
         → step t c p ≡ refuse send_held
     unfolding guard
     refused_39 e f g = queues_so false false true e f g
 
-    pub queued_so : owing_in (limit_of t p) row ≡ false → leb outbox_most (count_in s.queues b) ≡ false → full_in reader (get_or s.totals channel 0) ≡ false
+    pub queued_so : owing_in (limit_of t p) its ≡ false → leb outbox_most (count_in s.queues b) ≡ false → full_in reader (get_or s.totals channel 0) ≡ false
         → step t c p ≡ accept then (moves.queued x)
     unfolding guard
     queued_so e f g = queues_so false false false e f g
 
   -- ---- the word joins
 
-  module _ (few : count_in s.queues b < outbox_most) (e : Entry) (is-item : item_of e.item ≡ rules.message x (pc_in row)) where
+  module _ (few : count_in s.queues b < outbox_most) (e : Entry) (is-item : item_of e.item ≡ rules.message x (its.pc)) where
     hb : b < t.boards
     hb = board-there reach h p hp
 
-    abbrev queue : List ℕ
-    queue = get_or s.queues b []
+    abbrev queue : Queue
+    queue = get_or s.queues b no_queue
 
     abbrev items : List rules.Item
     items = outbox_at c b ++ (item_of e.item ∷ [])
@@ -160,15 +156,15 @@ module _ {t : Table} {s : Store} {entries : List Entry} {c : Cabinet} (reach : R
     abbrev totals' : List ℕ
     totals' = set s.totals channel ((get_or s.totals channel 0 + 1) % 2 ^ 32)
 
-    -- the flags stay
-    waits_then : (q : ℕ) → q < length t.processes → waits_in (get_or s.rows q []) ≡ flag (waiting q (get_or (set c.outboxes b items) (process_at c q).board []))
+    -- what waits still waits
+    waits_then : (q : ℕ) → q < length t.processes → (lists_at s q).waits ≡ waiting q (get_or (set c.outboxes b items) (process_at c q).board [])
     waits_then q hq =
         let there : b < length c.outboxes = rw (how_many_boards h) hb in
         by_eq (process_at c q).board b
         (λ f. let now_is : get_or (set c.outboxes b items) (process_at c q).board [] ≡ items = rw f (get_or-set_same c.outboxes b items [] there) in
-        let still : waiting q items ≡ waiting q (outbox_at c b) = ap (λ (j : rules.Item). waiting q (outbox_at c b ++ (j ∷ []))) is-item ∙ waiting-joined q (outbox_at c b) x (pc_in row) in
-        h.waits-is q hq ∙ ap (λ (j : ℕ). flag (waiting q (outbox_at c j))) f ∙ ap flag (sym still) ∙ ap (λ (l : List rules.Item). flag (waiting q l)) (sym now_is))
-        (λ f. h.waits-is q hq ∙ ap (λ (l : List rules.Item). flag (waiting q l)) (sym (get_or-set_other c.outboxes b (process_at c q).board items [] f)))
+        let still : waiting q items ≡ waiting q (outbox_at c b) = ap (λ (j : rules.Item). waiting q (outbox_at c b ++ (j ∷ []))) is-item ∙ waiting-joined q (outbox_at c b) x (its.pc) in
+        h.waits-is q hq ∙ ap (λ (j : ℕ). waiting q (outbox_at c j)) f ∙ sym still ∙ ap (waiting q) (sym now_is))
+        (λ f. h.waits-is q hq ∙ ap (waiting q) (sym (get_or-set_other c.outboxes b (process_at c q).board items [] f)))
 
     -- one word more of the channel is in the queues
     totals_then : Totalled t totals' (with_outbox b items c)
@@ -176,111 +172,114 @@ module _ {t : Table} {s : Store} {entries : List Entry} {c : Cabinet} (reach : R
         totalled_more s.totals reach.accepted.channels_high channel channel-inside h.totalled.totals-length _
         (λ k hk.
         let more = flight_joined k c.outboxes b (item_of e.item) (rw (how_many_boards h) hb) in
-        let w : weight k (item_of e.item) ≡ weight k (rules.message x (pc_in row)) = ap (weight k) is-item in
+        let w : weight k (item_of e.item) ≡ weight k (rules.message x (its.pc)) = ap (weight k) is-item in
         let now = occupancy_outbox t c b items k 0 (same k channel) (omega arith) in
         let was = h.totalled.total-is k hk in
         omega arith)
         refl
         (let was = h.totalled.total-is channel channel-inside in let few = occupancy_small reach channel in omega arith)
 
-    queue_then : QueueThen t s c b s.rows (pushed_in queue) totals' (first_in s.queues b) (suc (count_in s.queues b)) items
-    queue_then =
-        let l = h.queue_three b hb in
-        record {
-          is-first = get_or-set_other queue 1 0 ((queue_count queue + 1) % 2 ^ 32) 0 (λ f. omega arith);
-          is-count = get_or-set_same queue 1 ((queue_count queue + 1) % 2 ^ 32) 0 (omega arith) ∙ omega arith;
-          is-dead = get_or-set_other queue 1 2 ((queue_count queue + 1) % 2 ^ 32) 0 (λ f. omega arith);
-          three = length-set queue 1 _ ∙ l;
-          totalled_then = totals_then;
-          waiting-there = waits_then;
-          flagged = flagged_none t s.rows;
-        }
+    queue_then : QueueThen t s c b s.processes (pushed_in queue) totals' (first_in s.queues b) (suc (count_in s.queues b)) items
+    queue_then = record {
+      is-first = refl;
+      is-count = let l = h.count_small b hb in omega arith;
+      is-dead = refl;
+      totalled_then = totals_then;
+      waiting-there = waits_then;
+      flagged = flagged_none t s.processes;
+    }
 
-    -- the lists afterwards hold the rules' cabinet afterwards
-    send-holds : (row' : List ℕ) → suppress_in row ≡ 0 → Queues row row'
-        → Holds t (store_of (set s.rows p row') s.mails s.logs s.heads (set s.queues b (pushed_in queue)) totals') (set entries (place_of queue b) e)
-        (with_process p (queueing (process_at c p)) (enqueue b (item_of e.item) c))
+    -- the store afterwards holds the rules' cabinet afterwards
+    abbrev then_store : lent.Process → Store
+    then_store x' = record { processes = set s.processes p x'; queues = set s.queues b (pushed_in queue); totals = totals' }
+
+    send-holds : (x' : lent.Process) → its.suppress ≡ 0 → Queues its x'
+        → Holds t (then_store x') (set entries (place_of queue b) e) (with_process p (queueing (process_at c p)) (enqueue b (item_of e.item) c))
     unfolding advanced
-    send-holds row' none became =
-        let first = entry_joins h reach.accepted.boards_high b hb s.rows (pushed_in queue) totals' e few queue_then in
-        row_changed first reach.accepted.processes_high p hp row' queueing
-        (became (code_of t p) n code a operand channel word mail log head (h.kept p hp) i none (events-room h p hp reach) (instructions-room h p hp reach)) refl same-mailbox
+    send-holds x' none became =
+        let first = entry_joins h reach.accepted.boards_high b hb s.processes (pushed_in queue) totals' e few queue_then in
+        row_changed first reach.accepted.processes_high p hp x' queueing
+        (became (code_of t p) n code a operand channel word (h.kept p hp) i none (events-room h p hp reach) (instructions-room h p hp reach)) refl same-mailbox
 
-    pub send-holds_so : (row' : List ℕ) → suppress_in row ≡ 0 → Queues row row'
-        → Holds t (store_of (set s.rows p row') s.mails s.logs s.heads (set s.queues b (pushed_in queue)) totals') (set entries (place_of queue b) e) then
-    send-holds_so row' none became =
-        let after : Store = store_of (set s.rows p row') s.mails s.logs s.heads (set s.queues b (pushed_in queue)) totals' in
+    pub send-holds_so : (x' : lent.Process) → its.suppress ≡ 0 → Queues its x' → Holds t (then_store x') (set entries (place_of queue b) e) then
+    send-holds_so x' none became =
         let Then : ℕ → rules.Item → Type 0 =
-        λ j item. Holds t after (set entries (place_of queue b) e) (with_process p (queueing (process_at c p)) (enqueue j item c)) in
-        subst₂ Then (sym (board-is reach h p hp)) (is-item ∙ ap (rules.message x) (sym at_place)) (send-holds row' none became)
+        λ j item. Holds t (then_store x') (set entries (place_of queue b) e) (with_process p (queueing (process_at c p)) (enqueue j item c)) in
+        subst₂ Then (sym (board-is reach h p hp)) (is-item ∙ ap (rules.message x) (sym at_place)) (send-holds x' none became)
 
 -- ---- what the part promises
 
-module _ (wires : List ℕ) (rows queues : List (List ℕ)) (totals : List ℕ) (limit p a : ℕ) (is-p : a < 16 → p ≡ a) (channel word : ℕ) (r : Moved) where
-  abbrev its_row : List ℕ
-  its_row = get_or rows p []
+module _ (plan : code.Plan) (s : Store) (limit p a : ℕ) (is-p : a < 16 → p ≡ a) (channel word : ℕ) (r : Moved) where
+  abbrev sender : lent.Process
+  sender = lists_at s p
 
-  abbrev Refuses : Type 0
-  Refuses = SendTurns wires rows queues totals limit a channel word rows queues totals r
+  abbrev Turns : Store → Type 0
+  Turns s' = SendTurns plan s limit a channel word s' r
 
-  pub send-suppressed : (row' : List ℕ) → 0 < suppress_in its_row → Suppresses its_row row' → r ≡ alone_of (answer_of 3 0 channel word)
-      → SendTurns wires rows queues totals limit a channel word (set rows p row') queues totals r
+  pub send-suppressed : (x' : lent.Process) → 0 < sender.suppress → Suppresses sender x' → r ≡ alone_of (answer_of HeldBack channel word) → Turns (with_process_in s p x')
   unfolding numbers cause_of
-  send-suppressed row' some became g table counts programs mails logs heads n code register operand =
-      makes_alone (answer_of 3 0 channel word) (omega arith) (lengths (length-set rows p row') refl refl refl) g
+  send-suppressed x' some became g table n code register operand =
+      makes_alone (answer_of HeldBack channel word) (omega arith) (same_lengths s p _ s.totals refl) g
       (λ t entries c command reach planned h f i.
       let q = its_index reach i.process-there is-p in
       let j = rw (← q) at i in
       let hp = j.process-there in
-      let left : ℕ = suppress_in its_row - 1 in
-      let e : suppress_in its_row ≡ suc left = omega arith in
+      let left : ℕ = sender.suppress - 1 in
+      let e : sender.suppress ≡ suc left = omega arith in
       rw (← q) (answered _ (suppressed (record { channel = channel; word = word })) (suppressed_so reach h p hp n code register operand channel word j.intends left e)
-      refl refl (suppress-holds reach h p hp n code register operand channel word j.intends left row' e became)))
+      refl refl (suppress-holds reach h p hp n code register operand channel word j.intends left x' e became)))
 
-  module _ (none : suppress_in its_row ≡ 0) where
-    pub send_37 : owing_in limit its_row ≡ true → (cause : ℕ) → cause ≡ blame_in limit its_row → r ≡ refused_with 37 cause a → Refuses
-    send_37 e cause b g table counts programs mails logs heads n code register operand =
-        makes-refused 37 cause g (λ t entries c command reach planned h f i.
+  module _ (none : sender.suppress ≡ 0) where
+    pub send_37 : owing_in limit sender ≡ true → (why : Reason) → why ≡ blame_in limit sender → r ≡ refused_with why a → Turns s
+    send_37 e why b g table n code register operand =
+        makes-refused why g (λ t entries c command reach planned h f i.
         let ha = i.process-there in
         let q = its_index reach ha is-p in
         turned_away_lem command a (owed_for (limit_of t a) (process_at c a)) h
         (refused_37 reach h a ha n code register operand channel word i.intends (rw (← q) none) _ refl (rw (i.limit_is, ← q) e)) f
-        (ap₂ (λ (k z : ℕ). refusal_of k z a) (sym (owed_number (limit_of t a) (process_at c a))) (rw (blame_is h a ha, i.limit_is, ← q) b)))
+        (ap (λ (z : Reason). refusal_of z a) (rw (blame_is h a ha, i.limit_is, ← q) b)))
 
-    module _ (fresh : owing_in limit its_row ≡ false) (b : ℕ) (is_b : board_in its_row < 16 → b ≡ board_in its_row) where
-      pub send_38 : outbox_most ≤ count_in queues b → r ≡ refused_with 38 0 a → Refuses
-      unfolding refusal_number refusal_cause
-      send_38 many g table counts programs mails logs heads n code register operand =
-          makes-refused 38 0 g (λ t entries c command reach planned h f i.
+    module _ (fresh : owing_in limit sender ≡ false) (b : ℕ) (is_b : sender.board < 16 → b ≡ sender.board) where
+      pub send_38 : leb outbox_most (count_in s.queues b) ≡ true → r ≡ refused_with QueueFullForSend a → Turns s
+      send_38 many g table n code register operand =
+          makes-refused QueueFullForSend g (λ t entries c command reach planned h f i.
           let q = its_index reach i.process-there is-p in
           let j = rw (← q) at i in
           let hp = j.process-there in
-          let all : outbox_most ≤ count_in queues (board_in its_row) = rw (← its_board reach (board-there reach h p hp) is_b) many in
+          let all : leb outbox_most (count_in s.queues sender.board) ≡ true = rw (← its_board reach (board-there reach h p hp) is_b) many in
           rw (← q) (turned_away_lem command p send_blocked h
-          (refused_38 reach h p hp n code register operand channel word j.intends none _ refl (rw j.limit_is fresh) (le-leb outbox_most _ all)) (f ∙ sym q) refl))
+          (refused_38 reach h p hp n code register operand channel word j.intends none _ refl (rw j.limit_is fresh) all) (f ∙ sym q) refl))
 
-      module _ (few : count_in queues b < outbox_most) (k reader : ℕ) (is-k : channel < 32 → k ≡ channel) (is-reader : reader ≡ reader_in wires k) where
-        pub send_39 : full_in reader (get_or totals k 0) ≡ true → r ≡ refused_with 39 0 a → Refuses
-        unfolding refusal_number refusal_cause
-        send_39 e g table counts programs mails logs heads n code register operand =
-            makes-refused 39 0 g (λ t entries c command reach planned h f i.
+      module _ (few : leb outbox_most (count_in s.queues b) ≡ false) (k reader : ℕ) (is-k : channel < 32 → k ≡ channel) (is-reader : reader ≡ reader_in plan.wires k) where
+        pub send_39 : full_in reader (get_or s.totals k 0) ≡ true → r ≡ refused_with HeldForSend a → Turns s
+        send_39 e g table n code register operand =
+            makes-refused HeldForSend g (λ t entries c command reach planned h f i.
             let q = its_index reach i.process-there is-p in
             let j = rw (← q) at i in
             let hp = j.process-there in
             let l = channel-inside reach h p hp n code register operand channel word j.intends in
             let kk : k ≡ channel = is-k (let z = reach.accepted.channels_high in omega arith) in
-            let few0 : count_in queues (board_in its_row) < outbox_most = rw (← its_board reach (board-there reach h p hp) is_b) few in
+            let few0 : leb outbox_most (count_in s.queues sender.board) ≡ false = rw (← its_board reach (board-there reach h p hp) is_b) few in
             rw (← q) (turned_away_lem command p send_held h
-            (refused_39 reach h p hp n code register operand channel word j.intends none reader (is-reader ∙ ap (reader_in wires) kk ∙ planned.reader_at channel l)
-            (rw j.limit_is fresh) (lt-leb outbox_most _ few0) (rw (← kk) e)) (f ∙ sym q) refl))
+            (refused_39 reach h p hp n code register operand channel word j.intends none reader (is-reader ∙ ap (reader_in plan.wires) kk ∙ planned.reader_at channel l)
+            (rw j.limit_is fresh) few0 (rw (← kk) e)) (f ∙ sym q) refl))
 
-        pub send-queued : (row' : List ℕ) → full_in reader (get_or totals k 0) ≡ false → Queues its_row row' → place_of (get_or queues b []) b < 512
-            → r ≡ moved_of (answer_of 2 0 channel word) (place_of (get_or queues b []) b)
-            → SendTurns wires rows queues totals limit a channel word (set rows p row') (set queues b (pushed_in (get_or queues b []))) (set totals k ((get_or totals k 0 + 1) % 2 ^ 32)) r
+        -- the store afterwards
+        abbrev queued_from : lent.Process → Store
+        queued_from x' = record {
+          processes = set s.processes p x';
+          queues = set s.queues b (pushed_in (get_or s.queues b no_queue));
+          totals = set s.totals k ((get_or s.totals k 0 + 1) % 2 ^ 32);
+        }
+
+        longs : (x' : lent.Process) → SameLengths s (queued_from x')
+        longs x' = record { processes-same = length-set s.processes p _; queues-same = length-set s.queues b _; totals-same = length-set s.totals k _ }
+
+        pub send-queued : (x' : lent.Process) → full_in reader (get_or s.totals k 0) ≡ false → Queues sender x' → place_of (get_or s.queues b no_queue) b < 512
+            → r ≡ moved_of (answer_of Queued channel word) (Some (place_of (get_or s.queues b no_queue) b)) → Turns (queued_from x')
         unfolding numbers cause_of
-        send-queued row' e became below g table counts programs mails logs heads n code register operand =
-            makes-joined (answer_of 2 0 channel word) (omega arith) (lengths (length-set rows p row') refl (length-set queues b _) (length-set totals k _))
-            (place_of (get_or queues b []) b) below refl g
+        send-queued x' e became below g table n code register operand =
+            makes-joined (answer_of Queued channel word) (omega arith) (longs x') (place_of (get_or s.queues b no_queue) b) below refl g
             (λ t entries c command reach planned h f i.
             let q = its_index reach i.process-there is-p in
             let j = rw (← q) at i in
@@ -288,11 +287,11 @@ module _ (wires : List ℕ) (rows queues : List (List ℕ)) (totals : List ℕ) 
             let l = channel-inside reach h p hp n code register operand channel word j.intends in
             let kk : k ≡ channel = is-k (let z = reach.accepted.channels_high in omega arith) in
             let bb = its_board reach (board-there reach h p hp) is_b in
-            let few0 : count_in queues (board_in its_row) < outbox_most = rw (← bb) few in
-            let so = queued_so reach h p hp n code register operand channel word j.intends none reader (is-reader ∙ ap (reader_in wires) kk ∙ planned.reader_at channel l)
-            (rw j.limit_is fresh) (lt-leb outbox_most _ few0) (rw (← kk) e) in
-            let there = send-holds_so reach h p hp n code register operand channel word j.intends few0 (word_entry rows p r.answer)
-            (ap (λ (z : Moved). item_of (word_entry rows p z.answer).item) g
+            let few0 : leb outbox_most (count_in s.queues sender.board) ≡ false = rw (← bb) few in
+            let so = queued_so reach h p hp n code register operand channel word j.intends none reader (is-reader ∙ ap (reader_in plan.wires) kk ∙ planned.reader_at channel l)
+            (rw j.limit_is fresh) few0 (rw (← kk) e) in
+            let there = send-holds_so reach h p hp n code register operand channel word j.intends (leb-false outbox_most _ few0) (word_entry s p r.answer)
+            (ap (λ (z : Moved). item_of (word_entry s p z.answer).item) g
             ∙ ap (rules.message (record { channel = channel; word = word })) (place_fits reach h p hp n code register operand channel word j.intends))
-            row' none became in
+            x' none became in
             rw (← q, bb, kk) (answered _ (moves.queued (record { channel = channel; word = word })) so refl refl there))

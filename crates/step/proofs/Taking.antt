@@ -1,85 +1,70 @@
--- A step that takes a word, in the lists: the refusal 37, and the word that leaves its mailbox.
-use Rattle.std.proofs.Common.{◌≡◌, ℕ, zero, suc, ◌+◌, ◌%◌, ◌^◌, ◌<◌, ◌≤◌, Bool, true, false, List, [], length, get_or, set, sym, refl, ap, ◌∙◌, subst, ap₂, arith, length-set}
-use lib.Seq.{set-get_or}
+-- A step that takes a word, in a store: the refusal 37, and the word that leaves its mailbox.
+use Rattle.std.proofs.Common.{◌≡◌, ℕ, ◌+◌, ◌%◌, ◌^◌, ◌<◌, ◌≤◌, Bool, true, false, List, length, get_or, set, sym, refl, ap, ◌∙◌, subst, arith, length-set}
 use Rattle.facts.specs.Tests.{by_eq}
 use Rattle.facts.specs.Counts.{same, same_yes}
 use Rattle.backup.specs.Limits.{ports}
+use Rattle.process.specs.declared.process.Process as lent
 use Rattle.process.specs.Row.{mail_at, machine_of, process_of}
-use Rattle.process.specs.Change.{Became}
+use Rattle.process.specs.Change.{Became, BackupStays}
 use Rattle.instruction.specs.Instruction.{Intends, Takes, TallyRoom, after_take}
 use Rattle.instruction.specs.declared.instruction.Intent.TheVariants.{Take}
+use Rattle.plan.specs.declared.Plan as code
 use Rattle.plan.specs.Plan.{port_in}
 use Rattle.rules.specs.Table.{Table, code_of, limit_of, channel_at, port_of}
 use Rattle.rules.specs.Machine.{Mail, Machine, took}
 use Rattle.rules.specs.Cabinet.{Cabinet, Process, process_at, unread_on}
 use Rattle.rules.specs.Moves.{guard, refuse, accept, owed_for, received, numbers, advanced, counting, one_taken, step, step_from, with_process}
 use Rattle.rules.specs.Reasons.{cause_of}
+use Rattle.numbers.specs.declared.answers.Reason.{Reason}
+use Rattle.numbers.specs.declared.answers.Reason.TheVariants.{Took}
 use Rattle.rules.proofs.Steps.{Steps}
 use Rattle.rules.proofs.Counting.{step-unread}
-use Rattle.rules.proofs.Decoded.{owed_number}
 use Rattle.rules.proofs.Tables.{input, few-ports}
 use Rattle.state.specs.declared.entry.Entry.{Entry}
 use Rattle.state.specs.declared.moved.Moved.{Moved}
-use Rattle.state.specs.Store.{Store, store_of, Totalled, Holds}
+use Rattle.state.specs.declared.store.Store.{Store}
+use Rattle.state.specs.Store.{lists_at, Totalled, Holds}
 use Rattle.state.specs.Moved.{Reachable, answer_of, refusal_of, alone_of, refused_with}
 use Rattle.state.proofs.Reading.{at_process, how_many}
 use Rattle.state.proofs.Totals.{occupancy_less, totalled_less}
-use Rattle.state.proofs.Changing.{changed}
+use Rattle.state.proofs.Changing.{put_process, changed}
 use Rattle.state.proofs.Ends.{read_inside}
 use Rattle.state.proofs.Owners.{unread_own}
 use Rattle.state.proofs.Counters.{takes-few}
 use Rattle.state.proofs.Refusing.{turned_away_lem, makes-refused}
 use Rattle.step.specs.Parts.{owing_in, blame_in, TakeTurns}
-use Rattle.state.proofs.Making.{its_index, answered, lengths, makes_alone}
-use Rattle.step.proofs.Stepping.{machine-is, step_is, owing-is, blame_is, limited_here, instructions-room, events-room}
-
--- a row's receives on a port
-taken_at : (row mail log head : List ℕ) (port : ℕ) → port < ports → get_or row (8 + port) 0 ≡ get_or (process_of row mail log head).since.taken port 0
-unfolding process_of
-taken_at row mail log head zero l = refl
-taken_at row mail log head (suc zero) l = refl
-taken_at row mail log head (suc (suc zero)) l = refl
-taken_at row mail log head (suc (suc (suc zero))) l = refl
-taken_at row mail log head (suc (suc (suc (suc port)))) l = absurd (omega arith)
+use Rattle.state.proofs.Making.{its_index, answered, makes_alone}
+use Rattle.step.proofs.Stepping.{same_lengths, machine-is, step_is, owing-is, blame_is, limited_here, instructions-room, events-room}
 
 module _ {t : Table} {s : Store} {entries : List Entry} {c : Cabinet} (reach : Reachable t c) (h : Holds t s entries c) (p : ℕ) (hp : p < length t.processes)
-    (n code a operand at : ℕ) (i : Intends (code_of t p) (get_or s.rows p []) (get_or s.mails p []) n code a operand (Take at)) where
-  abbrev row : List ℕ
-  row = get_or s.rows p []
-
-  abbrev mail : List ℕ
-  mail = get_or s.mails p []
-
-  abbrev log : List ℕ
-  log = get_or s.logs p []
-
-  abbrev head : List ℕ
-  head = get_or s.heads p []
+    (n code a operand at : ℕ) (i : Intends (code_of t p) (lists_at s p) n code a operand (Take at)) where
+  abbrev its : lent.Process
+  its = lists_at s p
 
   -- the word, and the machine without it
   abbrev x : Mail
-  x = mail_at row mail at
+  x = mail_at its at
 
   abbrev m1 : Machine
-  m1 = after_take code a at row mail
+  m1 = after_take code a at its
 
   abbrev taking : Process → Process
   taking y = advanced m1 (counting (one_taken (port_of t p x.channel)) y) y.suppress y
 
-  went : Steps (code_of t p) (machine_of row mail) (took x) m1
+  went : Steps (code_of t p) (machine_of its) (took x) m1
   went = record { is = i.outcome }
 
-  takes_so : (b : Bool) → owing_in (limit_of t p) row ≡ b → step t c p ≡ guard b (owed_for (limit_of t p) (process_at c p)) (accept (with_process p (taking (process_at c p)) c) (received x))
+  takes_so : (b : Bool) → owing_in (limit_of t p) its ≡ b → step t c p ≡ guard b (owed_for (limit_of t p) (process_at c p)) (accept (with_process p (taking (process_at c p)) c) (received x))
   unfolding step_from
   takes_so b e =
       step_is h p hp _ i.outcome
       ∙ ap (λ (z : Bool). guard z (owed_for (limit_of t p) (process_at c p)) (accept (with_process p (taking (process_at c p)) c) (received x))) (owing-is h p hp ∙ e)
 
-  pub take-refused : owing_in (limit_of t p) row ≡ true → step t c p ≡ refuse (owed_for (limit_of t p) (process_at c p))
+  pub take-refused : owing_in (limit_of t p) its ≡ true → step t c p ≡ refuse (owed_for (limit_of t p) (process_at c p))
   unfolding guard
   take-refused e = takes_so true e
 
-  pub take-accepted : owing_in (limit_of t p) row ≡ false → step t c p ≡ accept (with_process p (taking (process_at c p)) c) (received x)
+  pub take-accepted : owing_in (limit_of t p) its ≡ false → step t c p ≡ accept (with_process p (taking (process_at c p)) c) (received x)
   unfolding guard
   take-accepted e = takes_so false e
 
@@ -102,67 +87,71 @@ module _ {t : Table} {s : Store} {entries : List Entry} {c : Cabinet} (reach : R
   port-there : port_of t p x.channel < ports
   port-there = let e = (input t reach.accepted x.channel p hp reads_it).below in let f = few-ports t reach.accepted p hp in omega arith
 
-  takes-room : TallyRoom row (8 + port_of t p x.channel)
+  takes-room : TallyRoom its (get_or its.taken (port_of t p x.channel) 0)
+  unfolding process_of
   takes-room n =
-      let e : get_or (process_at c p).since.taken (port_of t p x.channel) 0 ≡ get_or row (8 + port_of t p x.channel) 0 =
-      ap (λ (y : Process). get_or y.since.taken (port_of t p x.channel) 0) (at_process h p hp) ∙ sym (taken_at row mail log head (port_of t p x.channel) port-there) in
+      let e : get_or (process_at c p).since.taken (port_of t p x.channel) 0 ≡ get_or its.taken (port_of t p x.channel) 0 =
+      ap (λ (y : Process). get_or y.since.taken (port_of t p x.channel) 0) (at_process h p hp) in
       let f = takes-few reach p hp (limited_here h p hp n) (port_of t p x.channel) in
       omega arith
 
-  -- the lists afterwards hold the rules' cabinet afterwards
-  module _ (row' mail' : List ℕ) (left : ℕ) (takes : Takes row mail code a at (port_of t p x.channel) row' mail') (is-left : (left + 1) % 2 ^ 32 ≡ get_or s.totals x.channel 0) (left-fits : left < 2 ^ 32) where
-    became : Became row mail log head row' mail' log head taking
-    became = takes.became (code_of t p) n operand log head (h.kept p hp) i port-there (events-room h p hp reach) takes-room (instructions-room h p hp reach)
+  -- the store afterwards holds the rules' cabinet afterwards
+  module _ (y' : lent.Process) (left : ℕ) (takes : Takes its code a at (port_of t p x.channel) y') (stays : BackupStays its y') (is-left : (left + 1) % 2 ^ 32 ≡ get_or s.totals x.channel 0) (left-fits : left < 2 ^ 32) where
+    became : Became its y' taking
+    became =
+        subst (λ (z : lent.Process). Became its z taking) (λ j. record y' { log = sym stays.log-stays j; head = sym stays.head-stays j })
+        (takes.became (code_of t p) n operand its.log its.head (h.kept p hp) i port-there (events-room h p hp reach) takes-room
+        (instructions-room h p hp reach))
 
-    now_is : process_of row' mail' log head ≡ taking (process_at c p)
+    now_is : process_of y' ≡ taking (process_at c p)
     now_is = became.process-is ∙ ap taking (sym (at_process h p hp))
 
-    totals_then : Totalled t (set s.totals x.channel left) (with_process p (process_of row' mail' log head) c)
+    totals_then : Totalled t (set s.totals x.channel left) (with_process p (process_of y') c)
     unfolding advanced
     totals_then =
         totalled_less s.totals reach.accepted.channels_high x.channel channel-inside h.totalled.totals-length left
         (λ k l. h.totalled.total-is k l
-        ∙ occupancy_less t c p (rw (how_many h) hp) (process_of row' mail' log head) x.channel reads_it
+        ∙ occupancy_less t c p (rw (how_many h) hp) (process_of y') x.channel reads_it
         (λ j. less j ∙ ap (λ (y : Process). unread_on j y.machine.mailbox + same j x.channel) (sym now_is)) k)
         is-left left-fits
 
-    pub take-holds : Holds t (store_of (set s.rows p row') (set s.mails p mail') s.logs s.heads s.queues (set s.totals x.channel left)) entries (with_process p (taking (process_at c p)) c)
+    pub take-holds : Holds t (put_process s p y' (set s.totals x.channel left)) entries (with_process p (taking (process_at c p)) c)
     unfolding advanced
     take-holds =
         let u : List ℕ = set s.totals x.channel left in
-        let whole = changed h reach.accepted.processes_high p hp row' mail' log head u became.kept_again became.seated_again became.waits_again (ap (λ (y : Process). y.board) now_is) totals_then in
-        let rows' : List (List ℕ) = set s.rows p row' in
-        let mails' : List (List ℕ) = set s.mails p mail' in
-        let now : Process = process_of row' mail' log head in
-        subst (λ (y : Process). Holds t (store_of rows' mails' s.logs s.heads s.queues u) entries (with_process p y c)) now_is
-        (subst (λ (l : List (List ℕ)). Holds t (store_of rows' mails' l s.heads s.queues u) entries (with_process p now c)) (set-get_or s.logs p [])
-        (subst (λ (l : List (List ℕ)). Holds t (store_of rows' mails' (set s.logs p log) l s.queues u) entries (with_process p now c)) (set-get_or s.heads p [])
-        whole))
+        subst (λ (y : Process). Holds t (put_process s p y' u) entries (with_process p y c)) now_is
+        (changed h reach.accepted.processes_high p hp y' u became.kept_again became.seated_again became.waits_again (ap (λ (y : Process). y.board) now_is) totals_then)
 
 -- ---- what the part promises
 
-module _ (wires : List ℕ) (rows mails : List (List ℕ)) (totals : List ℕ) (limit p a : ℕ) (is-p : a < 16 → p ≡ a) (code register at : ℕ) (r : Moved) where
-  pub take_37 : owing_in limit (get_or rows p []) ≡ true → (cause : ℕ) → cause ≡ blame_in limit (get_or rows p []) → r ≡ refused_with 37 cause a
-      → TakeTurns wires rows mails totals limit a code register at rows mails totals r
-  take_37 e cause b g table counts programs logs heads queues n operand =
-      makes-refused 37 cause g (λ t entries c command reach planned h f i.
+module _ (plan : code.Plan) (s : Store) (limit p a : ℕ) (is-p : a < 16 → p ≡ a) (code register at : ℕ) (r : Moved) where
+  abbrev taker : lent.Process
+  taker = lists_at s p
+
+  pub take_37 : owing_in limit taker ≡ true → (why : Reason) → why ≡ blame_in limit taker → r ≡ refused_with why a
+      → TakeTurns plan s limit a code register at s r
+  take_37 e why b g table n operand =
+      makes-refused why g (λ t entries c command reach planned h f i.
       let ha = i.process-there in
       let q = its_index reach ha is-p in
       turned_away_lem command a (owed_for (limit_of t a) (process_at c a)) h
       (take-refused reach h a ha n code register operand at i.intends (rw (i.limit_is, ← q) e)) f
-      (ap₂ (λ (k z : ℕ). refusal_of k z a) (sym (owed_number (limit_of t a) (process_at c a))) (rw (blame_is h a ha, i.limit_is, ← q) b)))
+      (ap (λ (z : Reason). refusal_of z a) (rw (blame_is h a ha, i.limit_is, ← q) b)))
 
   -- the word at the position
   abbrev its_word : Mail
-  its_word = mail_at (get_or rows p []) (get_or mails p []) at
+  its_word = mail_at taker at
 
-  pub take_done : (k port left : ℕ) (row' mail' : List ℕ) → owing_in limit (get_or rows p []) ≡ false → (its_word.channel < 32 → k ≡ its_word.channel)
-      → port ≡ port_in wires k → Takes (get_or rows p []) (get_or mails p []) code register at port row' mail' → (left + 1) % 2 ^ 32 ≡ get_or totals k 0 → left < 2 ^ 32
-      → r ≡ alone_of (answer_of 1 0 its_word.channel its_word.word)
-      → TakeTurns wires rows mails totals limit a code register at (set rows p row') (set mails p mail') (set totals k left) r
+  -- the store afterwards
+  abbrev taken_from : ℕ → ℕ → lent.Process → Store
+  taken_from k left x' = put_process s p x' (set s.totals k left)
+
+  pub take_done : (k port left : ℕ) (x' : lent.Process) → owing_in limit taker ≡ false → (its_word.channel < 32 → k ≡ its_word.channel)
+      → port ≡ port_in plan.wires k → Takes taker code register at port x' → BackupStays taker x' → (left + 1) % 2 ^ 32 ≡ get_or s.totals k 0 → left < 2 ^ 32
+      → r ≡ alone_of (answer_of Took its_word.channel its_word.word) → TakeTurns plan s limit a code register at (taken_from k left x') r
   unfolding numbers cause_of
-  take_done k port left row' mail' e is-k is-port takes is-left fits g table counts programs logs heads queues n operand =
-      makes_alone (answer_of 1 0 its_word.channel its_word.word) (omega arith) (lengths (length-set rows p row') (length-set mails p mail') refl (length-set totals k left)) g
+  take_done k port left x' e is-k is-port takes stays is-left fits g table n operand =
+      makes_alone (answer_of Took its_word.channel its_word.word) (omega arith) (same_lengths s p _ (set s.totals k left) (length-set s.totals k left)) g
       (λ t entries c command reach planned h f i.
       let q = its_index reach i.process-there is-p in
       let j = rw (← q) at i in
@@ -172,7 +161,7 @@ module _ (wires : List ℕ) (rows mails : List (List ℕ)) (totals : List ℕ) (
       let its = reads_it reach h p hp n code register operand at j.intends in
       let kk : k ≡ x.channel = is-k (let z = reach.accepted.channels_high in omega arith) in
       let its-port : port ≡ port_of t p x.channel =
-      is-port ∙ ap (port_in wires) kk ∙ planned.port_at x.channel inside (rw its hp) ∙ ap (λ (i : ℕ). port_of t i x.channel) its in
-      let there = take-holds reach h p hp n code register operand at j.intends row' mail' left
-      (subst (λ (i : ℕ). Takes (get_or rows p []) (get_or mails p []) code register at i row' mail') its-port takes) (is-left ∙ ap (λ (i : ℕ). get_or totals i 0) kk) fits in
+      is-port ∙ ap (port_in plan.wires) kk ∙ planned.port_at x.channel inside (rw its hp) ∙ ap (λ (i : ℕ). port_of t i x.channel) its in
+      let there = take-holds reach h p hp n code register operand at j.intends x' left
+      (subst (λ (i : ℕ). Takes taker code register at i x') its-port takes) stays (is-left ∙ ap (λ (i : ℕ). get_or s.totals i 0) kk) fits in
       rw (← q, kk) (answered _ (received x) (take-accepted reach h p hp n code register operand at j.intends (rw j.limit_is e)) refl refl there))

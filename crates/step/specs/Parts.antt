@@ -1,11 +1,11 @@
 -- The parts of move 1: what a step looks at first, and a step that computes, takes a word or sends one.
 -- Document 01: "For TAKE and FIRST: 36 no such word, then 37 if backed and acts are 8. For a SEND not held back: 37 likewise, 38 queue
 -- full, 39 held." W-204: "a sync after 64 instructions [..]. Every kind of instruction then answers 37".
-use Rattle.std.specs.Prelude.{◌≡◌, ℕ, ◌%◌, ◌<◌, Bool, true, false, cond, not, ◌&&◌, ◌||◌, List, [], length, ◌==◌, nat_le, slice_index_or}
+use Rattle.std.specs.Prelude.{◌≡◌, ℕ, ◌%◌, ◌<◌, Bool, true, false, cond, ◌&&◌, ◌||◌, List, length, ◌==◌, nat_le}
 use Rattle.instruction.specs.Instruction.{Intends, Computes}
 use Rattle.instruction.specs.declared.instruction.Intent.{Intent}
 use Rattle.instruction.specs.declared.instruction.Intent.TheVariants.{Internal, Take, Send}
-use Rattle.plan.specs.declared.Counts.{Counts}
+use Rattle.plan.specs.declared.Plan as code
 use Rattle.plan.specs.Plan.{Plan, plan_of}
 use Rattle.rules.specs.Table.{Table, code_of, limit_of}
 use Rattle.rules.specs.Cabinet.{instructions_most}
@@ -14,72 +14,72 @@ use Rattle.state.specs.declared.entry.Entry.{Entry}
 use Rattle.state.specs.declared.entry.Item.TheVariants.{Word}
 use Rattle.state.specs.declared.moved.Answer.{Answer}
 use Rattle.state.specs.declared.moved.Moved.{Moved}
-use Rattle.state.specs.Store.{store_of}
+use Rattle.state.specs.declared.store.Store.{Store}
+use Rattle.state.specs.Store.{lists_at}
 use Rattle.state.specs.Moved.{Makes, answer_of, alone_of, refused_with}
-use Rattle.process.specs.Row.{pc_in, events_in, flag_in, instructions_in}
+use Rattle.numbers.specs.declared.answers.Reason.{Reason}
+use Rattle.numbers.specs.declared.answers.Reason.TheVariants as reasons
+use Rattle.numbers.specs.declared.answers.Reason.TheVariants.{NoWordForTake, NoWordForFirst, OwesForActs, OwesForInstructions}
+use Rattle.process.specs.declared.process.Process.{Process}
+use Rattle.process.specs.Row.{recorded}
 
--- "if backed and acts are 8", of a process's row; W-207: with its limit for 8
-abbrev pub exhausted_in : ℕ → List ℕ → Bool
-exhausted_in limit row = not (flag_in row == 0) && nat_le limit (events_in row)
+-- "if backed and acts are 8"; W-207: with its limit for 8
+abbrev pub exhausted_in : ℕ → Process → Bool
+exhausted_in limit x = recorded x.protection && nat_le limit x.events
 
--- W-204: "64 instructions done since its last sync was issued", of a process's row
-abbrev pub overrun_in : List ℕ → Bool
-overrun_in row = not (flag_in row == 0) && nat_le instructions_most (instructions_in row)
+-- W-204: "64 instructions done since its last sync was issued"
+abbrev pub overrun_in : Process → Bool
+overrun_in x = recorded x.protection && nat_le instructions_most x.instructions
 
 -- a sync is owed
-abbrev pub owing_in : ℕ → List ℕ → Bool
-owing_in limit row = exhausted_in limit row || overrun_in row
+abbrev pub owing_in : ℕ → Process → Bool
+owing_in limit x = exhausted_in limit x || overrun_in x
 
--- W-206: "Code 37: 1 when only the 64 instructions are to blame", of a row whose process owes a sync
-abbrev pub blame_in : ℕ → List ℕ → ℕ
-blame_in limit row = cond (exhausted_in limit row) 0 1
+-- W-206: "Code 37: 1 when only the 64 instructions are to blame", of a process that owes a sync
+abbrev pub blame_in : ℕ → Process → Reason
+blame_in limit x = cond (exhausted_in limit x) OwesForActs OwesForInstructions
 
 -- W-206: "Code 36: 1 for FIRST.", by the instruction's code
-abbrev pub missing_of : ℕ → ℕ
-missing_of code = cond (code == 4) 1 0
+abbrev pub missing_of : ℕ → Reason
+missing_of code = cond (code == 4) NoWordForFirst NoWordForTake
 
 -- The entry that joins: a queued word, which the answer shows, and "the place of its SEND" (W-212),
 abbrev pub sent_as : Answer → ℕ → Entry
 sent_as answer place = record { item = Word answer.a answer.word place }
 
--- that of the process's row before the step. A place is at most 64 and fits a byte.
-abbrev pub word_entry : List (List ℕ) → ℕ → Answer → Entry
-word_entry rows a answer = sent_as answer (pc_in (slice_index_or rows a []) % 256)
+-- that of the process before the step. A place is at most 64 and fits a byte.
+abbrev pub word_entry : Store → ℕ → Answer → Entry
+word_entry s a answer = sent_as answer ((lists_at s a).pc % 256)
 
 -- what a part of a step is given: process a is one of the table's, its limit is this one, and the instruction at its place has this intent
-pub record Intending (t : Table) (limit a : ℕ) (row mail : List ℕ) (n code register operand : ℕ) (intent : Intent) : Type 0 where
+pub record Intending (t : Table) (limit a : ℕ) (s : Store) (n code register operand : ℕ) (intent : Intent) : Type 0 where
   pub process-there : a < length t.processes
   pub limit_is : limit_of t a ≡ limit
-  pub intends : Intends (code_of t a) row mail n code register operand intent
+  pub intends : Intends (code_of t a) (lists_at s a) n code register operand intent
 
--- Process a, which has this row, computes; where its instructions are used up it is refused, and the row stays as it is.
-abbrev pub Calculated : Bool → List ℕ → ℕ → ℕ → ℕ → ℕ → List ℕ → Moved → Type 0
-Calculated true row a code register operand row' r = (row' ≡ row) × (r ≡ refused_with 37 1 a)
-Calculated false row a code register operand row' r = Computes row code register operand row' × (r ≡ alone_of (answer_of 0 0 0 0))
+-- what such a part makes of a store
+abbrev pub Turns : Plan → Store → ℕ → ℕ → ℕ → ℕ → ℕ → ℕ → Intent → Store → Moved → Type 0
+Turns l s limit a n code register operand intent s' r =
+    Makes step (λ t entries. Intending t limit a s n code register operand intent) 2 l s a (word_entry s a r.answer) s' r
 
-abbrev pub Calculates : List ℕ → ℕ → ℕ → ℕ → ℕ → List ℕ → Moved → Type 0
-Calculates row = Calculated (overrun_in row) row
+-- Process a computes; where its instructions are used up it is refused, and stays as it is.
+abbrev pub Calculated : Bool → Process → ℕ → ℕ → ℕ → ℕ → Process → Moved → Type 0
+Calculated true x a code register operand x' r = (x' ≡ x) × (r ≡ refused_with OwesForInstructions a)
+Calculated false x a code register operand x' r = Computes x code register operand x' × (r ≡ alone_of (answer_of reasons.Calculated 0 0))
 
--- What that makes of the lists, whatever the plan and the lists are that it isn't lent.
-abbrev pub CalculateTurns : List (List ℕ) → ℕ → ℕ → ℕ → ℕ → List (List ℕ) → Moved → Type 0
-CalculateTurns rows a code register operand rows' r =
-    (l : Plan) (mails logs heads queues : List (List ℕ)) (totals : List ℕ) (limit n : ℕ)
-    → Makes step (λ t entries. Intending t limit a (slice_index_or rows a []) (slice_index_or mails a []) n code register operand Internal) 2 l
-    (store_of rows mails logs heads queues totals) a (word_entry rows a r.answer) (store_of rows' mails logs heads queues totals) r
+abbrev pub Calculates : Process → ℕ → ℕ → ℕ → ℕ → Process → Moved → Type 0
+Calculates x = Calculated (overrun_in x) x
+
+-- What that makes of the store, whatever the plan and the limit are.
+abbrev pub CalculateTurns : Store → ℕ → ℕ → ℕ → ℕ → Store → Moved → Type 0
+CalculateTurns s a code register operand s' r = (l : Plan) (limit n : ℕ) → Turns l s limit a n code register operand Internal s' r
 
 -- Process a's instruction, where a's limit is this one, takes the word at a position of its mailbox.
-abbrev pub TakeTurns : List ℕ → List (List ℕ) → List (List ℕ) → List ℕ → ℕ → ℕ → ℕ → ℕ → ℕ → List (List ℕ) → List (List ℕ) → List ℕ → Moved
-    → Type 0
-TakeTurns wires rows mails totals limit a code register at rows' mails' totals' r =
-    (table : List ℕ) (counts : Counts) (programs : List ℕ) (logs heads queues : List (List ℕ)) (n operand : ℕ)
-    → Makes step (λ t entries. Intending t limit a (slice_index_or rows a []) (slice_index_or mails a []) n code register operand (Take at)) 2
-    (plan_of table counts programs wires) (store_of rows mails logs heads queues totals) a (word_entry rows a r.answer)
-    (store_of rows' mails' logs heads queues totals') r
+abbrev pub TakeTurns : code.Plan → Store → ℕ → ℕ → ℕ → ℕ → ℕ → Store → Moved → Type 0
+TakeTurns plan s limit a code register at s' r =
+    (table : List ℕ) (n operand : ℕ) → Turns (plan_of table plan) s limit a n code register operand (Take at) s' r
 
 -- Process a's instruction sends a word to a channel.
-abbrev pub SendTurns : List ℕ → List (List ℕ) → List (List ℕ) → List ℕ → ℕ → ℕ → ℕ → ℕ → List (List ℕ) → List (List ℕ) → List ℕ → Moved → Type 0
-SendTurns wires rows queues totals limit a channel word rows' queues' totals' r =
-    (table : List ℕ) (counts : Counts) (programs : List ℕ) (mails logs heads : List (List ℕ)) (n code register operand : ℕ)
-    → Makes step (λ t entries. Intending t limit a (slice_index_or rows a []) (slice_index_or mails a []) n code register operand (Send channel word)) 2
-    (plan_of table counts programs wires) (store_of rows mails logs heads queues totals) a (word_entry rows a r.answer)
-    (store_of rows' mails logs heads queues' totals') r
+abbrev pub SendTurns : code.Plan → Store → ℕ → ℕ → ℕ → ℕ → Store → Moved → Type 0
+SendTurns plan s limit a channel word s' r =
+    (table : List ℕ) (n code register operand : ℕ) → Turns (plan_of table plan) s limit a n code register operand (Send channel word) s' r

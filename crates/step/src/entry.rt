@@ -1,30 +1,30 @@
-// The entries by which a step and a sync join a queue, and what of the process's row must be kept for them before the move.
-ghost use Rattle.std.specs.Prelude.{◌≡◌, ◌%◌, ◌<◌, [], slice_index_or};
-ghost use Rattle.process.specs.Row.{pc_in, checkpoint_in};
+// The entries by which a step and a sync join a queue, and what of the process must be kept for them before the move.
+ghost use Rattle.std.specs.Prelude.{◌≡◌, ◌%◌, ◌<◌};
+ghost use Rattle.process.specs.Row.{checkpoint_in};
 ghost use Rattle.rules.specs.Sizes.{processes_most};
+ghost use Rattle.state.specs.Store.{lists_at};
 ghost use Rattle.step.specs.Parts.{sent_as};
 ghost use Rattle.step.specs.Issues.{synced_as};
 
 use backup::place::Checkpoint;
 use plan::PROCESSES;
-use process::checkpoint::snapshot;
-use process::row::{PC, ROW};
 use state::entry::{Entry, Item};
 use state::moved::Answer;
-use words::{index16, low_byte};
+use state::store::Store;
+use words::{index, low_byte};
 
 // The place at which process a stands.
-pub fn place_of(rows: &[[u32; ROW]; PROCESSES], a: u32) -> u8
-    ensures { a < processes_most → result ≡ pc_in (slice_index_or rows.now a []) % 256 }
+pub fn place_of(store: &Store, a: u32) -> u8
+    ensures { a < processes_most → result ≡ (lists_at store.now a).pc % 256 }
 {
-    low_byte(rows[index16(a)][PC])
+    low_byte(store.processes[index::<PROCESSES>(a)].pc)
 }
 
 // Process a as a checkpoint.
-pub fn checkpoint_of(rows: &[[u32; ROW]; PROCESSES], a: u32) -> Checkpoint
-    ensures { a < processes_most → result ≡ checkpoint_in (slice_index_or rows.now a []) }
+pub fn checkpoint_of(store: &Store, a: u32) -> Checkpoint
+    ensures { a < processes_most → result ≡ checkpoint_in (lists_at store.now a) }
 {
-    snapshot(&rows[index16(a)])
+    store.processes[index::<PROCESSES>(a)].snapshot()
 }
 
 // A word that a step's answer shows, and the place of its SEND.

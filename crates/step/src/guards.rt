@@ -3,40 +3,40 @@
 ghost use Rattle.std.specs.Prelude.{◌≡◌};
 ghost use Rattle.step.specs.Parts.{exhausted_in, overrun_in, owing_in, blame_in};
 
-use numbers::causes::{OWES_FOR_ACTS, OWES_FOR_INSTRUCTIONS};
-use process::row::{EVENTS, INSTRUCTIONS, PROTECTED, ROW};
+use numbers::answers::Reason;
+use process::process::Process;
 
-// Instructions that a protected process has at most.
+// Instructions that a process with a record has at most.
 const INSTRUCTIONS_MOST: u32 = 64;
 
-// Whether a process is protected and its events are used up.
-fn exhausted(row: &[u32; ROW], limit: u32) -> bool
-    ensures { result ≡ exhausted_in limit row.now }
+// Whether a process has a record and its events are used up.
+fn exhausted(x: &Process, limit: u32) -> bool
+    ensures { result ≡ exhausted_in limit x.now }
 {
-    row[PROTECTED] != 0 && row[EVENTS] >= limit
+    x.has_record() && x.events >= limit
 }
 
-// Whether a process is protected and its instructions are used up.
-pub fn overrun(row: &[u32; ROW]) -> bool
-    ensures { result ≡ overrun_in row.now }
+// Whether a process has a record and its instructions are used up.
+pub fn overrun(x: &Process) -> bool
+    ensures { result ≡ overrun_in x.now }
 {
-    row[PROTECTED] != 0 && row[INSTRUCTIONS] >= INSTRUCTIONS_MOST
+    x.has_record() && x.instructions >= INSTRUCTIONS_MOST
 }
 
 // Whether either is so.
-pub fn owing(row: &[u32; ROW], limit: u32) -> bool
-    ensures { result ≡ owing_in limit row.now }
+pub fn owing(x: &Process, limit: u32) -> bool
+    ensures { result ≡ owing_in limit x.now }
 {
-    exhausted(row, limit) || overrun(row)
+    exhausted(x, limit) || overrun(x)
 }
 
 // W-206, of a process that owes a sync: "1 when only the 64 instructions are to blame".
-pub fn blame(row: &[u32; ROW], limit: u32) -> u32
-    ensures { result ≡ blame_in limit row.now }
+pub fn blame(x: &Process, limit: u32) -> Reason
+    ensures { result ≡ blame_in limit x.now }
 {
-    if exhausted(row, limit) {
-        OWES_FOR_ACTS
+    if exhausted(x, limit) {
+        Reason::OwesForActs
     } else {
-        OWES_FOR_INSTRUCTIONS
+        Reason::OwesForInstructions
     }
 }

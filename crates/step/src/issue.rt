@@ -1,45 +1,42 @@
-// Move 2: a process's checkpoint joins its board's queue. The loop makes the entry, of the row as it was before. "Sync: 40 no backup, 41
+// Move 2: a process's checkpoint joins its board's queue. The loop makes the entry, of the process as it was before. "Sync: 40 no backup, 41
 // one waiting, 38 queue full."
+ghost use Rattle.std.specs.Prelude.{◌≡◌};
+ghost use Rattle.state.specs.Moved.{MailsStay, BackupsStay};
 ghost use Rattle.step.specs.Issues.{Issues};
 
-use numbers::answers::{DONE, NO_BACKUP, QUEUE_FULL, SYNC_WAITING};
-use numbers::causes::{QUEUE_FULL_FOR_SYNC, SYNC_ISSUED};
+use numbers::answers::Reason;
 use plan::{BOARDS, PROCESSES};
-use process::checkpoint;
-use process::row::{BOARD, COMPLETE, PROTECTED, ROW, WAITS};
 use state::moved::{Answer, Moved, refused};
-use state::queue::{COUNT, QUEUE, QUEUE_ROW, place, push};
-use words::index16;
+use state::store::Store;
+use words::index;
 
-pub fn issue(
-    rows: &mut [[u32; ROW]; PROCESSES],
-    queues: &mut [[u32; QUEUE_ROW]; BOARDS],
-    a: u32,
-) -> Moved
-    ensures { Issues rows.old queues.old a rows.new queues.new result }
+pub fn issue(store: &mut Store, a: u32) -> Moved
+    ensures issues { Issues store.old a store.new result }
+    ensures mails_stay { MailsStay store.old store.new }
+    ensures backups_stay { BackupsStay store.old store.new }
+    ensures totals_stay { store.new.totals ≡ store.old.totals }
 {
-    let p = index16(a);
-    if rows[p][PROTECTED] != COMPLETE {
-        return refused(NO_BACKUP, 0, a);
+    let p = index::<PROCESSES>(a);
+    if !store.processes[p].is_backed() {
+        return refused(Reason::NoBackup, a);
     }
-    if rows[p][WAITS] != 0 {
-        return refused(SYNC_WAITING, 0, a);
+    if store.processes[p].waits {
+        return refused(Reason::SyncWaiting, a);
     }
-    let b = index16(rows[p][BOARD]);
-    if queues[b][COUNT] >= QUEUE {
-        return refused(QUEUE_FULL, QUEUE_FULL_FOR_SYNC, a);
+    let b = index::<BOARDS>(store.processes[p].board);
+    if store.queues[b].is_full() {
+        return refused(Reason::QueueFullForSync, a);
     }
-    let at = place(&queues[b], b);
-    rows[p][WAITS] = 1;
-    checkpoint::issue(&mut rows[p]);
-    push(&mut queues[b]);
+    let at = store.queues[b].place(b);
+    store.processes[p].waits = true;
+    store.processes[p].issue();
+    store.queues[b].push();
     Moved {
         answer: Answer {
-            code: DONE,
-            cause: SYNC_ISSUED,
+            reason: Reason::SyncIssued,
             a: 0,
             word: 0,
         },
-        at: at,
+        at: Some(at),
     }
 }

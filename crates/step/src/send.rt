@@ -1,64 +1,52 @@
 // A step that sends a word: "A SEND with hold-back above 0 lowers it by one and sends nothing. Otherwise the word joins its board's
 // queue." "For a SEND not held back: 37 likewise, 38 queue full, 39 held."
+ghost use Rattle.state.specs.Moved.{BackupsStay};
 ghost use Rattle.step.specs.Parts.{SendTurns};
 
 use crate::guards::{blame, owing};
 use instruction::instruction::{queue_send, suppress_send};
-use numbers::answers::{CHANNEL_HELD, HELD_BACK, OWES_SYNC, QUEUE_FULL, QUEUED};
-use numbers::causes::{HELD_FOR_SEND, QUEUE_FULL_FOR_SEND};
-use plan::{BOARDS, CHANNELS, PROCESSES, WIRES, reader};
-use process::row::{BOARD, ROW, SUPPRESS};
+use numbers::answers::Reason;
+use plan::{BOARDS, CHANNELS, PROCESSES, Plan};
 use state::channel::full;
 use state::moved::{Answer, Moved, alone, refused};
-use state::queue::{COUNT, QUEUE, QUEUE_ROW, place, push};
-use words::{index16, index32};
+use state::store::Store;
+use words::index;
 
 // Process a sends a word to a channel of its own.
-pub fn send(
-    wires: &[u32; WIRES],
-    rows: &mut [[u32; ROW]; PROCESSES],
-    queues: &mut [[u32; QUEUE_ROW]; BOARDS],
-    totals: &mut [u32; CHANNELS],
-    limit: u32,
-    a: u32,
-    channel: u32,
-    word: u32,
-) -> Moved
-    ensures { SendTurns wires.now rows.old queues.old totals.old limit a channel word
-        rows.new queues.new totals.new result }
+pub fn send(plan: &Plan, store: &mut Store, limit: u32, a: u32, channel: u32, word: u32) -> Moved
+    ensures sends { SendTurns plan.now store.old limit a channel word store.new result }
+    ensures backups_stay { BackupsStay store.old store.new }
 {
-    let p = index16(a);
-    if rows[p][SUPPRESS] > 0 {
-        suppress_send(&mut rows[p]);
+    let p = index::<PROCESSES>(a);
+    if store.processes[p].suppress > 0 {
+        suppress_send(&mut store.processes[p]);
         return alone(Answer {
-            code: HELD_BACK,
-            cause: 0,
+            reason: Reason::HeldBack,
             a: channel,
             word: word,
         });
     }
-    if owing(&rows[p], limit) {
-        return refused(OWES_SYNC, blame(&rows[p], limit), a);
+    if owing(&store.processes[p], limit) {
+        return refused(blame(&store.processes[p], limit), a);
     }
-    let b = index16(rows[p][BOARD]);
-    if queues[b][COUNT] >= QUEUE {
-        return refused(QUEUE_FULL, QUEUE_FULL_FOR_SEND, a);
+    let b = index::<BOARDS>(store.processes[p].board);
+    if store.queues[b].is_full() {
+        return refused(Reason::QueueFullForSend, a);
     }
-    let k = index32(channel);
-    if full(reader(wires, k), totals[k]) {
-        return refused(CHANNEL_HELD, HELD_FOR_SEND, a);
+    let k = index::<CHANNELS>(channel);
+    if full(plan.reader(k), store.totals[k]) {
+        return refused(Reason::HeldForSend, a);
     }
-    let at = place(&queues[b], b);
-    queue_send(&mut rows[p]);
-    push(&mut queues[b]);
-    totals[k] = std::num::wrapping_add_u32(totals[k], 1);
+    let at = store.queues[b].place(b);
+    queue_send(&mut store.processes[p]);
+    store.queues[b].push();
+    store.totals[k] = std::num::wrapping_add_u32(store.totals[k], 1);
     Moved {
         answer: Answer {
-            code: QUEUED,
-            cause: 0,
+            reason: Reason::Queued,
             a: channel,
             word: word,
         },
-        at: at,
+        at: Some(at),
     }
 }

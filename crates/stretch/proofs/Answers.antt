@@ -1,4 +1,4 @@
--- The numbers of an answer fit their bytes: "One six-byte answer a record: code, a, word". A channel is one of at most 32, a process one of
+-- The a of an answer fits its byte: "One six-byte answer a record: code, a, word". A channel is one of at most 32, a process one of
 -- at most 16, and a refusal repeats a.
 use mathlib.Core.Path.{refl}
 use mathlib.Core.Bool.{Bool, true, false, cond}
@@ -11,7 +11,6 @@ use Rattle.rules.specs.Table.{Table, code_of, channel_at}
 use Rattle.rules.specs.Machine.{Mail, BusWord, sent_from, Machine, took, sent}
 use Rattle.rules.specs.Cabinet.{Cabinet, process_at, protected}
 use Rattle.rules.specs.Moves.{Command, Move, Refusal, Answer, step_done, issue_done, crash_done, rejoin_done, rebackup_done, transfer_kept, received, queued, suppressed, transmitted, injected, sync_kept, sync_lost, dropped_from, refused, numbers, turn}
-use Rattle.rules.proofs.Decoded.{refusal_number-listed}
 use Rattle.rules.proofs.Steps.{Steps}
 use Rattle.rules.proofs.Tables.{step_own}
 use Rattle.rules.proofs.Counting.{step-unread}
@@ -20,9 +19,8 @@ use Rattle.state.specs.Moved.{Reachable}
 use Rattle.state.proofs.Ends.{read_inside, sent-inside}
 use Rattle.state.proofs.Owners.{word_owner, checkpoint_owner, transfer_owner, unread_own}
 
--- an answer's code and a are below 256
+-- an answer's a is below 256
 pub record Fits (x : Answer) : Type 0 where
-  pub code_small : (numbers x).code < 256
   pub a_small : (numbers x).a < 256
 
 abbrev Fitting : Move → Cabinet → Answer → Type 0
@@ -30,59 +28,59 @@ Fitting _ _ x = Fits x
 
 fits_refused : (why : Refusal) (a : ℕ) → a < 256 → Fits (refused why a)
 unfolding numbers
-fits_refused why a h = record { code_small = (let n = (refusal_number-listed why).high in omega arith); a_small = h }
+fits_refused why a h = record { a_small = h }
 
 -- answers of three zeros
 fits-stepped : Fits step_done
 unfolding numbers
-fits-stepped = record { code_small = omega arith; a_small = omega arith }
+fits-stepped = record { a_small = omega arith }
 
 fits-issued : Fits issue_done
 unfolding numbers
-fits-issued = record { code_small = omega arith; a_small = omega arith }
+fits-issued = record { a_small = omega arith }
 
 fits_crashed : Fits crash_done
 unfolding numbers
-fits_crashed = record { code_small = omega arith; a_small = omega arith }
+fits_crashed = record { a_small = omega arith }
 
 fits_rejoined : Fits rejoin_done
 unfolding numbers
-fits_rejoined = record { code_small = omega arith; a_small = omega arith }
+fits_rejoined = record { a_small = omega arith }
 
 fits-rebackup : Fits rebackup_done
 unfolding numbers
-fits-rebackup = record { code_small = omega arith; a_small = omega arith }
+fits-rebackup = record { a_small = omega arith }
 
 -- answers that name a channel
 fits-received : (x : Mail) → x.channel < 256 → Fits (received x)
 unfolding numbers
-fits-received x h = record { code_small = omega arith; a_small = h }
+fits-received x h = record { a_small = h }
 
 fits-queued : (x : Mail) → x.channel < 256 → Fits (queued x)
 unfolding numbers
-fits-queued x h = record { code_small = omega arith; a_small = h }
+fits-queued x h = record { a_small = h }
 
 fits-suppressed : (x : Mail) → x.channel < 256 → Fits (suppressed x)
 unfolding numbers
-fits-suppressed x h = record { code_small = omega arith; a_small = h }
+fits-suppressed x h = record { a_small = h }
 
 fits-transmitted : (x : BusWord) → x.mail.channel < 256 → Fits (transmitted x)
 unfolding numbers
-fits-transmitted x h = record { code_small = omega arith; a_small = h }
+fits-transmitted x h = record { a_small = h }
 
 fits-injected : (x : Mail) → x.channel < 256 → Fits (injected x)
 unfolding numbers
-fits-injected x h = record { code_small = omega arith; a_small = h }
+fits-injected x h = record { a_small = h }
 
 -- and those that name a process
 fits-sync : (p dropped : ℕ) (b : Bool) → p < 256 → Fits (cond b (sync_kept p dropped) (sync_lost p))
 unfolding numbers
-fits-sync p dropped true h = record { code_small = omega arith; a_small = h }
-fits-sync p dropped false h = record { code_small = omega arith; a_small = h }
+fits-sync p dropped true h = record { a_small = h }
+fits-sync p dropped false h = record { a_small = h }
 
 fits-transfer : (p : ℕ) → p < 256 → Fits (transfer_kept p)
 unfolding numbers
-fits-transfer p h = record { code_small = omega arith; a_small = h }
+fits-transfer p h = record { a_small = h }
 
 module _ {t : Table} {c : Cabinet} (reach : Reachable t c) where
   -- a channel's number, and a process's

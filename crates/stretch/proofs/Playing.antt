@@ -7,7 +7,7 @@ use native.Mathlib.Omega.{arith}
 use lib.ListN.{length, get_or, set, take, drop, length-drop}
 use lib.Seq.{take-suc, take_all, take-add, get_or-drop, drop-drop, length-take-le}
 use lib.Dec.{eqb}
-use borrow.Author.Tests.{lt-ltb, le-ltb, eq-eqb, ne_eqb}
+use borrow.Author.Tests.{eq-eqb, ne_eqb}
 use Rattle.records.specs.Commands.{command_of}
 use Rattle.records.specs.declared.schedule.Command as code
 use Rattle.rules.specs.Table.{Table}
@@ -25,14 +25,20 @@ use Rattle.rules.proofs.Scheduled.{commands-counted}
 use Rattle.state.specs.declared.entry.Entry.{Entry}
 use Rattle.state.specs.declared.moved.Answer.{Answer}
 use Rattle.state.specs.declared.moved.Moved.{Moved}
-use Rattle.state.specs.Store.{Store, store_of, Holds}
-use Rattle.state.specs.Moved.{Reachable, Answered, Makes, joined}
+use Rattle.state.specs.declared.store.Store.{Store}
+use Rattle.state.specs.Store.{Holds}
+use Rattle.state.specs.Moved.{Reachable, Answered, Makes, joined, refusal_of}
+use Rattle.std.proofs.Common.{Option, Some, None}
+use Rattle.numbers.specs.declared.answers.Reason.{Reason}
+use Rattle.numbers.specs.declared.answers.Reason.TheVariants.{NoSuchMove}
+use Rattle.numbers.specs.Answers.{code_in}
 use Rattle.command.specs.declared.due.Due.{Due}
-use Rattle.command.specs.Judges.{number_of, worded_of, judge_of, turned_away}
+use Rattle.command.specs.Judges.{absent_of, stray_of, worded_of, judge_of}
 use Rattle.command.specs.Dues.{command_in, DueAt}
 use Rattle.command.proofs.Judging.{rule_of, most_of, passes, made, refused, refused-origin, known}
 use Rattle.facts.specs.Tests.{by_eq}
 use Rattle.plan.specs.declared.Counts.{Counts}
+use Rattle.plan.specs.declared.Plan as plan
 use Rattle.plan.specs.Plan.{Plan}
 use Rattle.stretch.specs.declared.stretch.Stretch.{Stretch}
 use Rattle.rejoin.specs.Rebackups.{transfer_entry}
@@ -66,7 +72,7 @@ module _ {t : Table} {c : Cabinet} where
       let w = wrote-more h.wrote k.wrote (omega arith) in
       record { holds = rw (run-parts t c xs ys) k.holds; wrote = rw (run-parts t c xs ys) w }
 
-  -- the lists that they leave are fit for more
+  -- the store that they leave is fit for more
   pub suited_on : {l : Plan} {xs : List Command} {s s' : Store} {entries entries' : List Entry} {before after : Sheets} {i : ℕ}
       → Suited t l c s entries → Played t c xs s' entries' before i after → Suited t l (run_from t c xs).cabinet s' entries'
   suited_on {xs = xs} h k = record { reached = reached_on h.reached xs; planned = h.planned; holds = k.holds }
@@ -121,11 +127,11 @@ any_undo-parts (r ∷ l) m = rw (any_undo-parts l m) (go (is_undo r))
     go false = refl
 
 -- the judging refuses it with 32
-judge_of-undo : (counts : Counts) (c : code.Command) → c.mv ≡ 8 → judge_of counts c ≡ 32
-unfolding judge_of number_of
+judge_of-undo : (counts : Counts) (c : code.Command) → c.mv ≡ 8 → judge_of counts c ≡ Some NoSuchMove
+unfolding judge_of absent_of stray_of
 judge_of-undo counts c e = rw e (go (worded_of 8 c.word))
   where
-    go : (b : Bool) → ◌≡◌ {A = ℕ} (cond b 32 32) 32
+    go : (b : Bool) → ◌≡◌ {A = Option Reason} (cond b (Some NoSuchMove) (Some NoSuchMove)) (Some NoSuchMove)
     go true = refl
     go false = refl
 
@@ -138,11 +144,11 @@ default_free (x ∷ l) zero d e h = refl
 default_free (x ∷ l) (suc i) d e h = default_free l i d e (omega arith)
 
 -- the entries that a move leaves
-pub none-joined : (entries : List Entry) (at : ℕ) (x : Entry) → 512 ≤ at → entries ≡ joined entries at x
-none-joined entries at x h = rw (le-ltb at 512 h)
+pub none-joined : (entries : List Entry) (at : Option ℕ) (x : Entry) → at ≡ None → entries ≡ joined entries at x
+none-joined entries at x e = ap (λ (o : Option ℕ). joined entries o x) (sym e)
 
-pub one_joined : (entries : List Entry) (at : ℕ) (x : Entry) → at < 512 → set entries at x ≡ joined entries at x
-one_joined entries at x h = rw (lt-ltb at 512 h)
+pub one_joined : (entries : List Entry) (at : Option ℕ) (k : ℕ) (x : Entry) → at ≡ Some k → set entries k x ≡ joined entries at x
+one_joined entries at k x e = ap (λ (o : Option ℕ). joined entries o x) (sym e)
 
 -- Between two rounds the records from number `from` on, before number i, were played; the last round is that of the record before number `end`.
 pub record Playing (l : Plan) (schedule : List ℕ) (from end : ℕ) (s₀ : Store) (entries₀ : List Entry) (sheets₀ : Sheets)
@@ -165,6 +171,10 @@ at_first l schedule from end s entries sheets =
       played = λ t c u. rw none (played-none sheets from u.holds);
     }
 
+-- the plan as the code has it, which is lent to the moves
+abbrev pub lent : Plan → plan.Plan
+lent l = record { counts = l.counts; programs = l.programs; wires = l.wires }
+
 -- In a round record i is read and judged: d is what came of that.
 pub record Round (l : Plan) (schedule : List ℕ) (from end : ℕ) (s₀ : Store) (entries₀ : List Entry) (sheets₀ : Sheets)
     (i : ℕ) (s : Store) (entries : List Entry) (sheets : Sheets) (d : Due) : Type 0 where
@@ -173,7 +183,7 @@ pub record Round (l : Plan) (schedule : List ℕ) (from end : ℕ) (s₀ : Store
   pub below : i < end
   pub due : DueAt schedule l.counts i d
 
--- What that record, on lists s and these entries, comes to: the rules' answer r and origin o, and lists that hold the cabinet which it leaves.
+-- What that record, on store s and these entries, comes to: the rules' answer r and origin o, and a store that holds the cabinet which it leaves.
 pub record Turned (l : Plan) (s : Store) (entries : List Entry) (d : Due) (s' : Store) (entries' : List Entry) (r : Answer) (o : Origin) : Type 0 where
   pub no_undo : eqb d.mv 8 ≡ false
   pub answered : (t : Table) (now : Cabinet) → Suited t l now s entries
@@ -182,23 +192,15 @@ pub record Turned (l : Plan) (s : Store) (entries : List Entry) (d : Due) (s' : 
 
 -- a record that is no step, no sync and no carry: one that passes, or one that is turned away and is no move 8
 pub data Other (d : Due) : Type 0 where
-  let_through : d.number ≡ 0 → (d.mv ≡ 1 → ⊥) → (d.mv ≡ 2 → ⊥) → (d.mv ≡ 3 → ⊥) → Other d
-  turned_off : (d.number ≡ 0 → ⊥) → (d.mv ≡ 8 → ⊥) → Other d
+  let_through : d.refused ≡ None → (d.mv ≡ 1 → ⊥) → (d.mv ≡ 2 → ⊥) → (d.mv ≡ 3 → ⊥) → Other d
+  turned_off : (reason : Reason) → d.refused ≡ Some reason → (d.mv ≡ 8 → ⊥) → Other d
 
--- on lists that are the same
+-- on a store that is the same
 pub turned_same : {l : Plan} {s : Store} {entries : List Entry} {d : Due} {o : Origin} {s₁ s₂ : Store} {entries₁ entries₂ : List Entry} {r₁ r₂ : Answer}
     → s₁ ≡ s₂ → entries₁ ≡ entries₂ → r₁ ≡ r₂ → Turned l s entries d s₂ entries₂ r₂ o → Turned l s entries d s₁ entries₁ r₁ o
 turned_same {l} {s} {entries} {d} {o} {s₁} {s₂} {entries₁} {entries₂} {r₁} {r₂} e f g h =
     subst (λ (x : Store). Turned l s entries d x entries₁ r₁ o) (sym e)
     (subst (λ (x : List Entry). Turned l s entries d s₂ x r₁ o) (sym f) (subst (λ (x : Answer). Turned l s entries d s₂ entries₂ x o) (sym g) h))
-
--- list by list
-pub turned_lists : {l : Plan} {s : Store} {entries : List Entry} {d : Due} {o : Origin} {rows₁ rows₂ mails₁ mails₂ logs₁ logs₂ heads₁ heads₂ queues₁ queues₂ : List (List ℕ)}
-    {totals₁ totals₂ : List ℕ} {entries₁ entries₂ : List Entry} {r₁ r₂ : Answer}
-    → rows₁ ≡ rows₂ → mails₁ ≡ mails₂ → logs₁ ≡ logs₂ → heads₁ ≡ heads₂ → queues₁ ≡ queues₂ → totals₁ ≡ totals₂ → entries₁ ≡ entries₂ → r₁ ≡ r₂
-    → Turned l s entries d (store_of rows₂ mails₂ logs₂ heads₂ queues₂ totals₂) entries₂ r₂ o
-    → Turned l s entries d (store_of rows₁ mails₁ logs₁ heads₁ queues₁ totals₁) entries₁ r₁ o
-turned_lists a b c d e f g h = turned_same (λ i. store_of (a i) (b i) (c i) (d i) (e i) (f i)) g h
 
 module _ {l : Plan} {schedule : List ℕ} {from end : ℕ} {s₀ : Store} {entries₀ : List Entry} {sheets₀ : Sheets}
     {i : ℕ} {s : Store} {entries : List Entry} {sheets : Sheets} {d : Due}
@@ -240,31 +242,31 @@ module _ {l : Plan} {schedule : List ℕ} {from end : ℕ} {s₀ : Store} {entri
       }
 
   -- a record that is refused before its move is looked at
-  pub comes_refused : (d.number ≡ 0 → ⊥) → (d.mv ≡ 8 → ⊥) → {r : Answer} → r ≡ turned_away d.number d.mv d.a → Comes s entries r no_origin
-  comes_refused z other e = record {
+  pub comes_refused : (reason : Reason) → d.refused ≡ Some reason → (d.mv ≡ 8 → ⊥) → {r : Answer} → r ≡ refusal_of reason d.a → Comes s entries r no_origin
+  comes_refused reason z other e = record {
     no_undo = ne_eqb d.mv 8 other;
-    answered = λ t now u. refused u.planned it d.number p.due.number_is now d.a refl _ u.holds z refl e;
-    comes = λ t now u. refused-origin u.planned it d.number p.due.number_is now d.a refl z;
+    answered = λ t now u. refused u.planned it d.refused p.due.refused-is now d.a refl reason u.holds z e;
+    comes = λ t now u. refused-origin u.planned it d.refused p.due.refused-is now d.a refl reason z;
   }
 
   -- What tells the origin of the word that move k puts on the bus is o, where the move has what it asks. A word that is carried was waiting.
   abbrev Told : (Table → List Entry → Type 0) → ℕ → Moved → Origin → Type 0
   Told asks k m o =
       (t : Table) (now : Cabinet) → Suited t l now s entries → d.a < most_of (move_of k) t → asks t entries
-      → (move_of k ≡ transmit_move → m.answer.code ≡ 4 → outbox_at now d.a ≡ [] → ⊥) → told_by t (outbox_at now d.a) m.answer.code (move_of k) ≡ o
+      → (move_of k ≡ transmit_move → code_in m.answer.reason ≡ 4 → outbox_at now d.a ≡ [] → ⊥) → told_by t (outbox_at now d.a) (code_in m.answer.reason) (move_of k) ≡ o
 
   told_by_lem : (asks : Table → List Entry → Type 0) (k : ℕ) → d.mv ≡ k → (m : Moved) (o : Origin) → Told asks k m o
       → (t : Table) (now : Cabinet) → Suited t l now s entries → d.a < most_of (move_of k) t → asks t entries
-      → (numbers (turn t now (command_of it)).answer).code ≡ m.answer.code → origin_of (turn t now (command_of it)).answer ≡ o
+      → (numbers (turn t now (command_of it)).answer).code ≡ code_in m.answer.reason → origin_of (turn t now (command_of it)).answer ≡ o
   told_by_lem asks k is-k m o tells t now u inside asked code_is =
       let x : Command = command_of it in
       origin-told t now x
       ∙ ap (λ (j : ℕ). told_by t (outbox_at now d.a) j (move_of d.mv)) code_is
-      ∙ ap (λ (j : ℕ). told_by t (outbox_at now d.a) m.answer.code (move_of j)) is-k
+      ∙ ap (λ (j : ℕ). told_by t (outbox_at now d.a) (code_in m.answer.reason) (move_of j)) is-k
       ∙ tells t now u inside asked (λ e f g. carried_waited t now x (ap move_of is-k ∙ e) (code_is ∙ f) g)
 
   -- one that is its move: what the rules call the move of number k
-  pub comes_made : d.number ≡ 0 → (k : ℕ) → eqb k 8 ≡ false → d.mv ≡ k → {asks : Table → List Entry → Type 0} {joins : ℕ} {entry : Entry} {s' : Store}
+  pub comes_made : d.refused ≡ None → (k : ℕ) → eqb k 8 ≡ false → d.mv ≡ k → {asks : Table → List Entry → Type 0} {joins : ℕ} {entry : Entry} {s' : Store}
       {entries' : List Entry} {m : Moved} {o : Origin} → Makes (rule_of (move_of k) d.word) asks joins l s d.a entry s' m
       → ((t : Table) (now : Cabinet) → Accepted t → Holds t s entries now → d.a < most_of (move_of k) t → asks t entries × (entries' ≡ joined entries m.at entry))
       → Told asks k m o → Comes s' entries' m.answer o
@@ -272,13 +274,13 @@ module _ {l : Plan} {schedule : List ℕ} {from end : ℕ} {s₀ : Store} {entri
   comes_made z k other is-k {asks = asks} {entry = entry} {s' = s'} {entries' = entries'} {m = m} {o = o} h given tells =
       let x : Command = command_of it in
       let inside : (t : Table) (now : Cabinet) → Suited t l now s entries → d.a < most_of (move_of k) t =
-      λ t now u. (passes u.planned it d.number p.due.number_is now d.a refl k is-k z).a-inside in
+      λ t now u. (passes u.planned it d.refused p.due.refused-is now d.a refl k is-k z).a-inside in
       let there : (t : Table) (now : Cabinet) → Suited t l now s entries → asks t entries × (entries' ≡ joined entries m.at entry) =
       λ t now u. given t now u.reached.accepted u.holds (inside t now u) in
       let answers : (t : Table) (now : Cabinet) → Suited t l now s entries → Answered t s' entries' now x (judged t now x) m.answer =
       λ t now u.
       subst (λ (l : List Entry). Answered t s' l now x (judged t now x) m.answer) (sym (there t now u).1)
-      (made u.planned it d.number p.due.number_is now d.a refl k is-k z
+      (made u.planned it d.refused p.due.refused-is now d.a refl k is-k z
       (h.made t entries now x u.reached u.planned u.holds refl (there t now u).0)) in
       record {
         no_undo = ap (λ (m : ℕ). eqb m 8) is-k ∙ other;
@@ -287,8 +289,8 @@ module _ {l : Plan} {schedule : List ℕ} {from end : ℕ} {s₀ : Store} {entri
       }
 
   -- one of moves 5 to 7: no other passes but those that the loop makes itself
-  pub comes_mended : d.number ≡ 0 → (d.mv ≡ 1 → ⊥) → (d.mv ≡ 2 → ⊥) → (d.mv ≡ 3 → ⊥) → (d.mv ≡ 4 → ⊥) → {s' : Store} {entries' : List Entry} {m : Moved}
-      → Mends l.counts l.programs l.wires d.mv d.a s s' m → entries' ≡ joined entries m.at (transfer_entry d.a)
+  pub comes_mended : d.refused ≡ None → (d.mv ≡ 1 → ⊥) → (d.mv ≡ 2 → ⊥) → (d.mv ≡ 3 → ⊥) → (d.mv ≡ 4 → ⊥) → {s' : Store} {entries' : List Entry} {m : Moved}
+      → Mends (lent l) d.mv d.a s s' m → entries' ≡ joined entries m.at (transfer_entry d.a)
       → Comes s' entries' m.answer no_origin
   comes_mended z h1 h2 h3 h4 {s'} {entries'} {m} h e =
       by_eq d.mv 5
@@ -299,40 +301,40 @@ module _ {l : Plan} {schedule : List ℕ} {from end : ℕ} {s₀ : Store} {entri
       (λ is. comes_made z 7 refl is (h.rebackups is l.table) (λ t now ok holds b. (b, e)) (λ t now u b asked w. refl))
       (λ h7.
       let none : (t : Table) (now : Cabinet) → Suited t l now s entries → ⊥ =
-      λ t now u. known u.planned it d.number p.due.number_is now d.a refl z h1 h2 h3 h4 h5 h6 h7 in
+      λ t now u. known u.planned it d.refused p.due.refused-is now d.a refl z h1 h2 h3 h4 h5 h6 h7 in
       record {
-        no_undo = ne_eqb d.mv 8 (λ e. let a = judge_of-undo l.counts it e in let b = p.due.number_is in omega arith);
+        no_undo = ne_eqb d.mv 8 (λ e. let a = judge_of-undo l.counts it e in let b = p.due.refused-is in cc);
         answered = λ t now u. absurd (none t now u);
         comes = λ t now u. absurd (none t now u);
       })))
 
   -- What one call does of the records that are no step, no sync and no carry. One that is refused before its move is looked at,
-  comes_away : (d.number ≡ 0 → ⊥) → (d.mv ≡ 8 → ⊥) → {s' : Store} {entries' : List Entry} {before after : Sheets} {j at : ℕ}
-      (h : Others l.counts l.programs l.wires j d s before s' after at) → entries' ≡ joined entries at (transfer_entry d.a)
+  comes_away : (reason : Reason) → d.refused ≡ Some reason → (d.mv ≡ 8 → ⊥) → {s' : Store} {entries' : List Entry} {before after : Sheets} {j : ℕ} {at : Option ℕ}
+      (h : Others (lent l) j d s before s' after at) → entries' ≡ joined entries at (transfer_entry d.a)
       → Comes s' entries' h.moved.answer h.origin
-  comes_away n other {s'} {entries'} {at = at} h e =
-      let told = h.refused n in
-      let none : 512 ≤ at = let a = h.at_is in let b = ap (λ (m : Moved). m.at) told.1 in omega arith in
+  comes_away reason n other {s'} {entries'} {at = at} h e =
+      let told = h.refused reason n in
+      let none : at ≡ None = h.at_is ∙ ap (λ (m : Moved). m.at) told.1 in
       subst (Comes s' entries' h.moved.answer) (sym told.0.1)
-      (turned_same told.0.0 (e ∙ sym (none-joined entries at _ none)) refl (comes_refused n other (ap (λ (m : Moved). m.answer) told.1)))
+      (turned_same told.0.0 (e ∙ sym (none-joined entries at _ none)) refl (comes_refused reason n other (ap (λ (m : Moved). m.answer) told.1)))
 
   -- one that is its move,
-  comes_other : d.number ≡ 0 → (d.mv ≡ 1 → ⊥) → (d.mv ≡ 2 → ⊥) → (d.mv ≡ 3 → ⊥)
-      → {s' : Store} {entries' : List Entry} {before after : Sheets} {j at : ℕ}
-      (h : Others l.counts l.programs l.wires j d s before s' after at) → entries' ≡ joined entries at (transfer_entry d.a)
+  comes_other : d.refused ≡ None → (d.mv ≡ 1 → ⊥) → (d.mv ≡ 2 → ⊥) → (d.mv ≡ 3 → ⊥)
+      → {s' : Store} {entries' : List Entry} {before after : Sheets} {j : ℕ} {at : Option ℕ}
+      (h : Others (lent l) j d s before s' after at) → entries' ≡ joined entries at (transfer_entry d.a)
       → Comes s' entries' h.moved.answer h.origin
   comes_other z h1 h2 h3 {s'} {entries'} h e =
-      let there : entries' ≡ joined entries h.moved.at (transfer_entry d.a) = e ∙ ap (λ (k : ℕ). joined entries k (transfer_entry d.a)) h.at_is in
+      let there : entries' ≡ joined entries h.moved.at (transfer_entry d.a) = e ∙ ap (λ (o : Option ℕ). joined entries o (transfer_entry d.a)) h.at_is in
       by_eq d.mv 4
       (λ is. comes_made z 4 refl is ((h.fed z is).1 l.table) (λ t now ok holds b. (b, there)) (λ t now u b asked w. sym (h.fed z is).0))
       (λ h4. subst (Comes s' entries' h.moved.answer) (sym (h.mended z h4).1) (comes_mended z h1 h2 h3 h4 (h.mended z h4).0 there))
 
   -- and either of them, once its answer is written
-  pub on_others : Other d → {s' : Store} {entries' : List Entry} {sheets' : Sheets} {at : ℕ}
-      → Others l.counts l.programs l.wires i d s sheets s' sheets' at → entries' ≡ joined entries at (transfer_entry d.a)
+  pub on_others : Other d → {s' : Store} {entries' : List Entry} {sheets' : Sheets} {at : Option ℕ}
+      → Others (lent l) i d s sheets s' sheets' at → entries' ≡ joined entries at (transfer_entry d.a)
       → Playing l schedule from end s₀ entries₀ sheets₀ (i + 1) s' entries' sheets'
   on_others (let_through z h1 h2 h3) h e = on (comes_other z h1 h2 h3 h e) h.writes
-  on_others (turned_off n other) h e = on (comes_away n other h e) h.writes
+  on_others (turned_off reason n other) h e = on (comes_away reason n other h e) h.writes
 
 -- ---- where the stretch ends
 

@@ -1,6 +1,7 @@
 -- A stretch of a schedule's records, one after the other. "Each schedule record, refused or not, gets the cabinet that the last one left".
 use Rattle.std.specs.Prelude.{◌≡◌, true, false, List, map, ℕ, ◌+◌, ◌-◌, ◌*◌, ◌≤◌, ◌<◌, length, get_or, set, take, drop}
 use Rattle.std.proofs.lemmas.List.Edits.{sets}
+use Rattle.numbers.specs.Answers.{reason_number}
 use Rattle.rules.specs.Table.{Table}
 use Rattle.rules.specs.Bytes.{all_bytes}
 use Rattle.rules.specs.Machine.{Origin}
@@ -14,10 +15,11 @@ use Rattle.rules.specs.Run.{answer_bytes, origin_bytes}
 use Rattle.plan.specs.Plan.{Plan, Planned}
 use Rattle.state.specs.declared.entry.Entry.{Entry}
 use Rattle.state.specs.declared.moved.Answer.{Answer}
-use Rattle.state.specs.Store.{Store, Holds}
+use Rattle.state.specs.declared.store.Store.{Store}
+use Rattle.state.specs.Store.{Holds}
 use Rattle.state.specs.Moved.{Reachable}
 use Rattle.stretch.specs.declared.stretch.Stretch.{Stretch}
-use Rattle.stretch.specs.Written.{six_bytes, reason_byte}
+use Rattle.stretch.specs.Written.{six_bytes}
 
 -- ---- the buffers
 
@@ -51,7 +53,7 @@ pub record AsLong (before after : Sheets) : Type 0 where
 -- the i-th answer, its reason and where its word comes from were written
 pub record Writes (before : Sheets) (i : ℕ) (r : Answer) (o : Origin) (after : Sheets) : Type 0 where
   pub answers_are : after.answers ≡ sets before.answers (6 * i) (six_bytes r)
-  pub reasons_are : after.reasons ≡ set before.reasons i (reason_byte r.code r.cause)
+  pub reasons_are : after.reasons ≡ set before.reasons i (reason_number r.reason)
   pub origins_are : after.origins ≡ sets before.origins (2 * i) (origin_bytes o)
 
 -- the rules' answers to the records from number i on, with their reasons and origins, were written at those records' places
@@ -66,20 +68,20 @@ pub record Wrote (before : Sheets) (i : ℕ) (answers : List rules.Answer) (afte
 abbrev pub between : List ℕ → ℕ → ℕ → List Command
 between schedule i j = take (j - i) (drop i (decode_schedule schedule))
 
--- lists that hold a cabinet that commands reach on a table, whose the plan is
+-- a store that holds a cabinet which commands reach on a table, whose the plan is
 pub record Suited (t : Table) (l : Plan) (c : Cabinet) (s : Store) (entries : List Entry) : Type 0 where
   pub reached : Reachable t c
   pub planned : Planned t l
   pub holds : Holds t s entries c
 
--- These commands were done from cabinet c on: the lists hold the cabinet that they leave, and what they answer is written at the places of the
+-- These commands were done from cabinet c on: the store holds the cabinet that they leave, and what they answer is written at the places of the
 -- records from number i on.
 pub record Played (t : Table) (c : Cabinet) (commands : List Command) (s : Store) (entries : List Entry) (before : Sheets) (i : ℕ)
     (after : Sheets) : Type 0 where
   pub holds : Holds t s entries (run_from t c commands).cabinet
   pub wrote : Wrote before i (run_from t c commands).answers after
 
--- The records of a stretch, on lists s that are then s'. r is what is left of it: its `from` is the first record that was not played.
+-- The records of a stretch, on store s that is then s'. r is what is left of it: its `from` is the first record that was not played.
 pub record Plays (l : Plan) (schedule : List ℕ) (stretch : Stretch) (s : Store) (before : Sheets) (r : Stretch) (s' : Store) (after : Sheets)
     : Type 0 where
   -- it goes forward, no further than it was asked to and than the schedule does,

@@ -1,42 +1,18 @@
 // Answers in bytes: "One six-byte answer a record: code, a, word."; why (W-206): "one byte a record: the answer's code times 4, plus a
 // cause"; and where its word comes from (W-212): "two bytes a record: sender and place". That the buffers have room for all records is asked
 // once, before the first.
-ghost use Rattle.std.specs.Prelude.{◌≡◌, ◌+◌, ◌*◌, ◌≤◌, ◌<◌, length, set};
+ghost use Rattle.std.specs.Prelude.{◌≡◌, ◌+◌, ◌*◌, ◌≤◌, length};
 ghost use Rattle.std.proofs.lemmas.List.Edits.{sets};
 ghost use Rattle.rules.specs.Run.{origin_bytes};
 ghost use Rattle.rules.specs.Moves.{no_origin};
 ghost use Rattle.bus.specs.Origins.{origin_in};
-ghost use Rattle.stretch.specs.Written.{six_bytes, reason_byte};
 ghost use Rattle.stretch.specs.Plays.{sheets_of, RoomAt, Writes};
 
 use bus::origin::{Origin, nowhere};
-use numbers::answers::DONE;
+use numbers::answers::Reason;
 use records::store::put_six;
 use state::moved::Answer;
 use words::low_byte;
-
-// The i-th answer of a buffer.
-fn put(answers: &mut [u8], i: usize, r: Answer)
-    requires { 6 * i + 6 ≤ length answers.old }
-    ensures { answers.new ≡ sets answers.old (6 * i) (six_bytes r) }
-{
-    put_six(answers, 6 * i, low_byte(r.code), low_byte(r.a), r.word);
-}
-
-// A code is below 64, and a cause below 4.
-fn reason(code: u32, cause: u32) -> u8
-    ensures { result ≡ reason_byte code cause }
-{
-    ((code % 64) * 4 + cause % 4) as u8
-}
-
-// The i-th reason of a buffer.
-fn put_reason(reasons: &mut [u8], i: usize, code: u32, cause: u32)
-    requires { i < length reasons.old }
-    ensures { reasons.new ≡ set reasons.old i (reason_byte code cause) }
-{
-    reasons[i] = reason(code, cause);
-}
 
 // The i-th origin of a buffer.
 fn put_origin(origins: &mut [u8], i: usize, o: Origin)
@@ -61,8 +37,10 @@ pub fn write_from(
     ensures { Writes (sheets_of answers.old reasons.old origins.old) i r (origin_in o)
         (sheets_of answers.new reasons.new origins.new) }
 {
-    put(answers, i, r);
-    put_reason(reasons, i, r.code, r.cause);
+    // Looked up once: the code is made of it.
+    let number = r.reason.number();
+    put_six(answers, 6 * i, number / 4, low_byte(r.a), r.word);
+    reasons[i] = number;
     put_origin(origins, i, o);
 }
 
@@ -81,7 +59,7 @@ pub fn write_step(answers: &mut [u8], reasons: &mut [u8], origins: &mut [u8], i:
     ensures { Writes (sheets_of answers.old reasons.old origins.old) i r no_origin
         (sheets_of answers.new reasons.new origins.new) }
 {
-    if r.code == DONE {
+    if r.reason == Reason::Calculated {
         write(answers, reasons, origins, i, r);
         return;
     }

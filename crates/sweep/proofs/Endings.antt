@@ -1,4 +1,5 @@
 -- How a run ends, by what it returned and wrote: `quiet`, and the hold-back bytes of the report.
+use Rattle.std.specs.Prelude.{Result, Ok, Err}
 use mathlib.Core.Path.{◌≡◌, refl, ap, sym, ◌∙◌}
 use mathlib.Core.Bool.{Bool, true, false, not, cond}
 use mathlib.Core.List.{List, [], ◌∷◌, ◌++◌, append_assoc}
@@ -23,8 +24,9 @@ use Rattle.rules.proofs.Valid.{processes-counted, decoded_accepted}
 use Rattle.rules.proofs.AcceptedRun.{run_is, quiet_is}
 use Rattle.rules.proofs.Scheduled.{scheduled}
 use Rattle.rules.proofs.Buffers.{processes-end}
-use Rattle.cabinet.specs.Runs.{Runs}
-use Rattle.cabinet.specs.declared.run.Verdict.{Verdict}
+use Rattle.numbers.specs.declared.runs.Refusal.{Refusal}
+use Rattle.cabinet.specs.Runs.{ran_by, Runs}
+use Rattle.cabinet.specs.declared.run.Ended.{Ended}
 use Rattle.plan.specs.declared.Counts.{Counts}
 use Rattle.sweep.specs.Pulled.{pulled_bytes, HasPlace}
 use Rattle.sweep.specs.Counted.{Counted, count_one, some_held_in, Ends, Admitted}
@@ -77,6 +79,11 @@ module _ (report : List ℕ) where
 
 -- ---- a run that is accepted
 
+-- the lent buffers are those that the call left
+buffers_by : (r : Result Ended Refusal) (after : Buffers) → (ran_by r after).buffers ≡ after
+buffers_by (Ok e) after = refl
+buffers_by (Err e) after = refl
+
 module _ (table schedule : List ℕ) (before : Buffers) (fit : 6 * suc sweep_most ≤ length before.answers) (fit' : suc sweep_most ≤ length before.reasons)
     (fit'' : 20 * processes_most ≤ length before.report) (fit''' : 2 * suc sweep_most ≤ length before.origins) (valid : validate_table table ≡ 0) (sound : validate_schedule schedule ≡ 0)
     (few : commands_in schedule ≤ suc sweep_most) where
@@ -89,19 +96,21 @@ module _ (table schedule : List ℕ) (before : Buffers) (fit : 6 * suc sweep_mos
       (le-leb (6 * commands_in schedule) (length before.answers) (omega arith)) (le-leb (commands_in schedule) (length before.reasons) (omega arith)) in
       rw (valid, sound, enough, le-leb (20 * processes_in table) (length before.report) (omega arith), le-leb (2 * commands_in schedule) (length before.origins) (omega arith))
 
-  module _ (r : Verdict) (after : Buffers) (runs : Runs table schedule before r after) where
+  module _ (r : Result Ended Refusal) (after : Buffers) (runs : Runs table schedule before r after) where
     abbrev end : Cabinet
     end = ended (decode_table table) (decode_schedule schedule)
 
-    ends-quiet : r.quiet ≡ quiescent (decode_table table) end
+    ends-quiet : (ran_by r after).quiet ≡ quiescent (decode_table table) end
     ends-quiet = ap (λ (x : Ran). x.quiet) runs.ran ∙ quiet_is table schedule before runs_through
 
     reported : after.report ≡ written (all_bytes report_bytes end.processes) before.report
     unfolding ran_from
-    reported = ap (λ (x : Ran). x.buffers.report) (runs.ran ∙ run_is table schedule before runs_through)
+    reported =
+        ap (λ (b : Buffers). b.report) (sym (buffers_by r after))
+        ∙ ap (λ (x : Ran). x.buffers.report) (runs.ran ∙ run_is table schedule before runs_through)
 
     pub ended_so : (processes : ℕ) → processes ≡ length (decode_table table).processes
-        → ending_of (decode_table table) end ≡ cond r.quiet quiet_end (cond (some_held_in after.report processes) held_end free_end)
+        → ending_of (decode_table table) end ≡ cond (ran_by r after).quiet quiet_end (cond (some_held_in after.report processes) held_end free_end)
     unfolding ending_of
     ended_so processes e =
         let many : processes ≡ length end.processes = e ∙ sym (processes-end (decode_table table) (decode_schedule schedule)) in
@@ -120,8 +129,8 @@ length-zeros n = length-replicate {A = ℕ} n 0
 abbrev buffers : Buffers
 buffers = buffers_of (zeros 3006) (zeros 501) (zeros 320) (zeros 1002)
 
-module _ (table schedule : List ℕ) (processes : ℕ) (r : Verdict) (after : Buffers) (runs : Runs table schedule buffers r after) where
-  ends_so : (e : Ending) → (processes ≤ processes_most → cond r.quiet quiet_end (cond (some_held_in after.report processes) held_end free_end) ≡ e)
+module _ (table schedule : List ℕ) (processes : ℕ) (r : Result Ended Refusal) (after : Buffers) (runs : Runs table schedule buffers r after) where
+  ends_so : (e : Ending) → (processes ≤ processes_most → cond (ran_by r after).quiet quiet_end (cond (some_held_in after.report processes) held_end free_end) ≡ e)
       → (tally : Tally) → Counted (count_one e) tally → Ends table schedule processes tally
   ends_so e same tally counted = record {
     ends = λ valid sound few many.
@@ -133,10 +142,10 @@ module _ (table schedule : List ℕ) (processes : ℕ) (r : Verdict) (after : Bu
         rw (ended_so table schedule buffers (omega arith) (omega arith) (omega arith) (omega arith) valid sound few r after runs processes many ∙ same (omega arith)) counted;
   }
 
-  pub quiet-ends : r.quiet ≡ true → Ends table schedule processes (record { quiet = 1; held = 0; free = 0 })
+  pub quiet-ends : (ran_by r after).quiet ≡ true → Ends table schedule processes (record { quiet = 1; held = 0; free = 0 })
   quiet-ends q = ends_so quiet_end (λ _. rw q) _ (record { quiet_is = refl; held-is = refl; free-is = refl })
 
-  module _ (unquiet : r.quiet ≡ false) (held : Bool) (is_held_lem : processes ≤ processes_most → held ≡ some_held_in after.report processes) where
+  module _ (unquiet : (ran_by r after).quiet ≡ false) (held : Bool) (is_held_lem : processes ≤ processes_most → held ≡ some_held_in after.report processes) where
     pub held-ends : held ≡ true → Ends table schedule processes (record { quiet = 0; held = 1; free = 0 })
     held-ends h = ends_so held_end (λ low. rw (unquiet, ← is_held_lem low, h)) _ (record { quiet_is = refl; held-is = refl; free-is = refl })
 

@@ -1,24 +1,28 @@
 -- A sweep judged: a record of move 5 or 8 looked for, and the numbers in their order.
+use Rattle.std.specs.Prelude.{Ok, Err}
 use mathlib.Core.Path.{◌≡◌, refl, ap, sym, ◌∙◌}
 use mathlib.Core.Bool.{Bool, true, false, cond, ◌||◌}
 use mathlib.Core.List.{List, [], ◌∷◌}
 use Prim.Native.Nat.{ℕ, zero, suc, ◌≤◌, ◌<◌}
 use native.Mathlib.Omega.{arith}
 use native.Mathlib.Nat.{not-suc-le-zero, le_of_suc-le-suc}
-use lib.Dec.{eqb}
+use lib.Dec.{eqb, leb}
 use lib.ListN.{length, get_or}
 use borrow.Author.Tests.{eq-eqb, ne_eqb, le-leb, lt-leb}
-use Rattle.facts.specs.Tests.{by_eq}
+use Rattle.numbers.specs.Runs.{number_of, refuses}
+use Rattle.numbers.specs.declared.runs.Refusal.{Refusal}
+use Rattle.numbers.specs.declared.runs.Refusal.TheVariants.{Unswept}
 use Rattle.rules.specs.Moves as rules
 use Rattle.rules.specs.Sizes.{sweep_most}
-use Rattle.rules.specs.Format.{or_number, validate_table}
-use Rattle.rules.specs.Schedule.{commands_in, command, decode_schedule}
+use Rattle.rules.specs.Format.{validate_table}
+use Rattle.rules.specs.Schedule.{commands_in, command, decode_schedule, validate_schedule}
 use Rattle.rules.specs.Sweep.{is_barred, any_barred, sweepable, validate_sweep}
 use Rattle.rules.proofs.Scheduled.{commands-counted}
 use Rattle.records.specs.Commands.{ScheduleJudged, command_of}
 use Rattle.records.specs.declared.schedule.Command.{Command}
-use Rattle.records.specs.declared.schedule.Judged.{Judged}
-use Rattle.sweep.specs.Judged.{judged_sweep}
+use Rattle.table.specs.Plan.{Decodes}
+use Rattle.table.specs.declared.Decoded.{Decoded}
+use Rattle.sweep.specs.Judged.{SweepJudged}
 
 -- ---- a record of move 5 or 8
 
@@ -67,41 +71,64 @@ module _ (schedule : List ℕ) (n : ℕ) where
 
 -- ---- the numbers in order
 
-abbrev in_order_of : ℕ → ℕ → Bool → ℕ
-in_order_of table schedule fine = or_number (eqb table 0) table (or_number (eqb schedule 0) schedule (or_number fine 52 0))
+module _ (table schedule : List ℕ) where
+  -- refused, by its number
+  refused_sweep : (r : Refusal) → number_of r ≡ validate_sweep table schedule → SweepJudged table schedule (Err r)
+  refused_sweep r e = record { number_is = e; admitted = tt }
 
-module _ (number : ℕ) (judged : Judged) (schedule : List ℕ) where
-  pub number_of_table : (number ≡ 0 → ⊥) → number ≡ judged_sweep number judged schedule
-  unfolding judged_sweep
-  number_of_table h = rw (ne_eqb number 0 h)
+  pub by_table : (r : Refusal) → number_of r ≡ validate_table table → SweepJudged table schedule (Err r)
+  unfolding validate_sweep
+  by_table r e = refused_sweep r (e ∙ rw (ne_eqb (validate_table table) 0 (λ z. refuses r (e ∙ z))))
 
-  pub number_of_schedule : number ≡ 0 → (judged.number ≡ 0 → ⊥) → judged.number ≡ judged_sweep number judged schedule
-  unfolding judged_sweep
-  number_of_schedule e h = rw (eq-eqb number 0 e, ne_eqb judged.number 0 h)
+  module _ {d : Decoded} (decodes : Decodes table (Ok d)) where
+    pub by_schedule : (r : Refusal) → number_of r ≡ validate_schedule schedule → SweepJudged table schedule (Err r)
+    unfolding validate_sweep
+    by_schedule r e =
+        refused_sweep r
+        (e ∙ rw (eq-eqb (validate_table table) 0 (sym decodes.number_is), ne_eqb (validate_schedule schedule) 0 (λ z. refuses r (e ∙ z))))
 
-  module _ (e : number ≡ 0) (f : judged.number ≡ 0) where
-    pub too_many : sweep_most < judged.records → 52 ≡ judged_sweep number judged schedule
-    unfolding judged_sweep
-    too_many h = rw (eq-eqb number 0 e, eq-eqb judged.number 0 f, lt-leb judged.records sweep_most h)
+    module _ {records : ℕ} (valid : ScheduleJudged schedule (Ok records)) where
+      pub records_are : records ≡ commands_in schedule
+      records_are = valid.records_is ∙ ap (λ (n : ℕ). cond (eqb n 0) (commands_in schedule) 0) (sym valid.number_is)
 
-    pub has_barred : judged.records ≤ sweep_most → true ≡ any_barred (decode_schedule schedule) → 52 ≡ judged_sweep number judged schedule
-    unfolding judged_sweep
-    has_barred h b = rw (eq-eqb number 0 e, eq-eqb judged.number 0 f, le-leb judged.records sweep_most h, ← b)
+      pub too_many : sweep_most < records → SweepJudged table schedule (Err Unswept)
+      unfolding validate_sweep sweepable
+      too_many h =
+          refused_sweep Unswept
+          (rw (
+            eq-eqb (validate_table table) 0 (sym decodes.number_is),
+            eq-eqb (validate_schedule schedule) 0 (sym valid.number_is),
+            lt-leb (commands_in schedule) sweep_most (let e = records_are in omega arith),
+          ))
 
-    pub all_fine : judged.records ≤ sweep_most → false ≡ any_barred (decode_schedule schedule) → 0 ≡ judged_sweep number judged schedule
-    unfolding judged_sweep
-    all_fine h b = rw (eq-eqb number 0 e, eq-eqb judged.number 0 f, le-leb judged.records sweep_most h, ← b)
+      module _ (few : records ≤ sweep_most) where
+        few-commands : leb (commands_in schedule) sweep_most ≡ true
+        few-commands = le-leb (commands_in schedule) sweep_most (let e = records_are in omega arith)
 
--- ---- of a table and a schedule that were judged it is the rules' number
+        pub has_barred : any_barred (decode_schedule schedule) ≡ true → SweepJudged table schedule (Err Unswept)
+        unfolding validate_sweep sweepable
+        has_barred b =
+            refused_sweep Unswept
+            (rw (
+              eq-eqb (validate_table table) 0 (sym decodes.number_is),
+              eq-eqb (validate_schedule schedule) 0 (sym valid.number_is),
+              few-commands,
+              b,
+            ))
 
-pub records_are : (schedule : List ℕ) (j : Judged) → ScheduleJudged schedule j → j.number ≡ 0 → j.records ≡ commands_in schedule
-records_are schedule j h z = h.records_is ∙ ap (λ (n : ℕ). cond (eqb n 0) (commands_in schedule) 0) (sym h.number_is ∙ z)
-
-pub sweep-is : (table schedule : List ℕ) (number : ℕ) (j : Judged) → number ≡ validate_table table → ScheduleJudged schedule j
-    → judged_sweep number j schedule ≡ validate_sweep table schedule
-unfolding judged_sweep validate_sweep sweepable
-sweep-is table schedule number j e h =
-    rw (← e, ← h.number_is)
-    (by_eq j.number 0
-    (λ z. rw (records_are schedule j h z))
-    (λ n. rw (ne_eqb j.number 0 n)))
+        pub admits : any_barred (decode_schedule schedule) ≡ false
+            → SweepJudged table schedule (Ok (record { counts = d.plan.counts; records = records }))
+        unfolding validate_sweep sweepable
+        admits b =
+            let planned = decodes.accepted.planned in
+            let e : 0 ≡ validate_sweep table schedule =
+            rw (
+              eq-eqb (validate_table table) 0 (sym decodes.number_is),
+              eq-eqb (validate_schedule schedule) 0 (sym valid.number_is),
+              few-commands,
+              b,
+            ) in
+            record {
+              number_is = e;
+              admitted = (record { valid = sym e; boards-is = planned.boards-is; processes-is = planned.processes-is }, records_are);
+            }

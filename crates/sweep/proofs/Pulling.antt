@@ -1,4 +1,5 @@
 -- A schedule with the crash put in: its bytes are a sound schedule, and its commands are the rules' `pulled_at`.
+use Rattle.std.specs.Prelude.{Ok}
 use mathlib.Core.Path.{◌≡◌, refl, ap, sym, ◌∙◌}
 use mathlib.Core.List.{List, [], ◌∷◌, ◌++◌, append_assoc}
 use Prim.Native.Nat.{ℕ, zero, suc, ◌+◌, ◌-◌, ◌*◌, ◌/◌, ◌%◌, ◌≤◌}
@@ -87,7 +88,7 @@ module _ (schedule : List ℕ) (place b : ℕ) (valid : validate_schedule schedu
       let f = field_true schedule place b in
       let n = pulled_count in
       let w : Whole p = record { long = omega arith; true_field = omega arith; whole = omega arith; few = omega arith } in
-      sym (accepted_0 p (record { number = 0; records = commands_in p }) w (version-kept schedule place b long ∙ s.version) refl refl).number_is
+      sym (accepted_0 p (Ok (commands_in p)) w (version-kept schedule place b long ∙ s.version) refl refl).number_is
 
   pub pulled_decoded : decode_schedule (pulled_bytes schedule place b) ≡ pulled_at (decode_schedule schedule) place b
   unfolding decode_schedule

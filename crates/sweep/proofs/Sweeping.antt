@@ -1,4 +1,5 @@
 -- The call: refused with a number alone, or the three counts of all runs.
+use Rattle.std.specs.Prelude.{Result, Ok, Err, IfOk}
 use mathlib.Core.Path.{◌≡◌, refl, ap, sym, ◌∙◌}
 use mathlib.Core.Bool.{Bool, true, false, cond}
 use mathlib.Core.List.{List}
@@ -8,6 +9,8 @@ use native.Mathlib.Nat.{mul-le-mul_left, mul-le-mul_right}
 use lib.Dec.{eqb}
 use lib.ListN.{length}
 use borrow.Author.Tests.{eqb-true, ne_eqb}
+use Rattle.numbers.specs.Runs.{number_of, refuses}
+use Rattle.numbers.specs.declared.runs.Refusal.{Refusal}
 use Rattle.rules.specs.Sizes.{sweep_most, boards_most}
 use Rattle.rules.specs.Table.{Table}
 use Rattle.rules.specs.Moves.{Command}
@@ -18,28 +21,22 @@ use Rattle.rules.specs.Sweep.{count_of, is_quiet, is_held, is_free, validate_swe
 use Rattle.rules.proofs.Sweep.{three-together, swept-together}
 use Rattle.rules.proofs.Valid.{decoded_accepted}
 use Rattle.rules.proofs.Scheduled.{commands-counted}
-use Rattle.records.specs.Commands.{ScheduleJudged}
-use Rattle.records.specs.declared.schedule.Judged.{Judged}
-use Rattle.table.specs.Plan.{Decodes}
-use Rattle.table.specs.declared.Decoded.{Decoded}
-use Rattle.sweep.specs.Judged.{judged_sweep}
+use Rattle.plan.specs.declared.Counts.{Counts}
 use Rattle.sweep.specs.Counted.{Counted, count_places, Admitted}
 use Rattle.sweep.specs.Sweeps.{runs_most, swept_by, Sweeps}
 use Rattle.sweep.specs.declared.tally.Tally.{Tally}
-use Rattle.sweep.specs.declared.Swept.{Swept}
-use Rattle.sweep.proofs.Admitting.{table-sound, schedule_sound, records-few}
-use Rattle.sweep.proofs.Judging.{records_are, sweep-is}
+use Rattle.sweep.proofs.Admitting.{table-sound, records-few}
 
 -- ---- the three together
 
-together_so : (table schedule : List ℕ) (r : Swept) → swept_by r ≡ sweep table schedule → r.number ≡ 0
-    → r.quiet + (r.held + r.free) ≡ suc (length (decode_schedule schedule)) * (decode_table table).boards
-together_so table schedule r e z =
-    let q = ap (λ (x : rules.Swept). x.quiet) e in
-    let h = ap (λ (x : rules.Swept). x.held) e in
-    let f = ap (λ (x : rules.Swept). x.free) e in
-    let n = ap (λ (x : rules.Swept). x.number) e in
-    let s = swept-together table schedule (sym n ∙ z) in
+together_so : (table schedule : List ℕ) (x : Tally) → swept_by (Ok x) ≡ sweep table schedule
+    → x.quiet + (x.held + x.free) ≡ suc (length (decode_schedule schedule)) * (decode_table table).boards
+together_so table schedule x e =
+    let q = ap (λ (y : rules.Swept). y.quiet) e in
+    let h = ap (λ (y : rules.Swept). y.held) e in
+    let f = ap (λ (y : rules.Swept). y.free) e in
+    let n = ap (λ (y : rules.Swept). y.number) e in
+    let s = swept-together table schedule (sym n) in
     (λ i. q i + (h i + f i)) ∙ s
 
 -- ---- and they are few
@@ -59,46 +56,29 @@ few_so table schedule true v t commands is-t is-commands r e =
     rw e (omega arith)
 few_so table schedule false v t commands is-t is-commands r e = rw e (omega arith)
 
-pub swept-few : (table schedule : List ℕ) (r : Swept) → Sweeps table schedule r → r.quiet + (r.held + r.free) ≤ runs_most
+pub swept-few : (table schedule : List ℕ) (r : Result Tally Refusal) → Sweeps table schedule r → IfOk r (λ x. x.quiet + (x.held + x.free) ≤ runs_most)
 unfolding sweep
-swept-few table schedule r h =
-    few_so table schedule (eqb (validate_sweep table schedule) 0) refl (decode_table table) (decode_schedule schedule) refl refl (swept_by r) h.swept
+swept-few table schedule (Err r) h = tt
+swept-few table schedule (Ok x) h =
+    few_so table schedule (eqb (validate_sweep table schedule) 0) refl (decode_table table) (decode_schedule schedule) refl refl (swept_by (Ok x)) h.swept
 
 -- ---- the call
 
-module _ (table schedule : List ℕ) (d : Decoded) (j : Judged) (is-d : Decodes table d) (is-j : ScheduleJudged schedule j) (n : ℕ)
-    (is-n : (j.number ≡ 0 → j.records ≡ commands_in schedule) → n ≡ judged_sweep d.number j schedule) where
-  pub number_is : n ≡ validate_sweep table schedule
-  number_is = is-n (records_are schedule j is-j) ∙ sweep-is table schedule d.number j is-d.number_is is-j
-
-  pub refuses : (n ≡ 0 → ⊥) → Sweeps table schedule (record { number = n; quiet = 0; held = 0; free = 0 })
+module _ (table schedule : List ℕ) where
+  pub refuses_sweep : (r : Refusal) → number_of r ≡ validate_sweep table schedule → Sweeps table schedule (Err r)
   unfolding sweep
-  refuses h = record {
-    swept = rw (← number_is, ne_eqb n 0 h);
-    together = λ z. absurd (h z);
-  }
+  refuses_sweep r e = record { swept = rw (← e, ne_eqb (number_of r) 0 (refuses r)); together = tt }
 
-  module _ (z : n ≡ 0) where
-    valid : validate_sweep table schedule ≡ 0
-    valid = sym number_is ∙ z
+  -- all runs, counted
+  counts_so : (x : Tally) → validate_sweep table schedule ≡ 0
+      → Counted (count_places (decode_table table) (decode_schedule schedule) (suc (length (decode_schedule schedule)))) x
+      → swept_by (Ok x) ≡ sweep table schedule
+  unfolding sweep count_of
+  counts_so x valid c = rw (valid, c.quiet_is, c.held-is, c.free-is)
 
-    pub admitted : Admitted table schedule d.plan.counts
-    admitted =
-        let planned = (is-d.accepted (is-d.number_is ∙ table-sound table schedule valid)).planned in
-        record { valid = valid; boards-is = planned.boards-is; processes-is = planned.processes-is }
-
-    pub records_is : j.records ≡ commands_in schedule
-    records_is = records_are schedule j is-j (is-j.number_is ∙ schedule_sound table schedule valid)
-
-    -- all runs, counted
-    counts_so : (x : Tally) → Counted (count_places (decode_table table) (decode_schedule schedule) (suc (length (decode_schedule schedule)))) x
-        → rules.swept_of 0 x.quiet x.held x.free ≡ sweep table schedule
-    unfolding sweep count_of
-    counts_so x c = rw (valid, c.quiet_is, c.held-is, c.free-is)
-
-    pub sweeps : (x : Tally) → Counted (count_places (decode_table table) (decode_schedule schedule) (suc j.records)) x
-        → Sweeps table schedule (record { number = 0; quiet = x.quiet; held = x.held; free = x.free })
-    sweeps x c =
-        let many : j.records ≡ length (decode_schedule schedule) = records_is ∙ sym (commands-counted schedule) in
-        let so = counts_so x (rw many at c) in
-        record { swept = so; together = together_so table schedule _ so }
+  pub sweeps : {counts : Counts} → Admitted table schedule counts → {records : ℕ} → records ≡ commands_in schedule → (x : Tally)
+      → Counted (count_places (decode_table table) (decode_schedule schedule) (suc records)) x → Sweeps table schedule (Ok x)
+  sweeps ok is-records x c =
+      let many : _ ≡ length (decode_schedule schedule) = is-records ∙ sym (commands-counted schedule) in
+      let so = counts_so x ok.valid (rw many at c) in
+      record { swept = so; together = together_so table schedule x so }

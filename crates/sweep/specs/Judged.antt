@@ -1,15 +1,14 @@
--- The number of a sweep, from the numbers that were found for the table and for the schedule.
-use Rattle.std.specs.Prelude.{not, ◌&&◌, List, ℕ, eqb, leb}
-use Rattle.rules.specs.Sizes.{sweep_most}
-use Rattle.rules.specs.Format.{or_number}
-use Rattle.rules.specs.Schedule.{decode_schedule}
-use Rattle.rules.specs.Sweep.{any_barred}
-use Rattle.records.specs.declared.schedule.Judged.{Judged}
+-- Whether a sweep is refused, and by which number.
+use Rattle.std.specs.Prelude.{◌≡◌, List, ℕ, Result, IfOk}
+use Rattle.numbers.specs.Runs.{number_in}
+use Rattle.numbers.specs.declared.runs.Refusal.{Refusal}
+use Rattle.rules.specs.Schedule.{commands_in}
+use Rattle.rules.specs.Sweep.{validate_sweep}
+use Rattle.sweep.specs.Counted.{Admitted}
+use Rattle.sweep.specs.declared.judge.Sweepable.{Sweepable}
 
--- "1 to 10 as for a run", then 52. (proofs/Judging.antt: of the table and the schedule that were judged it is the rules' `validate_sweep`.)
-unfoldable pub judged_sweep : ℕ → Judged → List ℕ → ℕ
-judged_sweep number judged schedule =
-    or_number (eqb number 0) number
-    (or_number (eqb judged.number 0) judged.number
-    (or_number (leb judged.records sweep_most && not (any_barred (decode_schedule schedule))) 52
-    0))
+-- What judging a sweep finds, of any bytes of a table and a schedule: the rules' number, and where that is 0 the table's counts and how many
+-- records the schedule has.
+pub record SweepJudged (table schedule : List ℕ) (r : Result Sweepable Refusal) : Type 0 where
+  pub number_is : number_in r ≡ validate_sweep table schedule
+  pub admitted : IfOk r (λ s. Admitted table schedule s.counts × (s.records ≡ commands_in schedule))

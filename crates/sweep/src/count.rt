@@ -19,13 +19,11 @@ fn count_place(table: &[u8], schedule: &[u8], counts: Counts, place: usize) -> T
     let mut quiet = 0;
     let mut held = 0;
     let mut free = 0;
-    let mut b = 0;
-    while b < boards {
+    for b in 0..boards {
         let e = pull(table, schedule, counts, place, b);
         quiet += e.quiet;
         held += e.held;
         free += e.free;
-        b += 1;
     }
     Tally { quiet, held, free }
 }
@@ -39,13 +37,11 @@ pub fn count_all(table: &[u8], schedule: &[u8], counts: Counts, records: usize) 
     let mut quiet = 0;
     let mut held = 0;
     let mut free = 0;
-    let mut place = 0;
-    while place <= records {
+    for place in 0..records + 1 {
         let e = count_place(table, schedule, counts, place);
         quiet += e.quiet;
         held += e.held;
         free += e.free;
-        place += 1;
     }
     Tally { quiet, held, free }
 }

@@ -11,7 +11,7 @@ use crate::pulled::{PULLED, put_in};
 use crate::tally::Tally;
 use cabinet::run::run;
 use plan::{Counts, PROCESSES};
-use words::most16;
+use words::most;
 
 // Buffers for a run with the crash: six bytes, one and two for each record, twenty for each process.
 const ANSWERS: usize = 6 * (SWEEP_MOST + 1);
@@ -31,13 +31,11 @@ const HOLD_BACK: usize = 3;
 fn some_held(report: &[u8; REPORT], processes: usize) -> bool
     ensures { processes ≤ processes_most → result ≡ some_held_in report.now processes }
 {
-    let n = most16(processes);
-    let mut p = 0;
-    while p < n {
+    let n = most::<PROCESSES>(processes);
+    for p in 0..n {
         if report[LINE * p + HOLD_BACK] != 0 {
             return true;
         }
-        p += 1;
     }
     false
 }
@@ -50,7 +48,7 @@ fn ending(table: &[u8], schedule: &[u8], processes: usize) -> Tally
     let mut reasons = [0u8; REASONS];
     let mut report = [0u8; REPORT];
     let mut origins = [0u8; ORIGINS];
-    let v = run(
+    let ended = run(
         table,
         schedule,
         &mut answers,
@@ -58,7 +56,12 @@ fn ending(table: &[u8], schedule: &[u8], processes: usize) -> Tally
         &mut report,
         &mut origins,
     );
-    if v.quiet {
+    // None of a sweep's runs is refused.
+    let quiet = match ended {
+        Ok(e) => e.quiet,
+        Err(_) => false,
+    };
+    if quiet {
         return Tally {
             quiet: 1,
             held: 0,

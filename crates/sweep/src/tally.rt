@@ -2,8 +2,8 @@
 #[derive(Clone, Copy)]
 pub struct Tally {
     pub quiet: u32,
-    // unquiet, with some hold-back left
+    // Unquiet, with some hold-back left.
     pub held: u32,
-    // unquiet, with none
+    // Unquiet, with none.
     pub free: u32,
 }

@@ -1,20 +1,22 @@
 -- The decoder: the numbers in order, and the plan of a table that all of them pass.
-use mathlib.Core.Path.{◌≡◌, refl, ap, sym, ◌∙◌, subst}
-use mathlib.Core.Bool.{Bool, true, false, not}
+use Rattle.std.specs.Prelude.{Ok, Err}
+use mathlib.Core.Path.{◌≡◌, refl, ap, sym, ◌∙◌}
+use mathlib.Core.Bool.{Bool, true, false}
 use mathlib.Core.List.{List}
-use Prim.Native.Nat.{ℕ, ◌+◌, ◌<◌}
+use Prim.Native.Nat.{ℕ, ◌<◌}
 use native.Mathlib.Omega.{arith}
-use lib.ListN.{length}
-use borrow.Author.Tests.{not-true, not-false}
+use lib.ListN.{length, get_or}
+use Rattle.numbers.specs.Runs.{number_of, refuses}
+use Rattle.numbers.specs.declared.runs.Refusal.{Refusal}
 use Rattle.rules.specs.Judge.{ends_ok, inputs_ok, boards_ok, instructions_ok, limits_ok}
 use Rattle.rules.specs.Format.{version_in, version_ok, processes_in, channels_in, decode_table, or_number, length_ok, counts_ok, extent_ok, table_number, validate_table}
 use Rattle.rules.proofs.Valid.{processes-counted, channels-counted}
 use Rattle.records.specs.Fetch.{fetched, instruction_of}
 use Rattle.plan.specs.Plan.{plan_of, Planned}
 use Rattle.plan.specs.declared.Counts.{Counts}
-use Rattle.table.specs.Parts.{counts_in, framing, Framed, PortsRead, PlacementsRead, plan_from}
-use Rattle.table.specs.Plan.{no_plan, Decodes}
-use Rattle.table.specs.declared.Decoded.{Decoded}
+use Rattle.plan.specs.declared.Plan as code
+use Rattle.table.specs.Parts.{counts_in, framing, Framed, PortsFound, PlacementsFound}
+use Rattle.table.specs.Plan.{Decodes}
 use Rattle.table.specs.declared.ends.Ports.{Ports}
 use Rattle.table.specs.declared.boards.Placements.{Placements}
 use Rattle.table.proofs.Programs.{fetched-code}
@@ -38,13 +40,6 @@ four-go true false c d further h = absurd (omega arith)
 four-go true true false d further h = absurd (omega arith)
 four-go true true true false further h = absurd (omega arith)
 four-go true true true true further h = (refl, refl, refl, refl)
-
--- what a test that was computed says of the rules'
-pub passed : {r b : Bool} → not r ≡ false → r ≡ b → true ≡ b
-passed h e = sym (not-false _ h) ∙ e
-
-pub failed : {r b : Bool} → not r ≡ true → r ≡ b → false ≡ b
-failed h e = sym (not-true _ h) ∙ e
 
 -- numbers 5 to 8 and 47 in order
 pub judging : List ℕ → ℕ
@@ -80,46 +75,52 @@ module _ (bytes : List ℕ) where
 
   -- ---- a table refused
 
-  pub decodes_refused : (n : ℕ) (r : Decoded) → validate_table bytes ≡ n → (n ≡ 0 → ⊥) → (r.number ≡ n) × (r.plan ≡ no_plan) → Decodes bytes r
-  decodes_refused n r v h e = record { number_is = e.0 ∙ sym v; accepted = λ z. absurd (h (sym e.0 ∙ z)); refused = λ _. e.1 }
+  pub decodes_refused : (r : Refusal) → validate_table bytes ≡ number_of r → Decodes bytes (Err r)
+  decodes_refused r v = record { number_is = sym v; accepted = tt }
+
+  -- by numbers 1 to 4
+  pub decodes_unframed : (r : Refusal) → number_of r ≡ framing bytes → Decodes bytes (Err r)
+  decodes_unframed r e = decodes_refused r (framing_refuses (λ z. refuses r (e ∙ z)) ∙ sym e)
 
   -- ---- a table accepted
 
-  module _ (w : Ports) (b : Placements) (read : PortsRead bytes w) (placed : PlacementsRead bytes w.programs b)
-      (w-ok : w.ok ≡ true) (b-ok : b.ok ≡ true) (extent : extent_ok bytes ≡ true) where
+  module _ (w : Ports) (b : Placements) (read : PortsFound bytes w) (placed : PlacementsFound bytes w.programs b) (extent : extent_ok bytes ≡ true) where
     process : {p : ℕ} → p < length (decode_table bytes).processes → p < processes_in bytes
     process h = let z = processes-counted bytes in omega arith
 
     channel : {k : ℕ} → k < length (decode_table bytes).channels → k < channels_in bytes
     channel h = let z = channels-counted bytes in omega arith
 
-    planned : Planned (decode_table bytes) (plan_of bytes (counts_in bytes) b.programs w.wires)
+    -- the plan with these counts
+    abbrev plan_from : Counts → code.Plan
+    plan_from counts = record { counts = counts; programs = b.programs; wires = w.wires }
+
+    planned : Planned (decode_table bytes) (plan_of bytes (plan_from (counts_in bytes)))
     unfolding decode_table
     planned = record {
       boards-is = refl;
       processes-is = sym (processes-counted bytes);
       channels-is = sym (channels-counted bytes);
       code_at = λ p h k l.
-          ap (λ (at : ℕ). instruction_of (fetched bytes at k)) (placed.start_at b-ok p (process h)) ∙ fetched-code bytes extent p (process h) k l;
-      length_at = λ p h. placed.length_at b-ok p (process h);
-      limit_at = λ p h. placed.limit_at b-ok p (process h);
-      arity_at = λ p h. placed.kept b-ok p 3 (omega arith) (omega arith) ∙ read.arity_at w-ok p (process h);
-      input_at_lem = λ p h s l.
-          placed.kept b-ok p (4 + s) (omega arith) (let z = read.few w-ok p (process h) in omega arith) ∙ read.input_at_lem w-ok p (process h) s l;
-      sender_at = λ k h. read.sender_at w-ok k (channel h);
-      reader_at = λ k h. read.reader_at w-ok k (channel h);
-      port_at = λ k h l. read.port_at w-ok k (channel h) (process l);
+          ap (λ (at : ℕ). instruction_of (fetched bytes at k)) (placed.start_at p (process h)) ∙ fetched-code bytes extent p (process h) k l;
+      length_at = λ p h. placed.length_at p (process h);
+      limit_at = λ p h. placed.limit_at p (process h);
+      arity_at = λ p h. placed.arity_kept p ∙ read.arity_at p (process h);
+      input_at_lem = λ p h s l. ap (λ (inputs : List ℕ). get_or inputs s 0) (placed.inputs_kept p) ∙ read.input_at_lem p (process h) s l;
+      sender_at = λ k h. read.sender_at k (channel h);
+      reader_at = λ k h. read.reader_at k (channel h);
+      port_at = λ k h l. read.port_at k (channel h) (process l);
     }
 
-    pub decodes_accepted : (counts : Counts) (r : Decoded) → validate_table bytes ≡ 0 → counts ≡ counts_in bytes → r ≡ plan_from counts w b → Decodes bytes r
-    decodes_accepted counts r v e f =
-        subst (Decodes bytes) (sym (f ∙ ap (λ (n : Counts). plan_from n w b) e))
+    pub decodes_accepted : (counts : Counts) → validate_table bytes ≡ 0 → counts ≡ counts_in bytes
+        → Decodes bytes (Ok (record { plan = plan_from counts; placements = b.placements }))
+    decodes_accepted counts v e =
+        rw e
         (record {
           number_is = sym v;
-          accepted = λ _. record {
+          accepted = record {
             planned = planned;
-            primary_at = λ p h. placed.primary_at b-ok p (process h);
-            standby_at = λ p h. placed.standby_at b-ok p (process h);
+            primary_at = λ p h. placed.primary_at p (process h);
+            standby_at = λ p h. placed.standby_at p (process h);
           };
-          refused = λ h. absurd (h refl);
         })

@@ -1,4 +1,6 @@
 -- Numbers 1 to 4: the tests of a table's head, and the walk over its records.
+use Rattle.std.specs.Prelude.{None, Some}
+use Rattle.std.proofs.lemmas.Option.{none-some, cond_some}
 use mathlib.Core.Path.{◌≡◌, refl, ap, ap₂, sym, ◌∙◌}
 use mathlib.Core.Bool.{Bool, true, false, cond, ◌&&◌, and_assoc}
 use mathlib.Core.List.{List, [], ◌∷◌}
@@ -33,30 +35,25 @@ module _ (bytes : List ℕ) where
 -- ---- number 4, one record
 
 module _ (v : ℕ) (rest : List ℕ) where
-  pub record_big : pc_most < program_length v rest → 0 ≡ record_in v rest
+  pub record_big : pc_most < program_length v rest → None ≡ record_in v rest
   record_big h = rw (lt-leb (program_length v rest) pc_most h)
 
   module _ (few : program_length v rest ≤ pc_most) (size : ℕ) (e : size ≡ record_length v rest) where
-    pub record_cut : length rest < size → 0 ≡ record_in v rest
+    pub record_cut : length rest < size → None ≡ record_in v rest
     record_cut h = rw (le-leb (program_length v rest) pc_most few, lt-leb (record_length v rest) (length rest) (omega arith))
 
-    pub record_whole : size ≤ length rest → size ≡ record_in v rest
-    record_whole h = rw (le-leb (program_length v rest) pc_most few, le-leb (record_length v rest) (length rest) (omega arith)) e
+    pub record_whole : size ≤ length rest → Some size ≡ record_in v rest
+    record_whole h = rw (le-leb (program_length v rest) pc_most few, le-leb (record_length v rest) (length rest) (omega arith)) (ap Some e)
 
-  -- a record's length is never 0
-  record_passed : (size : ℕ) → size ≡ record_in v rest → (size ≡ 0 → ⊥) → record_fits v rest ≡ true
-  record_passed size e h = go (record_fits v rest) refl
-    where
-      go : (b : Bool) → record_fits v rest ≡ b → record_fits v rest ≡ true
-      go true k = k
-      go false k = absurd (h (e ∙ ap (λ (t : Bool). cond t (record_length v rest) 0) k))
+  record_passed : (size : ℕ) → Some size ≡ record_in v rest → (record_fits v rest ≡ true) × (record_length v rest ≡ size)
+  record_passed size e = cond_some (record_fits v rest) (record_length v rest) size (sym e)
 
-  record_failed : 0 ≡ record_in v rest → record_fits v rest ≡ false
+  record_failed : None ≡ record_in v rest → record_fits v rest ≡ false
   record_failed e = go (record_fits v rest) refl
     where
       go : (b : Bool) → record_fits v rest ≡ b → record_fits v rest ≡ false
       go false k = k
-      go true k = absurd (let a : 0 ≡ record_length v rest = e ∙ ap (λ (t : Bool). cond t (record_length v rest) 0) k in omega arith)
+      go true k = absurd (none-some (record_length v rest) (e ∙ ap (λ (t : Bool). cond t (Some (record_length v rest)) None) k))
 
 -- ---- number 4, all records
 
@@ -79,17 +76,18 @@ module _ (bytes : List ℕ) (n : ℕ) where
   extending_start at e h =
       record { within = h; passed = omega arith; left = ap₂ (λ (m i : ℕ). records_ok (version_in bytes) m (drop i bytes)) (let z : n ≡ n - 0 = omega arith in z) (sym e) }
 
-  module _ (at p size : ℕ) (x : Extending bytes n at p) (h : p < n) (e : size ≡ record_in (version_in bytes) (drop at bytes)) where
+  module _ (at p : ℕ) (x : Extending bytes n at p) (h : p < n) where
     -- the next record, and then those behind it
     next : records_ok (version_in bytes) n (record_bytes bytes) ≡ (record_fits (version_in bytes) (drop at bytes) && records_ok (version_in bytes) (n - (p + 1)) (drop (record_length (version_in bytes) (drop at bytes)) (drop at bytes)))
     next =
         x.left ∙ ap (λ (m : ℕ). records_ok (version_in bytes) m (drop at bytes)) (let z : n - p ≡ suc (n - (p + 1)) = omega arith in z)
         ∙ sym (and_assoc (leb (program_length (version_in bytes) (drop at bytes)) pc_most) (leb (record_length (version_in bytes) (drop at bytes)) (length (drop at bytes))) _)
 
-    pub extending_on : (size ≡ 0 → ⊥) → Extending bytes n (at + size) (p + 1)
-    extending_on k =
-        let ok = record_passed (version_in bytes) (drop at bytes) size e k in
-        let same : size ≡ record_length (version_in bytes) (drop at bytes) = e ∙ ap (λ (t : Bool). cond t (record_length (version_in bytes) (drop at bytes)) 0) ok in
+    pub extending_on : (size : ℕ) → Some size ≡ record_in (version_in bytes) (drop at bytes) → Extending bytes n (at + size) (p + 1)
+    extending_on size e =
+        let passed = record_passed (version_in bytes) (drop at bytes) size e in
+        let ok = passed.0 in
+        let same = passed.1 in
         let fits = leb-true (record_length (version_in bytes) (drop at bytes)) (length (drop at bytes)) (and_right (leb (program_length (version_in bytes) (drop at bytes)) pc_most) _ ok) in
         let long = length-drop at bytes in
         let before = x.within in
@@ -97,12 +95,12 @@ module _ (bytes : List ℕ) (n : ℕ) where
           within = omega arith;
           passed = omega arith;
           left = next ∙ ap (λ (t : Bool). t && records_ok (version_in bytes) (n - (p + 1)) (drop (record_length (version_in bytes) (drop at bytes)) (drop at bytes))) ok
-              ∙ ap (records_ok (version_in bytes) (n - (p + 1))) (ap (λ (i : ℕ). drop i (drop at bytes)) (sym same) ∙ drop-drop size at bytes);
+              ∙ ap (records_ok (version_in bytes) (n - (p + 1))) (ap (λ (i : ℕ). drop i (drop at bytes)) same ∙ drop-drop size at bytes);
         }
 
-    pub extending_refused : size ≡ 0 → records_ok (version_in bytes) n (record_bytes bytes) ≡ false
-    extending_refused k =
-        next ∙ ap (λ (t : Bool). t && records_ok (version_in bytes) (n - (p + 1)) (drop (record_length (version_in bytes) (drop at bytes)) (drop at bytes))) (record_failed (version_in bytes) (drop at bytes) (sym k ∙ e))
+    pub extending_refused : None ≡ record_in (version_in bytes) (drop at bytes) → records_ok (version_in bytes) n (record_bytes bytes) ≡ false
+    extending_refused e =
+        next ∙ ap (λ (t : Bool). t && records_ok (version_in bytes) (n - (p + 1)) (drop (record_length (version_in bytes) (drop at bytes)) (drop at bytes))) (record_failed (version_in bytes) (drop at bytes) e)
 
   pub extending_end : (at p : ℕ) → Extending bytes n at p → n ≤ p → records_ok (version_in bytes) n (record_bytes bytes) ≡ eqb at (length bytes)
   extending_end at p x h =

@@ -5,19 +5,17 @@ ghost use Rattle.rules.specs.Format.{counts_ok, decode_table};
 ghost use Rattle.table.specs.Parts.{pair_ok, PortsRead};
 
 use crate::format::{CHANNELS_AT, PAIR_READER, PAIR_SENDER, PROCESSES_AT};
-use crate::rows::{put_ends, put_input, put_port};
 use backup::limits::PORTS;
-use plan::{ENVIRONMENT, PROGRAMS, WIRES, arity};
+use plan::{CHANNELS, ENVIRONMENT, NO_PROGRAM, NO_WIRE, PROCESSES, Program, Wire};
 use records::bytes::byte;
-use words::byte_wide;
+use words::{byte_wide, byte_word, wide};
 
-// What number 6 finds: whether no process reads too many channels, and then both ends of each channel and its port within its reader, and for
-// each process how many channels it reads and which.
-#[derive(Drop)]
+// What number 6 finds where no process reads too many channels: both ends of each channel and its port within its reader, and for each process
+// how many channels it reads and which.
+#[derive(Clone, Copy)]
 pub struct Ports {
-    pub ok: bool,
-    pub wires: [u32; WIRES],
-    pub programs: [u32; PROGRAMS],
+    pub wires: [Wire; CHANNELS],
+    pub programs: [Program; PROCESSES],
 }
 
 // An end is a process or the environment.
@@ -41,49 +39,46 @@ pub fn ends_ok(table: &[u8]) -> bool
 {
     let processes = byte(table, PROCESSES_AT);
     let channels = byte_wide(byte(table, CHANNELS_AT));
-    let mut k = 0;
-    while k < channels {
+    for k in 0..channels {
         let sender = byte(table, 2 * k + PAIR_SENDER);
         let reader = byte(table, 2 * k + PAIR_READER);
         if !pair_ok(processes, sender, reader) {
             return false;
         }
-        k += 1;
     }
     true
 }
 
 // 6: a process reads at most four channels, which are its ports in ascending order.
-pub fn judge_ports(table: &[u8]) -> Ports
+pub fn judge_ports(table: &[u8]) -> Option<Ports>
     requires { counts_ok table.now ≡ true }
     ensures { PortsRead table.now result }
 {
     let processes = byte(table, PROCESSES_AT);
     let channels = byte_wide(byte(table, CHANNELS_AT));
-    let mut wires = [0u32; WIRES];
-    let mut programs = [0u32; PROGRAMS];
-    let mut k = 0;
-    while k < channels {
+    let mut wires = [NO_WIRE; CHANNELS];
+    let mut programs = [NO_PROGRAM; PROCESSES];
+    for k in 0..channels {
+        let sender = byte(table, 2 * k + PAIR_SENDER);
         let reader = byte(table, 2 * k + PAIR_READER);
-        put_ends(&mut wires, k, byte(table, 2 * k + PAIR_SENDER), reader);
+        let mut port = 0;
         if reader < processes {
             let p = byte_wide(reader);
-            let n = arity(&programs, p);
-            if n >= PORTS {
-                return Ports {
-                    ok: false,
-                    wires: wires,
-                    programs: programs,
-                };
+            port = programs[p].arity;
+            if port >= PORTS {
+                return None;
             }
-            put_port(&mut wires, k, n);
-            put_input(&mut programs, p, n, k);
+            programs[p].inputs[wide(port)] = k as u32;
+            programs[p].arity = port + 1;
         }
-        k += 1;
+        wires[k] = Wire {
+            sender: byte_word(sender),
+            reader: byte_word(reader),
+            port: port,
+        };
     }
-    Ports {
-        ok: true,
+    Some(Ports {
         wires: wires,
         programs: programs,
-    }
+    })
 }

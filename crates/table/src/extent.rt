@@ -1,12 +1,13 @@
 // Numbers 1 to 4 of a table: its length, its version, its counts, and where its pairs and records end.
 ghost use Rattle.std.specs.Prelude.{◌≡◌};
 ghost use Rattle.rules.specs.Format.{records_start, length_ok, counts_ok, extent_ok};
+ghost use Rattle.numbers.specs.Runs.{number_in};
 ghost use Rattle.table.specs.Parts.{record_in, framing};
 
 use crate::counts::{counts_fit, counts_of, version_ok};
 use crate::format::{CHANNELS_AT, HEAD, PROCESSES_AT, PROGRAM_MOST, TABLE_MOST};
 use crate::record::{program_length, record_length, version_of};
-use numbers::runs::{ACCEPTED, TABLE_COUNTS, TABLE_EXTENT, TABLE_LENGTH, TABLE_VERSION};
+use numbers::runs::Refusal;
 use records::bytes::byte;
 use words::{byte_wide, pair};
 
@@ -39,18 +40,18 @@ pub fn records_start(table: &[u8]) -> usize
     HEAD + 2 * byte_wide(byte(table, CHANNELS_AT))
 }
 
-// The length of the record that begins a rest, or 0 where it has over 64 instructions or the rest ends within it.
-fn record_in(version: u32, rest: &[u8]) -> usize
+// The length of the record that begins a rest; none where it has over 64 instructions or the rest ends within it.
+fn record_in(version: u32, rest: &[u8]) -> Option<usize>
     ensures { result ≡ record_in version rest.now }
 {
     if byte_wide(program_length(version, rest)) > PROGRAM_MOST {
-        return 0;
+        return None;
     }
     let length = record_length(version, rest);
     if length > rest.len() {
-        return 0;
+        return None;
     }
-    length
+    Some(length)
 }
 
 // 4: each record has at most 64 instructions, and pairs and records end exactly with the table.
@@ -63,33 +64,30 @@ fn extent_ok(table: &[u8]) -> bool
     }
     let version = version_of(table);
     let processes = byte_wide(byte(table, PROCESSES_AT));
-    let mut p = 0;
-    while p < processes {
-        let length = record_in(version, &table[at..]);
-        if length == 0 {
+    for _ in 0..processes {
+        let Some(length) = record_in(version, &table[at..]) else {
             return false;
-        }
+        };
         at += length;
-        p += 1;
     }
     at == table.len()
 }
 
-// 0 where numbers 1 to 4 hold, or the lowest that doesn't.
-pub fn judge_extent(table: &[u8]) -> u8
-    ensures { result ≡ framing table.now }
+// Numbers 1 to 4, the lowest that doesn't hold.
+pub fn judge_extent(table: &[u8]) -> Result<(), Refusal>
+    ensures { number_in result ≡ framing table.now }
 {
     if !length_ok(table) {
-        return TABLE_LENGTH;
+        return Err(Refusal::TableLength);
     }
     if !version_ok(version_of(table)) {
-        return TABLE_VERSION;
+        return Err(Refusal::TableVersion);
     }
     if !counts_ok(table) {
-        return TABLE_COUNTS;
+        return Err(Refusal::TableCounts);
     }
     if !extent_ok(table) {
-        return TABLE_EXTENT;
+        return Err(Refusal::TableExtent);
     }
-    ACCEPTED
+    Ok(())
 }

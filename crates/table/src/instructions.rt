@@ -75,12 +75,10 @@ fn program_ok(table: &[u8], p: u8, n: usize, program: &[u8]) -> bool
     requires { (records_start table.now ≤ length table.now) × (6 * n ≤ length program.now) }
     ensures { result ≡ program_ok (decode_table table.now) p n program.now }
 {
-    let mut k = 0;
-    while k < n {
+    for k in 0..n {
         if !instruction_ok(table, p, n, fetch(program, 0, k)) {
             return false;
         }
-        k += 1;
     }
     true
 }
@@ -103,14 +101,12 @@ pub fn instructions_ok(table: &[u8]) -> bool
     let version = version_of(table);
     let processes = table[PROCESSES_AT];
     let mut at = records_start(table);
-    let mut p = 0;
-    while p < processes {
+    for p in 0..processes {
         let rest = &table[at..];
         if !record_ok(table, version, p, rest) {
             return false;
         }
         at += record_length(version, rest);
-        p += 1;
     }
     true
 }

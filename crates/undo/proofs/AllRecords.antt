@@ -14,9 +14,11 @@ use Rattle.rules.specs.Schedule.{commands_in, decode_schedule}
 use Rattle.rules.proofs.Scheduled.{commands-counted}
 use Rattle.rules.proofs.AcceptedRun.{one_answer-each, one_shown-each}
 use Rattle.rules.proofs.Undo.{keeps-none, forward_many}
+use Rattle.plan.specs.declared.Placement.{Placement}
 use Rattle.plan.specs.Plan.{Plan, Planned}
 use Rattle.state.specs.declared.entry.Entry.{Entry}
-use Rattle.state.specs.Store.{Store, Holds}
+use Rattle.state.specs.declared.store.Store.{Store}
+use Rattle.state.specs.Store.{Holds}
 use Rattle.outcome.specs.Starts.{Placed, Starts}
 use Rattle.stretch.specs.declared.stretch.Stretch.{Stretch}
 use Rattle.stretch.specs.Plays.{Sheets, Roomy, Wrote, between, Suited, Played, Plays}
@@ -26,8 +28,8 @@ use Rattle.undo.specs.Sessions.{Shown, Sessions, PlaysAll}
 
 -- ---- the start
 
-pub starts_suited : {l : Plan} {primary standby : List ℕ} {s : Store} {entries : List Entry} → Starts primary standby l.counts.processes s entries
-    → (t : Table) → Accepted t → Planned t l → Placed t primary standby l.counts.processes → Suited t l (started t) s entries
+pub starts_suited : {l : Plan} {placements : List Placement} {s : Store} {entries : List Entry} → Starts placements l.counts.processes s entries
+    → (t : Table) → Accepted t → Planned t l → Placed t placements l.counts.processes → Suited t l (started t) s entries
 unfolding run_from
 starts_suited h t ok planned placed =
     record { reached = record { accepted = ok; commands = []; is-reached = refl }; planned = planned; holds = h.holds t ok placed }
@@ -45,11 +47,11 @@ played-shown {t} {commands} {s} {entries} {before} {after} none p =
       wrote = subst (λ (l : List rules.Answer). Wrote before 0 l after) (sym f.0) p.wrote;
     }
 
-module _ {l : Plan} {schedule primary standby : List ℕ} {n : ℕ} {entries : List Entry} {s s' : Store} {before middle : Sheets} {r : Stretch}
-    (so_many : n ≡ commands_in schedule) (starts : Starts primary standby l.counts.processes s entries)
+module _ {l : Plan} {schedule : List ℕ} {placements : List Placement} {n : ℕ} {entries : List Entry} {s s' : Store} {before middle : Sheets} {r : Stretch}
+    (so_many : n ≡ commands_in schedule) (starts : Starts placements l.counts.processes s entries)
     (p : Plays l schedule (record { from = 0; to = n; entries = entries }) s before r s' middle) where
   -- played to its end
-  pub all_played : n ≤ r.from → PlaysAll l schedule primary standby before s' r.entries middle
+  pub all_played : n ≤ r.from → PlaysAll l schedule placements before s' r.entries middle
   all_played over = record {
     shown = λ t ok planned placed.
         let there = p.there (omega arith) in
@@ -61,8 +63,8 @@ module _ {l : Plan} {schedule primary standby : List ℕ} {n : ℕ} {entries : L
 
   -- or a session on the same start: it writes over what the stretch wrote
   pub then_session : {entries₁ entries₂ : List Entry} {s₁ s₂ : Store} {after : Sheets} → Roomy (commands_in schedule) before
-      → Starts primary standby l.counts.processes s₁ entries₁ → Sessions l schedule s₁ entries₁ middle s₂ entries₂ after
-      → PlaysAll l schedule primary standby before s₂ entries₂ after
+      → Starts placements l.counts.processes s₁ entries₁ → Sessions l schedule s₁ entries₁ middle s₂ entries₂ after
+      → PlaysAll l schedule placements before s₂ entries₂ after
   then_session room starts₁ h = record {
     shown = λ t ok planned placed.
         let first = p.played t (started t) (starts_suited starts t ok planned placed) in

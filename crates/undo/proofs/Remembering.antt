@@ -1,11 +1,11 @@
 -- Bytes of a schedule copied to where others are held: the records that they are.
-use mathlib.Core.Path.{◌≡◌, refl, ap, sym, ◌∙◌}
+use mathlib.Core.Path.{◌≡◌, ap, sym, ◌∙◌}
 use mathlib.Core.List.{List, ◌++◌}
 use Prim.Native.Nat.{ℕ, ◌+◌, ◌-◌, ◌*◌, ◌≤◌, ◌<◌}
 use native.Mathlib.Omega.{arith}
-use lib.ListN.{length, get_or, set, drop, length-set, length-append, get_or-append}
-use lib.Seq.{get_or-set_same, get_or-set_other, get_or-take, get_or-drop, get_or-append-add, ext_get_or, length-take-le}
-use Rattle.facts.specs.Tests.{by_eq, by_lt}
+use lib.ListN.{length, get_or, take, drop, length-drop, length-append, get_or-append}
+use lib.Seq.{get_or-take, get_or-drop, get_or-append-add, ext_get_or, length-take-le}
+use Rattle.facts.specs.Tests.{by_lt}
 use Rattle.rules.specs.Bytes.{byte_at, number32}
 use Rattle.rules.specs.Moves.{Command}
 use Rattle.rules.specs.Schedule.{command, commands_in, decode_schedule}
@@ -21,23 +21,37 @@ use Rattle.undo.specs.History.{held_most, history_length, held_in, Fitting, Reme
 pub record Copied (schedule : List ℕ) (source : ℕ) (before : List ℕ) (target i : ℕ) (after : List ℕ) : Type 0 where
   pub long : length after ≡ length before
   pub old : (j : ℕ) → j < target → get_or after j 0 ≡ get_or before j 0
-  pub new : length before ≡ history_length → (j : ℕ) → j < i → get_or after (target + j) 0 ≡ get_or schedule (source + j) 0
+  pub new : (j : ℕ) → j < i → get_or after (target + j) 0 ≡ get_or schedule (source + j) 0
 
-pub copied_none : (schedule : List ℕ) (source : ℕ) (before : List ℕ) (target : ℕ) → Copied schedule source before target 0 before
-copied_none schedule source before target = record { long = refl; old = λ j h. refl; new = λ e j h. absurd (omega arith) }
+-- as copying leaves them: what stood before, the part of the schedule, what stands behind it
+module _ (schedule before part : List ℕ) (source target n k : ℕ) (is-part : part ≡ take n (drop source schedule)) (is-k : k ≡ n)
+    (there : source + n ≤ length schedule) (room : target + n ≤ length before) where
+  part-long : length part ≡ n
+  part-long = ap length is-part ∙ length-take-le n (drop source schedule) (let a = length-drop source schedule in omega arith)
 
-pub copied_more : {schedule : List ℕ} {source : ℕ} {before : List ℕ} {target i : ℕ} {after : List ℕ} → Copied schedule source before target i after
-    → target + i < history_length → Copied schedule source before target (i + 1) (set after (target + i) (get_or schedule (source + i) 0))
-copied_more {schedule} {source} {before} {target} {i} {after} c h = record {
-  long = length-set after (target + i) _ ∙ c.long;
-  old = λ j k. get_or-set_other after (target + i) j _ 0 (λ e. omega arith) ∙ c.old j k;
-  new = λ whole j k.
-      by_eq j i
-      (λ e. ap (λ (n : ℕ). get_or (set after (target + i) (get_or schedule (source + i) 0)) (target + n) 0) e
-      ∙ get_or-set_same after (target + i) _ 0 (let z = c.long in omega arith)
-      ∙ ap (λ (n : ℕ). get_or schedule (source + n) 0) (sym e))
-      (λ n. get_or-set_other after (target + i) (target + j) _ 0 (λ e. n (omega arith)) ∙ c.new whole j (omega arith));
-}
+  front-long : length (take target before) ≡ target
+  front-long = length-take-le target before (omega arith)
+
+  pub copied : Copied schedule source before target n (take target before ++ (part ++ drop k (drop target before)))
+  copied = record {
+    long =
+        (let a = front-long in
+        let b = part-long in
+        let c = length-append (take target before) (part ++ drop k (drop target before)) in
+        let d = length-append part (drop k (drop target before)) in
+        let e = length-drop k (drop target before) in
+        let f = length-drop target before in
+        omega arith);
+    old = λ j h.
+        get_or-append (take target before) (part ++ drop k (drop target before)) 0 j (let a = front-long in omega arith) ∙ get_or-take target before j 0 h;
+    new = λ j h.
+        ap (λ (m : ℕ). get_or (take target before ++ (part ++ drop k (drop target before))) (m + j) 0) (sym front-long)
+        ∙ get_or-append-add (take target before) (part ++ drop k (drop target before)) j 0
+        ∙ get_or-append part (drop k (drop target before)) 0 j (let a = part-long in omega arith)
+        ∙ ap (λ (l : List ℕ). get_or l j 0) is-part
+        ∙ get_or-take n (drop source schedule) j 0 h
+        ∙ get_or-drop source schedule j 0;
+  }
 
 -- ---- record by record
 
@@ -90,7 +104,7 @@ module _ {schedule : List ℕ} {from to n i : ℕ} {before after : List ℕ} (fi
         (λ b e.
         let at : 3 + 6 * (n + j) + b ≡ 3 + 6 * n + (6 * j + b) = omega arith in
         let of : 3 + 6 * from + (6 * j + b) ≡ 3 + 6 * (from + j) + b = omega arith in
-        ap (λ (m : ℕ). get_or after m 0) at ∙ c.new long (6 * j + b) (omega arith) ∙ ap (λ (m : ℕ). get_or schedule m 0) of)
+        ap (λ (m : ℕ). get_or after m 0) at ∙ c.new (6 * j + b) (omega arith) ∙ ap (λ (m : ℕ). get_or schedule m 0) of)
         ∙ sym (record_at_lem schedule (from + j) (omega arith))
 
     held_now : held_in after (n + (to - from)) ≡ held_in before n ++ between schedule from to

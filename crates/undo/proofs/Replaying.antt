@@ -12,7 +12,8 @@ use Rattle.rules.specs.Undo.{is_undo, any_undo}
 use Rattle.rules.specs.Schedule.{command, commands_in, decode_schedule}
 use Rattle.plan.specs.Plan.{Plan}
 use Rattle.state.specs.declared.entry.Entry.{Entry}
-use Rattle.state.specs.Store.{Store, Holds}
+use Rattle.state.specs.declared.store.Store.{Store}
+use Rattle.state.specs.Store.{Holds}
 use Rattle.stretch.specs.declared.stretch.Stretch.{Stretch}
 use Rattle.stretch.specs.Plays.{Sheets, between, Plays}
 use Rattle.rules.proofs.Scheduled.{commands-counted}

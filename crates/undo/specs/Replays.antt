@@ -8,7 +8,8 @@ use Rattle.rules.specs.Undo.{any_undo}
 use Rattle.rules.specs.Schedule.{commands_in}
 use Rattle.plan.specs.Plan.{Plan}
 use Rattle.state.specs.declared.entry.Entry.{Entry}
-use Rattle.state.specs.Store.{Store, Holds}
+use Rattle.state.specs.declared.store.Store.{Store}
+use Rattle.state.specs.Store.{Holds}
 use Rattle.stretch.specs.Plays.{Suited}
 use Rattle.undo.specs.History.{held_most, history_length, held_in}
 

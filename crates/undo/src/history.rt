@@ -15,12 +15,12 @@ pub fn remember(schedule: &[u8], from: usize, to: usize, history: &mut [u8; HIST
     requires { Fitting schedule.now from to n }
     ensures { Remembers schedule.now from to history.old n history.new }
 {
+    // With no record to hold, the schedule may end before where its first would begin.
+    if from == to {
+        return;
+    }
     let bytes = 6 * (to - from);
     let source = FIRST_COMMAND + 6 * from;
     let target = FIRST_COMMAND + 6 * n;
-    let mut i = 0;
-    while i < bytes {
-        history[target + i] = schedule[source + i];
-        i += 1;
-    }
+    history[target..target + bytes].copy_from_slice(&schedule[source..source + bytes]);
 }

@@ -1,40 +1,29 @@
 // Records that are held, done once more.
 ghost use Rattle.std.specs.Prelude.{◌≡◌, ◌≤◌, length};
 ghost use Rattle.plan.specs.Plan.{plan_of};
-ghost use Rattle.state.specs.Store.{store_of};
 ghost use Rattle.undo.specs.History.{held_most, history_length};
 ghost use Rattle.undo.specs.Replays.{Replays, Follows};
 
 use crate::history::{HELD, HISTORY, KEPT, remember};
-use backup::limits::LOG;
-use backup::place::HEAD;
-use plan::{BOARDS, CHANNELS, Counts, PROCESSES, PROGRAMS, WIRES};
+use plan::Plan;
 use play::play::play;
-use process::row::ROW;
 use state::entry::Entry;
-use state::queue::{ENTRIES, QUEUE_ROW};
+use state::queue::ENTRIES;
+use state::store::Store;
 use stretch::stretch::Stretch;
 
-// The first n records of a history, on lists that hold the cabinet before them. What they answer nobody reads.
+// The first n records of a history, on a store that holds the cabinet before them. What they answer nobody reads.
 pub fn replay(
     table: &[u8],
     history: &[u8; HISTORY],
-    counts: Counts,
-    programs: &[u32; PROGRAMS],
-    wires: &[u32; WIRES],
-    rows: &mut [[u32; ROW]; PROCESSES],
-    mails: &mut [[u64; LOG]; PROCESSES],
-    logs: &mut [[u64; LOG]; PROCESSES],
-    heads: &mut [[u32; HEAD]; PROCESSES],
-    queues: &mut [[u32; QUEUE_ROW]; BOARDS],
-    totals: &mut [u32; CHANNELS],
+    plan: &Plan,
+    store: &mut Store,
     entries: [Entry; ENTRIES],
     n: usize,
 ) -> [Entry; ENTRIES]
     requires { n ≤ held_most }
-    ensures { Replays (plan_of table.now counts programs.now wires.now) history.now n
-        (store_of rows.old mails.old logs.old heads.old queues.old totals.old) entries
-        (store_of rows.new mails.new logs.new heads.new queues.new totals.new) result }
+    ensures { Replays (plan_of table.now plan.now) history.now n store.old entries
+        store.new result }
 {
     let mut answers = [0u8; 6 * HELD];
     let mut reasons = [0u8; HELD];
@@ -47,49 +36,29 @@ pub fn replay(
     let r = play(
         table,
         history,
-        counts,
-        programs,
-        wires,
-        rows,
-        mails,
-        logs,
-        heads,
-        queues,
-        totals,
+        plan,
+        store,
         &mut answers,
         &mut reasons,
         &mut origins,
         all,
     );
-    let e = r.entries;
-    e
+    r.entries
 }
 
 // The base follows: the older half of a full history is done on it for good, and the other half is held.
 pub fn follow(
     table: &[u8],
     history: &mut [u8; HISTORY],
-    counts: Counts,
-    programs: &[u32; PROGRAMS],
-    wires: &[u32; WIRES],
-    rows: &mut [[u32; ROW]; PROCESSES],
-    mails: &mut [[u64; LOG]; PROCESSES],
-    logs: &mut [[u64; LOG]; PROCESSES],
-    heads: &mut [[u32; HEAD]; PROCESSES],
-    queues: &mut [[u32; QUEUE_ROW]; BOARDS],
-    totals: &mut [u32; CHANNELS],
+    plan: &Plan,
+    store: &mut Store,
     entries: [Entry; ENTRIES],
 ) -> [Entry; ENTRIES]
     requires { length history.old ≡ history_length }
-    ensures { Follows (plan_of table.now counts programs.now wires.now) history.old
-        (store_of rows.old mails.old logs.old heads.old queues.old totals.old) entries
-        history.new
-        (store_of rows.new mails.new logs.new heads.new queues.new totals.new) result }
+    ensures { Follows (plan_of table.now plan.now) history.old store.old entries history.new
+        store.new result }
 {
-    let e = replay(
-        table, history, counts, programs, wires, rows, mails, logs, heads, queues, totals, entries,
-        KEPT,
-    );
+    let e = replay(table, history, plan, store, entries, KEPT);
     let old = *history;
     remember(&old, KEPT, HELD, history, 0);
     e

@@ -2,23 +2,19 @@
 ghost use Rattle.std.specs.Prelude.{◌≡◌, ◌<◌};
 ghost use Rattle.rules.specs.Schedule.{commands_in};
 ghost use Rattle.plan.specs.Plan.{plan_of};
-ghost use Rattle.state.specs.Store.{store_of};
 ghost use Rattle.stretch.specs.Plays.{Roomy, sheets_of};
 ghost use Rattle.undo.specs.Sessions.{undo_answer_of, Sessions};
 
 use crate::history::{HELD, HISTORY, KEPT, remember};
 use crate::replay::{follow, replay};
-use backup::limits::LOG;
-use backup::place::HEAD;
-use numbers::answers::{BAD_RECORD, NONE_KEPT, TAKEN_BACK};
-use numbers::causes::WORD_NOT_ZERO;
-use plan::{BOARDS, CHANNELS, Counts, PROCESSES, PROGRAMS, WIRES};
+use numbers::answers::Reason;
+use plan::Plan;
 use play::play::play;
-use process::row::ROW;
 use records::schedule::{Command, UNDO, command_at};
 use state::entry::Entry;
 use state::moved::{Answer, refusal};
-use state::queue::{ENTRIES, QUEUE_ROW};
+use state::queue::ENTRIES;
+use state::store::Store;
 use stretch::answer::write;
 use stretch::stretch::{Stretch, count};
 use words::{byte_word, least};
@@ -30,56 +26,43 @@ fn undo_answer(c: Command, kept: usize) -> Answer
 {
     let a = byte_word(c.a);
     if c.a != 0 {
-        return refusal(BAD_RECORD, WORD_NOT_ZERO, a);
+        return refusal(Reason::WordNotZero, a);
     }
     if c.word != 0 {
-        return refusal(BAD_RECORD, WORD_NOT_ZERO, a);
+        return refusal(Reason::WordNotZero, a);
     }
     if kept == 0 {
-        return refusal(NONE_KEPT, 0, a);
+        return refusal(Reason::NoneKept, a);
     }
-    refusal(TAKEN_BACK, 0, 0)
+    refusal(Reason::TakenBack, 0)
 }
 
-// All records of a schedule, on lists that hold the start. The base is a copy of them, `held` records behind; the last `kept` of these may be
+// All records of a schedule, on a store that holds the start. The base is a copy of it, `held` records behind; the last `kept` of these may be
 // taken back. The base follows when HELD are held, so that a move 8 costs at most so many records, and a run's time grows with its records.
 pub fn session(
     table: &[u8],
     schedule: &[u8],
-    counts: Counts,
-    programs: &[u32; PROGRAMS],
-    wires: &[u32; WIRES],
-    rows: &mut [[u32; ROW]; PROCESSES],
-    mails: &mut [[u64; LOG]; PROCESSES],
-    logs: &mut [[u64; LOG]; PROCESSES],
-    heads: &mut [[u32; HEAD]; PROCESSES],
-    queues: &mut [[u32; QUEUE_ROW]; BOARDS],
-    totals: &mut [u32; CHANNELS],
+    plan: &Plan,
+    store: &mut Store,
     answers: &mut [u8],
     reasons: &mut [u8],
     origins: &mut [u8],
     entries: [Entry; ENTRIES],
 ) -> [Entry; ENTRIES]
     requires { Roomy (commands_in schedule.now) (sheets_of answers.old reasons.old origins.old) }
-    ensures { Sessions (plan_of table.now counts programs.now wires.now) schedule.now
-        (store_of rows.old mails.old logs.old heads.old queues.old totals.old) entries
-        (sheets_of answers.old reasons.old origins.old)
-        (store_of rows.new mails.new logs.new heads.new queues.new totals.new) result
+    ensures { Sessions (plan_of table.now plan.now) schedule.now store.old entries
+        (sheets_of answers.old reasons.old origins.old) store.new result
         (sheets_of answers.new reasons.new origins.new) }
 {
     let records = count(schedule);
-    let mut base_rows = *rows;
-    let mut base_mails = *mails;
-    let mut base_logs = *logs;
-    let mut base_heads = *heads;
-    let mut base_queues = *queues;
-    let mut base_totals = *totals;
+    let mut base = *store;
     let mut base_entries = entries;
     let mut now_entries = entries;
     let mut history = [0u8; HISTORY];
     let mut held = 0;
     let mut kept = 0;
     let mut i = 0;
+    // A while: a stretch goes forward by as many records as it plays.
     while i < records {
         let k = i;
         let c = command_at(schedule, k);
@@ -87,30 +70,11 @@ pub fn session(
             let r = undo_answer(c, kept);
             write(answers, reasons, origins, k, r);
             i += 1;
-            if r.code == TAKEN_BACK {
+            if r.reason == Reason::TakenBack {
                 held -= 1;
                 kept -= 1;
-                *rows = base_rows;
-                *mails = base_mails;
-                *logs = base_logs;
-                *heads = base_heads;
-                *queues = base_queues;
-                *totals = base_totals;
-                let before = replay(
-                    table,
-                    &history,
-                    counts,
-                    programs,
-                    wires,
-                    rows,
-                    mails,
-                    logs,
-                    heads,
-                    queues,
-                    totals,
-                    base_entries,
-                    held,
-                );
+                *store = base;
+                let before = replay(table, &history, plan, store, base_entries, held);
                 now_entries = before;
             }
             continue;
@@ -121,8 +85,7 @@ pub fn session(
             entries: now_entries,
         };
         let left = play(
-            table, schedule, counts, programs, wires, rows, mails, logs, heads, queues, totals,
-            answers, reasons, origins, forward,
+            table, schedule, plan, store, answers, reasons, origins, forward,
         );
         now_entries = left.entries;
         i = left.from;
@@ -130,20 +93,7 @@ pub fn session(
         held += i - k;
         kept = least(kept + (i - k), KEPT);
         if held == HELD {
-            let followed = follow(
-                table,
-                &mut history,
-                counts,
-                programs,
-                wires,
-                &mut base_rows,
-                &mut base_mails,
-                &mut base_logs,
-                &mut base_heads,
-                &mut base_queues,
-                &mut base_totals,
-                base_entries,
-            );
+            let followed = follow(table, &mut history, plan, &mut base, base_entries);
             base_entries = followed;
             held = KEPT;
         }

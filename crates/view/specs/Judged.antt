@@ -1,13 +1,13 @@
--- The number of a view, from the numbers that were found for the table and for the schedule.
-use Rattle.std.specs.Prelude.{ℕ, eqb, leb}
-use Rattle.rules.specs.Format.{or_number}
-use Rattle.records.specs.declared.schedule.Judged.{Judged}
-use Rattle.layout.specs.View.{view_most}
+-- Whether a view is refused, and by which number.
+use Rattle.std.specs.Prelude.{◌≡◌, List, ℕ, Result, IfOk}
+use Rattle.numbers.specs.Runs.{number_in}
+use Rattle.numbers.specs.declared.runs.Refusal.{Refusal}
+use Rattle.table.specs.Plan.{Plans}
+use Rattle.table.specs.declared.Decoded.{Decoded}
+use Rattle.layout.specs.View.{validate_view}
 
--- (proofs/Viewing.antt: of the table and the schedule that were judged it is the rules' `validate_view`.)
-unfoldable pub judged_view : ℕ → Judged → ℕ → ℕ
-judged_view number judged room =
-    or_number (eqb number 0) number
-    (or_number (eqb judged.number 0) judged.number
-    (or_number (leb view_most room) 54
-    0))
+-- What judging a view finds, of any bytes of a table and a schedule and with room for so many numbers: the rules' number, and where that is 0 what
+-- the table says.
+pub record ViewJudged (table schedule : List ℕ) (room : ℕ) (r : Result Decoded Refusal) : Type 0 where
+  pub number_is : number_in r ≡ validate_view table schedule room
+  pub decoded : IfOk r (Plans table)

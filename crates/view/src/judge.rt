@@ -1,23 +1,19 @@
-// The number of a view: those of the table and of the schedule, as for a run, then 54 for a list that is shorter than a view.
-ghost use Rattle.std.specs.Prelude.{◌≡◌};
-ghost use Rattle.view.specs.Judged.{judged_view};
+// Whether a view is refused: by the numbers of the table and of the schedule, as a run is, then by 54 for a list that is shorter than a view.
+ghost use Rattle.view.specs.Judged.{ViewJudged};
 
 use layout::all::VIEW;
-use numbers::runs::{ACCEPTED, VIEW_SHORT};
-use records::schedule::Judged;
+use numbers::runs::Refusal;
+use records::schedule::judge_schedule;
+use table::{Decoded, decode};
 
-pub fn judge_view(table_number: u8, judged: Judged, room: usize) -> u8
-    ensures { result ≡ judged_view table_number judged room }
+// What the table says of a view that is not refused.
+pub fn judge_view(table: &[u8], schedule: &[u8], room: usize) -> Result<Decoded, Refusal>
+    ensures { ViewJudged table.now schedule.now room result }
 {
-    let schedule_number = judged.number;
-    if table_number != 0 {
-        return table_number;
-    }
-    if schedule_number != 0 {
-        return schedule_number;
-    }
+    let decoded = decode(table)?;
+    judge_schedule(schedule)?;
     if room < VIEW {
-        return VIEW_SHORT;
+        return Err(Refusal::ViewShort);
     }
-    ACCEPTED
+    Ok(decoded)
 }

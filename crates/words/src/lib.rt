@@ -33,18 +33,12 @@ pub fn pair(b1: u8, b0: u8) -> usize
 
 // ---- clamps
 
-// A number below 16, and any other by its remainder.
-pub fn index16(x: u32) -> usize
-    ensures { (result < 16) × (x < 16 → result ≡ x) }
+// A place of a list of N: a number below N, and any other by its remainder.
+pub fn index<const N: usize>(x: u32) -> usize
+    requires { 0 < N }
+    ensures { (result < N) × (x < N → result ≡ x) }
 {
-    wide(x % 16)
-}
-
-// A number below 32, and any other by its remainder.
-pub fn index32(x: u32) -> usize
-    ensures { (result < 32) × (x < 32 → result ≡ x) }
-{
-    wide(x % 32)
+    wide(x) % N
 }
 
 // The lesser of two.
@@ -54,18 +48,11 @@ pub fn least(a: usize, b: usize) -> usize
     if a < b { a } else { b }
 }
 
-// A count of at most 16; 16 stands for any that is more.
-pub fn most16(n: usize) -> usize
-    ensures { (result ≤ 16) × (n ≤ 16 → result ≡ n) }
+// A count of at most N; N stands for any that is more.
+pub fn most<const N: usize>(n: usize) -> usize
+    ensures { (result ≤ N) × (n ≤ N → result ≡ n) }
 {
-    if n > 16 { 16 } else { n }
-}
-
-// A count of at most 32; 32 stands for any that is more.
-pub fn most32(n: usize) -> usize
-    ensures { (result ≤ 32) × (n ≤ 32 → result ≡ n) }
-{
-    if n > 32 { 32 } else { n }
+    if n > N { N } else { n }
 }
 
 // ---- bits

@@ -1,4 +1,5 @@
 -- The parts put together: the whole table laid out, judged, and written.
+use Rattle.std.specs.Prelude.{Ok, Err}
 use mathlib.Core.Path.{◌≡◌, refl, ap, sym, subst, ◌∙◌}
 use mathlib.Core.Bool.{Bool, true, false, cond, ◌||◌}
 use mathlib.Core.List.{List, ◌∷◌, ◌++◌, map}
@@ -9,16 +10,17 @@ use lib.ListN.{length, take, drop, length-append, length-map}
 use lib.Seq.{sets, take_at}
 use borrow.Author.Tests.{eqb-true, eq-eqb, ne_eqb, le-leb, lt-leb}
 use Rattle.facts.specs.Tests.{by_eq}
+use Rattle.numbers.specs.Runs.{number_of, refuses}
+use Rattle.numbers.specs.declared.runs.Refusal.{Refusal}
 use Rattle.rules.specs.Bytes.{written}
 use Rattle.rules.specs.Format.{table_most, or_number, version_ok, counts_fit, validate_table, table_number}
-use Rattle.rules.specs.Encode.{Lists, table_of, records_for, body_of, encode, lists_ok, validate_lists, validate_write, ReadsAs}
+use Rattle.rules.specs.Encode.{Lists, table_of, body_of, encode, lists_ok, validate_lists, validate_write, ReadsAs}
 use Rattle.rules.proofs.Valid.{counts-fit}
 use Rattle.rules.proofs.Encoding.{long, length-encode, encode-short, encode-reads}
-use Rattle.writer.specs.declared.write.Head.{Head}
-use Rattle.writer.specs.declared.write.Written.{Written}
-use Rattle.writer.specs.Given.{given, framing, Fitting, Programs}
-use Rattle.writer.specs.Fitted.{fit_byte, fit_threes, fitted, head_bytes, records_laid}
-use Rattle.writer.specs.Writes.{nothing, Writes}
+use Rattle.writer.specs.declared.write.Lists as code
+use Rattle.writer.specs.Given.{given_by, framing, Fitting, Programs}
+use Rattle.writer.specs.Fitted.{fit_byte, fitted, head_bytes, records_laid}
+use Rattle.writer.specs.Writes.{Writes}
 use Rattle.facts.specs.Laying.{sets_append, sets-front}
 use Rattle.writer.proofs.Pieces.{fit_same}
 use Rattle.writer.proofs.Fitting.{length-fit_threes, long-fitted, validate_laid}
@@ -26,12 +28,8 @@ use Rattle.writer.proofs.FittedSame.{fitted-same}
 
 -- ---- the whole table laid out
 
--- the records of fitted lists
-abbrev laid_records : Lists → List ℕ
-laid_records l = records_for l.version l.processes (map fit_byte l.placements) (map fit_byte l.limits) (fit_threes l.instructions)
-
 module _ (l : Lists) (f : Fitting l) where
-  pub programs_of : Programs l.version l.processes l.placements l.limits l.instructions
+  pub programs_of : Programs l
   programs_of =
       let o = long l f.lists_ok_lem in
       record { placed = o.placements-long; limited = o.limits-long; few = o.programs-few; whole = o.instructions-long }
@@ -50,10 +48,10 @@ module _ (l : Lists) (f : Fitting l) where
       (omega arith, encode-short (fitted l) o' f.counts_ok_lem)
 
   -- the bytes of the three parts: head, ends, records
-  pub length-parts : length (encode (fitted l)) ≡ 6 + length l.ends + length (laid_records l)
+  pub length-parts : length (encode (fitted l)) ≡ 6 + length l.ends + length (records_laid l)
   unfolding encode
   length-parts =
-      let a = length-append (map fit_byte l.ends) (laid_records l) in
+      let a = length-append (map fit_byte l.ends) (records_laid l) in
       let b = length-map l.ends fit_byte in
       omega arith
 
@@ -64,38 +62,38 @@ version-fits v h =
     (λ e. omega arith)
     (λ n. let a = eqb-true v 2 (sym (ap (λ (b : Bool). b || eqb v 2) (ne_eqb v 1 n)) ∙ h) in omega arith)
 
-module _ (head : Head) (ends placements limits instructions : List ℕ) (f : Fitting (given head ends placements limits instructions)) where
+module _ (x : code.Lists) (f : Fitting (given_by x)) where
   abbrev lists : Lists
-  lists = given head ends placements limits instructions
+  lists = given_by x
 
   abbrev records : List ℕ
-  records = records_laid head placements limits instructions
+  records = records_laid lists
 
-  head_is : (size : ℕ) → 2 + size ≡ length (encode (fitted lists)) → head_bytes size head ++ (map fit_byte ends ++ records) ≡ encode (fitted lists)
+  head_is : (size : ℕ) → 2 + size ≡ length (encode (fitted lists)) → head_bytes size x.head ++ (map fit_byte x.ends.now ++ records) ≡ encode (fitted lists)
   unfolding encode
   head_is size e =
-      let n = counts-fit head.boards head.processes head.channels f.counts_ok_lem in
+      let n = counts-fit x.head.boards x.head.processes x.head.channels f.counts_ok_lem in
       let body = length (body_of (fitted lists)) in
       let s = (length_laid lists f).1 in
       let same : size ≡ body = omega arith in
       let high : size / 256 % 256 ≡ body / 2 ^ 8 = omega arith in
       let low : size % 256 ≡ body % 2 ^ 8 = omega arith in
-      let v = fit_same head.version (version-fits head.version f.version_ok_lem) in
-      let b = fit_same head.boards (let z : head.boards < 256 = omega arith in z) in
-      let p = fit_same head.processes (let z : head.processes < 256 = omega arith in z) in
-      let c = fit_same head.channels (let z : head.channels < 256 = omega arith in z) in
-      λ i. high i ∷ low i ∷ v i ∷ b i ∷ p i ∷ c i ∷ (map fit_byte ends ++ records)
+      let v = fit_same x.head.version (version-fits x.head.version f.version_ok_lem) in
+      let b = fit_same x.head.boards (let z : x.head.boards < 256 = omega arith in z) in
+      let p = fit_same x.head.processes (let z : x.head.processes < 256 = omega arith in z) in
+      let c = fit_same x.head.channels (let z : x.head.channels < 256 = omega arith in z) in
+      λ i. high i ∷ low i ∷ v i ∷ b i ∷ p i ∷ c i ∷ (map fit_byte x.ends.now ++ records)
 
-  pub laid_whole : (before b1 b2 b3 : List ℕ) (size at : ℕ) → 2 + size ≡ length (encode (fitted lists)) → at ≡ 6 + length ends
-      → b1 ≡ sets before 0 (head_bytes size head) → b2 ≡ sets b1 6 (map fit_byte ends) → b3 ≡ sets b2 at records → b3 ≡ sets before 0 (encode (fitted lists))
+  pub laid_whole : (before b1 b2 b3 : List ℕ) (size at : ℕ) → 2 + size ≡ length (encode (fitted lists)) → at ≡ 6 + length x.ends.now
+      → b1 ≡ sets before 0 (head_bytes size x.head) → b2 ≡ sets b1 6 (map fit_byte x.ends.now) → b3 ≡ sets b2 at records → b3 ≡ sets before 0 (encode (fitted lists))
   laid_whole before b1 b2 b3 size at e ea e1 e2 e3 =
-      let top = head_bytes size head in
-      let m = length-map ends fit_byte in
+      let top = head_bytes size x.head in
+      let m = length-map x.ends.now fit_byte in
       let i2 : 6 ≡ 0 + length top = refl in
-      let i3 : at ≡ 0 + length (top ++ map fit_byte ends) = let a = length-append top (map fit_byte ends) in omega arith in
-      let two : b2 ≡ sets before 0 (top ++ map fit_byte ends) = e2 ∙ ap (λ (x : List ℕ). sets x 6 (map fit_byte ends)) e1 ∙ sets_append before 0 top (map fit_byte ends) in
+      let i3 : at ≡ 0 + length (top ++ map fit_byte x.ends.now) = let a = length-append top (map fit_byte x.ends.now) in omega arith in
+      let two : b2 ≡ sets before 0 (top ++ map fit_byte x.ends.now) = e2 ∙ ap (λ (y : List ℕ). sets y 6 (map fit_byte x.ends.now)) e1 ∙ sets_append before 0 top (map fit_byte x.ends.now) in
       e3 ∙ (λ j. sets (two j) (i3 j) records)
-      ∙ sets_append before 0 (top ++ map fit_byte ends) records ∙ ap (sets before 0) (head_is size e)
+      ∙ sets_append before 0 (top ++ map fit_byte x.ends.now) records ∙ ap (sets before 0) (head_is size e)
 
 -- ---- judged
 
@@ -114,9 +112,9 @@ by_zero : (n room size : ℕ) → (n ≡ 0 → ⊥) → n ≡ or_number (eqb n 0
 by_zero n room size h = rw (ne_eqb n 0 h)
 
 module _ (l : Lists) (room : ℕ) where
-  pub refused_lists : (number : ℕ) → number ≡ validate_lists l → (number ≡ 0 → ⊥) → number ≡ validate_write l room
+  pub refused_lists : (r : Refusal) → number_of r ≡ validate_lists l → number_of r ≡ validate_write l room
   unfolding validate_write
-  refused_lists number e h = e ∙ by_zero (validate_lists l) room (length (encode l)) (λ z. h (e ∙ z))
+  refused_lists r e = e ∙ by_zero (validate_lists l) room (length (encode l)) (λ z. refuses r (e ∙ z))
 
   framed : (v a b : Bool) (n : ℕ) → (or_number v 2 (or_number a 3 (or_number b 4 0)) ≡ 0 → ⊥)
       → or_number v 2 (or_number a 3 (or_number b 4 0)) ≡ or_number v 2 (or_number a 3 (or_number b 4 n))
@@ -125,10 +123,10 @@ module _ (l : Lists) (room : ℕ) where
   framed true false b n h = refl
   framed false a b n h = refl
 
-  pub refused-framing : (number : ℕ) → number ≡ framing l → (number ≡ 0 → ⊥) → number ≡ validate_write l room
+  pub refused-framing : (r : Refusal) → number_of r ≡ framing l → number_of r ≡ validate_write l room
   unfolding framing validate_lists
-  refused-framing number e h =
-      refused_lists number (e ∙ framed (version_ok l.version) (counts_fit l.boards l.processes l.channels) (lists_ok l) (table_number (table_of l)) (λ z. h (e ∙ z))) h
+  refused-framing r e =
+      refused_lists r (e ∙ framed (version_ok l.version) (counts_fit l.boards l.processes l.channels) (lists_ok l) (table_number (table_of l)) (λ z. refuses r (e ∙ z)))
 
   module _ (h : validate_lists l ≡ 0) where
     pub refused-room : room < length (encode l) → 45 ≡ validate_write l room
@@ -141,19 +139,18 @@ module _ (l : Lists) (room : ℕ) where
 
 -- ---- and its promise
 
-pub writes_nothing : (l : Lists) (out : List ℕ) (number : ℕ) (r : Written) → number ≡ validate_write l (length out) → (number ≡ 0 → ⊥) → r ≡ nothing number → Writes l out r out
-writes_nothing l out number r e h s =
-    let off = ne_eqb (validate_write l (length out)) 0 (λ z. h (e ∙ z)) in
-    let same = ap (λ (w : Written). w.number) s in
+pub writes_nothing : (l : Lists) (out : List ℕ) (r : Refusal) → number_of r ≡ validate_write l (length out) → Writes l out (Err r) out
+writes_nothing l out r e =
+    let off = ne_eqb (validate_write l (length out)) 0 (λ z. refuses r (e ∙ z)) in
     record {
-      number_is = same ∙ e;
-      length-is = ap (λ (w : Written). w.length) s ∙ sym (ap (λ (b : Bool). cond b (length (encode l)) 0) off);
+      number_is = e;
+      length-is = tt;
       buffer_is = sym (ap (λ (b : Bool). cond b (written (encode l) out) out) off);
-      read_back = λ z. absurd (h (sym same ∙ z));
+      read_back = tt;
     }
 
 pub writes-table : (l : Lists) (out out' : List ℕ) (n : ℕ) → validate_lists l ≡ 0 → n ≡ length (encode (fitted l)) → n ≤ length out
-    → out' ≡ sets out 0 (encode (fitted l)) → Writes l out (record { number = 0; length = n }) out'
+    → out' ≡ sets out 0 (encode (fitted l)) → Writes l out (Ok n) out'
 writes-table l out out' n h e k s =
     let same : encode (fitted l) ≡ encode l = ap encode (fitted-same l h) in
     let m : n ≡ length (encode l) = e ∙ ap length same in
@@ -162,7 +159,7 @@ writes-table l out out' n h e k s =
     let s' : out' ≡ sets out 0 (encode l) = s ∙ ap (sets out 0) same in
     record {
       number_is = number;
-      length-is = m ∙ sym (ap (λ (b : Bool). cond b (length (encode l)) 0) on);
+      length-is = m;
       buffer_is = s' ∙ sets-front out (encode l) (omega arith) ∙ sym (ap (λ (b : Bool). cond b (written (encode l) out) out) on);
-      read_back = λ _. subst (ReadsAs l) (sym (ap (take n) s' ∙ front_of out (encode l) n m (omega arith))) (encode-reads l h);
+      read_back = subst (ReadsAs l) (sym (ap (take n) s' ∙ front_of out (encode l) n m (omega arith))) (encode-reads l h);
     }

@@ -26,12 +26,6 @@ pub record Counting (ps : List ℕ) (processes sum p : ℕ) : Type 0 where
   pub few_left : all_of (λ n. leb n pc_most) (program_lengths processes ps) ≡ all_of (λ n. leb n pc_most) (program_lengths (processes - p) (drop (3 * p) ps))
 
 module _ (ps : List ℕ) (processes : ℕ) where
-  pub counting_start : Counting ps processes 0 0
-  counting_start =
-      let z : processes ≡ processes - 0 = omega arith in
-      let t = ap (λ (m : ℕ). total (program_lengths m ps)) z in
-      record { passed = omega arith; small = omega arith; sum_left = omega arith; few_left = ap (λ (m : ℕ). all_of (λ n. leb n pc_most) (program_lengths m ps)) z }
-
   module _ (sum p n : ℕ) (h : Counting ps processes sum p) (l : p < processes) (e : n ≡ get_or ps (3 * p + 2) 0) where
     pub counting_more : n ≤ 64 → Counting ps processes (sum + n) (p + 1)
     counting_more f =

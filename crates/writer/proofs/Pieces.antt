@@ -1,26 +1,20 @@
--- The next piece of what is laid out, and what is left behind it: of a list of numbers, of a program, of the records.
+-- The next piece of what is laid out, and what is left behind it: of a program, of the records.
 use mathlib.Core.Path.{◌≡◌, refl, ap, sym, ◌∙◌}
 use mathlib.Core.Bool.{Bool, true, false, cond}
 use mathlib.Core.List.{List, [], ◌∷◌, ◌++◌, map}
 use Prim.Native.Nat.{ℕ, zero, suc, ◌+◌, ◌-◌, ◌*◌, ◌≤◌, ◌<◌}
 use native.Mathlib.Omega.{arith}
-use lib.ListN.{length, get_or, drop, get_or-map}
-use lib.Seq.{drop-cons, drop-drop, get_or-drop}
-use borrow.Author.Tests.{lt-ltb}
-use Rattle.facts.specs.Laying.{one_fewer}
+use lib.ListN.{length, get_or, drop, set, get_or-map}
+use lib.Seq.{sets, drop-drop, get_or-drop}
+use borrow.Author.Tests.{lt-ltb, eq-eqb, ne_eqb}
+use Rattle.facts.specs.Laying.{one_fewer, three_put}
+use Rattle.records.proofs.Writing.{four_put}
 use Rattle.rules.specs.Sizes.{with_limits, limit_bytes, record_head}
-use Rattle.rules.specs.Encode.{instruction_bytes, program_bytes, if_limits, records_for, program_lengths}
+use Rattle.rules.specs.Encode.{Lists, instruction_bytes, program_bytes, if_limits, records_for, program_lengths}
 use Rattle.writer.specs.Fitted.{fit_byte, fit_threes, head_for}
 
 pub fit_same : (x : ℕ) → x < 256 → fit_byte x ≡ x
 fit_same x h = rw (lt-ltb x 256 h)
-
--- ---- a list of numbers
-
-pub ends_next : (l : List ℕ) (k : ℕ) → k < length l → map fit_byte (drop k l) ≡ (fit_byte (get_or l k 0) ∷ []) ++ map fit_byte (drop (k + 1) l)
-ends_next l k h =
-    let z : suc k ≡ k + 1 = omega arith in
-    ap (map fit_byte) (drop-cons l k 0 h) ∙ ap (λ (n : ℕ). fit_byte (get_or l k 0) ∷ map fit_byte (drop n l)) z
 
 -- ---- instructions
 
@@ -108,34 +102,55 @@ head_first v x n l = go (with_limits v)
     go true = refl
     go false = refl
 
-pub length-head_for : (v : ℕ) (ps ls : List ℕ) (p : ℕ) → length (head_for v ps ls p) ≡ record_head v
-length-head_for v ps ls p = go (with_limits v)
+pub length-head_for : (l : Lists) (p : ℕ) → length (head_for l p) ≡ record_head l.version
+length-head_for l p = go (with_limits l.version)
   where
-    go : (w : Bool) → suc (suc (length (cond w (fit_byte (get_or ls p 0) ∷ []) [] ++ (fit_byte (get_or ps (3 * p + 2) 0) ∷ [])))) ≡ 1 + (2 + cond w 1 0)
+    go : (w : Bool) → suc (suc (length (cond w (fit_byte (get_or l.limits p 0) ∷ []) [] ++ (fit_byte (get_or l.placements (3 * p + 2) 0) ∷ [])))) ≡ 1 + (2 + cond w 1 0)
     go true = refl
     go false = refl
 
-pub record_next : (v : ℕ) (ps ls is : List ℕ) (n p i : ℕ) → p < n → get_or ps (3 * p + 2) 0 ≤ 64
-    → records_for v (n - p) (drop (3 * p) (map fit_byte ps)) (drop (limit_bytes v * p) (map fit_byte ls)) (drop (3 * i) (fit_threes is))
-    ≡ head_for v ps ls p
-    ++ (program_bytes (get_or ps (3 * p + 2) 0) (drop (3 * i) (fit_threes is))
-    ++ records_for v (n - (p + 1)) (drop (3 * (p + 1)) (map fit_byte ps)) (drop (limit_bytes v * (p + 1)) (map fit_byte ls))
-    (drop (3 * (i + get_or ps (3 * p + 2) 0)) (fit_threes is)))
-record_next v ps ls is n p i h few =
-    let m = get_or ps (3 * p + 2) 0 in
-    let d = drop (3 * p) (map fit_byte ps) in
-    let limits = drop (limit_bytes v * p) (map fit_byte ls) in
-    let code = drop (3 * i) (fit_threes is) in
-    let x0 : get_or d 0 0 ≡ fit_byte (get_or ps (3 * p) 0) = fitted_at ps (3 * p) 0 ∙ ap (λ (j : ℕ). fit_byte (get_or ps j 0)) (let z : 3 * p + 0 ≡ 3 * p = omega arith in z) in
-    let x1 : get_or d 1 0 ≡ fit_byte (get_or ps (3 * p + 1) 0) = fitted_at ps (3 * p) 1 in
-    let x2 : get_or d 2 0 ≡ fit_byte m = fitted_at ps (3 * p) 2 in
+pub record_next : (l : Lists) (n p i : ℕ) → p < n → get_or l.placements (3 * p + 2) 0 ≤ 64
+    → records_for l.version (n - p) (drop (3 * p) (map fit_byte l.placements)) (drop (limit_bytes l.version * p) (map fit_byte l.limits)) (drop (3 * i) (fit_threes l.instructions))
+    ≡ head_for l p
+    ++ (program_bytes (get_or l.placements (3 * p + 2) 0) (drop (3 * i) (fit_threes l.instructions))
+    ++ records_for l.version (n - (p + 1)) (drop (3 * (p + 1)) (map fit_byte l.placements)) (drop (limit_bytes l.version * (p + 1)) (map fit_byte l.limits))
+    (drop (3 * (i + get_or l.placements (3 * p + 2) 0)) (fit_threes l.instructions)))
+record_next l n p i h few =
+    let m = get_or l.placements (3 * p + 2) 0 in
+    let d = drop (3 * p) (map fit_byte l.placements) in
+    let limits = drop (limit_bytes l.version * p) (map fit_byte l.limits) in
+    let code = drop (3 * i) (fit_threes l.instructions) in
+    let x0 : get_or d 0 0 ≡ fit_byte (get_or l.placements (3 * p) 0) = fitted_at l.placements (3 * p) 0 ∙ ap (λ (j : ℕ). fit_byte (get_or l.placements j 0)) (let z : 3 * p + 0 ≡ 3 * p = omega arith in z) in
+    let x1 : get_or d 1 0 ≡ fit_byte (get_or l.placements (3 * p + 1) 0) = fitted_at l.placements (3 * p) 1 in
+    let x2 : get_or d 2 0 ≡ fit_byte m = fitted_at l.placements (3 * p) 2 in
     let same : get_or d 2 0 ≡ m = x2 ∙ fit_same m (omega arith) in
-    let later : drop 3 d ≡ drop (3 * (p + 1)) (map fit_byte ps) = drop-drop 3 (3 * p) (map fit_byte ps) ∙ ap (λ (j : ℕ). drop j (map fit_byte ps)) (let z : 3 * p + 3 ≡ 3 * (p + 1) = omega arith in z) in
-    let later-limits : drop (limit_bytes v) limits ≡ drop (limit_bytes v * (p + 1)) (map fit_byte ls) =
-    drop-drop (limit_bytes v) (limit_bytes v * p) (map fit_byte ls) ∙ ap (λ (j : ℕ). drop j (map fit_byte ls)) (one_more-limit v p) in
-    let behind : drop (3 * get_or d 2 0) code ≡ drop (3 * (i + m)) (fit_threes is) =
-    ap (λ (j : ℕ). drop (3 * j) code) same ∙ drop-drop (3 * m) (3 * i) (fit_threes is) ∙ ap (λ (j : ℕ). drop j (fit_threes is)) (let z : 3 * i + 3 * m ≡ 3 * (i + m) = omega arith in z) in
-    let others = program_bytes m code ++ records_for v (n - (p + 1)) (drop (3 * (p + 1)) (map fit_byte ps)) (drop (limit_bytes v * (p + 1)) (map fit_byte ls)) (drop (3 * (i + m)) (fit_threes is)) in
-    ap (λ (c : ℕ). records_for v c d limits code) (one_fewer n p h)
-    ∙ (λ j. x0 j ∷ x1 j ∷ limit-next v ls p j ++ (x2 j ∷ program_bytes (same j) code ++ records_for v (n - (p + 1)) (later j) (later-limits j) (behind j)))
-    ∙ (λ j. fit_byte (get_or ps (3 * p) 0) ∷ fit_byte (get_or ps (3 * p + 1) 0) ∷ sym (head_first v (fit_byte (get_or ls p 0)) (fit_byte m) others) j)
+    let later : drop 3 d ≡ drop (3 * (p + 1)) (map fit_byte l.placements) = drop-drop 3 (3 * p) (map fit_byte l.placements) ∙ ap (λ (j : ℕ). drop j (map fit_byte l.placements)) (let z : 3 * p + 3 ≡ 3 * (p + 1) = omega arith in z) in
+    let later-limits : drop (limit_bytes l.version) limits ≡ drop (limit_bytes l.version * (p + 1)) (map fit_byte l.limits) =
+    drop-drop (limit_bytes l.version) (limit_bytes l.version * p) (map fit_byte l.limits) ∙ ap (λ (j : ℕ). drop j (map fit_byte l.limits)) (one_more-limit l.version p) in
+    let behind : drop (3 * get_or d 2 0) code ≡ drop (3 * (i + m)) (fit_threes l.instructions) =
+    ap (λ (j : ℕ). drop (3 * j) code) same ∙ drop-drop (3 * m) (3 * i) (fit_threes l.instructions) ∙ ap (λ (j : ℕ). drop j (fit_threes l.instructions)) (let z : 3 * i + 3 * m ≡ 3 * (i + m) = omega arith in z) in
+    let others = program_bytes m code ++ records_for l.version (n - (p + 1)) (drop (3 * (p + 1)) (map fit_byte l.placements)) (drop (limit_bytes l.version * (p + 1)) (map fit_byte l.limits)) (drop (3 * (i + m)) (fit_threes l.instructions)) in
+    ap (λ (c : ℕ). records_for l.version c d limits code) (one_fewer n p h)
+    ∙ (λ j. x0 j ∷ x1 j ∷ limit-next l.version l.limits p j ++ (x2 j ∷ program_bytes (same j) code ++ records_for l.version (n - (p + 1)) (later j) (later-limits j) (behind j)))
+    ∙ (λ j. fit_byte (get_or l.placements (3 * p) 0) ∷ fit_byte (get_or l.placements (3 * p + 1) 0) ∷ sym (head_first l.version (fit_byte (get_or l.limits p 0)) (fit_byte m) others) j)
+
+-- the first bytes of process p's record, with its limit and without
+module _ (l : List ℕ) (at : ℕ) (s : Lists) (p last x y z n : ℕ) (i : last ≡ at + record_head s.version - 1) (e0 : x ≡ fit_byte (get_or s.placements (3 * p) 0))
+    (e1 : y ≡ fit_byte (get_or s.placements (3 * p + 1) 0)) (e3 : n ≡ fit_byte (get_or s.placements (3 * p + 2) 0)) where
+  abbrev by_limits : Bool → List ℕ
+  by_limits b = sets l at (fit_byte (get_or s.placements (3 * p) 0) ∷ fit_byte (get_or s.placements (3 * p + 1) 0)
+      ∷ cond b (fit_byte (get_or s.limits p 0) ∷ []) [] ++ (fit_byte (get_or s.placements (3 * p + 2) 0) ∷ []))
+
+  pub limited_put : s.version ≡ 2 → z ≡ fit_byte (get_or s.limits p 0) → set (set (set (set l at x) (at + 1) y) (at + 2) z) last n ≡ sets l at (head_for s p)
+  limited_put v e2 =
+      let k = eq-eqb s.version 2 v in
+      let a = ap (λ (b : Bool). 1 + (2 + cond b 1 0)) k in
+      let j : last ≡ at + 3 = omega arith in
+      ap (λ (m : ℕ). set (set (set (set l at x) (at + 1) y) (at + 2) z) m n) j ∙ four_put l at _ _ _ _ x y z n e0 e1 e2 e3 ∙ ap by_limits (sym k)
+
+  pub unlimited_put : (s.version ≡ 2 → ⊥) → set (set (set l at x) (at + 1) y) last n ≡ sets l at (head_for s p)
+  unlimited_put v =
+      let k = ne_eqb s.version 2 v in
+      let a = ap (λ (b : Bool). 1 + (2 + cond b 1 0)) k in
+      let j : last ≡ at + 2 = omega arith in
+      ap (λ (m : ℕ). set (set (set l at x) (at + 1) y) m n) j ∙ three_put l at _ _ _ x y n e0 e1 e3 ∙ ap by_limits (sym k)

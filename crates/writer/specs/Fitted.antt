@@ -34,12 +34,11 @@ head_bytes size head =
     ∷ fit_byte head.version ∷ fit_byte head.boards ∷ fit_byte head.processes ∷ fit_byte head.channels ∷ []
 
 -- the bytes of process p before its instructions
-abbrev pub head_for : ℕ → List ℕ → List ℕ → ℕ → List ℕ
-head_for version placements limits p =
-    fit_byte (get_or placements (3 * p) 0) ∷ fit_byte (get_or placements (3 * p + 1) 0)
-    ∷ if_limits version (fit_byte (get_or limits p 0)) ++ (fit_byte (get_or placements (3 * p + 2) 0) ∷ [])
+abbrev pub head_for : Lists → ℕ → List ℕ
+head_for l p =
+    fit_byte (get_or l.placements (3 * p) 0) ∷ fit_byte (get_or l.placements (3 * p + 1) 0)
+    ∷ if_limits l.version (fit_byte (get_or l.limits p 0)) ++ (fit_byte (get_or l.placements (3 * p + 2) 0) ∷ [])
 
 -- all records
-abbrev pub records_laid : Head → List ℕ → List ℕ → List ℕ → List ℕ
-records_laid head placements limits instructions =
-    records_for head.version head.processes (map fit_byte placements) (map fit_byte limits) (fit_threes instructions)
+abbrev pub records_laid : Lists → List ℕ
+records_laid l = records_for l.version l.processes (map fit_byte l.placements) (map fit_byte l.limits) (fit_threes l.instructions)

@@ -6,6 +6,7 @@ use Rattle.rules.specs.Sizes.{limit_bytes}
 use Rattle.rules.specs.Format.{or_number, version_ok, counts_fit}
 use Rattle.rules.specs.Encode.{Lists, program_lengths, total, lists_ok}
 use Rattle.writer.specs.declared.write.Head.{Head}
+use Rattle.writer.specs.declared.write.Lists as code
 
 abbrev pub given : Head → List ℕ → List ℕ → List ℕ → List ℕ → Lists
 given head ends placements limits instructions = record {
@@ -19,6 +20,10 @@ given head ends placements limits instructions = record {
   instructions = instructions;
 }
 
+-- by one struct
+abbrev pub given_by : code.Lists → Lists
+given_by lists = given lists.head lists.ends.now lists.placements.now lists.limits.now lists.instructions.now
+
 -- 0, or the lowest of 2, 3 and 4 that refuses the lists
 unfoldable pub framing : Lists → ℕ
 unfolding lists_ok
@@ -31,8 +36,8 @@ pub record Fitting (l : Lists) : Type 0 where
   pub lists_ok_lem : lists_ok l ≡ true
 
 -- of the processes alone
-pub record Programs (version processes : ℕ) (placements limits instructions : List ℕ) : Type 0 where
-  pub placed : length placements ≡ 3 * processes
-  pub limited : length limits ≡ limit_bytes version * processes
-  pub few : all_of (λ n. leb n pc_most) (program_lengths processes placements) ≡ true
-  pub whole : length instructions ≡ 3 * total (program_lengths processes placements)
+pub record Programs (l : Lists) : Type 0 where
+  pub placed : length l.placements ≡ 3 * l.processes
+  pub limited : length l.limits ≡ limit_bytes l.version * l.processes
+  pub few : all_of (λ n. leb n pc_most) (program_lengths l.processes l.placements) ≡ true
+  pub whole : length l.instructions ≡ 3 * total (program_lengths l.processes l.placements)

@@ -1,12 +1,12 @@
 // A table's bytes, laid out in a buffer from lists of which numbers 2 to 4 hold.
-ghost use Rattle.std.specs.Prelude.{◌≡◌, [], ◌∷◌, map, ◌+◌, ◌*◌, ◌≤◌, length, get_or, drop};
+ghost use Rattle.std.specs.Prelude.{◌≡◌, map, ◌+◌, ◌*◌, ◌≤◌, length, drop};
 ghost use Rattle.std.proofs.lemmas.List.Edits.{sets};
 ghost use Rattle.rules.specs.Sizes.{table_most, limit_bytes, record_head};
 ghost use Rattle.rules.specs.Encode.{instruction_bytes, program_bytes, encode};
-ghost use Rattle.writer.specs.Given.{given, Fitting, Programs};
+ghost use Rattle.writer.specs.Given.{given_by, Fitting, Programs};
 ghost use Rattle.writer.specs.Fitted.{fit_byte, fit_threes, fitted, head_bytes, head_for, records_laid};
 
-use crate::write::Head;
+use crate::write::{Head, Lists};
 use records::store::put_six;
 use table::format::{HEAD, WITH_LIMITS};
 use table::record::record_head;
@@ -33,8 +33,7 @@ fn put_program(bytes: &mut [u8], at: usize, n: usize, instructions: &[u32], i: u
     ensures { bytes.new
         ≡ sets bytes.old at (program_bytes n (drop (3 * i) (fit_threes instructions.now))) }
 {
-    let mut k = 0;
-    while k < n {
+    for k in 0..n {
         let j = 3 * (i + k);
         put_instruction(
             bytes,
@@ -43,83 +42,6 @@ fn put_program(bytes: &mut [u8], at: usize, n: usize, instructions: &[u32], i: u
             instructions[j + 1],
             instructions[j + 2],
         );
-        k += 1;
-    }
-}
-
-// Three bytes at `at`: the boards and n of process p.
-fn put_three(bytes: &mut [u8], at: usize, placements: &[u32], p: usize)
-    requires { (at + 3 ≤ length bytes.old) × (3 * p + 3 ≤ length placements.now) }
-    ensures { bytes.new ≡ sets bytes.old at (fit_byte (get_or placements.now (3 * p) 0)
-        ∷ fit_byte (get_or placements.now (3 * p + 1) 0) ∷ fit_byte (get_or placements.now (3 * p + 2) 0) ∷ []) }
-{
-    bytes[at] = fit(placements[3 * p]);
-    bytes[at + 1] = fit(placements[3 * p + 1]);
-    bytes[at + 2] = fit(placements[3 * p + 2]);
-}
-
-// Four: the limit stands between the boards and n.
-fn put_four(bytes: &mut [u8], at: usize, placements: &[u32], limit: u32, p: usize)
-    requires { (at + 4 ≤ length bytes.old) × (3 * p + 3 ≤ length placements.now) }
-    ensures { bytes.new ≡ sets bytes.old at (fit_byte (get_or placements.now (3 * p) 0)
-        ∷ fit_byte (get_or placements.now (3 * p + 1) 0) ∷ fit_byte limit
-        ∷ fit_byte (get_or placements.now (3 * p + 2) 0) ∷ []) }
-{
-    bytes[at] = fit(placements[3 * p]);
-    bytes[at + 1] = fit(placements[3 * p + 1]);
-    bytes[at + 2] = fit(limit);
-    bytes[at + 3] = fit(placements[3 * p + 2]);
-}
-
-// The bytes before the instructions of process p, at `at`.
-fn put_placement(
-    bytes: &mut [u8],
-    at: usize,
-    version: u32,
-    placements: &[u32],
-    limits: &[u32],
-    p: usize,
-)
-    requires version_in_bounds { at + record_head version ≤ length bytes.old }
-    requires p_in_bounds { 3 * p + 3 ≤ length placements.now }
-    requires p_in_bounds_2 { limit_bytes version * (p + 1) ≤ length limits.now }
-    ensures { bytes.new
-        ≡ sets bytes.old at (head_for version placements.now limits.now p) }
-{
-    if version == WITH_LIMITS {
-        put_four(bytes, at, placements, limits[p], p);
-        return;
-    }
-    put_three(bytes, at, placements, p);
-}
-
-// One record for each process, from `at` on.
-fn put_records(
-    bytes: &mut [u8],
-    at: usize,
-    head: Head,
-    placements: &[u32],
-    limits: &[u32],
-    instructions: &[u32],
-)
-    requires programs { Programs head.version head.processes placements.now limits.now instructions.now }
-    requires instructions_in_bounds { at + length (records_laid head placements.now limits.now instructions.now) ≤ length bytes.old }
-    ensures { bytes.new
-        ≡ sets bytes.old at (records_laid head placements.now limits.now instructions.now) }
-{
-    let version = head.version;
-    let processes = wide(head.processes);
-    let before = record_head(version);
-    let mut next = at;
-    let mut i = 0;
-    let mut p = 0;
-    while p < processes {
-        let n = wide(placements[3 * p + 2]);
-        put_placement(bytes, next, version, placements, limits, p);
-        put_program(bytes, next + before, n, instructions, i);
-        next += before + 6 * n;
-        i += n;
-        p += 1;
     }
 }
 
@@ -128,10 +50,8 @@ fn put_ends(bytes: &mut [u8], at: usize, ends: &[u32])
     requires { at + length ends.now ≤ length bytes.old }
     ensures { bytes.new ≡ sets bytes.old at (map fit_byte ends.now) }
 {
-    let mut k = 0;
-    while k < ends.len() {
+    for k in 0..ends.len() {
         bytes[at + k] = fit(ends[k]);
-        k += 1;
     }
 }
 
@@ -148,47 +68,62 @@ fn put_head(bytes: &mut [u8], size: u32, head: Head)
     bytes[5] = fit(head.channels);
 }
 
-// The length of the table.
-pub fn table_length(
-    head: Head,
-    ends: &[u32],
-    placements: &[u32],
-    limits: &[u32],
-    instructions: &[u32],
-) -> usize
-    requires { Fitting (given head ends.now placements.now limits.now instructions.now) }
-    ensures { (result ≡ length (encode (fitted
-        (given head ends.now placements.now limits.now instructions.now))))
-        × (result ≤ 2 + table_most) }
-{
-    HEAD + ends.len() + placements.len() + limits.len() + 2 * instructions.len()
-}
+impl Lists<'_> {
+    // The bytes before the instructions of process p, at `at`: its boards, its limit where the version has one, and n, the last of them.
+    fn put_placement(&self, bytes: &mut [u8], at: usize, p: usize)
+        requires version_in_bounds { at + record_head self.now.head.version ≤ length bytes.old }
+        requires p_in_bounds { 3 * p + 3 ≤ length self.now.placements.now }
+        requires p_in_bounds_2 { limit_bytes self.now.head.version * (p + 1) ≤ length self.now.limits.now }
+        ensures { bytes.new ≡ sets bytes.old at (head_for (given_by self.now) p) }
+    {
+        let last = at + record_head(self.head.version) - 1;
+        bytes[at] = fit(self.placements[3 * p]);
+        bytes[at + 1] = fit(self.placements[3 * p + 1]);
+        if self.head.version == WITH_LIMITS {
+            bytes[at + 2] = fit(self.limits[p]);
+        }
+        bytes[last] = fit(self.placements[3 * p + 2]);
+    }
 
-// The whole table, from the buffer's first byte on.
-pub fn lay(
-    bytes: &mut [u8],
-    total: usize,
-    head: Head,
-    ends: &[u32],
-    placements: &[u32],
-    limits: &[u32],
-    instructions: &[u32],
-)
-    requires fitting { Fitting (given head ends.now placements.now limits.now instructions.now) }
-    requires total_value { total ≡ length (encode (fitted (given head ends.now placements.now limits.now instructions.now))) }
-    requires total_in_bounds { total ≤ length bytes.old }
-    ensures { bytes.new
-        ≡ sets bytes.old 0 (encode (fitted
-        (given head ends.now placements.now limits.now instructions.now))) }
-{
-    put_head(bytes, (total - 2) as u32, head);
-    put_ends(bytes, HEAD, ends);
-    put_records(
-        bytes,
-        HEAD + ends.len(),
-        head,
-        placements,
-        limits,
-        instructions,
-    );
+    // One record for each process, from `at` on.
+    fn put_records(&self, bytes: &mut [u8], at: usize)
+        requires programs { Programs (given_by self.now) }
+        requires instructions_in_bounds { at + length (records_laid (given_by self.now)) ≤ length bytes.old }
+        ensures { bytes.new ≡ sets bytes.old at (records_laid (given_by self.now)) }
+    {
+        let processes = wide(self.head.processes);
+        let before = record_head(self.head.version);
+        let mut next = at;
+        let mut i = 0;
+        for p in 0..processes {
+            let n = wide(self.placements[3 * p + 2]);
+            self.put_placement(bytes, next, p);
+            put_program(bytes, next + before, n, self.instructions, i);
+            next += before + 6 * n;
+            i += n;
+        }
+    }
+
+    // The length of the table.
+    pub(crate) fn table_length(&self) -> usize
+        requires { Fitting (given_by self.now) }
+        ensures { (result ≡ length (encode (fitted (given_by self.now)))) × (result ≤ 2 + table_most) }
+    {
+        HEAD + self.ends.len()
+            + self.placements.len()
+            + self.limits.len()
+            + 2 * self.instructions.len()
+    }
+
+    // The whole table, from the buffer's first byte on.
+    pub(crate) fn lay(&self, bytes: &mut [u8], total: usize)
+        requires fitting { Fitting (given_by self.now) }
+        requires total_value { total ≡ length (encode (fitted (given_by self.now))) }
+        requires total_in_bounds { total ≤ length bytes.old }
+        ensures { bytes.new ≡ sets bytes.old 0 (encode (fitted (given_by self.now))) }
+    {
+        put_head(bytes, (total - 2) as u32, self.head);
+        put_ends(bytes, HEAD, self.ends);
+        self.put_records(bytes, HEAD + self.ends.len());
+    }
 }

@@ -1,14 +1,13 @@
 // The writer: "channel ends, placements and instructions as lists of numbers" become a table's bytes in a lent buffer.
 ghost use Rattle.std.specs.Prelude.{◌≡◌, ◌+◌, ◌≤◌, length, take};
+ghost use Rattle.numbers.specs.Runs.{number_in};
 ghost use Rattle.rules.specs.Format.{table_most, validate_table};
 ghost use Rattle.rules.specs.Encode.{encode, validate_lists};
-ghost use Rattle.writer.specs.Given.{given, Fitting};
+ghost use Rattle.writer.specs.Given.{given_by, Fitting};
 ghost use Rattle.writer.specs.Fitted.{fitted};
-ghost use Rattle.writer.specs.Writes.{Writes, nothing};
+ghost use Rattle.writer.specs.Writes.{Writes};
 
-use crate::lay::{lay, table_length};
-use crate::lists::judge_lists;
-use numbers::runs::{ACCEPTED, NO_ROOM};
+use numbers::runs::Refusal;
 use table::decode;
 use table::format::TABLE_MOST;
 
@@ -24,87 +23,50 @@ pub struct Head {
     pub channels: u32,
 }
 
-// 0 and the table's length, or the number that refuses the lists or the buffer, and 0.
+// The lists that say a table: its head; two numbers for each channel, three for each process, one limit for each where the version has them,
+// and three for each instruction.
 #[derive(Clone, Copy)]
-pub struct Written {
-    pub number: u8,
-    pub length: u32,
+pub struct Lists<'a> {
+    pub head: Head,
+    pub ends: &'a [u32],
+    pub placements: &'a [u32],
+    pub limits: &'a [u32],
+    pub instructions: &'a [u32],
 }
 
-fn refused(number: u8) -> Written
-    ensures { result ≡ nothing number }
-{
-    Written {
-        number: number,
-        length: 0,
-    }
-}
-
-// The reader's number of the first bytes of a buffer.
-fn judge_front(bytes: &[u8], size: usize) -> u8
+// The first bytes of a buffer, as the reader judges them.
+fn judge_front(bytes: &[u8], size: usize) -> Result<(), Refusal>
     requires { size ≤ length bytes.now }
-    ensures { result ≡ validate_table (take size bytes.now) }
+    ensures { number_in result ≡ validate_table (take size bytes.now) }
 {
-    let d = decode(&bytes[..size]);
-    d.number
+    decode(&bytes[..size])?;
+    Ok(())
 }
 
-// 5 to 8 and 47: the table is laid out, and the reader judges it.
-fn judge_laid(
-    head: Head,
-    ends: &[u32],
-    placements: &[u32],
-    limits: &[u32],
-    instructions: &[u32],
-    total: usize,
-) -> u8
-    requires fitting { Fitting (given head ends.now placements.now limits.now instructions.now) }
-    requires total_value { (total ≡ length (encode (fitted (given head ends.now placements.now limits.now instructions.now))))
-        × (total ≤ 2 + table_most) }
-    ensures { result
-        ≡ validate_lists (given head ends.now placements.now limits.now instructions.now) }
-{
-    let mut bytes = [0u8; TABLE_BYTES];
-    lay(
-        &mut bytes,
-        total,
-        head,
-        ends,
-        placements,
-        limits,
-        instructions,
-    );
-    judge_front(&bytes, total)
-}
+impl Lists<'_> {
+    // 5 to 8 and 47: the table is laid out, and the reader judges it.
+    fn judge_laid(&self, total: usize) -> Result<(), Refusal>
+        requires fitting { Fitting (given_by self.now) }
+        requires total_value { (total ≡ length (encode (fitted (given_by self.now)))) × (total ≤ 2 + table_most) }
+        ensures { number_in result ≡ validate_lists (given_by self.now) }
+    {
+        let mut bytes = [0u8; TABLE_BYTES];
+        self.lay(&mut bytes, total);
+        judge_front(&bytes, total)
+    }
 
-// The table goes to the front of `out`, and what is behind it stays. Refused, by 2 to 8 and 47 as the reader refuses or by 45 for a buffer that
-// is too short, `out` stays as it was.
-pub fn write(
-    head: Head,
-    ends: &[u32],
-    placements: &[u32],
-    limits: &[u32],
-    instructions: &[u32],
-    out: &mut [u8],
-) -> Written
-    ensures { Writes (given head ends.now placements.now limits.now instructions.now)
-        out.old result out.new }
-{
-    let framing = judge_lists(head, ends, placements, limits, instructions);
-    if framing != 0 {
-        return refused(framing);
-    }
-    let total = table_length(head, ends, placements, limits, instructions);
-    let number = judge_laid(head, ends, placements, limits, instructions, total);
-    if number != 0 {
-        return refused(number);
-    }
-    if total > out.len() {
-        return refused(NO_ROOM);
-    }
-    lay(out, total, head, ends, placements, limits, instructions);
-    Written {
-        number: ACCEPTED,
-        length: total as u32,
+    // The table goes to the front of `out`, what is behind it stays, and its length is returned. Refused, by 2 to 8 and 47 as the reader refuses
+    // or by 45 for a buffer that is too short, `out` stays as it was.
+    pub fn write(&self, out: &mut [u8]) -> Result<u32, Refusal>
+        ensures { Writes (given_by self.now) out.old result out.new }
+    {
+        self.judge_lists()?;
+        let total = self.table_length();
+        self.judge_laid(total)?;
+        if total > out.len() {
+            return Err(Refusal::NoRoom);
+        }
+        self.lay(out, total);
+        Ok(total as u32)
     }
 }

@@ -1,19 +1,26 @@
+use Rattle.std.proofs.lemmas.Result.{err_from_is_err_and}
 use Rattle.backup.specs.Accepts.{count_unfit}
 use Rattle.backup.specs.Replica.{count}
-use Rattle.backup.specs.Place.{view_in}
-use Rattle.backup_lent.proofs.Lending.{answered_20, answered_so}
+use Rattle.backup_lent.specs.Lent.{view_in}
+use Rattle.backup_lent.proofs.Lending.{answered_20, answered-refused, answered-done}
 use Rattle.backup_lent.proofs.count.Goals as goal
 
-pub returns-then-looked : goal.returns-then-looked
-returns-then-looked c =
-    let a = c.args in
-    let o = c.look-looked in
-    let k = c.count_in-number in
-    answered_so a.saved.now a.head.now o.result o.ensures count k.result a.saved.now k.new.head c.settle.result c.settle.new.head
-    c.if-looked.true (k.ensures.by_index a.saved.now) c.settle.ensures
+pub returns-in_err-whole : goal.returns-in_err-whole
+returns-in_err-whole c =
+    let s = c.args.saved.now in
+    let h = c.args.head.now in
+    let p = err_from_is_err_and c.from_residual.result c.from_residual.ensures.1 in
+    rw (p.1, p.2) (answered_20 s h count _ c.in_err-whole.ensures (count_unfit (view_in s h)))
+
+pub returns-in_err-count_in : goal.returns-in_err-count_in
+returns-in_err-count_in c =
+    let s = c.args.saved.now in
+    let p = err_from_is_err_and c.from_residual-in_err-count_in.result c.from_residual-in_err-count_in.ensures.1 in
+    rw (p.1, p.2)
+    (answered-refused s c.args.head.now count c.in_ok-whole.whole c.in_ok-whole.ensures s c.count_in.new.head c.in_err-count_in.field-0.0 (c.in_err-count_in.ensures.by_index s))
 
 pub returns : goal.returns
 returns c =
-    let a = c.args in
-    let o = c.look-looked in
-    answered_20 a.saved.now a.head.now o.result o.ensures count c.if-looked.false (count_unfit (view_in a.saved.now a.head.now))
+    let s = c.args.saved.now in
+    rw c.front.ensures
+    (answered-done s c.args.head.now count c.in_ok-whole.whole c.in_ok-whole.ensures s c.count_in.new.head (c.in_ok-count_in.ensures.by_index s))

@@ -1,5 +1,5 @@
 use mathlib.Core.Path.{refl}
-use Rattle.backup.specs.Place.{view_in}
+use Rattle.backup_lent.specs.Lent.{view_in}
 use Rattle.backup_lent.proofs.new.Goals as goal
 
 pub returns : goal.returns

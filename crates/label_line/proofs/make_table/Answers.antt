@@ -6,4 +6,4 @@ pub returns-then-first-gt-SERIAL_MOST : goal.returns-then-first-gt-SERIAL_MOST
 returns-then-first-gt-SERIAL_MOST c = refuses c.args.first c.if-first-gt-SERIAL_MOST.true
 
 pub returns : goal.returns
-returns c = makes c.args.first (omega arith) c.if-first-gt-SERIAL_MOST.false _ c.line_bytes-bytes.ensures
+returns c = makes c.args.first (omega arith) c.if-first-gt-SERIAL_MOST.false c.line_bytes.ensures

@@ -1,4 +1,3 @@
-use Rattle.backup.specs.Place.{head_len}
 use Rattle.backup.proofs.Arriving.{arrive_21, arrive_22, arrive-done, arrive-number_21, arrive-number_22, arrive-number_0}
 use Rattle.std.proofs.Common.{◌<◌, ◌≤◌, arith}
 use Rattle.backup.specs.Limits.{log_most}
@@ -17,7 +16,7 @@ returns-then-len-ge-LOG c =
     let s = c in
     let w = c.wide-len.ensures.0 in
     let h = c.if-port-ge-PORTS.false in
-    let k : log_most ≤ head_len s.args.head.now = (let t = c.if-len-ge-LOG.true in omega arith) in
+    let k : log_most ≤ s.args.head.now.len = (let t = c.if-len-ge-LOG.true in omega arith) in
     record {
       called = arrive_22 s.args.log.now s.args.head.now s.args.port s.args.word h k;
       value = arrive-number_22 s.args.head.now s.args.port h k;
@@ -28,8 +27,9 @@ returns c =
     let s = c in
     let w = c.wide-len.ensures.0 in
     let h = c.if-port-ge-PORTS.false in
-    let k : head_len s.args.head.now < log_most = (let t = c.if-len-ge-LOG.false in omega arith) in record {
-      called = rw (c.bump-2.ensures, c.wide.ensures.0, c.bump.ensures, c.packed.ensures, w)
+    let k : s.args.head.now.len < log_most = (let t = c.if-len-ge-LOG.false in omega arith) in
+    record {
+      called = rw (c.wrapping_add_u32.ensures.value, c.wide-p.ensures.0, c.packed.ensures, w)
           (arrive-done s.args.log.now s.args.head.now s.args.port s.args.word h s.ranges.word.fits k);
       value = arrive-number_0 s.args.head.now s.args.port h k;
     }

@@ -36,16 +36,16 @@ loop-i-2-preserved c =
     let s = c.lane-s-in-loop-i-2 in
     sifting_swept l.invariant t s.result s.ensures c.minus-m.result c.wide-goes.result c.minus-m.ensures c.wide-goes.ensures.0 c.requires.len_le_log_most
 
-pub loop-i-3-preserved : goal.loop-i-3-preserved
-loop-i-3-preserved c = moving_on c.loop-i-3.invariant c.loop-i-3-test.true c.requires.len_le_log_most
+pub loop-j-preserved : goal.loop-j-preserved
+loop-j-preserved c = moving_on c.loop-j.invariant c.loop-j-test.true c.requires.len_le_log_most
 
 pub returns : goal.returns
 returns c =
     let a = c.args in
     let k = c.loop-i in
     let l = c.loop-i-2 in
-    let m = c.loop-i-3 in
-    let e : m.i ≡ a.len = (let h = m.invariant.passing.looked in omega arith) in
+    let m = c.loop-j in
+    let e : m.j ≡ a.len = (let h = m.invariant.passing.looked in omega arith) in
     let z : l.i < a.len → l.due ≡ 0 = elim c.loop-i-2-test.branch [ then-loop-i-2-test+else-due-gt0 w ↦ λ _. omega arith | else-loop-i-2-test w ↦ λ h. absurd (omega arith) ] in record {
       dropped = passed k.invariant l.invariant z (subst (λ (i : ℕ). Moving l.log a.len l.i l.kept l.rounds m.log i m.kept m.rounds) e m.invariant);
       value = (let f = k.invariant.metered in let g = l.invariant.metered in let h = m.invariant.metered in omega arith);

@@ -14,8 +14,5 @@ invariant-loop-i-2 l = Sifting l.initial.log l.len l.initial.i l.initial.kept l.
 abbrev pub decreases-loop-i-2 : goal.decreases-loop-i-2
 decreases-loop-i-2 l = l.len - l.i
 
-abbrev pub invariant-loop-i-3 : goal.invariant-loop-i-3
-invariant-loop-i-3 l = Moving l.initial.log l.len l.initial.i l.initial.kept l.initial.rounds l.log l.i l.kept l.rounds
-
-abbrev pub decreases-loop-i-3 : goal.decreases-loop-i-3
-decreases-loop-i-3 l = l.len - l.i
+abbrev pub invariant-loop-j : goal.invariant-loop-j
+invariant-loop-j l = Moving l.initial.log l.len l.i l.initial.kept l.initial.rounds l.log l.j l.kept l.rounds

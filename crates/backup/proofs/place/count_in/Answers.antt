@@ -12,6 +12,6 @@ returns c =
     let h = c.args.head.now in
     let n = c.if-head-ge-SENT_MOST.false in
     record {
-      by_index = λ log. rw c.bump.ensures (count-done log h n);
+      by_index = λ log. count-done log h n;
       value = count-number_0 h n;
     }

@@ -4,6 +4,6 @@ use Rattle.backup.proofs.place.new_in.Goals as goal
 
 pub returns : goal.returns
 returns c = record {
-  head_after = λ _. refl;
-  by_index = λ log l _. fresh_in log l;
+  head_after = refl;
+  by_index = λ log l. fresh_in log l;
 }

@@ -1,9 +1,17 @@
-use Rattle.rules.specs.Run.{ran_of}
-use Rattle.page.specs.Written.{shown_of}
-use Rattle.bench_input.proofs.Printing.{printed}
+-- `print`: the page of an accepted run, or of a refused one.
+use Rattle.bench_input.proofs.Printing.{printed-accepted, printed-refused}
 use Rattle.bench_input.proofs.bench.print.Goals as goal
 
-pub returns : goal.returns
-returns c =
+pub returns-in-Ok : goal.returns-in-Ok
+returns-in-Ok c =
     let s = c.args in
-    printed (ran_of s.number s.records s.quiet (shown_of s.answers.now s.report.now)) c.ranges.number.fits s.processes (λ i. (c.type_inv.answers i).fits) (λ i. (c.type_inv.report i).fits) _ _ _ c.write_page.ensures
+    rw c.in-Ok.is
+    (printed-accepted s.processes s.answers.now s.report.now (λ i. (c.type_inv.answers i).fits) (λ i. (c.type_inv.report i).fits) c.in-Ok.e
+    c.write_accepted.ensures)
+
+pub returns-in-Err : goal.returns-in-Err
+returns-in-Err c =
+    let s = c.args in
+    rw c.in-Err.is
+    (printed-refused s.processes s.answers.now s.report.now (λ i. (c.type_inv.answers i).fits) (λ i. (c.type_inv.report i).fits) c.in-Err.refusal
+    c.write_refused.ensures)

@@ -4,12 +4,7 @@ use Rattle.bus.proofs.delivery.deliver.Goals as goal
 pub returns : goal.returns
 returns c =
     let s = c.args in
-    let k = c.index32-k in
-    let reader = c.reader in
-    let p = c.index16-p in
-    let port = c.port in
-    let got = c.receive in
-    delivers s.wires.now s.rows.now s.mails.now s.logs.now s.heads.now s.channel s.word
-    k.result reader.result p.result port.result
-    k.ensures.1 (reader.ensures k.ensures.0) p.ensures.1 (port.ensures k.ensures.0)
-    got.new.row got.new.mail got.new.log got.new.head got.ensures
+    let k = c.index-k in
+    let p = c.index-p in
+    delivers s.plan.now s.store.now s.channel s.word k.result c.reader.result p.result c.port.result
+    k.ensures.1 (c.reader.ensures k.ensures.0) p.ensures.1 (c.port.ensures k.ensures.0) c.receive.new.self c.receive.ensures

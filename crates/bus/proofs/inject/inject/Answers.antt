@@ -2,38 +2,26 @@ use Rattle.std.proofs.Common.{sym, refl, ◌∙◌}
 use Rattle.bus.proofs.Injecting.{injects_43, injects_39, injects_done}
 use Rattle.bus.proofs.inject.inject.Goals as goal
 
-pub returns-then-sender-ne-ENVIRONMENT : goal.returns-then-sender-ne-ENVIRONMENT
-returns-then-sender-ne-ENVIRONMENT c =
-    let first = c in
-    let s = first.args in
-    let k = first.index32-k in
-    let sender = first.sender in
-    injects_43 s.wires.now s.rows.now s.mails.now s.logs.now s.heads.now s.totals.now s.a s.word
-    k.result _ k.ensures.1 sender.result (sender.ensures k.ensures.0) first.if-sender-ne-ENVIRONMENT.true c.refusal.ensures
+pub returns-then-sender-ne-ENVIRONMENT-clause-injects : goal.returns-then-sender-ne-ENVIRONMENT-clause-injects
+returns-then-sender-ne-ENVIRONMENT-clause-injects c =
+    let s = c.args in
+    let k = c.index-k in
+    injects_43 s.plan.now s.store.now s.a s.word k.result _ k.ensures.1 c.sender.result (c.sender.ensures k.ensures.0)
+    c.if-sender-ne-ENVIRONMENT.true c.refusal.ensures
 
-pub returns-then-full : goal.returns-then-full
-returns-then-full c =
-    let first = c in
-    let s = first.args in
-    let k = first.index32-k in
-    let sender = first.sender in
-    let reader = c.reader in
-    injects_39 s.wires.now s.rows.now s.mails.now s.logs.now s.heads.now s.totals.now s.a s.word
-    k.result _ k.ensures.1 sender.result (sender.ensures k.ensures.0) first.if-sender-ne-ENVIRONMENT.false
-    reader.result (reader.ensures k.ensures.0) (sym c.full.ensures ∙ c.if-full.true) c.refusal-then-full.ensures
+pub returns-then-full-clause-injects : goal.returns-then-full-clause-injects
+returns-then-full-clause-injects c =
+    let s = c.args in
+    let k = c.index-k in
+    injects_39 s.plan.now s.store.now s.a s.word k.result _ k.ensures.1 c.sender.result (c.sender.ensures k.ensures.0)
+    c.if-sender-ne-ENVIRONMENT.false c.reader.result (c.reader.ensures k.ensures.0) (sym c.full.ensures ∙ c.if-full.true) c.refusal-then-full.ensures
 
-pub returns : goal.returns
-returns c =
-    let first = c in
-    let s = first.args in
-    let k = first.index32-k in
-    let sender = first.sender in
-    let second = c in
-    let reader = second.reader in
+pub returns-clause-injects : goal.returns-clause-injects
+returns-clause-injects c =
+    let s = c.args in
+    let k = c.index-k in
     let d = c.deliver in
     let more = c.wrapping_add_u32 in
-    injects_done s.wires.now s.rows.now s.mails.now s.logs.now s.heads.now s.totals.now s.a s.word
-    k.result _ k.ensures.1 sender.result (sender.ensures k.ensures.0) first.if-sender-ne-ENVIRONMENT.false
-    reader.result (reader.ensures k.ensures.0)
-    d.new.rows d.new.mails d.new.logs d.new.heads more.result
-    (sym second.full.ensures ∙ second.if-full.false) more.ensures.value refl d.ensures
+    injects_done s.plan.now s.store.now s.a s.word k.result _ k.ensures.1 c.sender.result (c.sender.ensures k.ensures.0)
+    c.if-sender-ne-ENVIRONMENT.false c.reader.result (c.reader.ensures k.ensures.0)
+    d.new.store more.result (sym c.full.ensures ∙ c.if-full.false) more.ensures.value refl d.ensures

@@ -1,19 +1,19 @@
-use native.Mathlib.Omega.{arith}
-use Rattle.bus.proofs.Syncing.{syncs_lost, syncs-kept}
+use Rattle.std.proofs.Common.{true, false, sym, ◌∙◌}
+use Rattle.bus.proofs.Syncing.{syncs_so}
 use Rattle.bus.proofs.sync.transmit_sync.Goals as goal
 
-pub returns-then-rows-p-ne-COMPLETE : goal.returns-then-rows-p-ne-COMPLETE
-returns-then-rows-p-ne-COMPLETE c =
+pub returns-then-not-is_backed : goal.returns-then-not-is_backed
+returns-then-not-is_backed c =
     let s = c.args in
-    let p = c.index16-p in
+    let p = c.index-p in
     let k = c.keep-dropped in
-    syncs_lost s.rows.now s.logs.now s.heads.now s.process s.checkpoint p.result p.ensures.1
-    k.new.log k.new.head k.ensures.backup_became k.result k.ensures.drops c.if-rows-p-ne-COMPLETE.true
+    syncs_so s.store.now s.process s.checkpoint p.result p.ensures.1 k.new.self k.ensures.backup_became k.result k.ensures.drops
+    false (sym c.is_backed.ensures ∙ c.if-not-is_backed.true)
 
 pub returns : goal.returns
 returns c =
     let s = c.args in
-    let p = c.index16-p in
+    let p = c.index-p in
     let k = c.keep-dropped in
-    syncs-kept s.rows.now s.logs.now s.heads.now s.process s.checkpoint p.result p.ensures.1
-    k.new.log k.new.head k.ensures.backup_became k.result k.ensures.drops (omega arith)
+    syncs_so s.store.now s.process s.checkpoint p.result p.ensures.1 k.new.self k.ensures.backup_became k.result k.ensures.drops
+    true (sym c.is_backed.ensures ∙ c.if-not-is_backed.false)

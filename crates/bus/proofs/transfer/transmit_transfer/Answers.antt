@@ -4,5 +4,5 @@ use Rattle.bus.proofs.transfer.transmit_transfer.Goals as goal
 pub returns : goal.returns
 returns c =
     let s = c.args in
-    let p = c.index16-p in
-    transfers_so s.rows.now s.process p.result p.ensures.1 c.end_transfer.new.row c.end_transfer.ensures
+    let p = c.index-p in
+    transfers_so s.store.now s.process p.result p.ensures.1 c.end_transfer.new.self c.end_transfer.ensures.became

@@ -1,37 +1,39 @@
-use Rattle.std.proofs.Common.{◌≡◌, ℕ, ◌<◌, List, refl, arith}
+use Rattle.std.proofs.Common.{◌≡◌, ℕ, ◌<◌, List, refl, sym, ap, subst, arith}
+use Rattle.plan.specs.declared.Wire.{Wire}
 use Rattle.plan.specs.Plan.{sender_in}
+use Rattle.process.specs.declared.process.Process.{Process}
+use Rattle.process.specs.Change.{Changes, HeadAlone}
+use Rattle.rules.specs.Moves.{counts}
 use Rattle.bus.proofs.Carrying.{carries-inside, carries-outside}
 use Rattle.bus.proofs.word.transmit_word.Goals as goal
 
 -- a number that is the channel's sender, and the index that was made of it; which call found the number is not named
-sender_index : (wires : List ℕ) (k x p : ℕ) → (p < 16) × (x < 16 → p ≡ x) → x ≡ sender_in wires k → (x ≡ sender_in wires k) × (x < 16 → p ≡ x)
+sender_index : (wires : List Wire) (k x p : ℕ) → (p < 16) × (x < 16 → p ≡ x) → x ≡ sender_in wires k → (x ≡ sender_in wires k) × (x < 16 → p ≡ x)
 sender_index wires k x p made its = (its, made.1)
+
+-- counted, with the log that it has, which stays
+counted_so : (x x' : Process) → ((log : List ℕ) → Changes (record x { log = log }) (record x' { log = log }) counts) → HeadAlone x x' → Changes x x' counts
+counted_so x x' made alone =
+    subst (λ (z : Process). Changes x z counts) (λ i. record x' { log = sym (ap (λ (z : Process). z.log) alone) i }) (made x.log)
 
 pub returns-then-reader-eq-ENVIRONMENT : goal.returns-then-reader-eq-ENVIRONMENT
 returns-then-reader-eq-ENVIRONMENT c =
-    let test = c in
-    let s = test.args in
-    let k = test.index32-k in
-    let p = test.index16-p in
-    let its = sender_index s.wires.now k.result _ p.result p.ensures (let small = k.ensures.0 in omega arith) in
-    let n = test.counts in
-    let reader = test.reader in
+    let s = c.args in
+    let k = c.index-k in
+    let p = c.index-p in
+    let its = sender_index s.plan.now.wires k.result _ p.result p.ensures (let small = k.ensures.0 in omega arith) in
+    let n = c.counts in
     let less = c.wrapping_sub_u32 in
-    carries-outside s.wires.now s.rows.now s.mails.now s.logs.now s.heads.now s.totals.now s.channel s.word
-    k.result _ p.result n.new.head _ k.ensures.1 its.0 its.1 n.ensures refl
-    reader.result (reader.ensures k.ensures.0) test.if-reader-eq-ENVIRONMENT.true less.result less.ensures.value less.type_inv
+    carries-outside s.plan.now s.store.now s.channel s.word k.result _ p.result n.new.self _ k.ensures.1 its.0 its.1 (counted_so _ _ n.ensures.became n.ensures.rest_stays) refl
+    c.reader.result (c.reader.ensures k.ensures.0) c.if-reader-eq-ENVIRONMENT.true less.result less.ensures.value less.type_inv
 
 pub returns : goal.returns
 returns c =
-    let test = c in
-    let s = test.args in
-    let k = test.index32-k in
-    let p = test.index16-p in
-    let its = sender_index s.wires.now k.result _ p.result p.ensures (let small = k.ensures.0 in omega arith) in
-    let n = test.counts in
-    let reader = test.reader in
+    let s = c.args in
+    let k = c.index-k in
+    let p = c.index-p in
+    let its = sender_index s.plan.now.wires k.result _ p.result p.ensures (let small = k.ensures.0 in omega arith) in
+    let n = c.counts in
     let d = c.deliver in
-    carries-inside s.wires.now s.rows.now s.mails.now s.logs.now s.heads.now s.totals.now s.channel s.word
-    k.result _ p.result n.new.head _ k.ensures.1 its.0 its.1 n.ensures refl
-    reader.result (reader.ensures k.ensures.0) test.if-reader-eq-ENVIRONMENT.false
-    d.new.rows d.new.mails d.new.logs d.new.heads d.ensures
+    carries-inside s.plan.now s.store.now s.channel s.word k.result _ p.result n.new.self _ k.ensures.1 its.0 its.1 (counted_so _ _ n.ensures.became n.ensures.rest_stays) refl
+    c.reader.result (c.reader.ensures k.ensures.0) c.if-reader-eq-ENVIRONMENT.false d.new.store d.ensures

@@ -1,28 +1,24 @@
-use Rattle.cabinet.proofs.Judging.{run-table, run_schedule, run-answers, run-reasons, run-report, run-origins, run-accepted}
-use native.Mathlib.Omega.{arith}
+-- `judge_run`: what is judged first refuses first.
+use Rattle.std.proofs.lemmas.Result.{err_from_is_err_and}
+use Rattle.cabinet.proofs.Judging.{by_table, by_schedule, by_buffers, admits}
 use Rattle.cabinet.proofs.judge.judge_run.Goals as goal
 
-pub returns-then-table_number-ne0 : goal.returns-then-table_number-ne0
-returns-then-table_number-ne0 c = run-table _ _ _ _ c.if-table_number-ne0.true
+pub returns-in_err-decoded : goal.returns-in_err-decoded
+returns-in_err-decoded c =
+    let p = err_from_is_err_and c.from_residual.result c.from_residual.ensures.1 in
+    rw (p.1, p.2) (by_table c.args.table.now c.args.schedule.now c.args.lengths _ c.in_err-decoded.ensures.number_is)
 
-pub returns-then-schedule_number-ne0 : goal.returns-then-schedule_number-ne0
-returns-then-schedule_number-ne0 c = run_schedule _ _ _ _ c.if-table_number-ne0.false c.if-schedule_number-ne0.true
+pub returns-in_err-records : goal.returns-in_err-records
+returns-in_err-records c =
+    let p = err_from_is_err_and c.from_residual-in_err-records.result c.from_residual-in_err-records.ensures.1 in
+    rw (p.1, p.2) (by_schedule c.args.table.now c.args.schedule.now c.args.lengths c.in_ok-decoded.ensures _ c.in_err-records.ensures.number_is)
 
-pub returns-then-answers-records : goal.returns-then-answers-records
-returns-then-answers-records c = run-answers _ _ _ _ c.if-table_number-ne0.false c.if-schedule_number-ne0.false c.if-answers-records.true
-
-pub returns-then-reasons-records : goal.returns-then-reasons-records
-returns-then-reasons-records c = run-reasons _ _ _ _ c.if-table_number-ne0.false c.if-schedule_number-ne0.false c.if-answers-records.false c.if-reasons-records.true
-
--- What was judged before is looked for among the facts, whichever test told it.
-pub returns-then-report-processes : goal.returns-then-report-processes
-returns-then-report-processes c =
-    run-report c.args.table_number c.args.processes c.args.schedule c.args.lengths (omega arith) (omega arith) (omega arith) (omega arith) c.if-report-processes.true
-
-pub returns-then-origins-records : goal.returns-then-origins-records
-returns-then-origins-records c =
-    run-origins c.args.table_number c.args.processes c.args.schedule c.args.lengths (omega arith) (omega arith) (omega arith) (omega arith) (omega arith) c.if-origins-records.true
+pub returns-in_err-judge_buffers : goal.returns-in_err-judge_buffers
+returns-in_err-judge_buffers c =
+    let p = err_from_is_err_and c.from_residual-in_err-judge_buffers.result c.from_residual-in_err-judge_buffers.ensures.1 in
+    rw (p.1, p.2)
+    (by_buffers c.args.table.now c.args.schedule.now c.args.lengths c.in_ok-decoded.ensures c.in_ok-records.ensures _ c.in_err-judge_buffers.ensures)
 
 pub returns : goal.returns
 returns c =
-    run-accepted c.args.table_number c.args.processes c.args.schedule c.args.lengths (omega arith) (omega arith) (omega arith) (omega arith) (omega arith) (omega arith)
+    admits c.args.table.now c.args.schedule.now c.args.lengths c.in_ok-decoded.ensures c.in_ok-records.ensures c.in_ok-judge_buffers.ensures

@@ -13,5 +13,5 @@ returns c =
     record {
       command-is = ap (λ (a : ℕ). command x.mv a x.word) e;
       a_small = c.byte_word.ensures.1;
-      number_is = c.judge.ensures ∙ ap (λ (a : ℕ). judge_of s.counts (record { mv = x.mv; a = a; word = x.word })) (sym e);
+      refused-is = c.judge.ensures ∙ ap (λ (a : ℕ). judge_of s.counts (record { mv = x.mv; a = a; word = x.word })) (sym e);
     }

@@ -1,10 +1,7 @@
-use Rattle.std.proofs.Common.{◌-◌}
+use Rattle.std.proofs.Common.{◌≡◌}
+use Rattle.facts.specs.Tests.{any_below}
 use Rattle.crash.specs.Losses.{unbacked_in}
-use Rattle.state.proofs.Searching.{Searching}
 use Rattle.crash.proofs.losses.some_unbacked.Given as goal
 
 abbrev pub invariant-loop-p : goal.invariant-loop-p
-invariant-loop-p l = Searching (unbacked_in l.rows) l.n l.found l.p
-
-abbrev pub decreases-loop-p : goal.decreases-loop-p
-decreases-loop-p l = l.n - l.p
+invariant-loop-p l = l.found ≡ any_below (unbacked_in l.processes) l.p

@@ -1,10 +1,7 @@
-use Rattle.std.proofs.Common.{◌-◌}
-use Rattle.process.specs.Row.{oldest_in}
-use Rattle.crash.proofs.Recounting.{Counting}
+use Rattle.std.proofs.Common.{◌≡◌, ◌≤◌}
+use Rattle.rules.specs.Cabinet.{unread_on}
+use Rattle.process.specs.Row.{mails_in}
 use Rattle.crash.proofs.recount.count_on.Given as goal
 
 abbrev pub invariant-loop-i : goal.invariant-loop-i
-invariant-loop-i l = Counting (oldest_in l.row) l.mail l.n l.k l.count l.i
-
-abbrev pub decreases-loop-i : goal.decreases-loop-i
-decreases-loop-i l = l.n - l.i
+invariant-loop-i l = (l.count ≤ l.i) × (l.count ≡ unread_on l.k (mails_in l.x.oldest l.i l.x.mail))

@@ -1,5 +1,5 @@
-use Rattle.instruction.proofs.Done.{computes}
+use Rattle.instruction.proofs.Computing.{computes}
 use Rattle.instruction.proofs.instruction.compute.Goals as goal
 
-pub returns : goal.returns
-returns c = rw c.tally.ensures (computes _ _ _ _ _ c.evaluate.ensures)
+pub returns-clause-became : goal.returns-clause-became
+returns-clause-became c = let a = c.args in rw (c.tally-x.ensures, c.evaluate.ensures) (computes a.x.now a.code a.a a.operand)

@@ -1,7 +1,7 @@
-use Rattle.instruction.proofs.Cells.{suppresses}
+use Rattle.instruction.proofs.Counting.{suppresses}
 use Rattle.instruction.proofs.instruction.suppress_send.Goals as goal
 
-pub returns : goal.returns
-returns c =
-    let s = c.wrapping_sub_u32 in
-    rw c.bump.ensures (suppresses _ s.result s.ensures.value s.type_inv)
+pub returns-clause-became : goal.returns-clause-became
+returns-clause-became c =
+    let s = c.wrapping_sub_u32-x in
+    rw c.wrapping_add_u32-x.ensures.value (suppresses c.args.x.now s.result s.ensures.value s.type_inv)

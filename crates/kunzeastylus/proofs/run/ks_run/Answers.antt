@@ -1,7 +1,7 @@
 -- `ks_run`: the run's promise, with what it returned packed.
 use Rattle.rules.specs.Run.{buffers_of}
 use Rattle.cabinet.specs.Runs.{Runs}
-use Rattle.kunzeastylus.proofs.Packing.{few, keeps_packed}
+use Rattle.kunzeastylus.proofs.Packing.{few, verdict_packed}
 use Rattle.kunzeastylus.proofs.run.ks_run.Goals as goal
 
 pub packed-requires : goal.packed-requires
@@ -14,5 +14,5 @@ pub returns : goal.returns
 returns c =
     let s = c.args in
     let r = c.run in
-    keeps_packed (λ v. Runs s.table.now s.schedule.now (buffers_of s.answers.now s.reasons.now s.report.now s.origins.now) v _) r.result r.ensures
-    c.packed.ensures.1 c.packed.result c.packed.ensures.0
+    verdict_packed (λ v. Runs s.table.now s.schedule.now (buffers_of s.answers.now s.reasons.now s.report.now s.origins.now) v _) r.result r.ensures
+    c.packed.ensures.1 c.packed.ensures.0

@@ -14,5 +14,5 @@ returns c =
     let s = c.args in
     let r = c.sweep in
     let p = c.pack_swept in
-    sweeps_packed s.table.now s.schedule.now r.result r.ensures (swept-few s.table.now s.schedule.now r.result r.ensures) p.result
+    sweeps_packed s.table.now s.schedule.now r.result r.ensures (swept-few s.table.now s.schedule.now r.result r.ensures)
     p.ensures.1 p.ensures.0

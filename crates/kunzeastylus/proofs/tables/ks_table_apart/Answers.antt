@@ -12,4 +12,4 @@ returns c =
     let s = c.args in
     let r = c.take_apart in
     let p = c.pack_taken in
-    takes_packed s.table.now (lent s.ends.now s.placements.now s.limits.now s.instructions.now) r.result _ r.ensures p.result p.ensures.1 p.ensures.0
+    takes_packed s.table.now (lent s.ends.now s.placements.now s.limits.now s.instructions.now) r.result _ r.ensures p.ensures.1 p.ensures.0

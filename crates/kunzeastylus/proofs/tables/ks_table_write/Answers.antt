@@ -9,4 +9,4 @@ returns c =
     let r = c.write in
     let p = c.pack_written in
     writes_packed (given (record { version = s.version; boards = s.boards; processes = s.processes; channels = s.channels }) s.ends.now s.placements.now s.limits.now s.instructions.now) s.out.now r.result _ r.ensures
-    p.result p.ensures.1 p.ensures.0
+    p.ensures.1 p.ensures.0

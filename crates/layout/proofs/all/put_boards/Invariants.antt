@@ -1,4 +1,3 @@
-use Prim.Native.Nat.{◌-◌}
 use Rattle.rules.specs.Sizes.{boards_most}
 use Rattle.layout.proofs.Laying.{EachLaid}
 use Rattle.layout.specs.Lists.{board_block}
@@ -6,6 +5,3 @@ use Rattle.layout.proofs.all.put_boards.Given as goal
 
 abbrev pub invariant-loop-b : goal.invariant-loop-b
 invariant-loop-b l = EachLaid (board_block l.boards l.queues l.entries) 418 boards_most l.initial.out l.at l.out l.b
-
-abbrev pub decreases-loop-b : goal.decreases-loop-b
-decreases-loop-b l = boards_most - l.b

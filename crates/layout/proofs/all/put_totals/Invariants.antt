@@ -1,4 +1,3 @@
-use Prim.Native.Nat.{◌-◌}
 use Rattle.rules.specs.Sizes.{channels_most}
 use Rattle.layout.proofs.Laying.{EachLaid}
 use Rattle.layout.specs.Lists.{total_block}
@@ -6,6 +5,3 @@ use Rattle.layout.proofs.all.put_totals.Given as goal
 
 abbrev pub invariant-loop-k : goal.invariant-loop-k
 invariant-loop-k l = EachLaid (total_block l.channels l.totals) 1 channels_most l.initial.out l.at l.out l.k
-
-abbrev pub decreases-loop-k : goal.decreases-loop-k
-decreases-loop-k l = channels_most - l.k

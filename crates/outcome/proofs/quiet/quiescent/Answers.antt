@@ -7,11 +7,10 @@ pub returns-then-not-all_rest : goal.returns-then-not-all_rest
 returns-then-not-all_rest c =
     let s = c.args in
     let r = c.all_rest in
-    quiets_not s.table.now s.counts s.programs.now s.rows.now s.mails.now s.queues.now r.result r.ensures (ap not c.if-not-all_rest.true)
+    quiets_not s.table.now s.plan.now s.store.now r.result r.ensures (ap not c.if-not-all_rest.true)
 
 pub returns : goal.returns
 returns c =
     let s = c.args in
     let r = c.all_rest in
-    quiets_so s.table.now s.counts s.programs.now s.rows.now s.mails.now s.queues.now r.result r.ensures _ (ap not c.if-not-all_rest.false)
-    c.all_empty.ensures
+    quiets_so s.table.now s.plan.now s.store.now r.result r.ensures _ (ap not c.if-not-all_rest.false) c.all_empty.ensures

@@ -10,5 +10,5 @@ returns c =
     let pc = c.wide-2 in
     let f = c.fetch-i in
     let x = c.examine in
-    rests_so s.table.now s.at s.length s.row.now s.mail.now f.result x.result _
+    rests_so s.table.now s.at s.length s.x.now f.result x.result _
     (f.ensures ∙ (λ j. fetched s.table.now (at.ensures.0 j) (pc.ensures.0 j))) x.ensures c.idle.ensures

@@ -1,9 +1,5 @@
-use Prim.Native.Nat.{◌-◌}
-use Rattle.outcome.proofs.Starting.{Seating}
+use Rattle.outcome.specs.Starts.{Seats}
 use Rattle.outcome.proofs.start.seat.Given as goal
 
 abbrev pub invariant-loop-p : goal.invariant-loop-p
-invariant-loop-p l = Seating l.initial.rows l.primary l.standby l.most l.rows l.p
-
-abbrev pub decreases-loop-p : goal.decreases-loop-p
-decreases-loop-p l = l.most - l.p
+invariant-loop-p l = Seats l.initial.processes l.placements l.p l.processes

@@ -1,103 +1,52 @@
-use mathlib.Core.Path.{refl}
+use mathlib.Core.Path.{◌∙◌, refl, sym}
 use Rattle.rejoin.proofs.BackingUp.{rebackups_50, rebackups_50_dead, rebackups_49_held, rebackups_49_full, rebackups_41, rebackups_38, rebackups-done}
 use Rattle.rejoin.proofs.rebackup.rebackup.Goals as goal
 
-pub returns-then-rows-p-eq-COMPLETE : goal.returns-then-rows-p-eq-COMPLETE
-returns-then-rows-p-eq-COMPLETE c =
-    let p = c in
-    let a = p.args in
-    rebackups_50 a.programs.now a.wires.now a.rows.now a.mails.now a.logs.now a.heads.now a.queues.now a.totals.now
-    p.index16-p.result a.a p.index16-p.ensures.1 _
-    c.if-rows-p-eq-COMPLETE.true c.refused.ensures
+pub returns-then-is_backed-clause-rebackups : goal.returns-then-is_backed-clause-rebackups
+returns-then-is_backed-clause-rebackups c =
+    let a = c.args in
+    rebackups_50 a.plan.now a.store.now c.index-p.result a.a c.index-p.ensures.1 _ (sym c.is_backed.ensures ∙ c.if-is_backed.true) c.refused.ensures
 
-pub returns-then-queues-other-ne0 : goal.returns-then-queues-other-ne0
-returns-then-queues-other-ne0 c =
-    let o = c in
-    let bare = o in
-    let p = bare in
-    let a = p.args in
-    rebackups_50_dead a.programs.now a.wires.now a.rows.now a.mails.now a.logs.now a.heads.now a.queues.now a.totals.now
-    p.index16-p.result a.a p.index16-p.ensures.1 _
-    bare.if-rows-p-eq-COMPLETE.false o.index16-other.result o.index16-other.ensures.1
-    c.if-queues-other-ne0.true c.refused-then-queues-other-ne0.ensures
+pub returns-then-store-other-clause-rebackups : goal.returns-then-store-other-clause-rebackups
+returns-then-store-other-clause-rebackups c =
+    let a = c.args in
+    rebackups_50_dead a.plan.now a.store.now c.index-p.result a.a c.index-p.ensures.1 _ (sym c.is_backed.ensures ∙ c.if-is_backed.false)
+    c.index-other.result c.index-other.ensures.1 c.if-store-other.true c.refused-then-store-other.ensures
 
-pub returns-then-rows-p-ne0 : goal.returns-then-rows-p-ne0
-returns-then-rows-p-ne0 c =
-    let live = c in
-    let o = live in
-    let bare = o in
-    let p = bare in
-    let a = p.args in
-    rebackups_49_held a.programs.now a.wires.now a.rows.now a.mails.now a.logs.now a.heads.now a.queues.now a.totals.now
-    p.index16-p.result a.a p.index16-p.ensures.1 _
-    bare.if-rows-p-eq-COMPLETE.false o.index16-other.result o.index16-other.ensures.1 live.if-queues-other-ne0.false
-    c.if-rows-p-ne0.true c.refused-then-rows-p-ne0.ensures
+pub returns-then-store-p-ne0-clause-rebackups : goal.returns-then-store-p-ne0-clause-rebackups
+returns-then-store-p-ne0-clause-rebackups c =
+    let a = c.args in
+    rebackups_49_held a.plan.now a.store.now c.index-p.result a.a c.index-p.ensures.1 _ (sym c.is_backed.ensures ∙ c.if-is_backed.false)
+    c.index-other.result c.index-other.ensures.1 c.if-store-other.false c.if-store-p-ne0.true c.refused-then-store-p-ne0.ensures
 
-pub returns-then-crowded : goal.returns-then-crowded
-returns-then-crowded c =
-    let u = c in
-    let free = u in
-    let live = free in
-    let o = live in
-    let bare = o in
-    let p = bare in
-    let a = p.args in
-    rebackups_49_full a.programs.now a.wires.now a.rows.now a.mails.now a.logs.now a.heads.now a.queues.now a.totals.now
-    p.index16-p.result a.a p.index16-p.ensures.1 _
-    bare.if-rows-p-eq-COMPLETE.false o.index16-other.result o.index16-other.ensures.1 live.if-queues-other-ne0.false free.if-rows-p-ne0.false u.crowded.result u.crowded.ensures
+pub returns-then-crowded-clause-rebackups : goal.returns-then-crowded-clause-rebackups
+returns-then-crowded-clause-rebackups c =
+    let a = c.args in
+    rebackups_49_full a.plan.now a.store.now c.index-p.result a.a c.index-p.ensures.1 _ (sym c.is_backed.ensures ∙ c.if-is_backed.false)
+    c.index-other.result c.index-other.ensures.1 c.if-store-other.false c.if-store-p-ne0.false c.crowded.result c.crowded.ensures
     c.if-crowded.true c.refused-then-crowded.ensures
 
-pub returns-then-rows-p-ne0-2 : goal.returns-then-rows-p-ne0-2
-returns-then-rows-p-ne0-2 c =
-    let few = c in
-    let u = few in
-    let free = u in
-    let live = free in
-    let o = live in
-    let bare = o in
-    let p = bare in
-    let a = p.args in
-    rebackups_41 a.programs.now a.wires.now a.rows.now a.mails.now a.logs.now a.heads.now a.queues.now a.totals.now
-    p.index16-p.result a.a p.index16-p.ensures.1 _
-    bare.if-rows-p-eq-COMPLETE.false o.index16-other.result o.index16-other.ensures.1 live.if-queues-other-ne0.false free.if-rows-p-ne0.false u.crowded.result u.crowded.ensures few.if-crowded.false
-    c.if-rows-p-ne0-2.true c.refused-then-rows-p-ne0-2.ensures
+pub returns-then-store-p-clause-rebackups : goal.returns-then-store-p-clause-rebackups
+returns-then-store-p-clause-rebackups c =
+    let a = c.args in
+    rebackups_41 a.plan.now a.store.now c.index-p.result a.a c.index-p.ensures.1 _ (sym c.is_backed.ensures ∙ c.if-is_backed.false)
+    c.index-other.result c.index-other.ensures.1 c.if-store-other.false c.if-store-p-ne0.false c.crowded.result c.crowded.ensures
+    c.if-crowded.false c.if-store-p.true c.refused-then-store-p.ensures
 
-pub returns-then-queues-b-ge-QUEUE : goal.returns-then-queues-b-ge-QUEUE
-returns-then-queues-b-ge-QUEUE c =
-    let b = c in
-    let waits = b in
-    let few = waits in
-    let u = few in
-    let free = u in
-    let live = free in
-    let o = live in
-    let bare = o in
-    let p = bare in
-    let a = p.args in
-    rebackups_38 a.programs.now a.wires.now a.rows.now a.mails.now a.logs.now a.heads.now a.queues.now a.totals.now
-    p.index16-p.result a.a p.index16-p.ensures.1 _
-    bare.if-rows-p-eq-COMPLETE.false o.index16-other.result o.index16-other.ensures.1 live.if-queues-other-ne0.false free.if-rows-p-ne0.false u.crowded.result u.crowded.ensures few.if-crowded.false
-    waits.if-rows-p-ne0-2.false b.index16-b.result b.index16-b.ensures.1 c.if-queues-b-ge-QUEUE.true c.refused-then-queues-b-ge-QUEUE.ensures
+pub returns-then-is_full-clause-rebackups : goal.returns-then-is_full-clause-rebackups
+returns-then-is_full-clause-rebackups c =
+    let a = c.args in
+    rebackups_38 a.plan.now a.store.now c.index-p.result a.a c.index-p.ensures.1 _ (sym c.is_backed.ensures ∙ c.if-is_backed.false)
+    c.index-other.result c.index-other.ensures.1 c.if-store-other.false c.if-store-p-ne0.false c.crowded.result c.crowded.ensures
+    c.if-crowded.false c.if-store-p.false c.index-b.result c.index-b.ensures.1 (sym c.is_full.ensures ∙ c.if-is_full.true)
+    c.refused-then-is_full.ensures
 
-pub returns : goal.returns
-returns c =
-    let made = c in
-    let at = made in
-    let room = at in
-    let b = room in
-    let waits = b in
-    let few = waits in
-    let u = few in
-    let free = u in
-    let live = free in
-    let o = live in
-    let bare = o in
-    let p = bare in
-    let a = p.args in
-    let k = made.begin_transfer in
-    rebackups-done a.programs.now a.wires.now a.rows.now a.mails.now a.logs.now a.heads.now a.queues.now a.totals.now
-    p.index16-p.result a.a p.index16-p.ensures.1 _
-    bare.if-rows-p-eq-COMPLETE.false o.index16-other.result o.index16-other.ensures.1 live.if-queues-other-ne0.false free.if-rows-p-ne0.false u.crowded.result u.crowded.ensures few.if-crowded.false
-    waits.if-rows-p-ne0-2.false b.index16-b.result b.index16-b.ensures.1
-    k.new.row k.new.log k.new.head _ at.place-at.result room.if-queues-b-ge-QUEUE.false k.ensures c.push.ensures
-    at.place-at.ensures.0 (at.place-at.ensures.1 b.index16-b.ensures.0) refl
+pub returns-clause-rebackups : goal.returns-clause-rebackups
+returns-clause-rebackups c =
+    let a = c.args in
+    let b = c.index-b in
+    let at = c.place-at in
+    rebackups-done a.plan.now a.store.now c.index-p.result a.a c.index-p.ensures.1 _ (sym c.is_backed.ensures ∙ c.if-is_backed.false)
+    c.index-other.result c.index-other.ensures.1 c.if-store-other.false c.if-store-p-ne0.false c.crowded.result c.crowded.ensures
+    c.if-crowded.false c.if-store-p.false b.result b.ensures.1 _ _ at.result (sym c.is_full.ensures ∙ c.if-is_full.false)
+    c.begin_transfer.ensures.became c.push.ensures at.ensures.0 (at.ensures.1 b.ensures.0) refl

@@ -1,12 +1,8 @@
 use Rattle.rejoin.proofs.Rejoining.{rejoins_48, rejoins-done}
 use Rattle.rejoin.proofs.rejoin.rejoin.Goals as goal
 
-pub returns-then-queues-b-eq0 : goal.returns-then-queues-b-eq0
-returns-then-queues-b-eq0 c =
-    let b = c in
-    rejoins_48 b.args.queues.now b.args.a b.index16-b.result b.index16-b.ensures.1 _ c.if-queues-b-eq0.true c.refusal.ensures
+pub returns-then-live-clause-rejoins : goal.returns-then-live-clause-rejoins
+returns-then-live-clause-rejoins c = rejoins_48 c.args.store.now c.args.a c.index-b.result c.index-b.ensures.1 _ c.if-live.true c.refusal.ensures
 
-pub returns : goal.returns
-returns c =
-    let b = c in
-    rejoins-done b.args.queues.now b.args.a b.index16-b.result b.index16-b.ensures.1 _ c.if-queues-b-eq0.false c.revive.ensures
+pub returns-clause-rejoins : goal.returns-clause-rejoins
+returns-clause-rejoins c = rejoins-done c.args.store.now c.args.a c.index-b.result c.index-b.ensures.1 _ c.if-live.false c.revive.ensures

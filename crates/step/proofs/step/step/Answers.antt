@@ -2,63 +2,63 @@ use Rattle.step.proofs.Calculating.{calculate_turns}
 use Rattle.step.proofs.Stepping.{steps_35, steps_36, steps_calculated, steps-taken, steps-sent}
 use Rattle.step.proofs.step.step.Goals as goal
 
-pub returns-in-Halted : goal.returns-in-Halted
-returns-in-Halted c =
+pub returns-in-Halted-clause-steps : goal.returns-in-Halted-clause-steps
+returns-in-Halted-clause-steps c =
     let s = c.args in
-    let p = c.index16-p in
+    let p = c.index-p in
     let j = c.fetch_at-i in
     let x = c.examine in
     let small = p.ensures.0 in
     let is-start = c.start.ensures small in
-    steps_35 s.table.now s.programs.now s.wires.now s.rows.now s.mails.now s.queues.now s.totals.now p.result s.a p.ensures.1 _
+    steps_35 s.table.now s.plan.now s.store.now p.result s.a p.ensures.1 _
     j.result (rw (← is-start) j.ensures)
     (record { seen = x.result; examined = rw (← c.length.ensures small) x.ensures; is = c.in-Halted.is }) c.refused.ensures
 
-pub returns-in-NoMail : goal.returns-in-NoMail
-returns-in-NoMail c =
+pub returns-in-NoMail-clause-steps : goal.returns-in-NoMail-clause-steps
+returns-in-NoMail-clause-steps c =
     let s = c.args in
-    let p = c.index16-p in
+    let p = c.index-p in
     let j = c.fetch_at-i in
     let x = c.examine in
     let small = p.ensures.0 in
     let is-start = c.start.ensures small in
-    steps_36 s.table.now s.programs.now s.wires.now s.rows.now s.mails.now s.queues.now s.totals.now p.result s.a p.ensures.1 _
+    steps_36 s.table.now s.plan.now s.store.now p.result s.a p.ensures.1 _
     j.result (rw (← is-start) j.ensures)
     (record { seen = x.result; examined = rw (← c.length.ensures small) x.ensures; is = c.in-NoMail.is }) (rw (← c.missing.ensures) c.refused-in-NoMail.ensures)
 
-pub returns-in-Internal : goal.returns-in-Internal
-returns-in-Internal c =
+pub returns-in-Internal-clause-steps : goal.returns-in-Internal-clause-steps
+returns-in-Internal-clause-steps c =
     let s = c.args in
-    let p = c.index16-p in
+    let p = c.index-p in
     let j = c.fetch_at-i in
     let x = c.examine in
     let small = p.ensures.0 in
     let is-start = c.start.ensures small in
-    steps_calculated s.table.now s.programs.now s.wires.now s.rows.now s.mails.now s.queues.now s.totals.now p.result s.a p.ensures.1 _
+    steps_calculated s.table.now s.plan.now s.store.now p.result s.a p.ensures.1 _
     j.result (rw (← is-start) j.ensures)
     (record { seen = x.result; examined = rw (← c.length.ensures small) x.ensures; is = c.in-Internal.is })
-    (calculate_turns s.rows.now p.result s.a p.ensures.1 _ _ _ _ c.calculate.new.row c.calculate.ensures)
+    (calculate_turns s.store.now p.result s.a p.ensures.1 _ _ _ _ c.calculate.new.x c.calculate.ensures.calculates)
 
-pub returns-in-Take : goal.returns-in-Take
-returns-in-Take c =
+pub returns-in-Take-clause-steps : goal.returns-in-Take-clause-steps
+returns-in-Take-clause-steps c =
     let s = c.args in
-    let p = c.index16-p in
+    let p = c.index-p in
     let j = c.fetch_at-i in
     let x = c.examine in
     let small = p.ensures.0 in
     let is-start = c.start.ensures small in
-    steps-taken s.table.now s.programs.now s.wires.now s.rows.now s.mails.now s.queues.now s.totals.now p.result s.a p.ensures.1 _
+    steps-taken s.table.now s.plan.now s.store.now p.result s.a p.ensures.1 _
     j.result (rw (← is-start) j.ensures)
-    c.limit-limit.result (c.limit-limit.ensures small) c.in-Take.at (record { seen = x.result; examined = rw (← c.length.ensures small) x.ensures; is = c.in-Take.is }) c.take.ensures
+    c.limit-limit.result (c.limit-limit.ensures small) c.in-Take.at (record { seen = x.result; examined = rw (← c.length.ensures small) x.ensures; is = c.in-Take.is }) c.take.ensures.takes
 
-pub returns-in-Send : goal.returns-in-Send
-returns-in-Send c =
+pub returns-in-Send-clause-steps : goal.returns-in-Send-clause-steps
+returns-in-Send-clause-steps c =
     let s = c.args in
-    let p = c.index16-p in
+    let p = c.index-p in
     let j = c.fetch_at-i in
     let x = c.examine in
     let small = p.ensures.0 in
     let is-start = c.start.ensures small in
-    steps-sent s.table.now s.programs.now s.wires.now s.rows.now s.mails.now s.queues.now s.totals.now p.result s.a p.ensures.1 _
+    steps-sent s.table.now s.plan.now s.store.now p.result s.a p.ensures.1 _
     j.result (rw (← is-start) j.ensures)
-    c.limit-limit.result (c.limit-limit.ensures small) c.in-Send.channel c.in-Send.word (record { seen = x.result; examined = rw (← c.length.ensures small) x.ensures; is = c.in-Send.is }) c.send.ensures
+    c.limit-limit.result (c.limit-limit.ensures small) c.in-Send.channel c.in-Send.word (record { seen = x.result; examined = rw (← c.length.ensures small) x.ensures; is = c.in-Send.is }) c.send.ensures.sends

@@ -8,7 +8,7 @@ pub returns-in-5 : goal.returns-in-5
 returns-in-5 c =
     let is = c.in-5.is in
     record {
-      crashes = λ _ table. any_entry c.alone.ensures (c.crash-r.ensures table);
+      crashes = λ _ table. any_entry c.alone.ensures (c.crash.ensures.crashes table);
       rejoins = λ e. absurd (omega arith);
       rebackups = λ e. absurd (omega arith);
       others = λ n _ _. absurd (n is);
@@ -19,7 +19,7 @@ returns-in-6 c =
     let is = c.in-6.is in
     record {
       crashes = λ e. absurd (omega arith);
-      rejoins = λ _ table. any_entry c.alone-in-6.ensures (c.rejoin.ensures _ _ _ _ _ _);
+      rejoins = λ _ table. any_entry c.alone-in-6.ensures (c.rejoin.ensures.rejoins _);
       rebackups = λ e. absurd (omega arith);
       others = λ _ n _. absurd (n is);
     }
@@ -30,7 +30,7 @@ returns-in-7 c =
     record {
       crashes = λ e. absurd (omega arith);
       rejoins = λ e. absurd (omega arith);
-      rebackups = λ _ table. c.rebackup.ensures table _;
+      rebackups = λ _ table. c.rebackup.ensures.rebackups table;
       others = λ _ _ n. absurd (n is);
     }
 

@@ -56,8 +56,8 @@ overflow_add-free c =
     let b = (boards-few (decode_table x.args.table.now) (decode_schedule x.args.schedule.now) l.place (decode_table x.args.table.now).boards e.result e.ensures).free-few in
     omega arith
 
-pub overflow_add-place : goal.overflow_add-place
-overflow_add-place c =
+pub overflow_add-place-end : goal.overflow_add-place-end
+overflow_add-place-end c =
     let x = c in
     let few = records-most x.args.table.now x.args.schedule.now x.args.counts x.requires.admitted in
     let e = x.requires.records_value in
@@ -74,4 +74,4 @@ pub returns : goal.returns
 returns c =
     let x = c in
     let l = c.loop-place in
-    all_places x.args.table.now x.args.schedule.now x.args.counts x.requires.admitted l.place x.args.records l.invariant.0 c.loop-place-test.false _ l.invariant.1
+    all_places x.args.table.now x.args.schedule.now x.args.counts x.requires.admitted l.place x.args.records l.invariant.0 (let z = c.loop-place-test.false in omega arith) _ l.invariant.1

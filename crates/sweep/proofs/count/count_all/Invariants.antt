@@ -1,4 +1,4 @@
-use Prim.Native.Nat.{◌+◌, ◌-◌, ◌≤◌}
+use Prim.Native.Nat.{◌+◌, ◌≤◌}
 use Rattle.rules.specs.Format.{decode_table}
 use Rattle.rules.specs.Schedule.{decode_schedule}
 use Rattle.sweep.specs.Counted.{Counted, count_places}
@@ -7,6 +7,3 @@ use Rattle.sweep.proofs.count.count_all.Given as goal
 
 abbrev pub invariant-loop-place : goal.invariant-loop-place
 invariant-loop-place l = (l.place ≤ l.records + 1) × Counted (count_places (decode_table l.table) (decode_schedule l.schedule) l.place) (tallied l.quiet l.held l.free)
-
-abbrev pub decreases-loop-place : goal.decreases-loop-place
-decreases-loop-place l = l.records + 1 - l.place

@@ -1,4 +1,4 @@
-use Prim.Native.Nat.{◌-◌, ◌≤◌}
+use Prim.Native.Nat.{◌≤◌}
 use Rattle.rules.specs.Format.{decode_table}
 use Rattle.rules.specs.Schedule.{decode_schedule}
 use Rattle.sweep.specs.Counted.{Counted, count_boards}
@@ -7,6 +7,3 @@ use Rattle.sweep.proofs.count.count_place.Given as goal
 
 abbrev pub invariant-loop-b : goal.invariant-loop-b
 invariant-loop-b l = (l.b ≤ l.boards) × Counted (count_boards (decode_table l.table) (decode_schedule l.schedule) l.place l.b) (tallied l.quiet l.held l.free)
-
-abbrev pub decreases-loop-b : goal.decreases-loop-b
-decreases-loop-b l = l.boards - l.b

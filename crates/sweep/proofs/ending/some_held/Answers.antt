@@ -4,10 +4,10 @@ use native.Mathlib.Omega.{arith}
 use Rattle.sweep.proofs.ending.some_held.Goals as goal
 
 pub loop-p-init : goal.loop-p-init
-loop-p-init c = (c.most16-n.ensures.0, omega arith, refl)
+loop-p-init c = (c.most-n.ensures.0, omega arith, refl)
 
 pub returns-then-report-p-ne0 : goal.returns-then-report-p-ne0
-returns-then-report-p-ne0 c = held_found c.args.report.now _ _ c.loop-p.p c.most16-n.ensures.1 c.loop-p-test.true c.if-report-p-ne0.true
+returns-then-report-p-ne0 c = held_found c.args.report.now _ _ c.loop-p.p c.most-n.ensures.1 c.loop-p-test.true c.if-report-p-ne0.true
 
 pub loop-p-preserved : goal.loop-p-preserved
 loop-p-preserved c =
@@ -17,4 +17,4 @@ loop-p-preserved c =
 pub returns : goal.returns
 returns c =
     let l = c.loop-p in
-    held_none c.args.report.now _ _ l.p c.most16-n.ensures.1 l.invariant.1 l.invariant.2 c.loop-p-test.false
+    held_none c.args.report.now _ _ l.p c.most-n.ensures.1 l.invariant.1 l.invariant.2 c.loop-p-test.false

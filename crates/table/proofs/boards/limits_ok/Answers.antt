@@ -1,8 +1,6 @@
-use mathlib.Core.Path.{ap, ◌∙◌}
+use mathlib.Core.Path.{ap}
 use mathlib.Core.Bool.{not}
-use native.Mathlib.Omega.{arith}
 use Rattle.facts.specs.Walks.{walk_start, walk_on, walk_fails, walk_end}
-use Rattle.rules.specs.Judge.{limit_ok}
 use Rattle.table.specs.Parts.{limits_pass}
 use Rattle.table.proofs.boards.limits_ok.Goals as goal
 
@@ -12,11 +10,11 @@ loop-p-init c = walk_start _ _
 pub returns-then-not-limit_ok : goal.returns-then-not-limit_ok
 unfolding limits_pass
 returns-then-not-limit_ok c =
-    walk_fails _ _ c.loop-p.p _ c.loop-p-test.true (c.limit_ok.ensures ∙ ap limit_ok (c.limit.ensures (omega arith))) (ap not c.if-not-limit_ok.true)
+    walk_fails _ _ c.loop-p.p _ c.loop-p-test.true c.limit_ok.ensures (ap not c.if-not-limit_ok.true)
 
 pub loop-p-preserved : goal.loop-p-preserved
 loop-p-preserved c =
-    walk_on _ _ c.loop-p.p _ c.loop-p.invariant c.loop-p-test.true (c.limit_ok.ensures ∙ ap limit_ok (c.limit.ensures (omega arith))) (ap not c.if-not-limit_ok.false)
+    walk_on _ _ c.loop-p.p _ c.loop-p.invariant c.loop-p-test.true c.limit_ok.ensures (ap not c.if-not-limit_ok.false)
 
 pub returns : goal.returns
 unfolding limits_pass

@@ -1,4 +1,3 @@
-use Prim.Native.Nat.{◌-◌}
 use Rattle.facts.specs.Walks.{Walked}
 use Rattle.rules.specs.Judge.{limit_ok}
 use Rattle.plan.specs.Plan.{limit_in}
@@ -6,6 +5,3 @@ use Rattle.table.proofs.boards.limits_ok.Given as goal
 
 abbrev pub invariant-loop-p : goal.invariant-loop-p
 invariant-loop-p l = Walked (λ q. limit_ok (limit_in l.programs q)) l.processes l.p
-
-abbrev pub decreases-loop-p : goal.decreases-loop-p
-decreases-loop-p l = l.processes - l.p

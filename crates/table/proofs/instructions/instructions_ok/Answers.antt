@@ -26,9 +26,6 @@ returns-then-not-record_ok c = going_fails c.args.table.now c.requires c.loop-p.
 pub overflow_add-at : goal.overflow_add-at
 overflow_add-at c = omega (arith, lent_size c.args.table.now c.requires c.loop-p.at c.loop-p.p c.version_of-version.result c.version_of-version.ensures c.loop-p.invariant c.loop-p-test.true c.record_length-at.result c.record_length-at.ensures)
 
-pub overflow_add-p : goal.overflow_add-p
-overflow_add-p c = omega (arith, c.type_inv.table 4)
-
 pub loop-p-preserved : goal.loop-p-preserved
 loop-p-preserved c = going_on c.args.table.now c.requires c.loop-p.at c.loop-p.p c.version_of-version.result c.version_of-version.ensures c.loop-p.invariant c.loop-p-test.true _ c.record_ok.ensures (ap not c.if-not-record_ok.false) _ c.record_length-at.ensures
 

@@ -4,8 +4,8 @@ use Rattle.undo.proofs.Going.{room_less}
 use Rattle.undo.proofs.AllRecords.{all_played, then_session}
 use Rattle.undo.proofs.all.play_all.Goals as goal
 
-pub returns-then-done-records : goal.returns-then-done-records
-returns-then-done-records c = all_played c.count-records.ensures c.start-entries.ensures c.play-left.ensures c.if-done-records.true
+pub returns-then-left-records : goal.returns-then-left-records
+returns-then-left-records c = all_played c.count-records.ensures c.start-entries.ensures c.play-left.ensures c.if-left-records.true
 
 pub session-requires : goal.session-requires
 session-requires c =

@@ -1,10 +1,9 @@
-use Prim.Native.Nat.{◌-◌}
-use lib.ListN.{length}
-use Rattle.writer.proofs.Storing.{EndsLaid}
+use mathlib.Core.List.{map}
+use Prim.Native.Nat.{◌+◌}
+use lib.ListN.{drop}
+use Rattle.writer.specs.Fitted.{fit_byte}
+use Rattle.facts.specs.Laying.{Laying}
 use Rattle.writer.proofs.lay.put_ends.Given as goal
 
 abbrev pub invariant-loop-k : goal.invariant-loop-k
-invariant-loop-k l = EndsLaid l.initial.bytes l.at l.ends l.bytes l.k
-
-abbrev pub decreases-loop-k : goal.decreases-loop-k
-decreases-loop-k l = length l.ends - l.k
+invariant-loop-k l = Laying l.initial.bytes l.at (map fit_byte l.ends) l.bytes (l.at + l.k) (map fit_byte (drop l.k l.ends))

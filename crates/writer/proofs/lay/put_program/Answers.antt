@@ -1,17 +1,17 @@
-use Rattle.writer.proofs.Storing.{program_start_lem, program_more, program_end}
+use Prim.Native.Nat.{◌+◌, ◌*◌}
+use lib.ListN.{get_or}
+use Rattle.rules.specs.Encode.{instruction_bytes}
+use Rattle.writer.specs.Fitted.{fit_byte}
+use Rattle.facts.specs.Laying.{laying_more}
+use Rattle.writer.proofs.Pieces.{program_next}
+use native.Mathlib.Omega.{arith}
 use Rattle.writer.proofs.lay.put_program.Goals as goal
-
-pub loop-k-init : goal.loop-k-init
-loop-k-init c = let s = c.args in program_start_lem s.bytes.now s.at s.n s.instructions.now s.i
 
 pub loop-k-preserved : goal.loop-k-preserved
 loop-k-preserved c =
     let s = c.args in
     let l = c.loop-k in
-    program_more s.bytes.now s.at s.n s.instructions.now s.i _ l.k l.invariant _ c.loop-k-test.true c.put_instruction.ensures
-
-pub returns : goal.returns
-returns c =
-    let s = c.args in
-    let l = c.loop-k in
-    program_end s.bytes.now s.at s.n s.instructions.now s.i _ l.k l.invariant c.loop-k-test.false
+    let is = s.instructions.now in
+    let j = 3 * (s.i + l.k) in
+    laying_more (instruction_bytes (fit_byte (get_or is j 0)) (fit_byte (get_or is (j + 1) 0)) (get_or is (j + 2) 0)) _ _ _ l.invariant
+    (program_next is s.i s.n l.k c.loop-k-test.true) c.put_instruction.ensures (omega arith)

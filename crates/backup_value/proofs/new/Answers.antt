@@ -1,7 +1,0 @@
-use mathlib.Core.Path.{refl}
-use Rattle.backup_value.specs.Value.{view}
-use Rattle.backup_value.proofs.new.Goals as goal
-
-pub returns : goal.returns
-unfolding view
-returns c = refl

@@ -1,5 +1,0 @@
-use native.Mathlib.Omega.{arith}
-use Rattle.plan.proofs.arity.Goals as goal
-
-pub returns : goal.returns
-returns c h = c.program.ensures h (omega arith)

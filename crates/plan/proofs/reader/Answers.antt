@@ -1,5 +1,0 @@
-use native.Mathlib.Omega.{arith}
-use Rattle.plan.proofs.reader.Goals as goal
-
-pub returns : goal.returns
-returns c h = c.wire.ensures h (omega arith)

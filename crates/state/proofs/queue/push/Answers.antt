@@ -1,4 +1,0 @@
-use Rattle.state.proofs.queue.push.Goals as goal
-
-pub returns : goal.returns
-returns c = rw c.wrapping_add_u32.ensures.value

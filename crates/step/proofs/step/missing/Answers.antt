@@ -1,8 +1,0 @@
-use Rattle.std.proofs.Common.{eq-eqb, ne_eqb}
-use Rattle.step.proofs.step.missing.Goals as goal
-
-pub returns-then-code-eq4 : goal.returns-then-code-eq4
-returns-then-code-eq4 c = rw (eq-eqb _ 4 c.if-code-eq4.true)
-
-pub returns-else-code-eq4 : goal.returns-else-code-eq4
-returns-else-code-eq4 c = rw (ne_eqb _ 4 c.if-code-eq4.false)

@@ -1,4 +1,0 @@
-use Rattle.stretch.proofs.answer.put.Goals as goal
-
-pub returns : goal.returns
-returns c = cc
