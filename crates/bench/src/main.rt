@@ -36,6 +36,7 @@ fn read_part<R: Read>(reader: &mut R, input: &mut [u8], from: usize, to: usize) 
     ensures in_order { Consumes (R.remaining reader.old) (R.remaining reader.new) (drop from (take result input.new)) }
 {
     let mut end = from;
+    // A while: how far each read comes, the read tells.
     while end < to {
         let n = read_some(reader, &mut input[end..to]);
         if n == 0 {

@@ -10,6 +10,7 @@ use crate::mailbox::{look, remove};
 use backup::limits::LOG;
 use process::mail::{PLACES, channel_of, place, word_of};
 use process::process::Process;
+use records::fetch::Instruction;
 use words::wide;
 
 // What the instruction at a process's place would do.
@@ -90,11 +91,11 @@ fn tally(x: &Process, counter: u32) -> u32
 }
 
 // A TAKE or a FIRST would take the oldest word that it names.
-fn seek(x: &Process, code: u8, operand: u32) -> Intent
-    ensures { Sought x.now code operand result }
+fn seek(x: &Process, i: Instruction) -> Intent
+    ensures { Sought x.now i.code i.operand result }
 {
     let unread = wide(x.unread);
-    let at = look(&x.mail, wide(x.oldest), unread, code, operand);
+    let at = look(&x.mail, wide(x.oldest), unread, i.code, i.operand);
     if at < unread {
         Intent::Take { at: at }
     } else {
@@ -102,19 +103,19 @@ fn seek(x: &Process, code: u8, operand: u32) -> Intent
     }
 }
 
-// What the instruction with this code, a and operand would do, `length` being how many the program has. Nothing is changed.
-pub fn examine(x: &Process, length: u32, code: u8, a: u32, operand: u32) -> Intent
-    ensures { Examined x.now length code a operand result }
+// What the instruction would do, `length` being how many the program has. Nothing is changed.
+pub fn examine(x: &Process, length: u32, i: Instruction) -> Intent
+    ensures { Examined x.now length i.code i.a i.operand result }
 {
     if x.pc >= length {
         return Intent::Halted;
     }
-    match kind_of(code) {
+    match kind_of(i.code) {
         Kind::Calculation => Intent::Internal,
-        Kind::Taking => seek(x, code, operand),
+        Kind::Taking => seek(x, i),
         Kind::Sending => Intent::Send {
-            channel: operand,
-            word: register(x, a),
+            channel: i.operand,
+            word: register(x, i.a),
         },
         Kind::Unknown => Intent::Halted,
     }
@@ -155,23 +156,23 @@ fn place_after(code: u8, old: u32, next: u32, operand: u32) -> u32
 
 // What a SET, an ADD or a JUMP does to registers and place. Word and place are chosen by the code and stored once, with no branch: which of the
 // three comes next nobody can foretell.
-fn evaluate(x: &mut Process, code: u8, a: u32, operand: u32)
-    ensures { x.new ≡ evaluated_in code a operand x.old }
+fn evaluate(x: &mut Process, i: Instruction)
+    ensures { x.new ≡ evaluated_in i.code i.a i.operand x.old }
 {
-    let old = register(x, a);
-    let both = sum(x, a, operand);
+    let old = register(x, i.a);
+    let both = sum(x, i.a, i.operand);
     let next = std::num::wrapping_add_u32(x.pc, 1);
-    x.registers[lane(a)] = word_after(code, old, both, operand);
-    x.pc = place_after(code, old, next, operand);
+    x.registers[lane(i.a)] = word_after(i.code, old, both, i.operand);
+    x.pc = place_after(i.code, old, next, i.operand);
 }
 
 // A SET, an ADD or a JUMP is done, an instruction more.
-pub fn compute(x: &mut Process, code: u8, a: u32, operand: u32)
-    ensures exact { x.new ≡ computed_in code a operand x.old }
-    ensures became { Computes x.old code a operand x.new }
+pub fn compute(x: &mut Process, i: Instruction)
+    ensures exact { x.new ≡ computed_in i.code i.a i.operand x.old }
+    ensures became { Computes x.old i.code i.a i.operand x.new }
     ensures lists_stay { ListsStay x.old x.new }
 {
-    evaluate(x, code, a, operand);
+    evaluate(x, i);
     x.instructions = tally(x, x.instructions);
 }
 
@@ -185,19 +186,19 @@ fn event(x: &mut Process)
 }
 
 // A word goes into register a; of a FIRST its channel goes into register a + 1.
-fn load(x: &mut Process, code: u8, a: u32, word: u64)
-    ensures { x.new ≡ loaded_in code a word x.old }
+fn load(x: &mut Process, i: Instruction, word: u64)
+    ensures { x.new ≡ loaded_in i.code i.a word x.old }
 {
-    x.registers[lane(a)] = word_of(word);
-    if code == 4 {
-        x.registers[next_lane(a)] = channel_of(word);
+    x.registers[lane(i.a)] = word_of(word);
+    if i.code == 4 {
+        x.registers[next_lane(i.a)] = channel_of(word);
     }
 }
 
 // A TAKE or a FIRST is done: the word at a position of the mailbox leaves it, and counts as an event and a receive on its port. Where no
 // unread word stands there nothing changes.
-pub fn take_word(x: &mut Process, code: u8, a: u32, at: usize, port: u32)
-    ensures became { Takes x.old code a at port x.new }
+pub fn take_word(x: &mut Process, i: Instruction, at: usize, port: u32)
+    ensures became { Takes x.old i.code i.a at port x.new }
     ensures backup_stays { BackupStays x.old x.new }
 {
     let unread = wide(x.unread);
@@ -208,12 +209,12 @@ pub fn take_word(x: &mut Process, code: u8, a: u32, at: usize, port: u32)
         return;
     }
     let first = wide(x.oldest);
-    load(x, code, a, x.mail[place(first, at)]);
+    load(x, i, x.mail[place(first, at)]);
     remove(&mut x.mail, first, at);
     x.unread = std::num::wrapping_sub_u32(x.unread, 1);
     x.oldest = std::num::wrapping_add_u32(x.oldest, 1) % PLACES;
-    let i = lane(port);
-    x.taken[i] = tally(x, x.taken[i]);
+    let k = lane(port);
+    x.taken[k] = tally(x, x.taken[k]);
     event(x);
 }
 

@@ -28,7 +28,7 @@ fn rests(table: &[u8], at: u32, length: u32, x: &Process) -> bool
     ensures { Rests table.now at length x.now result }
 {
     let i = fetch(table, wide(at), wide(x.pc));
-    idle(examine(x, length, i.code, i.a, i.operand))
+    idle(examine(x, length, i))
 }
 
 fn all_rest(table: &[u8], plan: &Plan, store: &Store) -> bool

@@ -43,6 +43,7 @@ fn spell(n: u64, text: &mut [u8; 20]) -> usize
 {
     let mut i = 19;
     let mut rest = n;
+    // A while: how many digits there are, the number tells.
     while rest >= 10 {
         text[i] = digit(rest);
         rest /= 10;

@@ -7,17 +7,18 @@ use crate::guards::overrun;
 use instruction::instruction::compute;
 use numbers::answers::Reason;
 use process::process::Process;
+use records::fetch::Instruction;
 use state::moved::{Answer, Moved, alone, refused};
 
-// Process a does the instruction with this code, register and operand.
-pub fn calculate(x: &mut Process, a: u32, code: u8, register: u32, operand: u32) -> Moved
-    ensures calculates { Calculates x.old a code register operand x.new result }
+// Process a does the instruction.
+pub fn calculate(x: &mut Process, a: u32, i: Instruction) -> Moved
+    ensures calculates { Calculates x.old a i.code i.a i.operand x.new result }
     ensures lists_stay { ListsStay x.old x.new }
 {
     if overrun(x) {
         return refused(Reason::OwesForInstructions, a);
     }
-    compute(x, code, register, operand);
+    compute(x, i);
     alone(Answer {
         reason: Reason::Calculated,
         a: 0,

@@ -34,11 +34,11 @@ pub fn step(table: &[u8], plan: &Plan, store: &mut Store, a: u32) -> Moved
     let limit = plan.limit(p);
     let x = &store.processes[p];
     let i = fetch_at(table, plan.start(p), x.pc);
-    match examine(x, plan.length(p), i.code, i.a, i.operand) {
+    match examine(x, plan.length(p), i) {
         Intent::Halted => refused(Reason::Halted, a),
         Intent::NoMail => refused(missing(i.code), a),
-        Intent::Internal => calculate(&mut store.processes[p], a, i.code, i.a, i.operand),
-        Intent::Take { at } => take(plan, store, limit, a, i.code, i.a, at),
+        Intent::Internal => calculate(&mut store.processes[p], a, i),
+        Intent::Take { at } => take(plan, store, limit, a, i, at),
         Intent::Send { channel, word } => send(plan, store, limit, a, channel, word),
     }
 }

@@ -8,21 +8,14 @@ use instruction::instruction::take_word;
 use numbers::answers::Reason;
 use plan::{CHANNELS, PROCESSES, Plan};
 use process::mail::{channel_of, word_of};
+use records::fetch::Instruction;
 use state::moved::{Answer, Moved, alone, refused};
 use state::store::Store;
 use words::index;
 
-// Process a takes the word at a position of its mailbox into a register.
-pub fn take(
-    plan: &Plan,
-    store: &mut Store,
-    limit: u32,
-    a: u32,
-    code: u8,
-    register: u32,
-    at: usize,
-) -> Moved
-    ensures takes { TakeTurns plan.now store.old limit a code register at store.new result }
+// Process a's instruction takes the word at a position of its mailbox into a register.
+pub fn take(plan: &Plan, store: &mut Store, limit: u32, a: u32, i: Instruction, at: usize) -> Moved
+    ensures takes { TakeTurns plan.now store.old limit a i.code i.a at store.new result }
     ensures backups_stay { BackupsStay store.old store.new }
 {
     let p = index::<PROCESSES>(a);
@@ -32,7 +25,7 @@ pub fn take(
     let x = store.processes[p].word_at(at);
     let channel = channel_of(x);
     let k = index::<CHANNELS>(channel);
-    take_word(&mut store.processes[p], code, register, at, plan.port(k));
+    take_word(&mut store.processes[p], i, at, plan.port(k));
     store.totals[k] = std::num::wrapping_sub_u32(store.totals[k], 1);
     alone(Answer {
         reason: Reason::Took,

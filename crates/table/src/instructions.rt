@@ -28,6 +28,7 @@ fn channels_pass(table: &[u8], p: u8, mask: u32) -> bool
     ensures { result ≡ channels_pass (decode_table table.now) p mask }
 {
     let mut left = mask;
+    // A while: it takes the lowest bit that is left, and counts no index.
     while left != 0 {
         let k = u32::trailing_zeros(left);
         if !end_is(table, PAIR_READER, k, p) {

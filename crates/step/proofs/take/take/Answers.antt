@@ -6,7 +6,7 @@ pub returns-then-owing-clause-takes : goal.returns-then-owing-clause-takes
 returns-then-owing-clause-takes c =
     let s = c.args in
     let p = c.index-p in
-    take_37 s.plan.now s.store.now s.limit p.result s.a p.ensures.1 s.code s.register s.at _
+    take_37 s.plan.now s.store.now s.limit p.result s.a p.ensures.1 s.i.code s.i.a s.at _
     (sym c.owing.ensures ∙ c.if-owing.true) _ c.blame.ensures c.refused.ensures
 
 pub returns-clause-takes : goal.returns-clause-takes
@@ -19,7 +19,7 @@ returns-clause-takes c =
     let port = c.port in
     let t = c.take_word in
     let u = c.wrapping_sub_u32 in
-    take_done s.plan.now s.store.now s.limit p.result s.a p.ensures.1 s.code s.register s.at _
+    take_done s.plan.now s.store.now s.limit p.result s.a p.ensures.1 s.i.code s.i.a s.at _
     k.result port.result u.result t.new.x (sym c.owing.ensures ∙ c.if-owing.false)
     (rw (w.ensures, x.ensures) at k.ensures.1) (port.ensures k.ensures.0) t.ensures.became t.ensures.backup_stays u.ensures.value u.type_inv
     (rw (← x.ensures, ← w.ensures, ← c.word_of.ensures) c.alone.ensures)
