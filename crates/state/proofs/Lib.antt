@@ -8,6 +8,7 @@ pub mod Queueing
 pub mod Reaching
 pub mod Refusing
 pub mod Making
+pub mod Beside
 -- What the moves rest on: facts of an accepted table and of every cabinet that commands reach.
 pub mod Ends
 pub mod Known

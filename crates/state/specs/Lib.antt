@@ -3,3 +3,4 @@ pub mod Queue
 pub mod Channel
 pub mod Store
 pub mod Moved
+pub mod Beside
