@@ -14,6 +14,7 @@ use Rattle.facts.specs.Counts.{cond_more}
 use Rattle.facts.specs.Lists.{listed}
 use Rattle.backup.specs.Limits.{ports, pc_most}
 use Rattle.numbers.specs.declared.answers.Reason.TheVariants.{ReturnedOrResync, QueueFullForResync, ResyncWaiting, NotReady, HasBackup}
+use Rattle.plan.specs.declared.Counts.{Counts}
 use Rattle.plan.specs.declared.Plan as plans
 use Rattle.plan.specs.Plan.{Plan, Planned, plan_of, arity_in, port_in}
 use Rattle.process.specs.declared.process.Process as code
@@ -235,16 +236,17 @@ module _ (plan : plans.Plan) (s : Store) (p a : ℕ) (is-p : a < 16 → p ≡ a)
 
   -- where the rules refuse every cabinet that the store holds
   abbrev Refuses : Refusal → Type 0
-  Refuses why = (table : List ℕ) (t : Table) (entries : List Entry) (c : Cabinet) → Reachable t c → Planned t (plan_of table plan)
+  Refuses why = (table : List ℕ) (counts : Counts) (t : Table) (entries : List Entry) (c : Cabinet) → Reachable t c
+      → Planned t (plan_of table (record plan { counts = counts }))
       → Holds t s entries c → p < length t.processes → rebackup t c p ≡ refuse why
 
   refused_so : (why : Refusal) → r ≡ refused_with (reason_for why) a → Refuses why → Same
-  refused_so why e given table =
+  refused_so why e given table counts =
       makes-refused (reason_for why) e (λ t entries c command reach planned h f ha.
-      turned_away_lem command a why h (at_index reach ha (λ i. rebackup t c i ≡ refuse why) (given table t entries c reach planned h)) f refl)
+      turned_away_lem command a why h (at_index reach ha (λ i. rebackup t c i ≡ refuse why) (given table counts t entries c reach planned h)) f refl)
 
   pub rebackups_50 : backed x.protection ≡ true → r ≡ refused_with HasBackup a → Same
-  rebackups_50 y e = refused_so has_backup e (λ table t entries c reach planned h hp. refused_50 reach planned h p hp y)
+  rebackups_50 y e = refused_so has_backup e (λ table counts t entries c reach planned h hp. refused_50 reach planned h p hp y)
 
   module _ (bare : backed x.protection ≡ false) (o : ℕ) (is-o : x.standby < 16 → o ≡ x.standby) where
     -- of a store that holds a cabinet the clamped board is the other board, which is dead where that one is
@@ -253,23 +255,23 @@ module _ (plan : plans.Plan) (s : Store) (p a : ℕ) (is-p : a < 16 → p ≡ a)
     other_so b e reach planned h hp = dead_so s.queues b e reach (other-there reach planned h p hp) is-o
 
     pub rebackups_50_dead : dead_in s.queues o ≡ true → r ≡ refused_with HasBackup a → Same
-    rebackups_50_dead y e = refused_so has_backup e (λ table t entries c reach planned h hp.
+    rebackups_50_dead y e = refused_so has_backup e (λ table counts t entries c reach planned h hp.
         refused_50_dead reach planned h p hp bare (other_so true y reach planned h hp))
 
     module _ (live : dead_in s.queues o ≡ false) where
       pub rebackups_49_held : x.suppress ≢ 0 → r ≡ refused_with NotReady a → Same
-      rebackups_49_held n e = refused_so unready e (λ table t entries c reach planned h hp.
+      rebackups_49_held n e = refused_so unready e (λ table counts t entries c reach planned h hp.
           refused_49_held reach planned h p hp bare (other_so false live reach planned h hp) n)
 
       module _ (free : x.suppress ≡ 0) (found : Bool)
           (is_found : found ≡ any_below (crowded_on plan.programs s.totals p) (min (arity_in plan.programs p) ports)) where
         pub rebackups_49_full : found ≡ true → r ≡ refused_with NotReady a → Same
-        rebackups_49_full y e = refused_so unready e (λ table t entries c reach planned h hp.
+        rebackups_49_full y e = refused_so unready e (λ table counts t entries c reach planned h hp.
             refused_49_full reach planned h p hp bare (other_so false live reach planned h hp) free (sym is_found ∙ y))
 
         module _ (few : found ≡ false) where
           pub rebackups_41 : x.waits ≡ true → r ≡ refused_with ResyncWaiting a → Same
-          rebackups_41 y e = refused_so rebackup_waits e (λ table t entries c reach planned h hp.
+          rebackups_41 y e = refused_so rebackup_waits e (λ table counts t entries c reach planned h hp.
               refused_41 reach planned h p hp bare (other_so false live reach planned h hp) free (sym is_found ∙ few) y)
 
           module _ (none : x.waits ≡ false) (b : ℕ) (is_b : x.board < 16 → b ≡ x.board) where
@@ -277,7 +279,7 @@ module _ (plan : plans.Plan) (s : Store) (p a : ℕ) (is-p : a < 16 → p ≡ a)
             the_board reach h hp = its_board reach (board-there reach h p hp) is_b
 
             pub rebackups_38 : leb outbox_most (count_in s.queues b) ≡ true → r ≡ refused_with QueueFullForResync a → Same
-            rebackups_38 y e = refused_so rebackup_blocked e (λ table t entries c reach planned h hp.
+            rebackups_38 y e = refused_so rebackup_blocked e (λ table counts t entries c reach planned h hp.
                 refused_38 reach planned h p hp bare (other_so false live reach planned h hp) free (sym is_found ∙ few) none (rw (← the_board reach h hp) y))
 
             pub rebackups-done : (x' : code.Process) (queue : Queue) (at : ℕ) → leb outbox_most (count_in s.queues b) ≡ false
@@ -285,7 +287,7 @@ module _ (plan : plans.Plan) (s : Store) (p a : ℕ) (is-p : a < 16 → p ≡ a)
                 → queue ≡ pushed_in (get_or s.queues b no_queue) → at < 512 → at ≡ place_of (get_or s.queues b no_queue) b → r ≡ moved_of (answer_of ReturnedOrResync 0 0) (Some at)
                 → Rebackups plan s a (record { processes = set (with_flag s.processes p true) p x'; queues = set s.queues b queue; totals = s.totals }) r
             unfolding numbers cause_of
-            rebackups-done x' queue at room begins is_queue below is_at e table =
+            rebackups-done x' queue at room begins is_queue below is_at e table counts =
                 let after : Store = record { processes = set (with_flag s.processes p true) p x'; queues = set s.queues b queue; totals = s.totals } in
                 makes-joined (answer_of ReturnedOrResync 0 0) (omega arith)
                 (record { processes-same = simp length-set; queues-same = length-set s.queues b queue; totals-same = refl })

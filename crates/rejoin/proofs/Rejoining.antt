@@ -1,5 +1,5 @@
 -- Move 6 in the store: its refusal, and the board that is back.
-use mathlib.Core.Path.{◌≡◌, refl, ap, sym, ◌∙◌}
+use mathlib.Core.Path.{◌≡◌, refl, ap, sym, ◌∙◌, subst}
 use mathlib.Core.Bool.{true, false}
 use mathlib.Core.List.{List, []}
 use Prim.Native.Nat.{ℕ, ◌+◌, ◌<◌}
@@ -7,6 +7,7 @@ use Rattle.numbers.specs.declared.answers.Reason.TheVariants.{ReturnedOrResync, 
 use native.Mathlib.Omega.{arith}
 use lib.ListN.{get_or, set, length-set}
 use lib.Seq.{set-get_or}
+use Rattle.plan.specs.Plan.{Plan}
 use Rattle.rules.specs.Table.{Table, channel_at}
 use Rattle.rules.specs.Cabinet as rules
 use Rattle.rules.specs.Cabinet.{Cabinet, process_at, unread_on, in_flight, occupancy, waiting}
@@ -19,7 +20,7 @@ use Rattle.state.specs.declared.queue.Queue.{Queue}
 use Rattle.state.specs.declared.store.Store.{Store}
 use Rattle.state.specs.Queue.{no_queue, dead_in, reset_in}
 use Rattle.state.specs.Store.{Totalled, Holds}
-use Rattle.state.specs.Moved.{Reachable, alone_of, refusal_of, answer_of}
+use Rattle.state.specs.Moved.{Reachable, MakesAlone, ABoard, alone_of, refusal_of, answer_of}
 use Rattle.state.proofs.Reading.{at_dead}
 use Rattle.state.proofs.Refusing.{turned_away_lem, makes-refused}
 use Rattle.state.proofs.Making.{its_board, dead_so, answered, makes_alone}
@@ -78,13 +79,13 @@ module _ {t : Table} {s : Store} {entries : List Entry} {c : Cabinet} (reach : R
 
 module _ (s : Store) (a b : ℕ) (is_b : a < 16 → b ≡ a) where
   pub rejoins_48 : (r : Answer) → dead_in s.queues b ≡ false → r ≡ refusal_of BoardLive a → Rejoins s a s r
-  rejoins_48 r live e l = makes-refused BoardLive (ap alone_of e) (λ t entries c command reach plan h f ha.
+  rejoins_48 r live e l processes totals = makes-refused BoardLive (ap alone_of e) (λ t entries c command reach plan h f ha.
       turned_away_lem command a board_live h (refused_48 reach h a ha (dead_so s.queues false live reach ha is_b)) f refl)
 
   pub rejoins-done : (queue : Queue) → dead_in s.queues b ≡ true → queue ≡ reset_in (get_or s.queues b no_queue) false
       → Rejoins s a (record { processes = s.processes; queues = set s.queues b queue; totals = s.totals }) (answer_of ReturnedOrResync 0 0)
   unfolding numbers cause_of
-  rejoins-done queue dead is_queue l =
+  rejoins-done queue dead is_queue l processes totals =
       makes_alone (answer_of ReturnedOrResync 0 0) (omega arith)
       (record { processes-same = refl; queues-same = length-set s.queues b queue; totals-same = refl }) refl
       (λ t entries c command reach plan h f ha.
@@ -92,3 +93,9 @@ module _ (s : Store) (a b : ℕ) (is_b : a < 16 → b ≡ a) where
       let queues-are : set s.queues b queue ≡ set s.queues a (reset_in (get_or s.queues a no_queue) false) =
       ap (set s.queues b) is_queue ∙ ap (λ (i : ℕ). set s.queues i (reset_in (get_or s.queues i no_queue) false)) (its_board reach ha is_b) in
       answered _ rejoin_done (accepted_so reach h a ha there) refl refl (rw queues-are (rejoin-holds reach h a ha there)))
+
+-- and of the lent store itself, whose processes and totals stay
+pub rejoins_own : {s s' : Store} {a : ℕ} {r : Answer} → Rejoins s a s' r → s'.processes ≡ s.processes → s'.totals ≡ s.totals
+    → (l : Plan) → MakesAlone rejoin (ABoard a) l s a s' r
+rejoins_own {s} {s'} {a} {r} h ep et l =
+    subst (λ (x : Store). MakesAlone rejoin (ABoard a) l s a x r) (λ j. record s' { processes = sym ep j; totals = sym et j }) (h l s.processes s.totals)

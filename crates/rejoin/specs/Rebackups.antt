@@ -1,5 +1,6 @@
 -- Move 7 (document 02, W-210: "Move 7 resyncs process a").
 use Rattle.std.specs.Prelude.{Bool, List, ℕ, ◌%◌, ltb, get_or}
+use Rattle.plan.specs.declared.Counts.{Counts}
 use Rattle.plan.specs.declared.Plan as code
 use Rattle.plan.specs.declared.Program.{Program}
 use Rattle.plan.specs.Plan.{plan_of, input_in}
@@ -24,6 +25,8 @@ crowded_on programs totals p port = ltb occupancy_most (get_or totals (channel_i
 abbrev pub transfer_entry : ℕ → Entry
 transfer_entry a = record { item = Transfer a }
 
--- whatever the table's bytes are, which it isn't lent; done, it answers 0
+-- whatever the table's bytes are, which it isn't lent, and the plan's counts, which it doesn't look at; done, it answers 0
 abbrev pub Rebackups : code.Plan → Store → ℕ → Store → Moved → Type 0
-Rebackups plan s a s' r = (table : List ℕ) → Makes rebackup (AProcess a) 0 (plan_of table plan) s a (transfer_entry a) s' r
+Rebackups plan s a s' r =
+    (table : List ℕ) (counts : Counts)
+    → Makes rebackup (AProcess a) 0 (plan_of table (record plan { counts = counts })) s a (transfer_entry a) s' r
