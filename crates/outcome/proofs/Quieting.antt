@@ -11,13 +11,14 @@ use Rattle.facts.specs.Tests.{all_below, all_of}
 use Rattle.facts.specs.Ranges.{all_same, all_listed}
 use Rattle.facts.specs.Walks.{Walked, walk_on, walk_fails, walk_end}
 use Rattle.plan.specs.declared.Plan.{Plan}
+use Rattle.plan.specs.declared.Wire.{Wire}
 use Rattle.plan.specs.Plan.{plan_of, Planned, start_in, length_in}
 use Rattle.records.specs.Fetch.{fetched}
 use Rattle.records.specs.declared.fetch.Instruction.{Instruction}
 use Rattle.instruction.specs.declared.instruction.Intent.{Intent}
 use Rattle.instruction.specs.declared.instruction.Intent.TheVariants.{Halted, NoMail, Internal, Take, Send}
 use Rattle.process.specs.declared.process.Process as code
-use Rattle.process.specs.Row.{process_of}
+use Rattle.process.specs.Row.{machine_of, process_of}
 use Rattle.instruction.specs.Instruction.{Fetched, Examined, outcome_of}
 use Rattle.instruction.specs.Laws as laws
 use Rattle.rules.specs.Table.{Table, code_of}
@@ -26,12 +27,14 @@ use Rattle.rules.specs.Cabinet.{Cabinet, Process, outbox_at, idle, is_empty, qui
 use Rattle.state.specs.declared.entry.Entry.{Entry}
 use Rattle.state.specs.declared.queue.Queue.{Queue}
 use Rattle.state.specs.declared.store.Store.{Store}
+use Rattle.state.specs.Beside.{other_backup, with_backups}
 use Rattle.state.specs.Queue.{count_in}
 use Rattle.state.specs.Store.{Holds, lists_at, outbox_in}
 use Rattle.state.specs.Moved.{Reachable}
 use Rattle.state.proofs.Reading.{at_process, at_outbox, how_many, how_many_boards}
 use Rattle.state.proofs.Reaching.{queue_length_lem}
 use Rattle.outcome.specs.Quiets.{rests_of, Rests, rests_in, Hosts, AllRest, empty_in, AllEmpty, Quiets}
+use Rattle.outcome.proofs.Beside.{seen_beside, its_backups}
 
 -- ---- one process
 
@@ -61,37 +64,36 @@ module _ (table : List ℕ) (plan : Plan) (s : Store) where
       (subst (λ (k : ℕ). Rests table at k (lists_at s p) r) (f l))
 
   -- is that of the process
-  rests_in_lem : {t : Table} {entries : List Entry} {c : Cabinet} (p : ℕ) (r : Bool) → RestsAt p r → Hosts table plan s entries t c → p < length t.processes
-      → r ≡ rests_in t c p
-  unfolding process_of
+  rests_in_lem : {t : Table} {c : Cabinet} (p : ℕ) (r : Bool) → RestsAt p r → Hosts table plan s t c → p < length t.processes → r ≡ rests_in t c p
+  unfolding process_of machine_of
   rests_in_lem {t} p r rests x l =
       let y : code.Process = lists_at s p in
       let i : Instruction = fetched table (start_in plan.programs p) y.pc in
       let f = laws.fetched t p x.reach.accepted l y i.code i.a i.operand (λ k. sym (x.planned.code_at p l y.pc k)) in
       let g = subst (λ (n : ℕ). Fetched (code_of t p) y n i.code i.a i.operand) (sym (x.planned.length_at p l)) f in
-      rests (code_of t p) g
-      ∙ ap (λ (y : Process). idle (local_step (code_of t p) y.machine)) (sym (at_process x.holds p l))
+      let seen = at_process x.holds p l ∙ ap process_of (seen_beside other_backup x.others s.processes x.reach x.holds p l) in
+      rests (code_of t p) g ∙ ap (λ (z : Process). idle (local_step (code_of t p) z.machine)) (sym seen)
 
   -- ---- all of them: the first p rest
 
   pub record Resting (p : ℕ) : Type 0 where
-    pub walked : (t : Table) (entries : List Entry) (c : Cabinet) → Hosts table plan s entries t c → Walked (rests_in t c) (length t.processes) p
+    pub walked : (t : Table) (c : Cabinet) → Hosts table plan s t c → Walked (rests_in t c) (length t.processes) p
 
   module _ {n : ℕ} (clamp : plan.counts.processes ≤ 16 → n ≡ plan.counts.processes) where
-    n_is : {t : Table} {entries : List Entry} {c : Cabinet} → Hosts table plan s entries t c → n ≡ length t.processes
-    n_is x = let e = x.planned.processes-is in let high = x.reach.accepted.processes_high in clamp (omega arith) ∙ e
+    n_is : {t : Table} {c : Cabinet} → Hosts table plan s t c → n ≡ length t.processes
+    n_is x = let e = x.processes-is in let high = x.reach.accepted.processes_high in clamp (omega arith) ∙ e
 
     pub resting_on : {p : ℕ} {r : Bool} → Resting p → p < n → RestsAt p r → not r ≡ false → Resting (p + 1)
     resting_on {p} {r} w l rests z = record {
-      walked = λ t entries c x.
+      walked = λ t c x.
           let e = n_is x in
           let k : p < length t.processes = omega arith in
-          walk_on (rests_in t c) (length t.processes) p r (w.walked t entries c x) k (rests_in_lem p r rests x k) z;
+          walk_on (rests_in t c) (length t.processes) p r (w.walked t c x) k (rests_in_lem p r rests x k) z;
     }
 
     pub resting_fails : {p : ℕ} {r : Bool} → p < n → RestsAt p r → not r ≡ true → AllRest table plan s false
     resting_fails {p} {r} l rests z = record {
-      answers = λ t entries c x.
+      answers = λ t c x.
           let e = n_is x in
           let k : p < length t.processes = omega arith in
           walk_fails (rests_in t c) (length t.processes) p r k (rests_in_lem p r rests x k) z;
@@ -99,7 +101,7 @@ module _ (table : List ℕ) (plan : Plan) (s : Store) where
 
     pub resting_end : {p : ℕ} → Resting p → n ≤ p → AllRest table plan s true
     resting_end {p} w h = record {
-      answers = λ t entries c x. let e = n_is x in walk_end (rests_in t c) (length t.processes) p (w.walked t entries c x) (omega arith);
+      answers = λ t c x. let e = n_is x in walk_end (rests_in t c) (length t.processes) p (w.walked t c x) (omega arith);
     }
 
 -- ---- the queues
@@ -135,20 +137,40 @@ module _ {t : Table} {s : Store} {entries : List Entry} {c : Cabinet} (h : Holds
       λ j. (e ∙ ap (all_below (rests_in t c)) (sym (how_many h))) j && (f ∙ sym queues-empty) j
 
 module _ (table : List ℕ) (plan : Plan) (s : Store) (r : Bool) (rest : AllRest table plan s r) where
-  resting : {t : Table} {entries : List Entry} {c : Cabinet} → Reachable t c → Planned t (plan_of table plan) → Holds t s entries c
+  resting : {t : Table} {wires : List Wire} (others : ℕ → code.Process) {totals : List ℕ} {entries : List Entry} {c : Cabinet} → Reachable t c
+      → Planned t (plan_of table (record plan { wires = wires })) → Holds t (record (with_backups others s) { totals = totals }) entries c
       → r ≡ all_below (rests_in t c) (length t.processes)
-  resting {t} {entries} {c} reach planned holds = rest.answers t entries c (record { reach = reach; planned = planned; holds = holds })
+  resting {t} {wires} others {totals} {entries} {c} reach planned holds =
+      rest.answers t c
+      (record {
+        counts = plan.counts;
+        wires = wires;
+        others = others;
+        queues = s.queues;
+        totals = totals;
+        entries = entries;
+        reach = reach;
+        planned = planned;
+        processes-is = planned.processes-is;
+        holds = holds;
+      })
 
   pub quiets_not : not r ≡ true → Quiets table plan s false
   quiets_not z = record {
-    answers = λ t entries c reach planned holds.
-        quiet_is holds false (all_below (empty_in s.queues) t.boards) (sym (not-true r z) ∙ resting reach planned holds) refl;
+    answers = λ t wires others totals entries c reach planned holds.
+        quiet_is holds false (all_below (empty_in s.queues) t.boards) (sym (not-true r z) ∙ resting others reach planned holds) refl;
   }
 
   pub quiets_so : (q : Bool) → not r ≡ false → AllEmpty plan.counts.boards s.queues q → Quiets table plan s q
   quiets_so q z empty = record {
-    answers = λ t entries c reach planned holds.
+    answers = λ t wires others totals entries c reach planned holds.
         let e = planned.boards-is in
         let high = reach.accepted.boards_high in
-        quiet_is holds true q (sym (not-false r z) ∙ resting reach planned holds) (empty (omega arith) ∙ ap (all_below (empty_in s.queues)) e);
+        quiet_is holds true q (sym (not-false r z) ∙ resting others reach planned holds) (empty (omega arith) ∙ ap (all_below (empty_in s.queues)) e);
   }
+
+-- and of the lent plan and store themselves
+pub quiets_own : {table : List ℕ} {plan : Plan} {s : Store} {r : Bool} → Quiets table plan s r → (t : Table) (entries : List Entry) (c : Cabinet)
+    → Reachable t c → Planned t (plan_of table plan) → Holds t s entries c → r ≡ quiescent t c
+quiets_own {table} {plan} {s} q t entries c reach planned holds =
+    q.answers t plan.wires (lists_at s) s.totals entries c reach planned (subst (λ (x : Store). Holds t x entries c) (sym (its_backups s)) holds)

@@ -16,12 +16,15 @@ use Rattle.rules.specs.Run.{report_bytes}
 use Rattle.process.specs.declared.process.Process as code
 use Rattle.process.specs.Row.{mail_at, machine_of, process_of}
 use Rattle.state.specs.declared.entry.Entry.{Entry}
+use Rattle.state.specs.declared.queue.Queue.{Queue}
 use Rattle.state.specs.declared.store.Store.{Store}
+use Rattle.state.specs.Beside.{other_lists, with_lists}
 use Rattle.state.specs.Store.{Holds, lists_at, process_in}
 use Rattle.state.specs.Moved.{Reachable}
 use Rattle.state.proofs.Reading.{at_process}
 use Rattle.state.proofs.Reaching.{bounds}
 use Rattle.outcome.specs.Reports.{four_bytes, twenty_bytes, LinePut, Reports}
+use Rattle.outcome.proofs.Beside.{seen_beside, its_lists}
 use Rattle.records.proofs.Writing.{four_put, written-more}
 
 -- ---- one line
@@ -132,20 +135,33 @@ module _ {t : Table} {s : Store} {entries : List Entry} {c : Cabinet} (reach : R
       let unread = (h.kept p l).unread in
       line-is (lists_at s p) (let high = ok.boards_high in omega arith) (omega arith) (omega arith) (omega arith)
 
+-- of a store that is the lent one but for what a line doesn't tell
+module _ {t : Table} (s : Store) (others : ℕ → code.Process) {queues : List Queue} {totals : List ℕ} {entries : List Entry} {c : Cabinet} (reach : Reachable t c)
+    (h : Holds t (record (with_lists others s) { queues = queues; totals = totals }) entries c) where
+  line_beside : (p : ℕ) → p < length t.processes → report_bytes (process_in (with_lists others s) p) ≡ twenty_bytes (lists_at s p)
+  line_beside p l = one_line reach h p l ∙ ap twenty_bytes (seen_beside other_lists others s.processes reach h p l)
+
   all_lines : all_bytes report_bytes c.processes ≡ lines_of s (length t.processes)
   all_lines =
       ap (all_bytes report_bytes) h.processes
-      ∙ bytes_same report_bytes twenty_bytes (process_in s) (lists_at s) (length t.processes) one_line
+      ∙ bytes_same report_bytes twenty_bytes (process_in (with_lists others s)) (lists_at s) (length t.processes) line_beside
 
 -- all lines are written: the report of the cabinet
 pub reporting_end : {s : Store} {processes n : ℕ} {report₀ report : List ℕ} {p : ℕ} → Reporting s report₀ report p → (processes ≤ 16 → n ≡ processes) → p ≡ n
     → Reports s processes report₀ report
 reporting_end {s} {processes} {n} {report₀} {report} {p} w clamp at_end = record {
-  reported = λ t entries c reach holds e room.
+  reported = λ t others queues totals entries c reach holds e room.
       let high = reach.accepted.processes_high in
       let ep : p ≡ length t.processes = at_end ∙ clamp (omega arith) ∙ e in
       w.lines (omega arith)
       ∙ ap (λ (k : ℕ). written (lines_of s k) report₀) ep
-      ∙ ap (λ (x : List ℕ). written x report₀) (sym (all_lines reach holds));
+      ∙ ap (λ (x : List ℕ). written x report₀) (sym (all_lines s others reach holds));
   same_length = w.same_length;
 }
+
+-- and of the lent store itself
+pub reports_own : {s : Store} {processes : ℕ} {report report' : List ℕ} → Reports s processes report report' → (t : Table) (entries : List Entry) (c : Cabinet)
+    → Reachable t c → Holds t s entries c → processes ≡ length t.processes → 20 * processes ≤ length report
+    → report' ≡ written (all_bytes report_bytes c.processes) report
+reports_own {s} r t entries c reach holds =
+    r.reported t (lists_at s) s.queues s.totals entries c reach (subst (λ (x : Store). Holds t x entries c) (sym (its_lists s)) holds)

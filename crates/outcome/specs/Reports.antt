@@ -8,7 +8,9 @@ use Rattle.rules.specs.Cabinet.{Cabinet}
 use Rattle.rules.specs.Bytes.{word_bytes, all_bytes, written}
 use Rattle.rules.specs.Run.{report_bytes}
 use Rattle.state.specs.declared.entry.Entry.{Entry}
+use Rattle.state.specs.declared.queue.Queue.{Queue}
 use Rattle.state.specs.declared.store.Store.{Store}
+use Rattle.state.specs.Beside.{with_lists}
 use Rattle.state.specs.Store.{Holds}
 use Rattle.state.specs.Moved.{Reachable}
 
@@ -26,8 +28,10 @@ pub record LinePut (x : Process) (buffer : List ℕ) (p : ℕ) (buffer' : List �
   pub fits : 20 * p + 20 ≤ length buffer → buffer' ≡ sets buffer (20 * p) (twenty_bytes x)
   pub same_length : length buffer' ≡ length buffer
 
--- The report of a cabinet that the store holds.
+-- The report of a cabinet that the store holds, whatever the mailboxes, the backups, the queues, the totals and the entries are, which the call
+-- doesn't look at.
 pub record Reports (s : Store) (processes : ℕ) (report report' : List ℕ) : Type 0 where
-  pub reported : (t : Table) (entries : List Entry) (c : Cabinet) → Reachable t c → Holds t s entries c
-      → processes ≡ length t.processes → 20 * processes ≤ length report → report' ≡ written (all_bytes report_bytes c.processes) report
+  pub reported : (t : Table) (others : ℕ → Process) (queues : List Queue) (totals : List ℕ) (entries : List Entry) (c : Cabinet) → Reachable t c
+      → Holds t (record (with_lists others s) { queues = queues; totals = totals }) entries c → processes ≡ length t.processes
+      → 20 * processes ≤ length report → report' ≡ written (all_bytes report_bytes c.processes) report
   pub same_length : length report' ≡ length report
