@@ -36,6 +36,8 @@ use Rattle.undo.specs.Sessions.{PlaysAll}
 use Rattle.outcome.specs.Starts.{Placed}
 use Rattle.outcome.specs.Reports.{Reports}
 use Rattle.outcome.specs.Quiets.{Quiets}
+use Rattle.outcome.proofs.Reporting.{reports_own}
+use Rattle.outcome.proofs.Quieting.{quiets_own}
 use Rattle.cabinet.specs.Conducts.{Conducts}
 use Rattle.cabinet.specs.Runs.{Runs}
 
@@ -84,8 +86,8 @@ module _ (table schedule : List ℕ) (d : Decoded) (answers reasons report origi
         rw (one_shown-each t (opened t) commands, commands-counted schedule) (has_room table schedule before acc) in
         let room : 20 * d.plan.counts.processes ≤ length report = rw (planned.processes-is, processes-counted table) (report-fits table schedule before acc) in
         let end = ended t commands in
-        let w = reports.reported t entries end (reach at) shown.holds planned.processes-is room in
-        let q = quiets.answers t entries end (reach at) planned shown.holds in
+        let w = reports_own reports t entries end (reach at) shown.holds planned.processes-is room in
+        let q = quiets_own quiets t entries end (reach at) planned shown.holds in
         let a = answers-front shown.wrote roomy in
         let b = reasons-front shown.wrote roomy in
         let o = origins-front shown.wrote roomy in

@@ -1,6 +1,7 @@
 -- `mend`: by the number of the move. Where no entry joins, any entry may be named as the one that would.
 use mathlib.Core.Path.{refl}
 use native.Mathlib.Omega.{arith}
+use Rattle.rejoin.proofs.Rejoining.{rejoins_own}
 use Rattle.stretch.proofs.Mending.{any_entry}
 use Rattle.stretch.proofs.mend.mend.Goals as goal
 
@@ -19,7 +20,7 @@ returns-in-6 c =
     let is = c.in-6.is in
     record {
       crashes = λ e. absurd (omega arith);
-      rejoins = λ _ table. any_entry c.alone-in-6.ensures (c.rejoin.ensures.rejoins _);
+      rejoins = λ _ table. any_entry c.alone-in-6.ensures (rejoins_own c.rejoin.ensures.rejoins c.rejoin.ensures.processes_stay c.rejoin.ensures.totals_stay _);
       rebackups = λ e. absurd (omega arith);
       others = λ _ n _. absurd (n is);
     }
@@ -30,7 +31,7 @@ returns-in-7 c =
     record {
       crashes = λ e. absurd (omega arith);
       rejoins = λ e. absurd (omega arith);
-      rebackups = λ _ table. c.rebackup.ensures.rebackups table;
+      rebackups = λ _ table. c.rebackup.ensures.rebackups table _;
       others = λ _ _ n. absurd (n is);
     }
 
