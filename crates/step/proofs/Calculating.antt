@@ -1,9 +1,10 @@
 -- A step that computes, in a store: the refusal 37, and what a SET, an ADD or a JUMP makes of its process.
-use Rattle.std.proofs.Common.{◌≡◌, ℕ, ◌<◌, Bool, true, false, List, length, sym, refl, ap, ◌∙◌, subst, arith}
+use Rattle.std.proofs.Common.{◌≡◌, ℕ, ◌<◌, Bool, true, false, List, length, sym, refl, ap, ◌∙◌, subst, subst₂, arith, length-set}
 use Rattle.process.specs.declared.process.Process as lent
 use Rattle.process.specs.Row.{machine_of}
-use Rattle.instruction.specs.Instruction.{Intends, Computes, after_internal}
+use Rattle.instruction.specs.Instruction.{Intends, Computes, computed_in, after_internal}
 use Rattle.instruction.specs.declared.instruction.Intent.TheVariants.{Internal}
+use Rattle.instruction.proofs.Computing.{computes}
 use Rattle.rules.specs.Table.{Table, code_of}
 use Rattle.rules.specs.Machine.{Machine, internal}
 use Rattle.rules.specs.Cabinet.{Cabinet, Process, process_at}
@@ -17,11 +18,13 @@ use Rattle.state.specs.declared.moved.Moved.{Moved}
 use Rattle.state.specs.declared.store.Store.{Store}
 use Rattle.state.specs.Store.{lists_at, Holds}
 use Rattle.state.specs.Moved.{Reachable, answer_of, alone_of, refused_with}
+use Rattle.state.specs.Beside.{other_lists, with_lists}
 use Rattle.state.proofs.Changing.{row_changed}
 use Rattle.state.proofs.Refusing.{turned_away_lem, makes-refused}
 use Rattle.step.specs.Parts.{overrun_in, Calculated, Calculates, CalculateTurns}
 use Rattle.state.proofs.Making.{its_index, answered, makes_alone}
-use Rattle.step.proofs.Stepping.{with_process_in, same_process, same_lengths, machine-is, step_is, overrun-is, instructions-room}
+use Rattle.step.proofs.Beside.{same_many, its_part, put_part}
+use Rattle.step.proofs.Stepping.{with_process_in, same_process, machine-is, step_is, overrun-is, instructions-room}
 
 module _ {t : Table} {s : Store} {entries : List Entry} {c : Cabinet} (h : Holds t s entries c) (p : ℕ) (hp : p < length t.processes)
     (n code a operand : ℕ) (i : Intends (code_of t p) (lists_at s p) n code a operand Internal) where
@@ -61,29 +64,43 @@ module _ (s : Store) (p a : ℕ) (is-p : a < 16 → p ≡ a) (code register oper
   abbrev its : lent.Process
   its = lists_at s p
 
-  calculate_37 : overrun_in its ≡ true → r ≡ refused_with OwesForInstructions a → CalculateTurns s a code register operand s r
-  calculate_37 e g l limit n =
-      makes-refused OwesForInstructions g (λ t entries c command reach planned h f i.
-      let ha = i.process-there in
-      turned_away_lem command a instructions_full h (calculate_refused h a ha n code register operand i.intends (rw (← its_index reach ha is-p) e)) f refl)
+  -- what becomes of the process with another mailbox and another backup
+  computes_beside : (y other x' : lent.Process) → y ≡ other_lists its other → x' ≡ computed_in code register operand its
+      → Computes y code register operand (other_lists x' other)
+  computes_beside y other x' is exact =
+      subst₂ (λ (z z' : lent.Process). Computes z code register operand z') (sym is) (ap (λ (z : lent.Process). other_lists z other) (sym exact))
+      (computes (other_lists its other) code register operand)
 
-  calculate_done : (x' : lent.Process) → overrun_in its ≡ false → Computes its code register operand x' → r ≡ alone_of (answer_of reasons.Calculated 0 0)
+  calculate_37 : overrun_in its ≡ true → r ≡ refused_with OwesForInstructions a → CalculateTurns s a code register operand s r
+  calculate_37 e g l others queues totals limit n =
+      makes-refused OwesForInstructions g (λ t entries c command reach planned h f i.
+      let q = its_index reach i.process-there is-p in
+      let j = rw (← q) at i in
+      let hp = j.process-there in
+      let is = its_part other_lists others s.processes reach h refl p hp in
+      rw (← q) (turned_away_lem command p instructions_full h (calculate_refused h p hp n code register operand j.intends (ap overrun_in is ∙ e)) (f ∙ sym q) refl))
+
+  calculate_done : (x' : lent.Process) → overrun_in its ≡ false → x' ≡ computed_in code register operand its → r ≡ alone_of (answer_of reasons.Calculated 0 0)
       → CalculateTurns s a code register operand (with_process_in s p x') r
   unfolding numbers cause_of
-  calculate_done x' e became g l limit n =
-      makes_alone (answer_of reasons.Calculated 0 0) (omega arith) (same_lengths s p _ s.totals refl) g
+  calculate_done x' e exact g l others queues totals limit n =
+      makes_alone (answer_of reasons.Calculated 0 0) (omega arith)
+      (record { processes-same = same_many other_lists others s.processes _ (length-set s.processes p x'); queues-same = refl; totals-same = refl }) g
       (λ t entries c command reach planned h f i.
       let q = its_index reach i.process-there is-p in
       let j = rw (← q) at i in
       let hp = j.process-there in
-      rw (← q) (answered _ step_done (calculate_accepted h p hp n code register operand j.intends e) refl refl
-      (calculate_holds h p hp n code register operand j.intends reach x' became)))
+      let is = its_part other_lists others s.processes reach h refl p hp in
+      let put = put_part other_lists others s.processes reach h refl p hp x' in
+      let became = computes_beside (lists_at (with_lists others s) p) (others p) x' is exact in
+      rw (put, ← q) (answered _ step_done (calculate_accepted h p hp n code register operand j.intends (ap overrun_in is ∙ e)) refl refl
+      (calculate_holds h p hp n code register operand j.intends reach (other_lists x' (others p)) became)))
 
   calculate_so : (x' : lent.Process) (b : Bool) → overrun_in its ≡ b → Calculated b its a code register operand x' r
       → CalculateTurns s a code register operand (with_process_in s p x') r
   calculate_so x' true e k =
       subst (λ (s' : Store). CalculateTurns s a code register operand s' r) (sym (ap (with_process_in s p) k.0 ∙ same_process s p)) (calculate_37 e k.1)
-  calculate_so x' false e k = calculate_done x' e k.0 k.1
+  calculate_so x' false e k = calculate_done x' e k.0 k.1.1
 
   pub calculate_turns : (x' : lent.Process) → Calculates its a code register operand x' r
       → CalculateTurns s a code register operand (with_process_in s p x') r

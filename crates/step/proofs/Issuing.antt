@@ -1,10 +1,10 @@
 -- Move 2 in a store: the refusals, and a checkpoint that joins its board's queue.
-use Rattle.std.proofs.Common.{◌≡◌, ℕ, ◌<◌, true, false, leb, List, length, get_or, set, sym, refl, ap, ◌∙◌, subst, arith, length-set, Some}
+use Rattle.std.proofs.Common.{◌≡◌, ℕ, ◌<◌, true, false, leb, List, length, get_or, set, sym, refl, ap, ◌∙◌, subst, subst₂, arith, length-set, Some}
 use borrow.Author.Tests.{leb-false}
 use Rattle.process.specs.declared.process.Process as lent
-use Rattle.process.specs.Row.{no_process, backed}
+use Rattle.process.specs.Row.{no_process, backed, anew_in, checkpoint_in}
 use Rattle.process.specs.Change.{Changes}
-use Rattle.process.proofs.Processes.{checkpoint-is}
+use Rattle.process.proofs.Processes.{checkpoint-is, issued-became}
 use Rattle.rules.specs.Table.{Table}
 use Rattle.rules.specs.Cabinet as rules
 use Rattle.rules.specs.Cabinet.{is_waiter_of, Cabinet, outbox_most, process_at, outbox_at}
@@ -18,12 +18,15 @@ use Rattle.state.specs.declared.store.Store.{Store}
 use Rattle.state.specs.Queue.{no_queue, count_in, place_of, pushed_in}
 use Rattle.state.specs.Store.{item_of, lists_at, Holds}
 use Rattle.state.specs.Moved.{Reachable, refused_with, answer_of, moved_of}
+use Rattle.state.specs.Beside.{other_lists, each_with}
+use Rattle.state.proofs.Beside.{each_at, each_set}
 use Rattle.state.proofs.Changing.{row_changed}
-use Rattle.state.proofs.Flagging.{with_flag}
+use Rattle.state.proofs.Flagging.{flagged, with_flag}
 use Rattle.state.proofs.Joining.{is-protected, board-is, board-there, queue_has, waits_so, Waiter, waiter_joins}
 use Rattle.state.proofs.Reading.{at_process}
 use Rattle.state.proofs.Refusing.{turned_away_lem, makes-refused}
-use Rattle.step.specs.Issues.{Issues, sync_entry}
+use Rattle.step.specs.Issues.{Issues, synced_as, sync_entry}
+use Rattle.step.proofs.Beside.{same_many, within, its_part}
 use Rattle.state.proofs.Making.{its_index, its_board, answered, makes-joined}
 
 -- the store afterwards: process p waits, then what the process's own call made of it
@@ -95,6 +98,12 @@ module _ {t : Table} {s : Store} {entries : List Entry} {c : Cabinet} (reach : R
       let whole : then b (item_of (sync_entry s p).item) = row_changed first reach.accepted.processes_high p hp x' issued (became (first.kept p hp)) refl refl in
       subst (λ (i : ℕ). then i (rules.checkpoint p (snapshot (process_at c p)))) (sym (board-is reach h p hp)) (subst (then b) its_item whole)
 
+-- a process as a checkpoint is that of it with another mailbox and another backup
+entry_beside : (a : ℕ) (x other : lent.Process) {y : lent.Process} → y ≡ other_lists x other
+    → synced_as a (checkpoint_in y) ≡ synced_as a (checkpoint_in x)
+unfolding checkpoint_in
+entry_beside a x other is = ap (λ (z : lent.Process). synced_as a (checkpoint_in z)) is
+
 -- ---- what the move promises
 
 module _ (s : Store) (p a : ℕ) (is-p : a < 16 → p ≡ a) (r : Moved) where
@@ -102,36 +111,76 @@ module _ (s : Store) (p a : ℕ) (is-p : a < 16 → p ≡ a) (r : Moved) where
   its = lists_at s p
 
   pub issues_40 : backed its.protection ≡ false → r ≡ refused_with NoBackup a → Issues s a s r
-  issues_40 z e l =
+  issues_40 z e l others totals =
       makes-refused NoBackup e (λ t entries c command reach planned h f ha.
-      turned_away_lem command a no_backup h (refused_40 reach h a ha (rw (← its_index reach ha is-p) z)) f refl)
+      let q = its_index reach ha is-p in
+      let hp = rw (← q) at ha in
+      let is = its_part other_lists others s.processes reach h refl p hp in
+      rw (← q) (turned_away_lem command p no_backup h (refused_40 reach h p hp (ap (λ (y : lent.Process). backed y.protection) is ∙ z)) (f ∙ sym q) refl))
 
   module _ (n : backed its.protection ≡ true) where
     pub issues_41 : its.waits ≡ true → r ≡ refused_with SyncWaiting a → Issues s a s r
-    issues_41 w e l =
+    issues_41 w e l others totals =
         makes-refused SyncWaiting e (λ t entries c command reach planned h f ha.
         let q = its_index reach ha is-p in
-        turned_away_lem command a sync_waits h (refused_41 reach h a ha (rw (← q) n) (rw (← q) w)) f refl)
+        let hp = rw (← q) at ha in
+        let is = its_part other_lists others s.processes reach h refl p hp in
+        rw (← q) (turned_away_lem command p sync_waits h
+        (refused_41 reach h p hp (ap (λ (y : lent.Process). backed y.protection) is ∙ n) (ap (λ (y : lent.Process). y.waits) is ∙ w)) (f ∙ sym q) refl))
 
     module _ (w : its.waits ≡ false) (b : ℕ) (is_b : its.board < 16 → b ≡ its.board) where
+      -- the same is so of it with another mailbox and another backup
+      board_beside : (other : lent.Process) {y : lent.Process} → y ≡ other_lists its other → y.board < 16 → b ≡ y.board
+      board_beside other is = let e = ap (λ (z : lent.Process). z.board) is in λ l. is_b (rw (← e) l) ∙ sym e
+
       pub issues_38 : leb outbox_most (count_in s.queues b) ≡ true → r ≡ refused_with QueueFullForSync a → Issues s a s r
-      issues_38 full e l =
+      issues_38 full e l others totals =
           makes-refused QueueFullForSync e (λ t entries c command reach planned h f ha.
           let q = its_index reach ha is-p in
-          let hp : p < length t.processes = rw q ha in
-          turned_away_lem command a sync_blocked h (rw (← q) (refused_38 reach h p hp n w (rw (← its_board reach (board-there reach h p hp) is_b) full))) f refl)
+          let hp = rw (← q) at ha in
+          let is = its_part other_lists others s.processes reach h refl p hp in
+          let bb = its_board reach (board-there reach h p hp) (board_beside (others p) is) in
+          let all = subst (λ (i : ℕ). leb outbox_most (count_in s.queues i) ≡ true) bb full in
+          rw (← q) (turned_away_lem command p sync_blocked h
+          (refused_38 reach h p hp (ap (λ (y : lent.Process). backed y.protection) is ∙ n) (ap (λ (y : lent.Process). y.waits) is ∙ w) all) (f ∙ sym q) refl))
 
-      pub issues-done : (x' : lent.Process) → leb outbox_most (count_in s.queues b) ≡ false → Changes (get_or (with_flag s.processes p true) p no_process) x' issued
+      -- the process waits, with another mailbox and another backup too
+      flag_beside : (others : ℕ → lent.Process) → p < length s.processes
+          → each_with other_lists others (with_flag s.processes p true) ≡ with_flag (each_with other_lists others s.processes) p true
+      flag_beside others hp =
+          each_set other_lists others s.processes p (flagged its true) hp
+          ∙ ap (λ (y : lent.Process). set (each_with other_lists others s.processes) p (flagged y true)) (sym (each_at other_lists others s.processes p hp))
+
+      pub issues-done : (x' : lent.Process) → leb outbox_most (count_in s.queues b) ≡ false → x' ≡ anew_in (get_or (with_flag s.processes p true) p no_process)
           → place_of (get_or s.queues b no_queue) b < 512 → r ≡ moved_of (answer_of SyncIssued 0 0) (Some (place_of (get_or s.queues b no_queue) b))
           → Issues s a (issued_from s p b x') r
       unfolding numbers cause_of
-      issues-done x' few became below e l =
+      issues-done x' few exact below e l others totals =
           makes-joined (answer_of SyncIssued 0 0) (omega arith)
-          (record { processes-same = simp length-set; queues-same = length-set s.queues b _; totals-same = refl })
+          (record {
+            processes-same = same_many other_lists others s.processes _
+                (length-set (with_flag s.processes p true) p x' ∙ length-set s.processes p (flagged its true));
+            queues-same = length-set s.queues b _;
+            totals-same = refl;
+          })
           (place_of (get_or s.queues b no_queue) b) below refl e
           (λ t entries c command reach planned h f ha.
           let q = its_index reach ha is-p in
-          let hp : p < length t.processes = rw q ha in
-          let bb = its_board reach (board-there reach h p hp) is_b in
-          let few0 : leb outbox_most (count_in s.queues its.board) ≡ false = rw (← bb) few in
-          rw (← q, bb) (answered _ issue_done (accepted_so reach h p hp n w few0) refl refl (issue-holds reach h p hp x' (leb-false outbox_most _ few0) became)))
+          let hp = rw (← q) at ha in
+          let there = within other_lists others s.processes reach h refl p hp in
+          let is = its_part other_lists others s.processes reach h refl p hp in
+          let flag = flag_beside others there in
+          let there-flagged : p < length (with_flag s.processes p true) = rw (length-set s.processes p (flagged its true)) there in
+          let now = get_or (with_flag s.processes p true) p no_process in
+          let now-is : get_or (with_flag (each_with other_lists others s.processes) p true) p no_process ≡ other_lists now (others p) =
+          ap (λ (y : List lent.Process). get_or y p no_process) (sym flag) ∙ each_at other_lists others (with_flag s.processes p true) p there-flagged in
+          let put : each_with other_lists others (set (with_flag s.processes p true) p x') ≡ set (with_flag (each_with other_lists others s.processes) p true) p (other_lists x' (others p)) =
+          each_set other_lists others (with_flag s.processes p true) p x' there-flagged ∙ ap (λ (y : List lent.Process). set y p (other_lists x' (others p))) flag in
+          let became =
+          subst₂ (λ (y y' : lent.Process). Changes y y' issued) (sym now-is) (ap (λ (y : lent.Process). other_lists y (others p)) (sym exact))
+          (issued-became (other_lists now (others p))) in
+          let bb = its_board reach (board-there reach h p hp) (board_beside (others p) is) in
+          let few0 = subst (λ (i : ℕ). leb outbox_most (count_in s.queues i) ≡ false) bb few in
+          let so = accepted_so reach h p hp (ap (λ (y : lent.Process). backed y.protection) is ∙ n) (ap (λ (y : lent.Process). y.waits) is ∙ w) few0 in
+          rw (put, ← q, bb, ← entry_beside p its (others p) is)
+          (answered _ issue_done so refl refl (issue-holds reach h p hp (other_lists x' (others p)) (leb-false outbox_most _ few0) became)))

@@ -1,12 +1,13 @@
 -- A step that sends a word, in a store: one that is suppressed, the refusals 37, 38 and 39, and the word that joins its board's queue.
-use Rattle.std.proofs.Common.{◌≡◌, ℕ, suc, ◌+◌, ◌-◌, ◌%◌, ◌^◌, ◌<◌, Bool, true, false, ◌||◌, leb, List, [], ◌∷◌, ◌++◌, length, get_or, set, sym, refl, ap, ◌∙◌, subst₂, arith, length-set, get_or-set_other, get_or-set_same, Some}
+use Rattle.std.proofs.Common.{◌≡◌, ℕ, suc, ◌+◌, ◌-◌, ◌%◌, ◌^◌, ◌<◌, Bool, true, false, ◌||◌, leb, List, [], ◌∷◌, ◌++◌, length, get_or, set, sym, refl, ap, ◌∙◌, subst, subst₂, arith, length-set, get_or-set_other, get_or-set_same, Some}
 use borrow.Author.Tests.{leb-false}
 use Rattle.facts.specs.Tests.{by_eq}
 use Rattle.facts.specs.Counts.{same}
 use Rattle.process.specs.declared.process.Process as lent
 use Rattle.process.specs.Row.{machine_of, process_of}
-use Rattle.instruction.specs.Instruction.{Intends, Suppresses, Queues, after_send}
+use Rattle.instruction.specs.Instruction.{Intends, Suppresses, suppressed_in, Queues, event_in, after_send}
 use Rattle.instruction.specs.declared.instruction.Intent.TheVariants.{Send}
+use Rattle.instruction.proofs.Counting.{queues}
 use Rattle.plan.specs.declared.Plan as code
 use Rattle.plan.specs.Plan.{reader_in}
 use Rattle.rules.specs.Table.{Table, code_of, limit_of, channel_at}
@@ -28,19 +29,22 @@ use Rattle.state.specs.declared.store.Store.{Store}
 use Rattle.state.specs.Queue.{no_queue, first_in, count_in, place_of, pushed_in}
 use Rattle.state.specs.Store.{item_of, lists_at, Totalled, Holds}
 use Rattle.state.specs.Moved.{Reachable, SameLengths, answer_of, refusal_of, moved_of, alone_of, refused_with}
+use Rattle.state.specs.Beside.{other_lists, with_lists}
 use Rattle.state.proofs.Reading.{at_process, how_many_boards}
 use Rattle.state.proofs.Queueing.{QueueThen, entry_joins}
 use Rattle.state.proofs.Flagging.{flagged_none}
 use Rattle.state.proofs.Totals.{occupancy_outbox, totalled_more}
 use Rattle.state.proofs.Changing.{row_changed}
 use Rattle.state.proofs.Ends.{sent-inside}
-use Rattle.state.proofs.Refusing.{turned_away_lem, makes-refused}
+use Rattle.state.proofs.Reaching.{bounds}
+use Rattle.state.proofs.Refusing.{reason_for, turned_away_lem, makes-refused}
 use Rattle.step.specs.Parts.{owing_in, blame_in, word_entry, SendTurns}
 use Rattle.state.specs.Channel.{full_in}
 use Rattle.state.proofs.Held.{full_is, occupancy_small}
 use Rattle.state.proofs.Joining.{board-is, board-there, queue_has}
 use Rattle.state.proofs.Making.{its_index, its_board, answered, makes_alone, makes-joined}
-use Rattle.step.proofs.Stepping.{with_process_in, same_lengths, machine-is, step_is, owing-is, blame_is, instructions-room, events-room}
+use Rattle.step.proofs.Beside.{same_many, its_part, put_part, suppresses_exact}
+use Rattle.step.proofs.Stepping.{with_process_in, machine-is, step_is, owing-is, blame_is, instructions-room, events-room}
 
 -- a word that joins a queue is no checkpoint
 waiting-joined : (q : ℕ) (l : List rules.Item) (x : Mail) (pc : ℕ) → waiting q (l ++ (rules.message x pc ∷ [])) ≡ waiting q l
@@ -94,6 +98,16 @@ module _ {t : Table} {s : Store} {entries : List Entry} {c : Cabinet} (reach : R
   pub suppressed_so : (left : ℕ) → its.suppress ≡ suc left → step t c p ≡ accept (with_process p (suppressing left (process_at c p)) c) (suppressed x)
   unfolding moves.send
   suppressed_so left e = sends_so (suc left) e
+
+  -- what is left to suppress is few
+  pub suppress_fits : its.suppress < 2 ^ 32
+  unfolding process_of
+  suppress_fits =
+      let e : (process_at c p).suppress ≡ its.suppress = ap (λ (y : Process). y.suppress) (at_process h p hp) in
+      let b = bounds reach p hp in
+      let few = b.suppress in
+      let least = b.limit in
+      omega arith
 
   same-mailbox : m1.mailbox ≡ (process_at c p).machine.mailbox
   same-mailbox = ap (λ (m : Machine). m.mailbox) (sym (machine-is h p hp))
@@ -216,53 +230,77 @@ module _ (plan : code.Plan) (s : Store) (limit p a : ℕ) (is-p : a < 16 → p �
   abbrev Turns : Store → Type 0
   Turns s' = SendTurns plan s limit a channel word s' r
 
-  pub send-suppressed : (x' : lent.Process) → 0 < sender.suppress → Suppresses sender x' → r ≡ alone_of (answer_of HeldBack channel word) → Turns (with_process_in s p x')
+  pub send-suppressed : (x' : lent.Process) → 0 < sender.suppress → x' ≡ suppressed_in sender → r ≡ alone_of (answer_of HeldBack channel word) → Turns (with_process_in s p x')
   unfolding numbers cause_of
-  send-suppressed x' some became g table n code register operand =
-      makes_alone (answer_of HeldBack channel word) (omega arith) (same_lengths s p _ s.totals refl) g
+  send-suppressed x' some exact g table counts programs others n code register operand =
+      makes_alone (answer_of HeldBack channel word) (omega arith)
+      (record { processes-same = same_many other_lists others s.processes _ (length-set s.processes p x'); queues-same = refl; totals-same = refl }) g
       (λ t entries c command reach planned h f i.
       let q = its_index reach i.process-there is-p in
       let j = rw (← q) at i in
       let hp = j.process-there in
+      let is = its_part other_lists others s.processes reach h refl p hp in
+      let put = put_part other_lists others s.processes reach h refl p hp x' in
       let left : ℕ = sender.suppress - 1 in
-      let e : sender.suppress ≡ suc left = omega arith in
-      rw (← q) (answered _ (suppressed (record { channel = channel; word = word })) (suppressed_so reach h p hp n code register operand channel word j.intends left e)
-      refl refl (suppress-holds reach h p hp n code register operand channel word j.intends left x' e became)))
+      let left-is : sender.suppress ≡ suc left = omega arith in
+      let e = ap (λ (y : lent.Process). y.suppress) is ∙ left-is in
+      let few = suppress_fits reach h p hp n code register operand channel word j.intends in
+      let became =
+      subst₂ (λ (y y' : lent.Process). Suppresses y y') (sym is) (ap (λ (y : lent.Process). other_lists y (others p)) (sym exact))
+      (suppresses_exact (other_lists sender (others p)) (subst (λ (y : lent.Process). y.suppress < 2 ^ 32) is few)) in
+      rw (put, ← q) (answered _ (suppressed (record { channel = channel; word = word })) (suppressed_so reach h p hp n code register operand channel word j.intends left e)
+      refl refl (suppress-holds reach h p hp n code register operand channel word j.intends left (other_lists x' (others p)) e became)))
 
   module _ (none : sender.suppress ≡ 0) where
     pub send_37 : owing_in limit sender ≡ true → (why : Reason) → why ≡ blame_in limit sender → r ≡ refused_with why a → Turns s
-    send_37 e why b g table n code register operand =
+    send_37 e why b g table counts programs others n code register operand =
         makes-refused why g (λ t entries c command reach planned h f i.
-        let ha = i.process-there in
-        let q = its_index reach ha is-p in
-        turned_away_lem command a (owed_for (limit_of t a) (process_at c a)) h
-        (refused_37 reach h a ha n code register operand channel word i.intends (rw (← q) none) _ refl (rw (i.limit_is, ← q) e)) f
-        (ap (λ (z : Reason). refusal_of z a) (rw (blame_is h a ha, i.limit_is, ← q) b)))
+        let q = its_index reach i.process-there is-p in
+        let j = rw (← q) at i in
+        let hp = j.process-there in
+        let is = its_part other_lists others s.processes reach h refl p hp in
+        let blamed : reason_for (owed_for (limit_of t p) (process_at c p)) ≡ why =
+        blame_is h p hp ∙ ap (λ (n : ℕ). blame_in n (lists_at (with_lists others s) p)) j.limit_is ∙ ap (blame_in limit) is ∙ sym b in
+        rw (← q) (turned_away_lem command p (owed_for (limit_of t p) (process_at c p)) h
+        (refused_37 reach h p hp n code register operand channel word j.intends (ap (λ (y : lent.Process). y.suppress) is ∙ none) _ refl
+        (ap (λ (n : ℕ). owing_in n (lists_at (with_lists others s) p)) j.limit_is ∙ ap (owing_in limit) is ∙ e)) (f ∙ sym q)
+        (ap (λ (z : Reason). refusal_of z p) (sym blamed))))
 
     module _ (fresh : owing_in limit sender ≡ false) (b : ℕ) (is_b : sender.board < 16 → b ≡ sender.board) where
+      -- the same is so of it with another mailbox and another backup
+      board_beside : (other : lent.Process) {y : lent.Process} → y ≡ other_lists sender other → y.board < 16 → b ≡ y.board
+      board_beside other is = let e = ap (λ (z : lent.Process). z.board) is in λ l. is_b (rw (← e) l) ∙ sym e
+
+      fresh_beside : (other : lent.Process) {y : lent.Process} {most : ℕ} → most ≡ limit → y ≡ other_lists sender other → owing_in most y ≡ false
+      fresh_beside other {y} e is = ap (λ (m : ℕ). owing_in m y) e ∙ ap (owing_in limit) is ∙ fresh
+
       pub send_38 : leb outbox_most (count_in s.queues b) ≡ true → r ≡ refused_with QueueFullForSend a → Turns s
-      send_38 many g table n code register operand =
+      send_38 many g table counts programs others n code register operand =
           makes-refused QueueFullForSend g (λ t entries c command reach planned h f i.
           let q = its_index reach i.process-there is-p in
           let j = rw (← q) at i in
           let hp = j.process-there in
-          let all : leb outbox_most (count_in s.queues sender.board) ≡ true = rw (← its_board reach (board-there reach h p hp) is_b) many in
+          let is = its_part other_lists others s.processes reach h refl p hp in
+          let all = subst (λ (i : ℕ). leb outbox_most (count_in s.queues i) ≡ true) (its_board reach (board-there reach h p hp) (board_beside (others p) is)) many in
           rw (← q) (turned_away_lem command p send_blocked h
-          (refused_38 reach h p hp n code register operand channel word j.intends none _ refl (rw j.limit_is fresh) all) (f ∙ sym q) refl))
+          (refused_38 reach h p hp n code register operand channel word j.intends (ap (λ (y : lent.Process). y.suppress) is ∙ none) _ refl
+          (fresh_beside (others p) j.limit_is is) all) (f ∙ sym q) refl))
 
       module _ (few : leb outbox_most (count_in s.queues b) ≡ false) (k reader : ℕ) (is-k : channel < 32 → k ≡ channel) (is-reader : reader ≡ reader_in plan.wires k) where
         pub send_39 : full_in reader (get_or s.totals k 0) ≡ true → r ≡ refused_with HeldForSend a → Turns s
-        send_39 e g table n code register operand =
+        send_39 e g table counts programs others n code register operand =
             makes-refused HeldForSend g (λ t entries c command reach planned h f i.
             let q = its_index reach i.process-there is-p in
             let j = rw (← q) at i in
             let hp = j.process-there in
             let l = channel-inside reach h p hp n code register operand channel word j.intends in
             let kk : k ≡ channel = is-k (let z = reach.accepted.channels_high in omega arith) in
-            let few0 : leb outbox_most (count_in s.queues sender.board) ≡ false = rw (← its_board reach (board-there reach h p hp) is_b) few in
+            let is = its_part other_lists others s.processes reach h refl p hp in
+            let few0 = subst (λ (i : ℕ). leb outbox_most (count_in s.queues i) ≡ false) (its_board reach (board-there reach h p hp) (board_beside (others p) is)) few in
             rw (← q) (turned_away_lem command p send_held h
-            (refused_39 reach h p hp n code register operand channel word j.intends none reader (is-reader ∙ ap (reader_in plan.wires) kk ∙ planned.reader_at channel l)
-            (rw j.limit_is fresh) few0 (rw (← kk) e)) (f ∙ sym q) refl))
+            (refused_39 reach h p hp n code register operand channel word j.intends (ap (λ (y : lent.Process). y.suppress) is ∙ none) reader
+            (is-reader ∙ ap (reader_in plan.wires) kk ∙ planned.reader_at channel l)
+            (fresh_beside (others p) j.limit_is is) few0 (rw (← kk) e)) (f ∙ sym q) refl))
 
         -- the store afterwards
         abbrev queued_from : lent.Process → Store
@@ -272,26 +310,37 @@ module _ (plan : code.Plan) (s : Store) (limit p a : ℕ) (is-p : a < 16 → p �
           totals = set s.totals k ((get_or s.totals k 0 + 1) % 2 ^ 32);
         }
 
-        longs : (x' : lent.Process) → SameLengths s (queued_from x')
-        longs x' = record { processes-same = length-set s.processes p _; queues-same = length-set s.queues b _; totals-same = length-set s.totals k _ }
+        longs : (x' : lent.Process) (others : ℕ → lent.Process) → SameLengths (with_lists others s) (with_lists others (queued_from x'))
+        longs x' others = record {
+          processes-same = same_many other_lists others s.processes _ (length-set s.processes p x');
+          queues-same = length-set s.queues b _;
+          totals-same = length-set s.totals k _;
+        }
 
-        pub send-queued : (x' : lent.Process) → full_in reader (get_or s.totals k 0) ≡ false → Queues sender x' → place_of (get_or s.queues b no_queue) b < 512
+        pub send-queued : (x' : lent.Process) → full_in reader (get_or s.totals k 0) ≡ false → x' ≡ event_in sender → place_of (get_or s.queues b no_queue) b < 512
             → r ≡ moved_of (answer_of Queued channel word) (Some (place_of (get_or s.queues b no_queue) b)) → Turns (queued_from x')
         unfolding numbers cause_of
-        send-queued x' e became below g table n code register operand =
-            makes-joined (answer_of Queued channel word) (omega arith) (longs x') (place_of (get_or s.queues b no_queue) b) below refl g
+        send-queued x' e exact below g table counts programs others n code register operand =
+            makes-joined (answer_of Queued channel word) (omega arith) (longs x' others) (place_of (get_or s.queues b no_queue) b) below refl g
             (λ t entries c command reach planned h f i.
             let q = its_index reach i.process-there is-p in
             let j = rw (← q) at i in
             let hp = j.process-there in
             let l = channel-inside reach h p hp n code register operand channel word j.intends in
             let kk : k ≡ channel = is-k (let z = reach.accepted.channels_high in omega arith) in
-            let bb = its_board reach (board-there reach h p hp) is_b in
-            let few0 : leb outbox_most (count_in s.queues sender.board) ≡ false = rw (← bb) few in
-            let so = queued_so reach h p hp n code register operand channel word j.intends none reader (is-reader ∙ ap (reader_in plan.wires) kk ∙ planned.reader_at channel l)
-            (rw j.limit_is fresh) few0 (rw (← kk) e) in
+            let is = its_part other_lists others s.processes reach h refl p hp in
+            let put = put_part other_lists others s.processes reach h refl p hp x' in
+            let bb = its_board reach (board-there reach h p hp) (board_beside (others p) is) in
+            let few0 = subst (λ (i : ℕ). leb outbox_most (count_in s.queues i) ≡ false) bb few in
+            let none0 = ap (λ (y : lent.Process). y.suppress) is ∙ none in
+            let so = queued_so reach h p hp n code register operand channel word j.intends none0 reader
+            (is-reader ∙ ap (reader_in plan.wires) kk ∙ planned.reader_at channel l) (fresh_beside (others p) j.limit_is is) few0 (rw (← kk) e) in
+            let became =
+            subst₂ (λ (y y' : lent.Process). Queues y y') (sym is) (ap (λ (y : lent.Process). other_lists y (others p)) (sym exact))
+            (queues (other_lists sender (others p))) in
             let there = send-holds_so reach h p hp n code register operand channel word j.intends (leb-false outbox_most _ few0) (word_entry s p r.answer)
             (ap (λ (z : Moved). item_of (word_entry s p z.answer).item) g
-            ∙ ap (rules.message (record { channel = channel; word = word })) (place_fits reach h p hp n code register operand channel word j.intends))
-            x' none became in
-            rw (← q, bb, kk) (answered _ (moves.queued (record { channel = channel; word = word })) so refl refl there))
+            ∙ ap (rules.message (record { channel = channel; word = word }))
+            (ap (λ (y : lent.Process). y.pc % 256) (sym is) ∙ place_fits reach h p hp n code register operand channel word j.intends))
+            (other_lists x' (others p)) none0 became in
+            rw (put, ← q, bb, kk) (answered _ (moves.queued (record { channel = channel; word = word })) so refl refl there))

@@ -11,6 +11,7 @@ use Rattle.instruction.specs.declared.instruction.Intent.{Intent}
 use Rattle.instruction.specs.declared.instruction.Intent.TheVariants.{Halted, NoMail, Internal, Take, Send}
 use Rattle.records.specs.Fetch.{fetched, instruction_of}
 use Rattle.records.specs.declared.fetch.Instruction.{Instruction}
+use Rattle.plan.specs.declared.Counts.{Counts}
 use Rattle.plan.specs.declared.Plan as code
 use Rattle.plan.specs.Plan.{Planned, plan_of, start_in, length_in, limit_in}
 use Rattle.rules.specs.Table as rules
@@ -26,14 +27,16 @@ use Rattle.state.specs.declared.entry.Entry.{Entry}
 use Rattle.state.specs.declared.moved.Moved.{Moved}
 use Rattle.state.specs.declared.store.Store.{Store}
 use Rattle.state.specs.Store.{lists_at, Holds}
-use Rattle.state.specs.Moved.{Reachable, SameLengths, refusal_of, refused_with, AProcess}
+use Rattle.state.specs.Moved.{Reachable, SameLengths, Makes, MailsStay, refusal_of, refused_with, AProcess}
+use Rattle.state.specs.Beside.{other_backup, with_backups}
 use Rattle.state.proofs.Changing.{put_process}
 use Rattle.state.proofs.Reading.{at_process}
 use Rattle.state.proofs.Counters.{instructions-few, events-few}
 use Rattle.state.proofs.Refusing.{reason_for, turned_away_lem, makes-refused}
-use Rattle.step.specs.Parts.{exhausted_in, overrun_in, owing_in, blame_in, missing_of, Intending, CalculateTurns, TakeTurns, SendTurns}
+use Rattle.step.specs.Parts.{exhausted_in, overrun_in, owing_in, blame_in, missing_of, word_entry, Intending, Turns, CalculateTurns, TakeTurns, SendTurns}
 use Rattle.step.specs.Steps as specs
 use Rattle.state.proofs.Making.{its_index, makes_under}
+use Rattle.step.proofs.Beside.{its_part, backups_alone, intends_beside}
 
 -- ---- a store with one process changed
 
@@ -162,52 +165,70 @@ module _ (table : List ℕ) (plan : code.Plan) (s : Store) (p a : ℕ) (is-p : a
     pub is : seen ≡ intent
 
   module _ (intent : Intent) (m : Means intent) (limit : ℕ) (is-limit : limit ≡ limit_in plan.programs p) where
-    -- the instruction fetched is the program's, so its intent is the rules'
-    intending_at : {t : Table} {entries : List Entry} {c : Cabinet} → Reachable t c → Planned t (plan_of table plan) → Holds t s entries c
-        → p < length t.processes → Intending t limit p s (length_in plan.programs p) j.code j.a j.operand intent
-    intending_at {t} reach planned h hp =
-        let here = laws.fetched t p reach.accepted hp its j.code j.a j.operand
-        (λ l. sym (planned.code_at p hp its.pc l) ∙ ap instruction_of (sym is-fetched)) in
-        let its-length = subst (λ (n : ℕ). Fetched (code_of t p) its n j.code j.a j.operand) (sym (planned.length_at p hp)) here in
-        record {
-          process-there = hp;
-          limit_is = sym (planned.limit_at p hp) ∙ sym is-limit;
-          intends = subst (Intends (code_of t p) its (length_in plan.programs p) j.code j.a j.operand) m.is
-              (m.examined (code_of t p) its-length);
-        }
+    -- the instruction fetched is the program's, so its intent is the rules', and so it is with another backup
+    module _ (counts : Counts) (others : ℕ → lent.Process) {t : Table} {entries : List Entry} {c : Cabinet} (reach : Reachable t c)
+        (planned : Planned t (plan_of table (record plan { counts = counts }))) (h : Holds t (with_backups others s) entries c) where
+      intending_at : p < length t.processes → Intending t limit p (with_backups others s) (length_in plan.programs p) j.code j.a j.operand intent
+      intending_at hp =
+          let here = laws.fetched t p reach.accepted hp its j.code j.a j.operand
+          (λ l. sym (planned.code_at p hp its.pc l) ∙ ap instruction_of (sym is-fetched)) in
+          let its-length = subst (λ (n : ℕ). Fetched (code_of t p) its n j.code j.a j.operand) (sym (planned.length_at p hp)) here in
+          let own : Intends (code_of t p) its (length_in plan.programs p) j.code j.a j.operand intent =
+          subst (Intends (code_of t p) its (length_in plan.programs p) j.code j.a j.operand) m.is (m.examined (code_of t p) its-length) in
+          record {
+            process-there = hp;
+            limit_is = sym (planned.limit_at p hp) ∙ sym is-limit;
+            intends = subst (λ (y : lent.Process). Intends (code_of t p) y (length_in plan.programs p) j.code j.a j.operand intent)
+                (sym (its_part other_backup others s.processes reach h refl p hp))
+                (intends_beside (others p) intent own);
+          }
 
-    intending : {t : Table} {entries : List Entry} {c : Cabinet} → Reachable t c → Planned t (plan_of table plan) → Holds t s entries c
-        → a < length t.processes → Intending t limit a s (length_in plan.programs p) j.code j.a j.operand intent
-    intending {t} reach planned h ha =
-        let q = its_index reach ha is-p in
-        subst (λ (i : ℕ). Intending t limit i s (length_in plan.programs p) j.code j.a j.operand intent) q (intending_at reach planned h (rw q ha))
+      intending : a < length t.processes → Intending t limit a (with_backups others s) (length_in plan.programs p) j.code j.a j.operand intent
+      intending ha =
+          let q = its_index reach ha is-p in
+          subst (λ (i : ℕ). Intending t limit i (with_backups others s) (length_in plan.programs p) j.code j.a j.operand intent) q (intending_at (rw q ha))
 
   abbrev Promises : Store → Type 0
   Promises s' = specs.Steps table plan s a s' r
 
   pub steps_35 : Means Halted → r ≡ refused_with reasons.Halted a → Promises s
-  steps_35 m g =
+  steps_35 m g counts others =
       makes-refused reasons.Halted g (λ t entries c command reach planned h f ha.
-      turned_away_lem command a is_halted h (refused_35 h a ha _ _ _ _ (intending Halted m _ refl reach planned h ha).intends) f refl)
+      turned_away_lem command a is_halted h (refused_35 h a ha _ _ _ _ (intending Halted m _ refl counts others reach planned h ha).intends) f refl)
 
   pub steps_36 : Means NoMail → r ≡ refused_with (missing_of j.code) a → Promises s
-  steps_36 m g =
+  steps_36 m g counts others =
       makes-refused (missing_of j.code) g (λ t entries c command reach planned h f ha.
-      let i = (intending NoMail m _ refl reach planned h ha).intends in
+      let i = (intending NoMail m _ refl counts others reach planned h ha).intends in
       turned_away_lem command a (missing (instruction_at (code_of t a) (process_at c a).machine)) h (refused_36 h a ha _ _ _ _ i) f
       (ap (λ (why : Reason). refusal_of why a) (sym (missing-is h a ha _ _ _ _ i))))
 
-  module _ {s' : Store} where
-    pub steps_calculated : Means Internal → CalculateTurns s a j.code j.a j.operand s' r → Promises s'
-    steps_calculated m part =
-        makes_under (AProcess a) (λ t entries c reach planned h ha. intending Internal m _ refl reach planned h ha) (part (plan_of table plan) _ _)
+  -- what a part makes of the store with other backups
+  abbrev Part : Counts → (ℕ → lent.Process) → Intent → ℕ → ℕ → ℕ → ℕ → ℕ → Store → Type 0
+  Part counts others intent limit n code register operand then =
+      Turns (plan_of table (record plan { counts = counts })) (with_backups others s) limit a n code register operand intent (word_entry s a r.answer) then r
+
+  module _ (s' : Store) where
+    under : (intent : Intent) → Means intent → (limit : ℕ) → limit ≡ limit_in plan.programs p → (counts : Counts) (others : ℕ → lent.Process) (then : Store)
+        → then ≡ with_backups others s' → Part counts others intent limit (length_in plan.programs p) j.code j.a j.operand then
+        → Makes step (AProcess a) 2 (plan_of table (record plan { counts = counts })) (with_backups others s) a (word_entry s a r.answer) (with_backups others s') r
+    under intent m limit is-limit counts others then is part =
+        makes_under (AProcess a) (λ t entries c reach planned h ha. intending intent m limit is-limit counts others reach planned h ha)
+        (subst (Part counts others intent limit (length_in plan.programs p) j.code j.a j.operand) is part)
+
+    pub steps_calculated : MailsStay s s' → s'.queues ≡ s.queues → s'.totals ≡ s.totals → Means Internal → CalculateTurns s a j.code j.a j.operand s' r → Promises s'
+    steps_calculated mails queues totals m part counts others =
+        under Internal m _ refl counts others _
+        (λ k. record (backups_alone others s s' mails k) { queues = sym queues k; totals = sym totals k })
+        (part (plan_of table (record plan { counts = counts })) (λ p. other_backup (lists_at s p) (others p)) s.queues s.totals _ _)
 
     module _ (limit : ℕ) (is-limit : limit ≡ limit_in plan.programs p) where
-      pub steps-taken : (at : ℕ) → Means (Take at) → TakeTurns plan s limit a j.code j.a at s' r → Promises s'
-      steps-taken at m part =
-          makes_under (AProcess a) (λ t entries c reach planned h ha. intending (Take at) m limit is-limit reach planned h ha) (part table _ _)
+      pub steps-taken : s'.queues ≡ s.queues → (at : ℕ) → Means (Take at) → TakeTurns plan s limit a j.code j.a at s' r → Promises s'
+      steps-taken queues at m part counts others =
+          under (Take at) m limit is-limit counts others _ (λ k. record (with_backups others s') { queues = sym queues k })
+          (part table counts plan.programs others s.queues _ _)
 
-      pub steps-sent : (channel word : ℕ) → Means (Send channel word) → SendTurns plan s limit a channel word s' r → Promises s'
-      steps-sent channel word m part =
-          makes_under (AProcess a) (λ t entries c reach planned h ha. intending (Send channel word) m limit is-limit reach planned h ha)
-          (part table _ _ _ _)
+      pub steps-sent : MailsStay s s' → (channel word : ℕ) → Means (Send channel word) → SendTurns plan s limit a channel word s' r → Promises s'
+      steps-sent mails channel word m part counts others =
+          under (Send channel word) m limit is-limit counts others _ (backups_alone others s s' mails)
+          (part table counts plan.programs (λ p. other_backup (lists_at s p) (others p)) _ _ _ _)

@@ -1,5 +1,5 @@
 -- A step that takes a word, in a store: the refusal 37, and the word that leaves its mailbox.
-use Rattle.std.proofs.Common.{◌≡◌, ℕ, ◌+◌, ◌%◌, ◌^◌, ◌<◌, ◌≤◌, Bool, true, false, List, length, get_or, set, sym, refl, ap, ◌∙◌, subst, arith, length-set}
+use Rattle.std.proofs.Common.{◌≡◌, ℕ, ◌+◌, ◌%◌, ◌^◌, ◌<◌, ◌≤◌, Bool, true, false, List, length, get_or, set, sym, refl, ap, ◌∙◌, subst, subst₂, arith, length-set}
 use Rattle.facts.specs.Tests.{by_eq}
 use Rattle.facts.specs.Counts.{same, same_yes}
 use Rattle.backup.specs.Limits.{ports}
@@ -24,17 +24,19 @@ use Rattle.state.specs.declared.entry.Entry.{Entry}
 use Rattle.state.specs.declared.moved.Moved.{Moved}
 use Rattle.state.specs.declared.store.Store.{Store}
 use Rattle.state.specs.Store.{lists_at, Totalled, Holds}
-use Rattle.state.specs.Moved.{Reachable, answer_of, refusal_of, alone_of, refused_with}
+use Rattle.state.specs.Moved.{Reachable, Answered, answer_of, refusal_of, alone_of, refused_with}
+use Rattle.state.specs.Beside.{other_backup, with_backups}
 use Rattle.state.proofs.Reading.{at_process, how_many}
 use Rattle.state.proofs.Totals.{occupancy_less, totalled_less}
 use Rattle.state.proofs.Changing.{put_process, changed}
 use Rattle.state.proofs.Ends.{read_inside}
 use Rattle.state.proofs.Owners.{unread_own}
 use Rattle.state.proofs.Counters.{takes-few}
-use Rattle.state.proofs.Refusing.{turned_away_lem, makes-refused}
+use Rattle.state.proofs.Refusing.{reason_for, turned_away_lem, makes-refused}
 use Rattle.step.specs.Parts.{owing_in, blame_in, TakeTurns}
 use Rattle.state.proofs.Making.{its_index, answered, makes_alone}
-use Rattle.step.proofs.Stepping.{same_lengths, machine-is, step_is, owing-is, blame_is, limited_here, instructions-room, events-room}
+use Rattle.step.proofs.Beside.{same_many, its_part, put_part, takes_beside}
+use Rattle.step.proofs.Stepping.{machine-is, step_is, owing-is, blame_is, limited_here, instructions-room, events-room}
 
 module _ {t : Table} {s : Store} {entries : List Entry} {c : Cabinet} (reach : Reachable t c) (h : Holds t s entries c) (p : ℕ) (hp : p < length t.processes)
     (n code a operand at : ℕ) (i : Intends (code_of t p) (lists_at s p) n code a operand (Take at)) where
@@ -130,13 +132,18 @@ module _ (plan : code.Plan) (s : Store) (limit p a : ℕ) (is-p : a < 16 → p �
 
   pub take_37 : owing_in limit taker ≡ true → (why : Reason) → why ≡ blame_in limit taker → r ≡ refused_with why a
       → TakeTurns plan s limit a code register at s r
-  take_37 e why b g table n operand =
+  take_37 e why b g table counts programs others queues n operand =
       makes-refused why g (λ t entries c command reach planned h f i.
-      let ha = i.process-there in
-      let q = its_index reach ha is-p in
-      turned_away_lem command a (owed_for (limit_of t a) (process_at c a)) h
-      (take-refused reach h a ha n code register operand at i.intends (rw (i.limit_is, ← q) e)) f
-      (ap (λ (z : Reason). refusal_of z a) (rw (blame_is h a ha, i.limit_is, ← q) b)))
+      let q = its_index reach i.process-there is-p in
+      let j = rw (← q) at i in
+      let hp = j.process-there in
+      let is = its_part other_backup others s.processes reach h refl p hp in
+      let blamed : reason_for (owed_for (limit_of t p) (process_at c p)) ≡ why =
+      blame_is h p hp ∙ ap (λ (n : ℕ). blame_in n (lists_at (with_backups others s) p)) j.limit_is ∙ ap (blame_in limit) is ∙ sym b in
+      rw (← q) (turned_away_lem command p (owed_for (limit_of t p) (process_at c p)) h
+      (take-refused reach h p hp n code register operand at j.intends
+      (ap (λ (n : ℕ). owing_in n (lists_at (with_backups others s) p)) j.limit_is ∙ ap (owing_in limit) is ∙ e)) (f ∙ sym q)
+      (ap (λ (z : Reason). refusal_of z p) (sym blamed))))
 
   -- the word at the position
   abbrev its_word : Mail
@@ -147,21 +154,39 @@ module _ (plan : code.Plan) (s : Store) (limit p a : ℕ) (is-p : a < 16 → p �
   taken_from k left x' = put_process s p x' (set s.totals k left)
 
   pub take_done : (k port left : ℕ) (x' : lent.Process) → owing_in limit taker ≡ false → (its_word.channel < 32 → k ≡ its_word.channel)
-      → port ≡ port_in plan.wires k → Takes taker code register at port x' → BackupStays taker x' → (left + 1) % 2 ^ 32 ≡ get_or s.totals k 0 → left < 2 ^ 32
+      → port ≡ port_in plan.wires k → Takes taker code register at port x' → (left + 1) % 2 ^ 32 ≡ get_or s.totals k 0 → left < 2 ^ 32
       → r ≡ alone_of (answer_of Took its_word.channel its_word.word) → TakeTurns plan s limit a code register at (taken_from k left x') r
   unfolding numbers cause_of
-  take_done k port left x' e is-k is-port takes stays is-left fits g table n operand =
-      makes_alone (answer_of Took its_word.channel its_word.word) (omega arith) (same_lengths s p _ (set s.totals k left) (length-set s.totals k left)) g
+  take_done k port left x' e is-k is-port takes is-left fits g table counts programs others queues n operand =
+      makes_alone (answer_of Took its_word.channel its_word.word) (omega arith)
+      (record {
+        processes-same = same_many other_backup others s.processes _ (length-set s.processes p x');
+        queues-same = refl;
+        totals-same = length-set s.totals k left;
+      }) g
       (λ t entries c command reach planned h f i.
       let q = its_index reach i.process-there is-p in
       let j = rw (← q) at i in
       let hp = j.process-there in
       let x : Mail = its_word in
-      let inside = channel-inside reach h p hp n code register operand at j.intends in
-      let its = reads_it reach h p hp n code register operand at j.intends in
+      let is = its_part other_backup others s.processes reach h refl p hp in
+      let put = put_part other_backup others s.processes reach h refl p hp x' in
+      let word_is : mail_at (lists_at (with_backups others s) p) at ≡ x = ap (λ (y : lent.Process). mail_at y at) is in
+      let inside = subst (λ (w : Mail). w.channel < length t.channels) word_is (channel-inside reach h p hp n code register operand at j.intends) in
+      let its = subst (λ (w : Mail). (channel_at t w.channel).reader ≡ p) word_is (reads_it reach h p hp n code register operand at j.intends) in
       let kk : k ≡ x.channel = is-k (let z = reach.accepted.channels_high in omega arith) in
       let its-port : port ≡ port_of t p x.channel =
       is-port ∙ ap (port_in plan.wires) kk ∙ planned.port_at x.channel inside (rw its hp) ∙ ap (λ (i : ℕ). port_of t i x.channel) its in
-      let there = take-holds reach h p hp n code register operand at j.intends x' left
-      (subst (λ (i : ℕ). Takes taker code register at i x') its-port takes) stays (is-left ∙ ap (λ (i : ℕ). get_or s.totals i 0) kk) fits in
-      rw (← q, kk) (answered _ (received x) (take-accepted reach h p hp n code register operand at j.intends (rw j.limit_is e)) refl refl there))
+      let taken =
+      subst₂ (λ (y : lent.Process) (i : ℕ). Takes y code register at i (other_backup x' (others p))) (sym is)
+      (its-port ∙ ap (λ (w : Mail). port_of t p w.channel) (sym word_is)) (takes_beside taker (others p) code register at port x' takes) in
+      let stays : BackupStays (lists_at (with_backups others s) p) (other_backup x' (others p)) =
+      subst (λ (y : lent.Process). BackupStays y (other_backup x' (others p))) (sym is) (record { log-stays = refl; head-stays = refl }) in
+      let there = take-holds reach h p hp n code register operand at j.intends (other_backup x' (others p)) left
+      taken stays (is-left ∙ ap (λ (i : ℕ). get_or s.totals i 0) kk ∙ ap (λ (w : Mail). get_or s.totals w.channel 0) (sym word_is)) fits in
+      let so = take-accepted reach h p hp n code register operand at j.intends
+      (ap (λ (n : ℕ). owing_in n (lists_at (with_backups others s) p)) j.limit_is ∙ ap (owing_in limit) is ∙ e) in
+      let then : Mail → Type 0 =
+      λ w. Answered t (put_process (record (with_backups others s) { queues = queues }) p (other_backup x' (others p)) (set s.totals w.channel left))
+      entries c command (step t c p) (answer_of Took w.channel w.word) in
+      rw (put, ← q, kk) (subst then word_is (answered _ (received (mail_at (lists_at (with_backups others s) p) at)) so refl refl there)))

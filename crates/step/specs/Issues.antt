@@ -1,7 +1,8 @@
 -- Move 2 (document 01: "sync process a").
-use Rattle.std.specs.Prelude.{ℕ}
+use Rattle.std.specs.Prelude.{ℕ, List}
 use Rattle.backup.specs.declared.place.Checkpoint.{Checkpoint}
 use Rattle.plan.specs.Plan.{Plan}
+use Rattle.process.specs.declared.process.Process.{Process}
 use Rattle.process.specs.Row.{checkpoint_in}
 use Rattle.rules.specs.Moves.{issue}
 use Rattle.state.specs.declared.entry.Entry.{Entry}
@@ -9,6 +10,7 @@ use Rattle.state.specs.declared.entry.Item.TheVariants.{Sync}
 use Rattle.state.specs.declared.moved.Moved.{Moved}
 use Rattle.state.specs.declared.store.Store.{Store}
 use Rattle.state.specs.Store.{lists_at}
+use Rattle.state.specs.Beside.{with_lists}
 use Rattle.state.specs.Moved.{Makes, AProcess}
 
 -- the entry that joins: the process as a checkpoint,
@@ -19,6 +21,10 @@ synced_as a checkpoint = record { item = Sync a checkpoint }
 abbrev pub sync_entry : Store → ℕ → Entry
 sync_entry s a = synced_as a (checkpoint_in (lists_at s a))
 
--- whatever the plan is, which it isn't lent; done, it answers 0
+-- Whatever the plan is, which it isn't lent, and whatever mailboxes and backups the processes have and the totals are, none of which it looks
+-- at; done, it answers 0.
 abbrev pub Issues : Store → ℕ → Store → Moved → Type 0
-Issues s a s' r = (l : Plan) → Makes issue (AProcess a) 0 l s a (sync_entry s a) s' r
+Issues s a s' r =
+    (l : Plan) (others : ℕ → Process) (totals : List ℕ)
+    → Makes issue (AProcess a) 0 l (record (with_lists others s) { totals = totals }) a (sync_entry s a)
+    (record (with_lists others s') { totals = totals }) r

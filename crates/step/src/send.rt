@@ -1,6 +1,6 @@
 // A step that sends a word: "A SEND with hold-back above 0 lowers it by one and sends nothing. Otherwise the word joins its board's
 // queue." "For a SEND not held back: 37 likewise, 38 queue full, 39 held."
-ghost use Rattle.state.specs.Moved.{BackupsStay};
+ghost use Rattle.state.specs.Moved.{MailsStay, BackupsStay};
 ghost use Rattle.step.specs.Parts.{SendTurns};
 
 use crate::guards::{blame, owing};
@@ -15,6 +15,7 @@ use words::index;
 // Process a sends a word to a channel of its own.
 pub fn send(plan: &Plan, store: &mut Store, limit: u32, a: u32, channel: u32, word: u32) -> Moved
     ensures sends { SendTurns plan.now store.old limit a channel word store.new result }
+    ensures mails_stay { MailsStay store.old store.new }
     ensures backups_stay { BackupsStay store.old store.new }
 {
     let p = index::<PROCESSES>(a);

@@ -1,5 +1,6 @@
 // A step that takes a word: "For TAKE and FIRST: [..] 37 if backed and acts are 8", its limit since W-207, or 64 instructions (W-204). The
 // word leaves the mailbox, and its channel's total is one less.
+ghost use Rattle.std.specs.Prelude.{◌≡◌};
 ghost use Rattle.state.specs.Moved.{BackupsStay};
 ghost use Rattle.step.specs.Parts.{TakeTurns};
 
@@ -16,6 +17,7 @@ use words::index;
 // Process a's instruction takes the word at a position of its mailbox into a register.
 pub fn take(plan: &Plan, store: &mut Store, limit: u32, a: u32, i: Instruction, at: usize) -> Moved
     ensures takes { TakeTurns plan.now store.old limit a i.code i.a at store.new result }
+    ensures queues_stay { store.new.queues ≡ store.old.queues }
     ensures backups_stay { BackupsStay store.old store.new }
 {
     let p = index::<PROCESSES>(a);

@@ -27,5 +27,5 @@ returns-clause-issues c =
     let at = c.place-at in
     rw c.push.ensures
     (issues-done c.args.store.now p.result c.args.a p.ensures.1 _ (sym c.is_backed.ensures ∙ c.if-not-is_backed.false) c.if-store-p.false b.result b.ensures.1 c.issue.new.self
-    (sym c.is_full.ensures ∙ c.if-is_full.false) c.issue.ensures.became (rw (← at.ensures.1 b.ensures.0) at.ensures.0)
+    (sym c.is_full.ensures ∙ c.if-is_full.false) c.issue.ensures.exact (rw (← at.ensures.1 b.ensures.0) at.ensures.0)
     (λ i. record { answer = record { reason = SyncIssued; a = 0; word = 0 }; at = Some (at.ensures.1 b.ensures.0 i) }))

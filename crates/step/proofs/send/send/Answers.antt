@@ -8,7 +8,7 @@ returns-then-store-p-gt0-clause-sends c =
     let s = c.args in
     let p = c.index-p in
     let t = c.suppress_send in
-    send-suppressed s.plan.now s.store.now s.limit p.result s.a p.ensures.1 s.channel s.word _ t.new.x c.if-store-p-gt0.true t.ensures.became c.alone.ensures
+    send-suppressed s.plan.now s.store.now s.limit p.result s.a p.ensures.1 s.channel s.word _ t.new.x c.if-store-p-gt0.true t.ensures.exact c.alone.ensures
 
 pub returns-then-owing-clause-sends : goal.returns-then-owing-clause-sends
 returns-then-owing-clause-sends c =
@@ -49,5 +49,5 @@ returns-clause-sends c =
     rw (c.push.ensures, more)
     (send-queued s.plan.now s.store.now s.limit p.result s.a p.ensures.1 s.channel s.word _
     (omega arith) (sym c.owing.ensures ∙ c.if-owing.false) b.result b.ensures.1 (sym c.is_full.ensures ∙ c.if-is_full.false) k.result reader.result k.ensures.1
-    (reader.ensures k.ensures.0) t.new.x (sym c.full.ensures ∙ c.if-full.false) t.ensures.became (rw (← at.ensures.1 b.ensures.0) at.ensures.0)
+    (reader.ensures k.ensures.0) t.new.x (sym c.full.ensures ∙ c.if-full.false) t.ensures.exact (rw (← at.ensures.1 b.ensures.0) at.ensures.0)
     (λ i. record { answer = record { reason = Queued; a = s.channel; word = s.word }; at = Some (at.ensures.1 b.ensures.0 i) }))

@@ -21,5 +21,5 @@ returns-clause-takes c =
     let u = c.wrapping_sub_u32 in
     take_done s.plan.now s.store.now s.limit p.result s.a p.ensures.1 s.i.code s.i.a s.at _
     k.result port.result u.result t.new.x (sym c.owing.ensures ∙ c.if-owing.false)
-    (rw (w.ensures, x.ensures) at k.ensures.1) (port.ensures k.ensures.0) t.ensures.became t.ensures.backup_stays u.ensures.value u.type_inv
+    (rw (w.ensures, x.ensures) at k.ensures.1) (port.ensures k.ensures.0) t.ensures.became u.ensures.value u.type_inv
     (rw (← x.ensures, ← w.ensures, ← c.word_of.ensures) c.alone.ensures)
