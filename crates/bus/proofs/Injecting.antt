@@ -55,7 +55,7 @@ module _ (l : plan.Plan) (s : Store) (a word k : ℕ) (r : Answer) (is-k : a < 3
   its_channel ok there = is-k (let z = ok.channels_high in omega arith)
 
   pub injects_43 : sender ≢ environment → r ≡ refusal_of NotFromOutside a → Injects l s a word s r
-  injects_43 n e table =
+  injects_43 n e table counts programs queues =
       makes-refused NotFromOutside (ap alone_of e) (λ t entries c command reach planned h f there.
       let same : sender ≡ sender_in l.wires a = is-sender ∙ ap (sender_in l.wires) (its_channel reach.accepted there) in
       turned_away_lem command a not_outside h (refused_43 planned h a word there (λ z. n (same ∙ z))) f refl)
@@ -70,7 +70,7 @@ module _ (l : plan.Plan) (s : Store) (a word k : ℕ) (r : Answer) (is-k : a < 3
         ap (λ (i : ℕ). full_in (reader_in l.wires i) (get_or s.totals i 0)) (sym e) ∙ ap (λ (i : ℕ). full_in i (get_or s.totals k 0)) (sym is-reader) ∙ n
 
     pub injects_39 : full_in reader (get_or s.totals k 0) ≡ true → r ≡ refusal_of HeldForFeed a → Injects l s a word s r
-    injects_39 b e table =
+    injects_39 b e table counts programs queues =
         makes-refused HeldForFeed (ap alone_of e) (λ t entries c command reach planned h f there.
         let same : k ≡ a = its_channel reach.accepted there in
         turned_away_lem command a inject_held h (refused_39 planned h a word there (its_sender same) (its_test true b same)) f refl)
@@ -79,12 +79,12 @@ module _ (l : plan.Plan) (s : Store) (a word k : ℕ) (r : Answer) (is-k : a < 3
     pub injects_done : (s' : Store) (more : ℕ) → full_in reader (get_or s.totals k 0) ≡ false → more ≡ (get_or s'.totals k 0 + 1) % 2 ^ 32
         → r ≡ injected_of a word → Delivers l s a word s' → Injects l s a word (with_totals s' (set s'.totals k more)) r
     unfolding numbers cause_of
-    injects_done s' more b is-more e d table =
+    injects_done s' more b is-more e d table counts programs queues =
         let long = lengths_only d.only in
         makes_alone (injected_of a word) (omega arith)
         (record {
           processes-same = long.processes-same;
-          queues-same = long.queues-same;
+          queues-same = refl;
           totals-same = length-set s'.totals k more ∙ long.totals-same;
         })
         (ap alone_of e)
@@ -103,6 +103,6 @@ module _ (l : plan.Plan) (s : Store) (a word k : ℕ) (r : Answer) (is-k : a < 3
         let true-there : Totalled t (set s'.totals k more) (deliver t (mail_of a word) c) =
         subst (λ (x : List ℕ). Totalled t (set x k more) (deliver t (mail_of a word) c)) (sym same-totals)
         (subst (λ (i : ℕ). Totalled t (set s.totals i more) (deliver t (mail_of a word) c)) (sym same-k) true-again) in
-        let done = d.holds t table s.totals (set s'.totals k more) entries c reach.accepted planned h to
+        let done = d.holds t table counts programs queues s.totals (set s'.totals k more) entries c reach.accepted planned h to
         (room_for_feed reach a (its_full planned h a word there ∙ free)) true-there in
         answered _ (injected (mail_of a word)) so refl refl done)
