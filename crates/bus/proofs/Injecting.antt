@@ -2,18 +2,19 @@
 use Rattle.std.proofs.Common.{◌≡◌, ℕ, ◌+◌, ◌%◌, ◌^◌, ◌<◌, Bool, true, false, ◌≢◌, List, length, get_or, set, sym, refl, ap, ◌∙◌, subst, arith, length-set, eq-eqb, ne_eqb}
 use Rattle.numbers.specs.declared.answers.Reason.TheVariants.{NotFromOutside, HeldForFeed}
 use Rattle.plan.specs.declared.Plan as plan
-use Rattle.plan.specs.Plan.{Plan, sender_in, reader_in, Planned}
+use Rattle.plan.specs.Plan.{Plan, plan_of, sender_in, reader_in, Planned}
 use Rattle.rules.specs.Table.{Table, environment, channel_at}
 use Rattle.rules.specs.Judge.{Accepted}
 use Rattle.rules.specs.Cabinet.{Cabinet, full}
 use Rattle.rules.specs.Moves.{refuse, accept, guard, not_outside, inject_held, inject, deliver, injected, numbers}
 use Rattle.state.specs.declared.entry.Entry.{Entry}
 use Rattle.state.specs.declared.moved.Answer.{Answer}
+use Rattle.state.specs.declared.queue.Queue.{Queue}
 use Rattle.state.specs.declared.store.Store.{Store}
 use Rattle.state.specs.Store.{Totalled, Holds}
 use Rattle.rules.specs.Reasons.{cause_of}
 use Rattle.state.specs.Channel.{full_in}
-use Rattle.state.specs.Moved.{refusal_of, alone_of}
+use Rattle.state.specs.Moved.{MakesAlone, AChannel, refusal_of, alone_of}
 use Rattle.state.proofs.Refusing.{turned_away_lem, makes-refused}
 use Rattle.state.proofs.Making.{answered, makes_alone}
 use Rattle.state.proofs.Reading.{how_many}
@@ -106,3 +107,10 @@ module _ (l : plan.Plan) (s : Store) (a word k : ℕ) (r : Answer) (is-k : a < 3
         let done = d.holds t table counts programs queues s.totals (set s'.totals k more) entries c reach.accepted planned h to
         (room_for_feed reach a (its_full planned h a word there ∙ free)) true-there in
         answered _ (injected (mail_of a word)) so refl refl done)
+
+-- of the plan and the store that it is lent, whose queues stay
+pub injects_own : {l : plan.Plan} {s : Store} {a : ℕ} (word : ℕ) {s' : Store} {r : Answer} → Injects l s a word s' r → s'.queues ≡ s.queues → (table : List ℕ)
+    → MakesAlone (λ t c k. inject t c (mail_of k word)) (AChannel a) (plan_of table l) s a s' r
+injects_own {l} {s} {a} word {s'} {r} m stay table =
+    subst (λ (q : List Queue). MakesAlone (λ t c k. inject t c (mail_of k word)) (AChannel a) (plan_of table l) s a (record s' { queues = q }) r) (sym stay)
+    (m table l.counts l.programs s.queues)

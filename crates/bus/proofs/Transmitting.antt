@@ -26,7 +26,7 @@ use Rattle.state.specs.declared.queue.Queue.{Queue}
 use Rattle.state.specs.declared.store.Store.{Store}
 use Rattle.state.specs.Queue.{no_queue, first_in, count_in, dead_in, oldest_of, front_of, popped_in}
 use Rattle.state.specs.Store.{Holds, lists_at, item_of, blank_entry, outbox_in}
-use Rattle.state.specs.Moved.{Reachable, Answered, SameLengths, refusal_of, alone_of}
+use Rattle.state.specs.Moved.{Reachable, Answered, SameLengths, MakesAlone, refusal_of, alone_of}
 use Rattle.state.proofs.Reading.{at_outbox, at_dead, how_many_boards}
 use Rattle.state.proofs.Totals.{occupancy_outbox, totalled-afresh}
 use Rattle.state.proofs.Flagging.{flagged_none}
@@ -42,9 +42,11 @@ use Rattle.bus.specs.Delivers.{mail_of}
 use Rattle.bus.specs.Carries.{counted_at, OnBus, Carries}
 use Rattle.bus.specs.Syncs.{Syncs}
 use Rattle.bus.specs.Transfers.{Transfers}
-use Rattle.bus.specs.Transmits.{Transmits}
+use Rattle.bus.specs.Transmits.{Oldest, Transmits}
 use Rattle.bus.proofs.Delivering.{lengths_only}
 use Rattle.bus.proofs.Leaving.{oldest-is}
+use Rattle.bus.proofs.Syncing.{syncs_own}
+use Rattle.bus.proofs.Transferring.{transfers_own}
 
 -- ---- what an entry is
 
@@ -236,10 +238,15 @@ module _ (l : plan.Plan) (s : Store) (a b : ℕ) (x : Entry) (r : Answer) (is_b 
       transmits-sync process checkpoint is-sync s' carried =
           transmits_so (rules.checkpoint process (checkpoint_of checkpoint)) (ap item_of is-sync) s' carried.done (lengths_only carried.only)
           (λ t table counts programs entries c command reach planned h hb gone q.
-          carried.answered t s entries c command a q.rest reach h hb gone q.is_queue)
+          syncs_own carried t s entries c command a q.rest reach h hb gone q.is_queue)
 
       pub transmits-transfer : (process : ℕ) → i ≡ Transfer process → (s' : Store) → Transfers left process s' r → Transmits l s a x s' r
       transmits-transfer process is-transfer s' carried =
           transmits_so (rules.transfer process) (ap item_of is-transfer) s' carried.done (lengths_only carried.only)
           (λ t table counts programs entries c command reach planned h hb gone q.
-          carried.answered t s entries c command a q.rest reach h hb gone q.is_queue)
+          transfers_own carried t s entries c command a q.rest reach h hb gone q.is_queue)
+
+-- of the plan that it is lent
+pub transmits_own : {l : plan.Plan} {s : Store} {a : ℕ} {oldest : Entry} {s' : Store} {r : Answer} → Transmits l s a oldest s' r → (table : List ℕ)
+    → MakesAlone transmit (Oldest s.queues a oldest) (plan_of table l) s a s' r
+transmits_own {l} m table = m table l.counts l.programs
