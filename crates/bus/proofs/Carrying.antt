@@ -1,7 +1,9 @@
 -- A word is carried: the sender's half, and then the reader's, which may be the same process.
 use Rattle.std.proofs.Common.{◌≡◌, ℕ, ◌+◌, ◌%◌, ◌^◌, ◌<◌, ◌≢◌, List, length, get_or, set, sym, refl, ap, ◌∙◌, subst, arith, length-set, get_or-set_other, get_or-set_same}
 use Rattle.facts.specs.Tests.{by_eq}
+use Rattle.plan.specs.declared.Counts.{Counts}
 use Rattle.plan.specs.declared.Plan as plan
+use Rattle.plan.specs.declared.Program.{Program}
 use Rattle.plan.specs.Plan.{sender_in, reader_in, plan_of, Planned}
 use Rattle.process.specs.declared.process.Process as code
 use Rattle.process.specs.Change.{Changes}
@@ -12,13 +14,13 @@ use Rattle.rules.specs.Cabinet.{Cabinet, Process, nobody, process_at, occupancy}
 use Rattle.rules.specs.Moves.{deliver, counts, with_process}
 use Rattle.state.specs.declared.entry.Entry.{Entry}
 use Rattle.state.specs.declared.moved.Answer.{Answer}
+use Rattle.state.specs.declared.queue.Queue.{Queue}
 use Rattle.state.specs.declared.store.Store.{Store}
 use Rattle.state.specs.Store.{Totalled, Holds, lists_at}
 use Rattle.state.proofs.Changing.{put_process, row_changed}
 use Rattle.state.proofs.Reading.{how_many}
 use Rattle.state.proofs.Totals.{occupancy-mailbox, totalled_less, retotalled}
 use Rattle.state.proofs.Ends.{reader-inside}
-use Rattle.bus.specs.Parts.{with_totals}
 use Rattle.bus.specs.Delivers.{mail_of, Delivers}
 use Rattle.bus.specs.Transmitted.{transmitted_of}
 use Rattle.bus.specs.Carries.{counted_at, Carries}
@@ -42,8 +44,9 @@ module _ (l : plan.Plan) (s : Store) (channel word k sender p : ℕ) (x : code.P
   abbrev counted_store : Store
   counted_store = put_process s p x s.totals
 
-  module _ {t : Table} {table between : List ℕ} {entries : List Entry} {c : Cabinet} (ok : Accepted t) (planned : Planned t (plan_of table l))
-      (h : Holds t (with_totals s between) entries c) (there : channel < length t.channels)
+  module _ {t : Table} {table between : List ℕ} {counts' : Counts} {programs : List Program} {queues : List Queue} {entries : List Entry} {c : Cabinet}
+      (ok : Accepted t) (planned : Planned t (plan_of table (record l { counts = counts'; programs = programs })))
+      (h : Holds t (record s { queues = queues; totals = between }) entries c) (there : channel < length t.channels)
       (inside : (channel_at t channel).sender < length t.processes) where
     its_channel : k ≡ channel
     its_channel = is-k (let z = ok.channels_high in omega arith)
@@ -52,14 +55,14 @@ module _ (l : plan.Plan) (s : Store) (channel word k sender p : ℕ) (x : code.P
     there-is = rw (how_many h) inside
 
     -- the sender's half
-    sender-counts : Holds t (with_totals counted_store between) entries (counted_at t channel c)
+    sender-counts : Holds t (record counted_store { queues = queues; totals = between }) entries (counted_at t channel c)
     unfolding counts
     sender-counts =
         let its : sender ≡ (channel_at t channel).sender = is-sender ∙ ap (sender_in l.wires) its_channel ∙ planned.sender_at channel there in
         let pr : p ≡ (channel_at t channel).sender = is-p (let z = ok.processes_high in omega arith) ∙ its in
         let hp : p < length t.processes = rw pr inside in
         let first = row_changed h ok.processes_high p hp x counts (counted (h.kept p hp)) refl refl in
-        subst (λ (q : ℕ). Holds t (with_totals counted_store between) entries (with_process q (counts (process_at c q)) c)) pr first
+        subst (λ (q : ℕ). Holds t (record counted_store { queues = queues; totals = between }) entries (with_process q (counts (process_at c q)) c)) pr first
 
     -- it changes no mailbox, and so no count
     counted_same : (i : ℕ) → occupancy t (counted_at t channel c) i ≡ occupancy t c i
@@ -74,7 +77,7 @@ module _ (l : plan.Plan) (s : Store) (channel word k sender p : ℕ) (x : code.P
       → Delivers l counted_store channel word s' → Carries l s channel word s' r
   carries-inside reader is-reader within s' delivered = record {
     answer-is = is-answer;
-    holds = λ t table between entries c ok planned h bus there inside room.
+    holds = λ t table counts' programs queues between entries c ok planned h bus there inside room.
         let named = sender-counts ok planned h there inside in
         let to : (channel_at t channel).reader < length t.processes =
         reader-inside ok channel there (λ f. within (its_reader ok planned h there inside reader is-reader ∙ f)) in
@@ -86,7 +89,7 @@ module _ (l : plan.Plan) (s : Store) (channel word k sender p : ℕ) (x : code.P
               omega arith;
           totals-length = bus.totals-length;
         } in
-        delivered.holds t table between s'.totals entries (counted_at t channel c) ok planned named to
+        delivered.holds t table counts' programs queues between s'.totals entries (counted_at t channel c) ok planned named to
         (λ i. let a = room i in
         let b = ap (λ (y : List Mail). length y)
         (mailbox-stays c.processes (channel_at t channel).sender (channel_at t channel).reader (there-is ok planned h there inside)) in
@@ -108,7 +111,7 @@ module _ (l : plan.Plan) (s : Store) (channel word k sender p : ℕ) (x : code.P
       → Carries l s channel word (put_process s p x (set s.totals k less)) r
   carries-outside reader is-reader out less wraps small = record {
     answer-is = is-answer;
-    holds = λ t table between entries c ok planned h bus there inside room.
+    holds = λ t table counts' programs queues between entries c ok planned h bus there inside room.
         let named = sender-counts ok planned h there inside in
         let same-k : k ≡ channel = its_channel ok planned h there inside in
         let nobody-gets : deliver t (mail_of channel word) (counted_at t channel c) ≡ counted_at t channel c =
@@ -118,7 +121,7 @@ module _ (l : plan.Plan) (s : Store) (channel word k sender p : ℕ) (x : code.P
         totalled_less s.totals ok.channels_high channel there bus.totals-length less
         (λ i li. let a = bus.total-is i li in let b = counted_same ok planned h there inside i in omega arith)
         (wraps ∙ ap (λ (i : ℕ). get_or s.totals i 0) same-k) small in
-        subst (Holds t (put_process s p x (set s.totals k less)) entries) (sym nobody-gets)
+        subst (Holds t (record (put_process s p x (set s.totals k less)) { queues = queues }) entries) (sym nobody-gets)
         (retotalled named (set s.totals k less) (subst (λ (i : ℕ). Totalled t (set s.totals i less) (counted_at t channel c)) (sym same-k) true-again));
     queues-is = refl;
     same_lengths = record {

@@ -87,7 +87,7 @@ pub delivers : (l : plan.Plan) (s : Store) (channel word k reader p port : ℕ) 
     → (reader < 16 → p ≡ reader) → port ≡ port_in l.wires k → (x : code.Process) → Received (lists_at s p) x port channel word
     → Delivers l s channel word (put_process s p x s.totals)
 delivers l s channel word k reader p port is-k is-reader is-p is-port x got = record {
-  holds = λ t table totals totals' entries c ok planned h inside room totalled.
+  holds = λ t table counts programs queues totals totals' entries c ok planned h inside room totalled.
       let there : channel < length t.channels = read_inside ok channel inside in
       let e : k ≡ channel = is-k (let z = ok.channels_high in omega arith) in
       let r : ℕ = (channel_at t channel).reader in

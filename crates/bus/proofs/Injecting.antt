@@ -2,18 +2,19 @@
 use Rattle.std.proofs.Common.{◌≡◌, ℕ, ◌+◌, ◌%◌, ◌^◌, ◌<◌, Bool, true, false, ◌≢◌, List, length, get_or, set, sym, refl, ap, ◌∙◌, subst, arith, length-set, eq-eqb, ne_eqb}
 use Rattle.numbers.specs.declared.answers.Reason.TheVariants.{NotFromOutside, HeldForFeed}
 use Rattle.plan.specs.declared.Plan as plan
-use Rattle.plan.specs.Plan.{Plan, sender_in, reader_in, Planned}
+use Rattle.plan.specs.Plan.{Plan, plan_of, sender_in, reader_in, Planned}
 use Rattle.rules.specs.Table.{Table, environment, channel_at}
 use Rattle.rules.specs.Judge.{Accepted}
 use Rattle.rules.specs.Cabinet.{Cabinet, full}
 use Rattle.rules.specs.Moves.{refuse, accept, guard, not_outside, inject_held, inject, deliver, injected, numbers}
 use Rattle.state.specs.declared.entry.Entry.{Entry}
 use Rattle.state.specs.declared.moved.Answer.{Answer}
+use Rattle.state.specs.declared.queue.Queue.{Queue}
 use Rattle.state.specs.declared.store.Store.{Store}
 use Rattle.state.specs.Store.{Totalled, Holds}
 use Rattle.rules.specs.Reasons.{cause_of}
 use Rattle.state.specs.Channel.{full_in}
-use Rattle.state.specs.Moved.{refusal_of, alone_of}
+use Rattle.state.specs.Moved.{MakesAlone, AChannel, refusal_of, alone_of}
 use Rattle.state.proofs.Refusing.{turned_away_lem, makes-refused}
 use Rattle.state.proofs.Making.{answered, makes_alone}
 use Rattle.state.proofs.Reading.{how_many}
@@ -55,7 +56,7 @@ module _ (l : plan.Plan) (s : Store) (a word k : ℕ) (r : Answer) (is-k : a < 3
   its_channel ok there = is-k (let z = ok.channels_high in omega arith)
 
   pub injects_43 : sender ≢ environment → r ≡ refusal_of NotFromOutside a → Injects l s a word s r
-  injects_43 n e table =
+  injects_43 n e table counts programs queues =
       makes-refused NotFromOutside (ap alone_of e) (λ t entries c command reach planned h f there.
       let same : sender ≡ sender_in l.wires a = is-sender ∙ ap (sender_in l.wires) (its_channel reach.accepted there) in
       turned_away_lem command a not_outside h (refused_43 planned h a word there (λ z. n (same ∙ z))) f refl)
@@ -70,7 +71,7 @@ module _ (l : plan.Plan) (s : Store) (a word k : ℕ) (r : Answer) (is-k : a < 3
         ap (λ (i : ℕ). full_in (reader_in l.wires i) (get_or s.totals i 0)) (sym e) ∙ ap (λ (i : ℕ). full_in i (get_or s.totals k 0)) (sym is-reader) ∙ n
 
     pub injects_39 : full_in reader (get_or s.totals k 0) ≡ true → r ≡ refusal_of HeldForFeed a → Injects l s a word s r
-    injects_39 b e table =
+    injects_39 b e table counts programs queues =
         makes-refused HeldForFeed (ap alone_of e) (λ t entries c command reach planned h f there.
         let same : k ≡ a = its_channel reach.accepted there in
         turned_away_lem command a inject_held h (refused_39 planned h a word there (its_sender same) (its_test true b same)) f refl)
@@ -79,12 +80,12 @@ module _ (l : plan.Plan) (s : Store) (a word k : ℕ) (r : Answer) (is-k : a < 3
     pub injects_done : (s' : Store) (more : ℕ) → full_in reader (get_or s.totals k 0) ≡ false → more ≡ (get_or s'.totals k 0 + 1) % 2 ^ 32
         → r ≡ injected_of a word → Delivers l s a word s' → Injects l s a word (with_totals s' (set s'.totals k more)) r
     unfolding numbers cause_of
-    injects_done s' more b is-more e d table =
+    injects_done s' more b is-more e d table counts programs queues =
         let long = lengths_only d.only in
         makes_alone (injected_of a word) (omega arith)
         (record {
           processes-same = long.processes-same;
-          queues-same = long.queues-same;
+          queues-same = refl;
           totals-same = length-set s'.totals k more ∙ long.totals-same;
         })
         (ap alone_of e)
@@ -103,6 +104,13 @@ module _ (l : plan.Plan) (s : Store) (a word k : ℕ) (r : Answer) (is-k : a < 3
         let true-there : Totalled t (set s'.totals k more) (deliver t (mail_of a word) c) =
         subst (λ (x : List ℕ). Totalled t (set x k more) (deliver t (mail_of a word) c)) (sym same-totals)
         (subst (λ (i : ℕ). Totalled t (set s.totals i more) (deliver t (mail_of a word) c)) (sym same-k) true-again) in
-        let done = d.holds t table s.totals (set s'.totals k more) entries c reach.accepted planned h to
+        let done = d.holds t table counts programs queues s.totals (set s'.totals k more) entries c reach.accepted planned h to
         (room_for_feed reach a (its_full planned h a word there ∙ free)) true-there in
         answered _ (injected (mail_of a word)) so refl refl done)
+
+-- of the plan and the store that it is lent, whose queues stay
+pub injects_own : {l : plan.Plan} {s : Store} {a : ℕ} (word : ℕ) {s' : Store} {r : Answer} → Injects l s a word s' r → s'.queues ≡ s.queues → (table : List ℕ)
+    → MakesAlone (λ t c k. inject t c (mail_of k word)) (AChannel a) (plan_of table l) s a s' r
+injects_own {l} {s} {a} word {s'} {r} m stay table =
+    subst (λ (q : List Queue). MakesAlone (λ t c k. inject t c (mail_of k word)) (AChannel a) (plan_of table l) s a (record s' { queues = q }) r) (sym stay)
+    (m table l.counts l.programs s.queues)

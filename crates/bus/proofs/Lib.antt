@@ -1,6 +1,7 @@
 -- Why moves 3 and 4 are the rules'.
 pub mod Delivering
 pub mod Leaving
+pub mod Besides
 pub mod Syncing
 pub mod Transferring
 pub mod Injecting

@@ -11,25 +11,29 @@ use Rattle.backup.specs.declared.place.Checkpoint as checkpoints
 use Rattle.backup.specs.Place.{checkpoint_of}
 use Rattle.process.specs.declared.process.Process as code
 use Rattle.process.specs.Row.{backed, no_process}
-use Rattle.process.specs.Change.{Became, Changes, Drops}
+use Rattle.process.specs.Change.{Became, Changes, Drops, BackupAlone}
 use Rattle.process.proofs.Processes.{protected-is}
 use Rattle.rules.specs.Table.{Table}
 use Rattle.rules.specs.Cabinet as rules
 use Rattle.rules.specs.Cabinet.{Process, Standby, Cabinet, process_at, outbox_at, is_complete, protected}
 use Rattle.rules.specs.Moves.{Command, sync_kept, sync_lost, landed, dropped_from, numbers, numbered, on_backup, with_process, with_outbox, keeps, transmit_item}
 use Rattle.state.specs.declared.entry.Entry.{Entry}
+use Rattle.state.specs.declared.moved.Answer.{Answer}
 use Rattle.state.specs.declared.store.Store.{Store}
 use Rattle.state.specs.Store.{Holds, lists_at, process_in}
 use Rattle.rules.specs.Reasons.{cause_of}
 use Rattle.state.specs.Moved.{Reachable, Answered, answer_of}
+use Rattle.state.specs.Beside.{each_with}
+use Rattle.state.proofs.Beside.{each_length, each_at}
 use Rattle.state.proofs.Reading.{at_process}
 use Rattle.state.proofs.Changing.{row_changed}
 use Rattle.state.proofs.Flagging.{flagged, with_flag}
 use Rattle.state.proofs.Owners.{checkpoint_owner}
 use Rattle.state.proofs.Joining.{Waiter}
-use Rattle.bus.specs.Parts.{Left}
+use Rattle.bus.specs.Parts.{other_mail, with_mails, Left}
 use Rattle.bus.specs.Syncs.{Syncs}
 use Rattle.bus.proofs.Leaving.{at_rest, waiter_leaves}
+use Rattle.bus.proofs.Besides.{stays_rest, each_rest, own_mails, keeps-beside, drops-beside, as_left, as_then}
 
 -- the answer's reason where the process has a backup, or none
 abbrev sync_reason : Bool → Reason
@@ -105,7 +109,7 @@ protected_still processes p =
 
 module _ (s : Store) (process : ℕ) (checkpoint : checkpoints.Checkpoint) (p : ℕ) (is-p : process < 16 → p ≡ process) (x : code.Process)
     (became : Changes (lists_at s p) x (keeps (checkpoint_of checkpoint))) (dropped : ℕ)
-    (drops : Drops (lists_at s p) (checkpoint_of checkpoint) dropped) where
+    (drops : Drops (lists_at s p) (checkpoint_of checkpoint) dropped) (alone : BackupAlone (lists_at s p) x) where
   -- whether it has a backup afterwards
   abbrev shown : Bool
   shown = backed (lists_at (at_rest s p x) p).protection
@@ -116,22 +120,48 @@ module _ (s : Store) (process : ℕ) (checkpoint : checkpoints.Checkpoint) (p : 
 
   pub syncs_so : (z : Bool) → shown ≡ z → Syncs s process checkpoint (at_rest s p x) (answer_of (sync_reason z) process (cond z dropped 0))
   syncs_so z e = record {
-    answered = λ t before entries c command b rest reach h hb left oldest.
+    answered = λ t mails queues totals entries c command b queue' rest long reach h hb popped oldest.
         let k : Checkpoint = checkpoint_of checkpoint in
+        let before : Store = record (with_mails mails s) { queues = queues; totals = totals } in
+        let left : Left before b (record before { queues = set queues b queue' }) = record { queue = queue'; popped = popped; left-is = refl } in
         let hp : process < length t.processes = its_process reach h b hb left process k rest oldest in
         let same : p ≡ process = is-p (let y = reach.accepted.processes_high in omega arith) in
         let there : p < length s.processes =
-        (let y = ap (λ (y : Store). length y.processes) left.left-is in
+        (let y = each_length other_mail mails s.processes in
         let l = h.shape.processes-length in
         let m = reach.accepted.processes_high in
         omega arith) in
         let is-shown : shown ≡ backed x.protection =
         ap backed (protected_still (set s.processes p x) p ∙ ap (λ (y : code.Process). y.protection) (get_or-set_same s.processes p x no_process there)) in
-        let was : lists_at s p ≡ lists_at before process = λ i. lists_at (left.left-is i) (same i) in
-        subst (λ (i : ℕ). Answered t (at_rest s i x) entries c command (transmit_item t (with_outbox b rest c) (rules.checkpoint process k))
-        (answer_of (sync_reason z) process (cond z dropped 0))) (sym same)
-        (sync-answered reach h b hb left process k rest oldest x (subst (λ (y : code.Process). Changes y x (keeps k)) was became (h.kept process hp))
-        dropped (subst (λ (y : code.Process). Drops y k dropped) was drops) command z (sym is-shown ∙ e));
+        let x' : code.Process = other_mail x (mails p) in
+        let was : other_mail (lists_at s p) (mails p) ≡ lists_at before process =
+        sym (each_at other_mail mails s.processes p there) ∙ ap (lists_at before) same in
+        let as-long : length (mails p).mail ≡ length (lists_at s p).mail =
+        subst (λ (i : ℕ). length (mails i).mail ≡ length (lists_at s i).mail) (sym same) long in
+        let changes = keeps-beside (lists_at s p) (mails p) as-long k x alone became in
+        let its = drops-beside (lists_at s p) (mails p) as-long k dropped drops in
+        let done = sync-answered reach h b hb left process k rest oldest x' (subst (λ (y : code.Process). Changes y x' (keeps k)) was changes (h.kept process hp))
+        dropped (subst (λ (y : code.Process). Drops y k dropped) was its) command z (sym is-shown ∙ e) in
+        let processes-is : with_flag (set before.processes process x') process false ≡ each_with other_mail mails (at_rest s p x).processes =
+        ap (λ (i : ℕ). with_flag (set before.processes i x') i false) (sym same) ∙ sym (each_rest other_mail mails false (λ y i. refl) s.processes p x there) in
+        subst (λ (y : List code.Process). Answered t (record { processes = y; queues = set queues b queue'; totals = totals }) entries c command
+        (transmit_item t (with_outbox b rest c) (rules.checkpoint process k)) (answer_of (sync_reason z) process (cond z dropped 0))) processes-is done;
     done = sync_done z;
     only = record { processes-same = length-set (set s.processes p x) p _ ∙ length-set s.processes p x; queues-is = refl; totals-is = refl };
+    mails-stay = stays_rest (λ (y : code.Process). y.mail) false (λ y. refl) s.processes p x (ap (λ (y : code.Process). y.mail) alone);
   }
+
+-- of the store as it was before the entry left its queue, whose mailboxes, queues and totals it has
+pub syncs_own : {s s' : Store} {process : ℕ} {checkpoint : checkpoints.Checkpoint} {r : Answer} → Syncs s process checkpoint s' r
+    → (t : Table) (before : Store) (entries : List Entry) (c : Cabinet) (command : Command) (b : ℕ) (rest : List rules.Item)
+    → Reachable t c → Holds t before entries c → b < t.boards → Left before b s
+    → outbox_at c b ≡ rules.checkpoint process (checkpoint_of checkpoint) ∷ rest
+    → Answered t s' entries c command (transmit_item t (with_outbox b rest c) (rules.checkpoint process (checkpoint_of checkpoint))) r
+syncs_own {s} {s'} {process} {checkpoint} {r} m t before entries c command b rest reach h hb left oldest =
+    let was : before ≡ record (with_mails (lists_at s) s) { queues = before.queues; totals = before.totals } =
+    as_left before (with_mails (lists_at s)) left (own_mails s s (λ p. refl)) in
+    let is : record (with_mails (lists_at s) s') { queues = set before.queues b left.queue; totals = before.totals } ≡ s' =
+    as_then before (with_mails (lists_at s)) left m.only (own_mails s s' m.mails-stay) in
+    subst (λ (y : Store). Answered t y entries c command (transmit_item t (with_outbox b rest c) (rules.checkpoint process (checkpoint_of checkpoint))) r) is
+    (m.answered t (lists_at s) before.queues before.totals entries c command b left.queue rest refl reach
+    (subst (λ (y : Store). Holds t y entries c) was h) hb left.popped oldest)

@@ -7,13 +7,15 @@ use Rattle.rules.specs.Cabinet.{Cabinet, process_at, occupancy}
 use Rattle.rules.specs.Moves.{deliver, counts, with_process}
 use Rattle.state.specs.declared.entry.Entry.{Entry}
 use Rattle.state.specs.declared.moved.Answer.{Answer}
+use Rattle.state.specs.declared.queue.Queue.{Queue}
 use Rattle.state.specs.declared.store.Store.{Store}
 use Rattle.state.specs.Store.{Holds}
 use Rattle.state.specs.Moved.{SameLengths}
+use Rattle.plan.specs.declared.Counts.{Counts}
 use Rattle.plan.specs.declared.Plan.{Plan}
+use Rattle.plan.specs.declared.Program.{Program}
 use Rattle.plan.specs.Plan.{plan_of, Planned}
 use Rattle.rules.specs.Sizes.{channels_most}
-use Rattle.bus.specs.Parts.{with_totals}
 use Rattle.bus.specs.Delivers.{mail_of, Room}
 use Rattle.bus.specs.Transmitted.{transmitted_of}
 
@@ -26,13 +28,15 @@ pub record OnBus (t : Table) (totals : List ℕ) (channel : ℕ) (c : Cabinet) :
   pub total-is : (k : ℕ) → k < length t.channels → slice_index totals k ≡ occupancy t c k + same k channel
   pub totals-length : length totals ≡ channels_most
 
--- Whatever the table's bytes are, which it isn't lent. The store holds the cabinet but for its totals, which count the word still: `between` are
--- those that don't.
+-- Whatever the table's bytes are, which it isn't lent, and the plan's counts and programs and the queues, which it doesn't look at. The store holds
+-- the cabinet but for its totals, which count the word still: `between` are those that don't.
 pub record Carries (l : Plan) (s : Store) (channel word : ℕ) (s' : Store) (r : Answer) : Type 0 where
   pub answer-is : r ≡ transmitted_of channel word
-  pub holds : (t : Table) (table between : List ℕ) (entries : List Entry) (c : Cabinet)
-      → Accepted t → Planned t (plan_of table l) → Holds t (with_totals s between) entries c
+  pub holds : (t : Table) (table : List ℕ) (counts : Counts) (programs : List Program) (queues : List Queue) (between : List ℕ)
+      (entries : List Entry) (c : Cabinet)
+      → Accepted t → Planned t (plan_of table (record l { counts = counts; programs = programs }))
+      → Holds t (record s { queues = queues; totals = between }) entries c
       → OnBus t s.totals channel c → channel < length t.channels → (channel_at t channel).sender < length t.processes → Room t c channel
-      → Holds t s' entries (deliver t (mail_of channel word) (counted_at t channel c))
+      → Holds t (record s' { queues = queues }) entries (deliver t (mail_of channel word) (counted_at t channel c))
   pub queues-is : s'.queues ≡ s.queues
   pub same_lengths : SameLengths s s'

@@ -1,6 +1,8 @@
 -- Move 3 (document 01: "carry board a: the oldest entry leaves").
 use Rattle.std.specs.Prelude.{◌≡◌, ℕ, ◌<◌, List, slice_index_or}
+use Rattle.plan.specs.declared.Counts.{Counts}
 use Rattle.plan.specs.declared.Plan.{Plan}
+use Rattle.plan.specs.declared.Program.{Program}
 use Rattle.plan.specs.Plan.{plan_of}
 use Rattle.rules.specs.Table.{Table}
 use Rattle.rules.specs.Moves.{transmit}
@@ -17,6 +19,9 @@ pub record Oldest (queues : List Queue) (a : ℕ) (oldest : Entry) (t : Table) (
   pub board-there : a < t.boards
   pub oldest-is : oldest ≡ slice_index_or entries (oldest_of (slice_index_or queues a no_queue) a) blank_entry
 
--- whatever the table's bytes are, which it isn't lent, and the entries of which it is handed the oldest
+-- whatever the table's bytes are, which it isn't lent, the plan's counts and programs, which it doesn't look at, and the entries of which it is handed
+-- the oldest
 abbrev pub Transmits : Plan → Store → ℕ → Entry → Store → Answer → Type 0
-Transmits l s a oldest s' r = (table : List ℕ) → MakesAlone transmit (Oldest s.queues a oldest) (plan_of table l) s a s' r
+Transmits l s a oldest s' r =
+    (table : List ℕ) (counts : Counts) (programs : List Program)
+    → MakesAlone transmit (Oldest s.queues a oldest) (plan_of table (record l { counts = counts; programs = programs })) s a s' r

@@ -10,7 +10,9 @@ use Rattle.rules.specs.Schedule.{commands_in}
 use Rattle.state.specs.Store.{blank_entry}
 use Rattle.step.specs.Parts.{sent_as}
 use Rattle.step.specs.Issues.{synced_as}
+use Rattle.bus.proofs.Injecting.{injects_own}
 use Rattle.bus.proofs.Originating.{carried_told}
+use Rattle.bus.proofs.Transmitting.{transmits_own}
 use Rattle.stretch.specs.Plays.{sheets_of, RoomAt}
 use Rattle.stretch.proofs.Sheets.{has_room}
 use Rattle.stretch.proofs.Playing.{at_first, Turned, turned_same, on, comes_refused, comes_made, comes_mended, Round, at_last, at_undo, none-joined, one_joined, default_free}
@@ -123,7 +125,7 @@ loop-i-preserved-in-3 c =
     let g = (goal.at.loop-i-preserved-in-3 c).After-due_of-d in
     let q = c.loop-i in (
       on (round g)
-          (comes_made (round g) c.in_default.is 3 refl c.in-3.is (c.transmit-r.ensures c.args.table.now)
+          (comes_made (round g) c.in_default.is 3 refl c.in-3.is (transmits_own c.transmit-r.ensures c.args.table.now)
           (λ t now ok holds b. (
             record {
               board-there = b;
@@ -145,7 +147,7 @@ loop-i-preserved-in-4 c =
     let g = (goal.at.loop-i-preserved-in-4 c).After-due_of-d in
     let q = c.loop-i in (
       on (round g)
-          (comes_made (round g) c.in_default.is 4 refl c.in-4.is (c.inject-r.ensures.injects c.args.table.now)
+          (comes_made (round g) c.in_default.is 4 refl c.in-4.is (injects_own _ c.inject-r.ensures.injects c.inject-r.ensures.queues_stay c.args.table.now)
           (λ t now ok holds b. (b, refl))
           (λ t now u b asked w. sym c.fed.ensures))
           c.write_from-in-4.ensures,

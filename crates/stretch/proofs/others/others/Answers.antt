@@ -3,6 +3,7 @@ use Rattle.std.proofs.Common.{◌≡◌, refl, ap, ◌∙◌, arith}
 use Rattle.numbers.specs.declared.answers.Reason.{Reason}
 use Rattle.rules.specs.Moves.{no_origin}
 use Rattle.bus.specs.Origins.{origin_in}
+use Rattle.bus.proofs.Injecting.{injects_own}
 use Rattle.state.specs.Moved.{alone_of, refusal_of}
 use Rattle.stretch.proofs.Mending.{any_entry}
 use Rattle.stretch.proofs.others.others.Goals as goal
@@ -30,7 +31,7 @@ returns-in-4 c =
       at_is = refl;
       writes = c.write_from.ensures;
       refused = λ reason e. absurd (cc (none, e));
-      fed = λ _ _. (c.fed.ensures, λ table. any_entry refl (c.inject-r.ensures.injects table));
+      fed = λ _ _. (c.fed.ensures, λ table. any_entry refl (injects_own _ c.inject-r.ensures.injects c.inject-r.ensures.queues_stay table));
       mended = λ _ n. absurd (n c.in-4.is);
     }
 
