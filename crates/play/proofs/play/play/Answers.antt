@@ -7,10 +7,11 @@ use lib.ListN.{get_or, set}
 use Rattle.plan.specs.Plan.{plan_of}
 use Rattle.rules.specs.Moves.{Command, no_origin}
 use Rattle.rules.specs.Schedule.{commands_in}
-use Rattle.state.specs.Store.{blank_entry}
+use Rattle.state.specs.Store.{blank_entry, lists_at}
 use Rattle.step.specs.Parts.{sent_as}
 use Rattle.step.specs.Issues.{synced_as}
 use Rattle.bus.proofs.Injecting.{injects_own}
+use Rattle.step.proofs.Beside.{steps_own, issues_own}
 use Rattle.bus.proofs.Originating.{carried_told}
 use Rattle.bus.proofs.Transmitting.{transmits_own}
 use Rattle.stretch.specs.Plays.{sheets_of, RoomAt}
@@ -62,7 +63,7 @@ loop-i-preserved-then-eq c =
     let q = c.loop-i in
     let m = c.step-m in (
       on (round g)
-          (comes_made (round g) c.in_default.is 1 refl c.in-1.is m.ensures.steps
+          (comes_made (round g) c.in_default.is 1 refl c.in-1.is (steps_own c.args.table.now c.args.plan.now q.store _ _ _ m.ensures.steps m.ensures.backups_stay)
           (λ t now ok holds b. (
             b,
             elim c.match-m.branch [
@@ -87,7 +88,7 @@ loop-i-preserved-in-1 c =
     let q = c.loop-i in
     let m = c.step-m in (
       on (round g)
-          (comes_made (round g) c.in_default.is 1 refl c.in-1.is m.ensures.steps
+          (comes_made (round g) c.in_default.is 1 refl c.in-1.is (steps_own c.args.table.now c.args.plan.now q.store _ _ _ m.ensures.steps m.ensures.backups_stay)
           (λ t now ok holds b. (
             b,
             elim c.match-m.branch [
@@ -104,12 +105,19 @@ loop-i-preserved-in-1 c =
     )
 
 -- where an entry joins there is a place for it
+pub bounds-entries-at : goal.bounds-entries-at
+bounds-entries-at c = (c.step-m.ensures.steps c.args.plan.now.counts (lists_at c.loop-i.store)).at-inside c.in-Some-at.at c.in-Some-at.is
+
+pub offset_bounds-entries-at : goal.offset_bounds-entries-at
+offset_bounds-entries-at c =
+    let h = (c.step-m.ensures.steps c.args.plan.now.counts (lists_at c.loop-i.store)).at-inside c.in-Some-at.at c.in-Some-at.is in omega arith
+
 pub bounds-entries-at-in-Some-at-2 : goal.bounds-entries-at-in-Some-at-2
-bounds-entries-at-in-Some-at-2 c = (c.issue-m.ensures.issues (plan_of c.args.table.now c.args.plan.now)).at-inside c.in-Some-at-2.at c.in-Some-at-2.is
+bounds-entries-at-in-Some-at-2 c = (c.issue-m.ensures.issues (plan_of c.args.table.now c.args.plan.now) (lists_at c.loop-i.store) c.loop-i.store.totals).at-inside c.in-Some-at-2.at c.in-Some-at-2.is
 
 pub offset_bounds-entries-at-in-Some-at-2 : goal.offset_bounds-entries-at-in-Some-at-2
 offset_bounds-entries-at-in-Some-at-2 c =
-    let h = (c.issue-m.ensures.issues (plan_of c.args.table.now c.args.plan.now)).at-inside c.in-Some-at-2.at c.in-Some-at-2.is in omega arith
+    let h = (c.issue-m.ensures.issues (plan_of c.args.table.now c.args.plan.now) (lists_at c.loop-i.store) c.loop-i.store.totals).at-inside c.in-Some-at-2.at c.in-Some-at-2.is in omega arith
 
 pub bounds-entries-at-in-Some-at-3 : goal.bounds-entries-at-in-Some-at-3
 bounds-entries-at-in-Some-at-3 c = mended_inside c.mend-m.ensures c.in-Some-at-3.at c.in-Some-at-3.is
@@ -168,7 +176,7 @@ loop-i-preserved c =
       | in-Some+else-mv-eq-UNDO w ↦ turned_same w.store-is w.entries-is w.r-is
           (comes_refused (round g) w.in-Some.reason w.in-Some.is w.if-mv-eq-UNDO.false w.refusal-r.ensures)
       | in_default+in-2 w ↦ turned_same w.store-is w.entries-is w.r-is
-          (comes_made (round g) w.in_default.is 2 refl w.in-2.is (w.issue-m.ensures.issues _)
+          (comes_made (round g) w.in_default.is 2 refl w.in-2.is (issues_own q.store _ _ _ w.issue-m.ensures.issues w.issue-m.ensures.mails_stay w.issue-m.ensures.backups_stay w.issue-m.ensures.totals_stay _)
           (λ t now ok holds b. (
             b,
             elim w.match-m-2.branch [
