@@ -8,7 +8,7 @@ ghost use Rattle.bench_input.specs.Parts.{Printed, RunPrinted};
 use crate::bytes::length_field;
 use cabinet::run::{Ended, run};
 use numbers::runs::Refusal;
-use page::{write_accepted, write_refused};
+use page::write_page;
 use plan::PROCESSES as PROCESSES_MOST;
 use records::bytes::byte;
 use records::schedule::COMMANDS_MOST;
@@ -36,8 +36,8 @@ fn print(
     ensures { Printed processes (ran_by ended (shown_of answers.now report.now)) out.old result out.new }
 {
     match ended {
-        Ok(e) => write_accepted(e.records, e.quiet, answers, processes, report, out),
-        Err(refusal) => write_refused(refusal, out),
+        Ok(e) => write_page(0, e.records, e.quiet, answers, processes, report, out),
+        Err(refusal) => write_page(refusal.number(), 0, false, answers, processes, report, out),
     }
 }
 

@@ -24,8 +24,9 @@ pub struct Admitted {
 }
 
 // The buffers, for so many records and processes: "11 answer buffer under six bytes a record; 12 report buffer under 20 bytes a process"; W-206: 11
-// also for a buffer of reasons under one byte a record; W-212: "51, that buffer is under two bytes a record, after 12".
-fn judge_buffers(records: usize, processes: usize, lengths: Lengths) -> Result<(), Refusal>
+// also for a buffer of reasons under one byte a record; W-212: "51, that buffer is under two bytes a record, after 12". Public for a caller that has
+// these numbers and not the bytes, whether it has judged a table and a schedule itself or has yet to make them; any numbers will do.
+pub fn judge_buffers(records: usize, processes: usize, lengths: Lengths) -> Result<(), Refusal>
     ensures { number_in result ≡ judged_buffers records processes lengths }
 {
     let Lengths {

@@ -1,5 +1,5 @@
 -- The whole page: its parts, that it is at least so long, and a buffer that takes it or has no room.
-use mathlib.Core.Path.{◌≡◌, refl, ap, ◌∙◌}
+use mathlib.Core.Path.{◌≡◌, refl, ap, sym, ◌∙◌, subst}
 use mathlib.Core.Bool.{Bool, true, false, cond}
 use mathlib.Core.List.{List, [], ◌∷◌, ◌++◌}
 use Prim.Native.Nat.{ℕ, zero, suc, ◌+◌, ◌*◌, ◌/◌, ◌%◌, ◌^◌, ◌≤◌, ◌<◌}
@@ -7,12 +7,13 @@ use native.Mathlib.Omega.{arith}
 use lib.Dec.{ltb}
 use lib.ListN.{length, drop, length-append}
 use lib.Seq.{sets, sets-eq}
+use borrow.Author.Tests.{ne_eqb}
 use Rattle.facts.specs.Tests.{by_lt}
 use Rattle.rules.specs.Bytes.{byte_at, written}
 use Rattle.rules.specs.Moves.{Numbers, numbered}
 use Rattle.rules.specs.Run.{Buffers, ran_of}
 use Rattle.rules.specs.Transparency.{read_answers}
-use Rattle.rules.specs.Page.{digits, decimal, line, records_text, quiet_text, refused_text, refused_line, answer_line, answer_lines, register_at, process_text, process_line, process_lines, quiet_line, accepted_page}
+use Rattle.rules.specs.Page.{digits, decimal, line, records_text, quiet_text, refused_text, refused_line, answer_line, answer_lines, register_at, process_text, process_line, process_lines, quiet_line, accepted_page, page_of}
 use Rattle.page.specs.Put.{most, Put}
 use Rattle.page.specs.Written.{Written}
 use Rattle.page.proofs.Putting.{put_then, line_then, line-more}
@@ -170,3 +171,18 @@ with_room page out out' scratch scratch' needed r some small p h q =
       untouched = λ k. absurd (omega arith);
       never_empty = some;
     }
+
+-- ---- which page it is
+
+pub page_refused : (number records processes r : ℕ) (quiet : Bool) (buffers : Buffers) (out out' : List ℕ) → (number ≡ 0 → ⊥) → Written (refused_line number) out r out'
+    → Written (page_of processes (ran_of number records quiet buffers)) out r out'
+unfolding page_of
+page_refused number records processes r quiet buffers out out' h w =
+    subst (λ (b : Bool). Written (cond b (accepted_page processes (ran_of number records quiet buffers)) (refused_line number)) out r out') (sym (ne_eqb number 0 h)) w
+
+pub page_accepted : (number records processes r : ℕ) (quiet : Bool) (buffers : Buffers) (out out' : List ℕ) → number ≡ 0
+    → Written (accepted_page processes (ran_of 0 records quiet buffers)) out r out'
+    → Written (page_of processes (ran_of number records quiet buffers)) out r out'
+unfolding page_of
+page_accepted number records processes r quiet buffers out out' e w =
+    subst (λ (k : ℕ). Written (page_of processes (ran_of k records quiet buffers)) out r out') (sym e) w

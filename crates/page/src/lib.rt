@@ -1,12 +1,11 @@
-// The bench program's page (document 01, "The bench program's page"): that of a refused run, or that of an accepted one from what it returned and
-// the buffers that it was lent. Each goes to the front of `out`, and its length is returned; what is behind it stays. A page that has no room is
-// answered with 0, and `out` stays as it was. Any numbers and buffers of any length will do.
+// The bench program's page (document 01, "The bench program's page"), from what a run returned and the buffers that it was lent. It goes to the
+// front of `out`, and its length is returned; what is behind it stays. A page that has no room is answered with 0, and `out` stays as it was. Any
+// numbers and buffers of any length will do. `write_page` is the page of any run, `write_refused` and `write_accepted` are its two kinds.
 #![tactic(auto)]
 
 ghost use Rattle.std.specs.Prelude.{◌+◌, ◌*◌, ◌<◌};
-ghost use Rattle.numbers.specs.Runs.{number_of};
 ghost use Rattle.rules.specs.Run.{ran_of};
-ghost use Rattle.rules.specs.Page.{accepted_page, refused_line};
+ghost use Rattle.rules.specs.Page.{accepted_page, page_of, refused_line};
 ghost use Rattle.page.specs.Put.{most, Put};
 ghost use Rattle.page.specs.Written.{shown_of, Written};
 
@@ -16,8 +15,10 @@ mod text;
 
 use crate::lines::{put_answers, put_processes};
 use crate::text::{LINE_FEED, put_number, put_text};
-use numbers::runs::Refusal;
 use words::flag;
+
+// What an accepted run has in place of a refusal's number.
+const ACCEPTED: u8 = 0;
 
 // "A refused run prints one line, `refused`, a space and the number."
 fn put_refused(out: &mut [u8], number: u8) -> usize
@@ -49,11 +50,10 @@ fn put_accepted(
     put_number(out, e, flag(quiet), LINE_FEED)
 }
 
-// The page of a refused run.
-pub fn write_refused(refusal: Refusal, out: &mut [u8]) -> usize
-    ensures { Written (refused_line (number_of refusal)) out.old result out.new }
+// The page of a run that is refused with this number, whichever it is.
+pub fn write_refused(number: u8, out: &mut [u8]) -> usize
+    ensures { Written (refused_line number) out.old result out.new }
 {
-    let number = refusal.number();
     let mut none = [0u8; 1];
     let needed = put_refused(&mut none, number);
     if needed > out.len() {
@@ -87,4 +87,24 @@ pub fn write_accepted(
         return 0;
     }
     put_accepted(out, records, quiet, answers, processes, report)
+}
+
+// The page of a run on a table with so many processes, from the numbers that the run returned and what it wrote: that of an accepted one where
+// the first number is 0, else that of a refused one, whose records, quiet and buffers are no part of it.
+pub fn write_page(
+    number: u8,
+    records: usize,
+    quiet: bool,
+    answers: &[u8],
+    processes: usize,
+    report: &[u8],
+    out: &mut [u8],
+) -> usize
+    ensures { Written (page_of processes (ran_of number records quiet (shown_of answers.now report.now)))
+        out.old result out.new }
+{
+    if number != ACCEPTED {
+        return write_refused(number, out);
+    }
+    write_accepted(records, quiet, answers, processes, report, out)
 }
