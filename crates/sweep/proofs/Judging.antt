@@ -80,13 +80,13 @@ module _ (table schedule : List ℕ) where
   unfolding validate_sweep
   by_table r e = refused_sweep r (e ∙ rw (ne_eqb (validate_table table) 0 (λ z. refuses r (e ∙ z))))
 
-  module _ {d : Decoded} (decodes : Decodes table (Ok d)) where
-    pub by_schedule : (r : Refusal) → number_of r ≡ validate_schedule schedule → SweepJudged table schedule (Err r)
-    unfolding validate_sweep
-    by_schedule r e =
-        refused_sweep r
-        (e ∙ rw (eq-eqb (validate_table table) 0 (sym decodes.number_is), ne_eqb (validate_schedule schedule) 0 (λ z. refuses r (e ∙ z))))
+  pub by_schedule : 0 ≡ validate_table table → (r : Refusal) → number_of r ≡ validate_schedule schedule → SweepJudged table schedule (Err r)
+  unfolding validate_sweep
+  by_schedule valid r e =
+      refused_sweep r
+      (e ∙ rw (eq-eqb (validate_table table) 0 (sym valid), ne_eqb (validate_schedule schedule) 0 (λ z. refuses r (e ∙ z))))
 
+  module _ {d : Decoded} (decodes : Decodes table (Ok d)) where
     module _ {records : ℕ} (valid : ScheduleJudged schedule (Ok records)) where
       pub records_are : records ≡ commands_in schedule
       records_are = valid.records_is ∙ ap (λ (n : ℕ). cond (eqb n 0) (commands_in schedule) 0) (sym valid.number_is)

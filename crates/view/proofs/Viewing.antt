@@ -46,13 +46,13 @@ module _ (table schedule : List ℕ) (room : ℕ) where
   unfolding validate_view
   by_table r e = refused_view r (e ∙ rw (ne_eqb (validate_table table) 0 (λ z. refuses r (e ∙ z))))
 
-  module _ {d : Decoded} (decodes : Decodes table (Ok d)) where
-    pub by_schedule : (r : Refusal) → number_of r ≡ validate_schedule schedule → ViewJudged table schedule room (Err r)
-    unfolding validate_view
-    by_schedule r e =
-        refused_view r
-        (e ∙ rw (eq-eqb (validate_table table) 0 (sym decodes.number_is), ne_eqb (validate_schedule schedule) 0 (λ z. refuses r (e ∙ z))))
+  pub by_schedule : 0 ≡ validate_table table → (r : Refusal) → number_of r ≡ validate_schedule schedule → ViewJudged table schedule room (Err r)
+  unfolding validate_view
+  by_schedule valid r e =
+      refused_view r
+      (e ∙ rw (eq-eqb (validate_table table) 0 (sym valid), ne_eqb (validate_schedule schedule) 0 (λ z. refuses r (e ∙ z))))
 
+  module _ {d : Decoded} (decodes : Decodes table (Ok d)) where
     module _ (valid : 0 ≡ validate_schedule schedule) where
       pub too_short : room < view_most → ViewJudged table schedule room (Err ViewShort)
       unfolding validate_view

@@ -12,7 +12,7 @@ returns-in_err-decoded c =
 pub returns-in_err-records : goal.returns-in_err-records
 returns-in_err-records c =
     let p = err_from_is_err_and c.from_residual-in_err-records.result c.from_residual-in_err-records.ensures.1 in
-    rw (p.1, p.2) (by_schedule c.args.table.now c.args.schedule.now c.in_ok-decoded.ensures _ c.in_err-records.ensures.number_is)
+    rw (p.1, p.2) (by_schedule c.args.table.now c.args.schedule.now c.in_ok-decoded.ensures.number_is _ c.in_err-records.ensures.number_is)
 
 pub returns-then-records-gt-SWEEP_MOST : goal.returns-then-records-gt-SWEEP_MOST
 returns-then-records-gt-SWEEP_MOST c =

@@ -11,7 +11,7 @@ returns-in_err-decoded c =
 pub returns-in_err-judge_schedule : goal.returns-in_err-judge_schedule
 returns-in_err-judge_schedule c =
     let p = err_from_is_err_and c.from_residual-in_err-judge_schedule.result c.from_residual-in_err-judge_schedule.ensures.1 in
-    rw (p.1, p.2) (by_schedule c.args.table.now c.args.schedule.now _ c.in_ok-decoded.ensures _ c.in_err-judge_schedule.ensures.number_is)
+    rw (p.1, p.2) (by_schedule c.args.table.now c.args.schedule.now _ c.in_ok-decoded.ensures.number_is _ c.in_err-judge_schedule.ensures.number_is)
 
 pub returns-then-room-lt-VIEW : goal.returns-then-room-lt-VIEW
 returns-then-room-lt-VIEW c =
