@@ -1,23 +1,17 @@
 -- One process changes and nothing of it waits any more: what that leaves of each process, and what it is in a store with other mailboxes or backups.
 use Rattle.std.proofs.Common.{◌≡◌, ℕ, ◌<◌, Bool, true, false, cond, List, length, get_or, set, sym, refl, ap, ◌∙◌, subst, length-set, get_or-set_other, get_or-set_same}
-use Rattle.std.proofs.Math.Option.{Option}
 use lib.Seq.{set_out}
 use Rattle.facts.specs.Tests.{by_eq, by_lt}
-use Rattle.backup.specs.Replica.{Checkpoint}
-use Rattle.backup.specs.declared.place.Head.{Head}
 use Rattle.process.specs.declared.process.Process.{Process}
-use Rattle.process.specs.Row.{no_process, recorded, completed_in, machine_of, standby_of, process_of, Kept}
-use Rattle.process.specs.declared.process.Protection.{Protection}
-use Rattle.process.specs.declared.process.Protection.TheVariants.{Complete}
-use Rattle.process.specs.Change.{Became, Changes, BackupAlone, Drops}
+use Rattle.process.specs.Row.{no_process, recorded, completed_in}
+use Rattle.process.specs.Change.{Changes}
 use Rattle.process.proofs.Transferring.{ends-transfer-none, ends-transfer_so}
-use Rattle.rules.specs.Cabinet as rules
-use Rattle.rules.specs.Moves.{keeps, with_standby, end_transfer}
+use Rattle.rules.specs.Moves.{end_transfer}
 use Rattle.state.specs.declared.store.Store.{Store}
 use Rattle.state.specs.Store.{lists_at}
 use Rattle.state.specs.Moved.{MailsStay}
 use Rattle.state.specs.Beside.{each_with}
-use Rattle.state.proofs.Beside.{each_length, each_at, each_set, each_same}
+use Rattle.state.proofs.Beside.{each_at, each_set, each_same}
 use Rattle.state.proofs.Flagging.{flagged, with_flag}
 use Rattle.bus.specs.Parts.{other_mail, with_mails, OnlyProcesses, Left}
 
@@ -35,14 +29,14 @@ stays_set f l p x e q =
     (λ n. ap f (get_or-set_other l p q x no_process n))
 
 -- so too where nothing of it waits any more
-pub stays_rest : {A : Type 0} (f : Process → A) (v : Bool) → ((y : Process) → f (flagged y v) ≡ f y) → (l : List Process) (p : ℕ) (x : Process)
+pub stays_rest : {A : Type 0} (f : Process → A) (v : ℕ) → ((y : Process) → f (flagged y v) ≡ f y) → (l : List Process) (p : ℕ) (x : Process)
     → f x ≡ f (get_or l p no_process) → (q : ℕ) → f (get_or (with_flag (set l p x) p v) q no_process) ≡ f (get_or l q no_process)
 stays_rest f v free l p x e q =
     stays_set f (set l p x) p (flagged (get_or (set l p x) p no_process) v) (free (get_or (set l p x) p no_process)) q ∙ stays_set f l p x e q
 
 -- ---- with other parts
 
-module _ (part : Process → Process → Process) (others : ℕ → Process) (v : Bool)
+module _ (part : Process → Process → Process) (others : ℕ → Process) (v : ℕ)
     (free : (y : Process) (p : ℕ) → part (flagged y v) (others p) ≡ flagged (part y (others p)) v) where
   -- the same process changes, and has that part too
   pub each_rest : (l : List Process) (p : ℕ) (x : Process) → p < length l
@@ -81,64 +75,16 @@ module _ {s : Store} (before : Store) (other : Store → Store) {b : ℕ} (left 
     totals = (sym (only.totals-is ∙ ap (λ (y : Store). y.totals) left.left-is)) i;
   }
 
--- ---- a call that looks at no mailbox
+-- ---- a record is complete
 
-module _ (x other : Process) (long : length other.mail ≡ length x.mail) where
-  kept_own : Kept (other_mail x other) → Kept x
-  kept_own k = record {
-    registers-length = k.registers-length;
-    taken-length = k.taken-length;
-    mail-length = sym long ∙ k.mail-length;
-    unread = k.unread;
-    oldest = k.oldest;
-    events = k.events;
-    taken = k.taken;
-    instructions = k.instructions;
-    sound = k.sound;
-  }
-
-  -- a checkpoint lands
-  keeps_so : (c : Checkpoint) (log : List ℕ) (head : Head) → Changes x (record x { log = log; head = head }) (keeps c)
-      → Changes (other_mail x other) (other_mail (record x { log = log; head = head }) other) (keeps c)
-  unfolding process_of machine_of standby_of keeps
-  keeps_so c log head changes k =
-      let b = changes (kept_own k) in
-      record {
-        process-is = ap (λ (o : Option rules.Standby). with_standby o (process_of (other_mail x other))) (ap (λ (y : rules.Process). y.standby) b.process-is);
-        kept_again = record {
-          registers-length = k.registers-length;
-          taken-length = k.taken-length;
-          mail-length = k.mail-length;
-          unread = k.unread;
-          oldest = k.oldest;
-          events = k.events;
-          taken = k.taken;
-          instructions = k.instructions;
-          sound = b.kept_again.sound;
-        };
-        seated_again = λ a b s. record { runs_on = s.runs_on; other-is = s.other-is };
-        waits_again = refl;
-      }
-
-  pub keeps-beside : (c : Checkpoint) (x' : Process) → BackupAlone x x' → Changes x x' (keeps c)
-      → Changes (other_mail x other) (other_mail x' other) (keeps c)
-  keeps-beside c x' alone changes =
-      subst (λ (y : Process). Changes (other_mail x other) (other_mail y other) (keeps c)) (sym alone)
-      (keeps_so c x'.log x'.head (subst (λ (y : Process). Changes x y (keeps c)) alone changes))
-
-  pub drops-beside : (c : Checkpoint) (dropped : ℕ) → Drops x c dropped → Drops (other_mail x other) c dropped
-  unfolding process_of standby_of
-  drops-beside c dropped drops k e = drops (kept_own k) e
-
--- a record is complete
 pub completed_so : (x : Process) → Changes x (completed_in x) end_transfer
 completed_so x = go (recorded x.protection) refl
   where
     -- with a protection that is the one that it gets
-    by_same : (q : Protection) → q ≡ cond (recorded x.protection) Complete x.protection → Changes x (record x { protection = q }) end_transfer
+    by_same : (q : ℕ) → q ≡ cond (recorded x.protection) 1 x.protection → Changes x (record x { protection = q }) end_transfer
         → Changes x (completed_in x) end_transfer
-    by_same q e = subst (λ (y : Protection). Changes x (record x { protection = y }) end_transfer) e
+    by_same q e = subst (λ (y : ℕ). Changes x (record x { protection = y }) end_transfer) e
 
     go : (b : Bool) → recorded x.protection ≡ b → Changes x (completed_in x) end_transfer
-    go true e = by_same Complete (sym (ap (λ (y : Bool). cond y Complete x.protection) e)) (ends-transfer_so x e)
-    go false e = by_same x.protection (sym (ap (λ (y : Bool). cond y Complete x.protection) e)) (ends-transfer-none x e)
+    go true e = by_same 1 (sym (ap (λ (y : Bool). cond y 1 x.protection) e)) (ends-transfer_so x e)
+    go false e = by_same x.protection (sym (ap (λ (y : Bool). cond y 1 x.protection) e)) (ends-transfer-none x e)

@@ -1,6 +1,6 @@
 -- Move 4: the two refusals, and a word that is delivered.
 use Rattle.std.proofs.Common.{◌≡◌, ℕ, ◌+◌, ◌%◌, ◌^◌, ◌<◌, Bool, true, false, ◌≢◌, List, length, get_or, set, sym, refl, ap, ◌∙◌, subst, arith, length-set, eq-eqb, ne_eqb}
-use Rattle.numbers.specs.declared.answers.Reason.TheVariants.{NotFromOutside, HeldForFeed}
+use Rattle.numbers.specs.declared.answers.Reason.TheVariants.{Fed, NotFromOutside, HeldForFeed}
 use Rattle.plan.specs.declared.Plan as plan
 use Rattle.plan.specs.Plan.{Plan, plan_of, sender_in, reader_in, Planned}
 use Rattle.rules.specs.Table.{Table, environment, channel_at}
@@ -14,9 +14,9 @@ use Rattle.state.specs.declared.store.Store.{Store}
 use Rattle.state.specs.Store.{Totalled, Holds}
 use Rattle.rules.specs.Reasons.{cause_of}
 use Rattle.state.specs.Channel.{full_in}
-use Rattle.state.specs.Moved.{MakesAlone, AChannel, refusal_of, alone_of}
+use Rattle.state.specs.Moved.{MakesAlone, AChannel, refusal_for, alone_of}
 use Rattle.state.proofs.Refusing.{turned_away_lem, makes-refused}
-use Rattle.state.proofs.Making.{answered, makes_alone}
+use Rattle.state.proofs.Making.{answered, makes_alone, for_reason}
 use Rattle.state.proofs.Reading.{how_many}
 use Rattle.state.proofs.Totals.{totalled_more}
 use Rattle.state.proofs.Ends.{fed-inside}
@@ -55,7 +55,7 @@ module _ (l : plan.Plan) (s : Store) (a word k : ℕ) (r : Answer) (is-k : a < 3
   its_channel : {t : Table} → Accepted t → a < length t.channels → k ≡ a
   its_channel ok there = is-k (let z = ok.channels_high in omega arith)
 
-  pub injects_43 : sender ≢ environment → r ≡ refusal_of NotFromOutside a → Injects l s a word s r
+  pub injects_43 : sender ≢ environment → r ≡ refusal_for NotFromOutside a → Injects l s a word s r
   injects_43 n e table counts programs queues =
       makes-refused NotFromOutside (ap alone_of e) (λ t entries c command reach planned h f there.
       let same : sender ≡ sender_in l.wires a = is-sender ∙ ap (sender_in l.wires) (its_channel reach.accepted there) in
@@ -70,7 +70,7 @@ module _ (l : plan.Plan) (s : Store) (a word k : ℕ) (r : Answer) (is-k : a < 3
     its_test b n e =
         ap (λ (i : ℕ). full_in (reader_in l.wires i) (get_or s.totals i 0)) (sym e) ∙ ap (λ (i : ℕ). full_in i (get_or s.totals k 0)) (sym is-reader) ∙ n
 
-    pub injects_39 : full_in reader (get_or s.totals k 0) ≡ true → r ≡ refusal_of HeldForFeed a → Injects l s a word s r
+    pub injects_39 : full_in reader (get_or s.totals k 0) ≡ true → r ≡ refusal_for HeldForFeed a → Injects l s a word s r
     injects_39 b e table counts programs queues =
         makes-refused HeldForFeed (ap alone_of e) (λ t entries c command reach planned h f there.
         let same : k ≡ a = its_channel reach.accepted there in
@@ -82,7 +82,7 @@ module _ (l : plan.Plan) (s : Store) (a word k : ℕ) (r : Answer) (is-k : a < 3
     unfolding numbers cause_of
     injects_done s' more b is-more e d table counts programs queues =
         let long = lengths_only d.only in
-        makes_alone (injected_of a word) (omega arith)
+        makes_alone (injected_of a word) (for_reason Fed a word) (omega arith)
         (record {
           processes-same = long.processes-same;
           queues-same = refl;

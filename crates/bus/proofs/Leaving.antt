@@ -13,7 +13,7 @@ use Rattle.state.specs.declared.entry.Entry.{Entry}
 use Rattle.state.specs.declared.queue.Queue.{Queue}
 use Rattle.state.specs.declared.store.Store.{Store}
 use Rattle.state.specs.Queue.{no_queue, first_in, count_in, Popped}
-use Rattle.state.specs.Store.{Holds, item_of, blank_entry, outbox_in}
+use Rattle.state.specs.Store.{flag, Holds, item_of, blank_entry, outbox_in}
 use Rattle.state.specs.Moved.{Reachable}
 use Rattle.state.proofs.Reading.{at_outbox, how_many, how_many_boards}
 use Rattle.state.proofs.Flagging.{with_flag, flag_here, flag-there, flagged_one}
@@ -37,7 +37,7 @@ oldest-is {s = s} {entries = entries} h b hb count item rest e o =
 
 -- process p is x, and nothing of it waits
 abbrev pub at_rest : Store → ℕ → code.Process → Store
-at_rest s p x = record { processes = with_flag (set s.processes p x) p false; queues = s.queues; totals = s.totals }
+at_rest s p x = record { processes = with_flag (set s.processes p x) p 0; queues = s.queues; totals = s.totals }
 
 -- of a cabinet that was reached, process p is x by now
 module _ {t : Table} {s : Store} {entries : List Entry} {c : Cabinet} (reach : Reachable t c) (p : ℕ) (x : Process)
@@ -49,7 +49,7 @@ module _ {t : Table} {s : Store} {entries : List Entry} {c : Cabinet} (reach : R
 
   -- nothing of p waits by then
   abbrev processes' : List code.Process
-  processes' = with_flag s.processes p false
+  processes' = with_flag s.processes p 0
 
   there : b < length c.outboxes
   there = rw (how_many_boards h) hb
@@ -62,7 +62,7 @@ module _ {t : Table} {s : Store} {entries : List Entry} {c : Cabinet} (reach : R
 
   -- what waits afterwards
   waits_then : (q : ℕ) → q < length t.processes
-      → (get_or processes' q no_process).waits ≡ waiting q (get_or (set c.outboxes b rest) (process_at now q).board [])
+      → (get_or processes' q no_process).waits ≡ flag (waiting q (get_or (set c.outboxes b rest) (process_at now q).board []))
   waits_then q hq =
       let old = h.waits-is q hq in
       by_eq q p
@@ -71,13 +71,13 @@ module _ {t : Table} {s : Store} {entries : List Entry} {c : Cabinet} (reach : R
       ∙ get_or-set_same c.outboxes b rest [] there in
       let none_left : waiting q rest ≡ false = rw f (one_waits reach b p item rest oldest (waiter.its p ∙ eq-eqb p p refl)) in
       rw (same, none_left)
-      (rw f (flag_here s.processes p false (let l = h.shape.processes-length in let z = reach.accepted.processes_high in omega arith))))
+      (rw f (flag_here s.processes p 0 (let l = h.shape.processes-length in let z = reach.accepted.processes_high in omega arith))))
       (λ n. by_eq (process_at now q).board b
       (λ e. let same : get_or (set c.outboxes b rest) (process_at now q).board [] ≡ rest = rw e (get_or-set_same c.outboxes b rest [] there) in
       let before : waiting q (outbox_at c b) ≡ waiting q rest =
       ap (waiting q) oldest ∙ ap (λ (y : Bool). y || waiting q rest) (waiter.its q ∙ ne_eqb q p n) in
-      rw same (flag-there s.processes p q false n ∙ old ∙ ap (λ (i : ℕ). waiting q (outbox_at c i)) e ∙ before))
-      (λ m. rw (get_or-set_other c.outboxes b (process_at now q).board rest [] m) (flag-there s.processes p q false n ∙ old)))
+      rw same (flag-there s.processes p q 0 n ∙ old ∙ ap (λ (i : ℕ). flag (waiting q (outbox_at c i))) e ∙ ap flag before))
+      (λ m. rw (get_or-set_other c.outboxes b (process_at now q).board rest [] m) (flag-there s.processes p q 0 n ∙ old)))
 
   queue_then : QueueThen t s now b processes' queue' s.totals ((first_in s.queues b + 1) % 32) queue'.count rest
   queue_then = record {
@@ -89,7 +89,7 @@ module _ {t : Table} {s : Store} {entries : List Entry} {c : Cabinet} (reach : R
         let w = waiter.no_word i in
         let d = occupancy_outbox t now b rest i 0 0 (omega arith) in
         omega arith);
-    flagged = flagged_one t s.processes p false;
+    flagged = flagged_one t s.processes p 0;
     waiting-there = waits_then;
   }
 

@@ -22,7 +22,7 @@ use Rattle.state.specs.declared.moved.Answer.{Answer}
 use Rattle.state.specs.declared.store.Store.{Store}
 use Rattle.state.specs.Store.{Holds, lists_at, process_in}
 use Rattle.rules.specs.Reasons.{cause_of}
-use Rattle.state.specs.Moved.{Reachable, Answered, answer_of}
+use Rattle.state.specs.Moved.{Reachable, Answered, answer_for}
 use Rattle.state.specs.Beside.{each_with}
 use Rattle.state.proofs.Beside.{each_length, each_at}
 use Rattle.state.proofs.Reading.{at_process}
@@ -33,7 +33,7 @@ use Rattle.state.proofs.Joining.{Waiter}
 use Rattle.bus.specs.Parts.{other_mail, with_mails, Left}
 use Rattle.bus.specs.Syncs.{Syncs}
 use Rattle.bus.proofs.Leaving.{at_rest, waiter_leaves}
-use Rattle.bus.proofs.Besides.{stays_rest, each_rest, own_mails, keeps-beside, drops-beside, as_left, as_then}
+use Rattle.bus.proofs.Besides.{stays_rest, each_rest, own_mails, as_left, as_then}
 
 -- the answer's reason where the process has a backup, or none
 abbrev sync_reason : Bool → Reason
@@ -73,7 +73,7 @@ module _ {t : Table} {s s₁ : Store} {entries : List Entry} {c : Cabinet} (reac
     -- and so the move: 5 with what was dropped where the process is protected, 6 where not
     sync-answered : (dropped : ℕ) → Drops (lists_at s p) k dropped → (command : Command) (z : Bool) → backed x.protection ≡ z
         → Answered t (at_rest s₁ p x) entries c command (transmit_item t (with_outbox b rest c) (rules.checkpoint p k))
-        (answer_of (sync_reason z) p (cond z dropped 0))
+        (answer_for (sync_reason z) p (cond z dropped 0))
     unfolding transmit_item numbers cause_of
     sync-answered dropped drops command z e = record {
       answer-is =
@@ -100,16 +100,16 @@ module _ {t : Table} {s s₁ : Store} {entries : List Entry} {c : Cabinet} (reac
 
 -- that nothing waits changes no protection
 protected_still : (processes : List code.Process) (p : ℕ)
-    → (get_or (with_flag processes p false) p no_process).protection ≡ (get_or processes p no_process).protection
+    → (get_or (with_flag processes p 0) p no_process).protection ≡ (get_or processes p no_process).protection
 protected_still processes p =
-    let y : code.Process = flagged (get_or processes p no_process) false in
+    let y : code.Process = flagged (get_or processes p no_process) 0 in
     by_lt p (length processes)
     (λ l. ap (λ (z : code.Process). z.protection) (get_or-set_same processes p y no_process l))
     (λ l. ap (λ (z : List code.Process). (get_or z p no_process).protection) (set_out processes p y l))
 
 module _ (s : Store) (process : ℕ) (checkpoint : checkpoints.Checkpoint) (p : ℕ) (is-p : process < 16 → p ≡ process) (x : code.Process)
-    (became : Changes (lists_at s p) x (keeps (checkpoint_of checkpoint))) (dropped : ℕ)
-    (drops : Drops (lists_at s p) (checkpoint_of checkpoint) dropped) (alone : BackupAlone (lists_at s p) x) where
+    (became : (mail : List ℕ) → Changes (record (lists_at s p) { mail = mail }) (record x { mail = mail }) (keeps (checkpoint_of checkpoint))) (dropped : ℕ)
+    (drops : (mail : List ℕ) → Drops (record (lists_at s p) { mail = mail }) (checkpoint_of checkpoint) dropped) (alone : BackupAlone (lists_at s p) x) where
   -- whether it has a backup afterwards
   abbrev shown : Bool
   shown = backed (lists_at (at_rest s p x) p).protection
@@ -118,9 +118,9 @@ module _ (s : Store) (process : ℕ) (checkpoint : checkpoints.Checkpoint) (p : 
   sync_done true = omega arith
   sync_done false = omega arith
 
-  pub syncs_so : (z : Bool) → shown ≡ z → Syncs s process checkpoint (at_rest s p x) (answer_of (sync_reason z) process (cond z dropped 0))
+  pub syncs_so : (z : Bool) → shown ≡ z → Syncs s process checkpoint (at_rest s p x) (answer_for (sync_reason z) process (cond z dropped 0))
   syncs_so z e = record {
-    answered = λ t mails queues totals entries c command b queue' rest long reach h hb popped oldest.
+    answered = λ t mails queues totals entries c command b queue' rest reach h hb popped oldest.
         let k : Checkpoint = checkpoint_of checkpoint in
         let before : Store = record (with_mails mails s) { queues = queues; totals = totals } in
         let left : Left before b (record before { queues = set queues b queue' }) = record { queue = queue'; popped = popped; left-is = refl } in
@@ -136,19 +136,18 @@ module _ (s : Store) (process : ℕ) (checkpoint : checkpoints.Checkpoint) (p : 
         let x' : code.Process = other_mail x (mails p) in
         let was : other_mail (lists_at s p) (mails p) ≡ lists_at before process =
         sym (each_at other_mail mails s.processes p there) ∙ ap (lists_at before) same in
-        let as-long : length (mails p).mail ≡ length (lists_at s p).mail =
-        subst (λ (i : ℕ). length (mails i).mail ≡ length (lists_at s i).mail) (sym same) long in
-        let changes = keeps-beside (lists_at s p) (mails p) as-long k x alone became in
-        let its = drops-beside (lists_at s p) (mails p) as-long k dropped drops in
+        let changes = became (mails p).mail in
+        let its = drops (mails p).mail in
         let done = sync-answered reach h b hb left process k rest oldest x' (subst (λ (y : code.Process). Changes y x' (keeps k)) was changes (h.kept process hp))
         dropped (subst (λ (y : code.Process). Drops y k dropped) was its) command z (sym is-shown ∙ e) in
-        let processes-is : with_flag (set before.processes process x') process false ≡ each_with other_mail mails (at_rest s p x).processes =
-        ap (λ (i : ℕ). with_flag (set before.processes i x') i false) (sym same) ∙ sym (each_rest other_mail mails false (λ y i. refl) s.processes p x there) in
+        let processes-is : with_flag (set before.processes process x') process 0 ≡ each_with other_mail mails (at_rest s p x).processes =
+        ap (λ (i : ℕ). with_flag (set before.processes i x') i 0) (sym same) ∙ sym (each_rest other_mail mails 0 (λ y i. refl) s.processes p x there) in
         subst (λ (y : List code.Process). Answered t (record { processes = y; queues = set queues b queue'; totals = totals }) entries c command
-        (transmit_item t (with_outbox b rest c) (rules.checkpoint process k)) (answer_of (sync_reason z) process (cond z dropped 0))) processes-is done;
+        (transmit_item t (with_outbox b rest c) (rules.checkpoint process k)) (answer_for (sync_reason z) process (cond z dropped 0))) processes-is done;
+    reasoned = record { reason = sync_reason z; reason-is = refl };
     done = sync_done z;
     only = record { processes-same = length-set (set s.processes p x) p _ ∙ length-set s.processes p x; queues-is = refl; totals-is = refl };
-    mails-stay = stays_rest (λ (y : code.Process). y.mail) false (λ y. refl) s.processes p x (ap (λ (y : code.Process). y.mail) alone);
+    mails-stay = stays_rest (λ (y : code.Process). y.mail) 0 (λ y. refl) s.processes p x (ap (λ (y : code.Process). y.mail) alone);
   }
 
 -- of the store as it was before the entry left its queue, whose mailboxes, queues and totals it has
@@ -163,5 +162,5 @@ syncs_own {s} {s'} {process} {checkpoint} {r} m t before entries c command b res
     let is : record (with_mails (lists_at s) s') { queues = set before.queues b left.queue; totals = before.totals } ≡ s' =
     as_then before (with_mails (lists_at s)) left m.only (own_mails s s' m.mails-stay) in
     subst (λ (y : Store). Answered t y entries c command (transmit_item t (with_outbox b rest c) (rules.checkpoint process (checkpoint_of checkpoint))) r) is
-    (m.answered t (lists_at s) before.queues before.totals entries c command b left.queue rest refl reach
+    (m.answered t (lists_at s) before.queues before.totals entries c command b left.queue rest reach
     (subst (λ (y : Store). Holds t y entries c) was h) hb left.popped oldest)

@@ -1,5 +1,5 @@
 -- The carry of a state transfer: its entry left the queue, and the record that was being made is complete.
-use Rattle.std.proofs.Common.{◌≡◌, ℕ, ◌<◌, false, List, ◌∷◌, length, set, sym, refl, ap, ◌∙◌, subst, arith, length-set}
+use Rattle.std.proofs.Common.{◌≡◌, ℕ, ◌<◌, List, ◌∷◌, length, set, sym, refl, ap, ◌∙◌, subst, arith, length-set}
 use Rattle.numbers.specs.declared.answers.Reason.TheVariants.{ResyncCarried}
 use Rattle.process.specs.declared.process.Process as code
 use Rattle.process.specs.Row.{completed_in}
@@ -13,7 +13,7 @@ use Rattle.state.specs.declared.entry.Entry.{Entry}
 use Rattle.state.specs.declared.moved.Answer.{Answer}
 use Rattle.state.specs.declared.store.Store.{Store}
 use Rattle.state.specs.Store.{Holds, lists_at}
-use Rattle.state.specs.Moved.{Reachable, Answered, answer_of}
+use Rattle.state.specs.Moved.{Reachable, Answered, answer_for}
 use Rattle.state.specs.Beside.{other_lists, each_with, with_lists}
 use Rattle.state.proofs.Beside.{each_length, each_at, own_lists}
 use Rattle.state.proofs.Changing.{row_changed}
@@ -43,7 +43,7 @@ module _ {t : Table} {s s₁ : Store} {entries : List Entry} {c : Cabinet} (reac
       (transfer_owner reach b p rest oldest).1 gone.queue gone.popped)
 
 pub transfers_so : (s : Store) (process p : ℕ) → (process < 16 → p ≡ process) → (x : code.Process) → x ≡ completed_in (lists_at s p)
-    → Transfers s process (at_rest s p x) (answer_of ResyncCarried process 0)
+    → Transfers s process (at_rest s p x) (answer_for ResyncCarried process 0)
 unfolding transmit_item numbers cause_of
 transfers_so s process p is-p x exact = record {
   answered = λ t others queues totals entries c command b queue' rest reach h hb popped oldest.
@@ -62,22 +62,23 @@ transfers_so s process p is-p x exact = record {
       let changes : Changes (other_lists (lists_at s p) (others p)) x' end_transfer =
       subst (λ (y : code.Process). Changes (other_lists (lists_at s p) (others p)) (other_lists y (others p)) end_transfer) (sym exact)
       (completed_so (other_lists (lists_at s p) (others p))) in
-      let processes-is : with_flag (set before.processes process x') process false ≡ each_with other_lists others (at_rest s p x).processes =
-      ap (λ (i : ℕ). with_flag (set before.processes i x') i false) (sym same) ∙ sym (each_rest other_lists others false (λ y i. refl) s.processes p x there) in
+      let processes-is : with_flag (set before.processes process x') process 0 ≡ each_with other_lists others (at_rest s p x).processes =
+      ap (λ (i : ℕ). with_flag (set before.processes i x') i 0) (sym same) ∙ sym (each_rest other_lists others 0 (λ y i. refl) s.processes p x there) in
       subst (λ (y : List code.Process). Answered t (record { processes = y; queues = set queues b queue'; totals = totals }) entries c command
-      (transmit_item t (with_outbox b rest c) (rules.transfer process)) (answer_of ResyncCarried process 0)) processes-is
+      (transmit_item t (with_outbox b rest c) (rules.transfer process)) (answer_for ResyncCarried process 0)) processes-is
       (record {
         answer-is = refl;
         cause_is = refl;
         holds = transfer-holds reach h b hb left process rest oldest x'
             (subst (λ (y : code.Process). Changes y x' end_transfer) was changes (h.kept process hp));
       });
+  reasoned = record { reason = ResyncCarried; reason-is = refl };
   done = omega arith;
   only = record { processes-same = length-set (set s.processes p x) p _ ∙ length-set s.processes p x; queues-is = refl; totals-is = refl };
-  mails-stay = stays_rest (λ (y : code.Process). y.mail) false (λ y. refl) s.processes p x (ap (λ (y : code.Process). y.mail) exact);
+  mails-stay = stays_rest (λ (y : code.Process). y.mail) 0 (λ y. refl) s.processes p x (ap (λ (y : code.Process). y.mail) exact);
   backups-stay = λ q. record {
-    log-stays = stays_rest (λ (y : code.Process). y.log) false (λ y. refl) s.processes p x (ap (λ (y : code.Process). y.log) exact) q;
-    head-stays = stays_rest (λ (y : code.Process). y.head) false (λ y. refl) s.processes p x (ap (λ (y : code.Process). y.head) exact) q;
+    log-stays = stays_rest (λ (y : code.Process). y.log) 0 (λ y. refl) s.processes p x (ap (λ (y : code.Process). y.log) exact) q;
+    head-stays = stays_rest (λ (y : code.Process). y.head) 0 (λ y. refl) s.processes p x (ap (λ (y : code.Process). y.head) exact) q;
   };
 }
 

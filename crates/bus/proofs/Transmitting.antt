@@ -4,7 +4,7 @@ use Rattle.facts.specs.Tests.{by_eq}
 use Rattle.facts.specs.Counts.{same}
 use Rattle.facts.specs.Lists.{listed}
 use Rattle.facts.specs.Rings.{ring, ring_pop}
-use Rattle.numbers.specs.Answers.{code_in}
+use Rattle.numbers.specs.declared.answers.Reason.TheVariants as reasons
 use Rattle.numbers.specs.declared.answers.Reason.TheVariants.{CarryOfDead, QueueEmpty}
 use Rattle.backup.specs.declared.place.Checkpoint as code
 use Rattle.backup.specs.Place.{checkpoint_of}
@@ -25,8 +25,8 @@ use Rattle.state.specs.declared.moved.Answer.{Answer}
 use Rattle.state.specs.declared.queue.Queue.{Queue}
 use Rattle.state.specs.declared.store.Store.{Store}
 use Rattle.state.specs.Queue.{no_queue, first_in, count_in, dead_in, oldest_of, front_of, popped_in}
-use Rattle.state.specs.Store.{Holds, lists_at, item_of, blank_entry, outbox_in}
-use Rattle.state.specs.Moved.{Reachable, Answered, SameLengths, MakesAlone, refusal_of, alone_of}
+use Rattle.state.specs.Store.{flag, Holds, lists_at, item_of, blank_entry, outbox_in}
+use Rattle.state.specs.Moved.{Reachable, Answered, Reasoned, SameLengths, MakesAlone, refusal_for, alone_of}
 use Rattle.state.proofs.Reading.{at_outbox, at_dead, how_many_boards}
 use Rattle.state.proofs.Totals.{occupancy_outbox, totalled-afresh}
 use Rattle.state.proofs.Flagging.{flagged_none}
@@ -121,15 +121,15 @@ module _ {t : Table} {s : Store} {entries : List Entry} {c : Cabinet} (reach : R
 
   -- no checkpoint waits less
   waits_still : (p : ℕ) → p < length t.processes
-      → (lists_at s p).waits ≡ waiting p (get_or (set c.outboxes b q.rest) (process_at c p).board [])
+      → (lists_at s p).waits ≡ flag (waiting p (get_or (set c.outboxes b q.rest) (process_at c p).board []))
   waits_still p l =
       by_eq (process_at c p).board b
       (λ e. h.waits-is p l
-      ∙ ap (waiting p) (ap (outbox_at c) e ∙ q.is_queue)
-      ∙ ap (waiting p)
+      ∙ ap (λ (l : List rules.Item). flag (waiting p l)) (ap (outbox_at c) e ∙ q.is_queue)
+      ∙ ap (λ (l : List rules.Item). flag (waiting p l))
       (sym (ap (λ (i : ℕ). get_or (set c.outboxes b q.rest) i []) e ∙ get_or-set_same c.outboxes b q.rest [] (rw (how_many_boards h) hb))))
       (λ n. h.waits-is p l
-      ∙ ap (waiting p) (sym (get_or-set_other c.outboxes b (process_at c p).board q.rest [] n)))
+      ∙ ap (λ (l : List rules.Item). flag (waiting p l)) (sym (get_or-set_other c.outboxes b (process_at c p).board q.rest [] n)))
 
   -- what a count made afresh gives meanwhile
   abbrev between : List ℕ
@@ -172,13 +172,13 @@ module _ {t : Table} {s : Store} {entries : List Entry} {c : Cabinet} (reach : R
 -- ---- what the move promises
 
 module _ (l : plan.Plan) (s : Store) (a b : ℕ) (x : Entry) (r : Answer) (is_b : a < 16 → b ≡ a) where
-  pub transmits_34 : dead_in s.queues b ≡ true → r ≡ refusal_of CarryOfDead a → Transmits l s a x s r
+  pub transmits_34 : dead_in s.queues b ≡ true → r ≡ refusal_for CarryOfDead a → Transmits l s a x s r
   transmits_34 n e table counts programs =
       makes-refused CarryOfDead (ap alone_of e) (λ t entries c command reach planned h f o.
       turned_away_lem command a transmit_dead h (refused_34 h a o.board-there (dead_so s.queues true n reach o.board-there is_b)) f refl)
 
   module _ (alive : dead_in s.queues b ≡ false) where
-    pub transmits_42 : front_of (get_or s.queues b no_queue) x ≡ None → r ≡ refusal_of QueueEmpty a → Transmits l s a x s r
+    pub transmits_42 : front_of (get_or s.queues b no_queue) x ≡ None → r ≡ refusal_for QueueEmpty a → Transmits l s a x s r
     transmits_42 none e table counts programs =
         makes-refused QueueEmpty (ap alone_of e) (λ t entries c command reach planned h f o.
         let same : b ≡ a = its_board reach o.board-there is_b in
@@ -199,10 +199,10 @@ module _ (l : plan.Plan) (s : Store) (a b : ℕ) (x : Entry) (r : Answer) (is_b 
           → Holds t s entries c → a < t.boards → Left s a left → (q : Begins c a (count_in s.queues a) item)
           → Answered t s' entries c command (transmit_item t (with_outbox a q.rest c) item) r
 
-      transmits_so : (item : rules.Item) → item_of i ≡ item → (s' : Store) → code_in r.reason < 32 → SameLengths left s' → Carried item s' → Transmits l s a x s' r
+      transmits_so : (item : rules.Item) → item_of i ≡ item → (s' : Store) → Reasoned r → r.code < 32 → SameLengths left s' → Carried item s' → Transmits l s a x s' r
       unfolding transmit_oldest
-      transmits_so item m s' done long carried table counts programs =
-          makes_alone r done
+      transmits_so item m s' why done long carried table counts programs =
+          makes_alone r why done
           (record {
             processes-same = long.processes-same;
             queues-same = long.queues-same ∙ length-set s.queues b queue';
@@ -230,19 +230,20 @@ module _ (l : plan.Plan) (s : Store) (a b : ℕ) (x : Entry) (r : Answer) (is_b 
       pub transmits-word : (channel word pc : ℕ) → i ≡ Word channel word pc → (s' : Store) → Carries l left channel word s' r → Transmits l s a x s' r
       transmits-word channel word pc is_IsWord s' carried =
           transmits_so (rules.message (mail_of channel word) pc) (ap item_of is_IsWord) s'
-          (let z = ap (λ (y : Answer). code_in y.reason) carried.answer-is in omega arith) carried.same_lengths
+          (subst Reasoned (sym carried.answer-is) (record { reason = reasons.Carried; reason-is = refl }))
+          (let z = ap (λ (y : Answer). y.code) carried.answer-is in omega arith) carried.same_lengths
           (λ t table counts programs entries c command reach planned h hb gone q. word-answered reach h a hb channel word pc q gone s' r command planned carried)
 
       pub transmits-sync : (process : ℕ) (checkpoint : code.Checkpoint) → i ≡ Sync process checkpoint → (s' : Store)
           → Syncs left process checkpoint s' r → Transmits l s a x s' r
       transmits-sync process checkpoint is-sync s' carried =
-          transmits_so (rules.checkpoint process (checkpoint_of checkpoint)) (ap item_of is-sync) s' carried.done (lengths_only carried.only)
+          transmits_so (rules.checkpoint process (checkpoint_of checkpoint)) (ap item_of is-sync) s' carried.reasoned carried.done (lengths_only carried.only)
           (λ t table counts programs entries c command reach planned h hb gone q.
           syncs_own carried t s entries c command a q.rest reach h hb gone q.is_queue)
 
       pub transmits-transfer : (process : ℕ) → i ≡ Transfer process → (s' : Store) → Transfers left process s' r → Transmits l s a x s' r
       transmits-transfer process is-transfer s' carried =
-          transmits_so (rules.transfer process) (ap item_of is-transfer) s' carried.done (lengths_only carried.only)
+          transmits_so (rules.transfer process) (ap item_of is-transfer) s' carried.reasoned carried.done (lengths_only carried.only)
           (λ t table counts programs entries c command reach planned h hb gone q.
           transfers_own carried t s entries c command a q.rest reach h hb gone q.is_queue)
 

@@ -1,7 +1,6 @@
 -- The carry of a state transfer. W-210: "When that entry is carried, its other table board holds a new record with those words, then all
 -- that have arrived since issue, and count 0." "Its carry answers 5 with word 0".
 use Rattle.std.specs.Prelude.{◌≡◌, ℕ, ◌<◌, List, ◌∷◌, slice_index_or, slice_set}
-use Rattle.numbers.specs.Answers.{code_in}
 use Rattle.process.specs.declared.process.Process.{Process}
 use Rattle.rules.specs.Table.{Table}
 use Rattle.rules.specs.Cabinet as rules
@@ -14,7 +13,7 @@ use Rattle.state.specs.declared.store.Store.{Store}
 use Rattle.state.specs.Queue.{no_queue, Popped}
 use Rattle.state.specs.Store.{Holds}
 use Rattle.state.specs.Beside.{with_lists}
-use Rattle.state.specs.Moved.{Reachable, Answered, MailsStay, BackupsStay}
+use Rattle.state.specs.Moved.{Reachable, Answered, Reasoned, MailsStay, BackupsStay}
 use Rattle.bus.specs.Parts.{OnlyProcesses}
 
 -- As for a checkpoint (Syncs): of the cabinet before the transfer, board b's oldest entry, left its queue. Whatever the mailboxes, the backups, the
@@ -26,7 +25,8 @@ pub record Transfers (s : Store) (process : ℕ) (s' : Store) (r : Answer) : Typ
       → Popped (slice_index_or queues b no_queue) queue' → outbox_at c b ≡ rules.transfer process ∷ rest
       → Answered t (record (with_lists others s') { queues = slice_set queues b queue'; totals = totals }) entries c command
       (transmit_item t (with_outbox b rest c) (rules.transfer process)) r
-  pub done : code_in r.reason < 32
+  pub reasoned : Reasoned r
+  pub done : r.code < 32
   pub only : OnlyProcesses s s'
   pub mails-stay : MailsStay s s'
   pub backups-stay : BackupsStay s s'

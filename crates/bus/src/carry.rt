@@ -20,7 +20,7 @@ pub fn carry(plan: &Plan, store: &mut Store, a: u32, oldest: Entry) -> Carried
     ensures { CarriedBy plan.now store.old a oldest store.new result }
 {
     let answer = transmit(plan, store, a, oldest);
-    let origin = carried(&plan.wires, answer.reason, oldest);
+    let origin = carried(&plan.wires, answer.code, oldest);
     Carried {
         answer: answer,
         origin: origin,

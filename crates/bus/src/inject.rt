@@ -6,7 +6,7 @@ use crate::delivery::deliver;
 use numbers::answers::Reason;
 use plan::{CHANNELS, Plan};
 use state::channel::{ENVIRONMENT, full};
-use state::moved::{Answer, refusal};
+use state::moved::{Answer, answer_for, refusal_for};
 use state::store::Store;
 use words::index;
 
@@ -16,16 +16,12 @@ pub fn inject(plan: &Plan, store: &mut Store, a: u32, word: u32) -> Answer
 {
     let k = index::<CHANNELS>(a);
     if plan.sender(k) != ENVIRONMENT {
-        return refusal(Reason::NotFromOutside, a);
+        return refusal_for(Reason::NotFromOutside, a);
     }
     if full(plan.reader(k), store.totals[k]) {
-        return refusal(Reason::HeldForFeed, a);
+        return refusal_for(Reason::HeldForFeed, a);
     }
     deliver(plan, store, a, word);
     store.totals[k] = std::num::wrapping_add_u32(store.totals[k], 1);
-    Answer {
-        reason: Reason::Fed,
-        a: a,
-        word: word,
-    }
+    answer_for(Reason::Fed, a, word)
 }

@@ -2,7 +2,6 @@
 // word was on the bus".
 ghost use Rattle.std.specs.Prelude.{◌≡◌, ◌==◌};
 ghost use Rattle.rules.specs.Moves.{no_origin};
-ghost use Rattle.numbers.specs.Answers.{code_in};
 ghost use Rattle.bus.specs.Origins.{origin_in, fed_from, CarriedFrom};
 
 use numbers::answers::Reason;
@@ -26,18 +25,18 @@ pub fn nowhere() -> Origin
     }
 }
 
-// Whether an answer says that a word was on the bus: one that was carried, or one that was fed.
-fn on_the_bus(reason: Reason) -> bool
-    ensures { result ≡ (code_in reason == 4) }
+// Whether an answer of this code says that a word was on the bus: one that was carried, or one that was fed.
+fn on_the_bus(code: u32) -> bool
+    ensures { result ≡ (code == 4) }
 {
-    reason == Reason::Carried || reason == Reason::Fed
+    code == Reason::Carried.code() as u32
 }
 
-// Of a feed that was answered so.
-pub fn fed(reason: Reason) -> Origin
-    ensures { origin_in result ≡ fed_from (code_in reason) }
+// Of a feed with an answer of this code.
+pub fn fed(code: u32) -> Origin
+    ensures { origin_in result ≡ fed_from code }
 {
-    if on_the_bus(reason) {
+    if on_the_bus(code) {
         return Origin {
             sender: ENVIRONMENT,
             place: 0,
@@ -46,11 +45,11 @@ pub fn fed(reason: Reason) -> Origin
     nowhere()
 }
 
-// Of a carry that was answered so: `oldest` is what stood where the board's oldest entry does, before it.
-pub fn carried(wires: &[Wire; CHANNELS], reason: Reason, oldest: Entry) -> Origin
-    ensures { CarriedFrom wires.now (code_in reason) oldest (origin_in result) }
+// Of a carry with an answer of this code: `oldest` is what stood where the board's oldest entry does, before it.
+pub fn carried(wires: &[Wire; CHANNELS], code: u32, oldest: Entry) -> Origin
+    ensures { CarriedFrom wires.now code oldest (origin_in result) }
 {
-    if !on_the_bus(reason) {
+    if !on_the_bus(code) {
         return nowhere();
     }
     let item = oldest.item;

@@ -5,7 +5,7 @@ ghost use Rattle.bus.specs.Syncs.{Syncs};
 use backup::place::Checkpoint;
 use numbers::answers::Reason;
 use plan::PROCESSES;
-use state::moved::Answer;
+use state::moved::{Answer, answer_for};
 use state::store::Store;
 use words::index;
 
@@ -14,17 +14,9 @@ pub fn transmit_sync(store: &mut Store, process: u32, checkpoint: Checkpoint) ->
 {
     let p = index::<PROCESSES>(process);
     let dropped = store.processes[p].keep(checkpoint);
-    store.processes[p].waits = false;
+    store.processes[p].waits = 0;
     if !store.processes[p].is_backed() {
-        return Answer {
-            reason: Reason::SyncUnbacked,
-            a: process,
-            word: 0,
-        };
+        return answer_for(Reason::SyncUnbacked, process, 0);
     }
-    Answer {
-        reason: Reason::SyncCarried,
-        a: process,
-        word: dropped,
-    }
+    answer_for(Reason::SyncCarried, process, dropped)
 }

@@ -5,7 +5,7 @@ ghost use Rattle.bus.specs.Transfers.{Transfers};
 
 use numbers::answers::Reason;
 use plan::PROCESSES;
-use state::moved::Answer;
+use state::moved::{Answer, answer_for};
 use state::store::Store;
 use words::index;
 
@@ -14,10 +14,6 @@ pub fn transmit_transfer(store: &mut Store, process: u32) -> Answer
 {
     let p = index::<PROCESSES>(process);
     store.processes[p].end_transfer();
-    store.processes[p].waits = false;
-    Answer {
-        reason: Reason::ResyncCarried,
-        a: process,
-        word: 0,
-    }
+    store.processes[p].waits = 0;
+    answer_for(Reason::ResyncCarried, process, 0)
 }

@@ -7,7 +7,7 @@ use crate::word::transmit_word;
 use numbers::answers::Reason;
 use plan::{BOARDS, Plan};
 use state::entry::{Entry, Item};
-use state::moved::{Answer, refusal};
+use state::moved::{Answer, refusal_for};
 use state::store::Store;
 use words::index;
 
@@ -16,11 +16,11 @@ pub fn transmit(plan: &Plan, store: &mut Store, a: u32, oldest: Entry) -> Answer
     ensures { Transmits plan.now store.old a oldest store.new result }
 {
     let b = index::<BOARDS>(a);
-    if store.queues[b].dead {
-        return refusal(Reason::CarryOfDead, a);
+    if store.queues[b].is_dead() {
+        return refusal_for(Reason::CarryOfDead, a);
     }
     let Some(item) = store.queues[b].peek(oldest) else {
-        return refusal(Reason::QueueEmpty, a);
+        return refusal_for(Reason::QueueEmpty, a);
     };
     store.queues[b].pop();
     if let Item::Word {
@@ -40,7 +40,7 @@ pub fn transmit(plan: &Plan, store: &mut Store, a: u32, oldest: Entry) -> Answer
     }
     // What is neither is a transfer: this else is never taken.
     let Item::Transfer { process } = item else {
-        return refusal(Reason::QueueEmpty, a);
+        return refusal_for(Reason::QueueEmpty, a);
     };
     transmit_transfer(store, process)
 }

@@ -6,7 +6,7 @@ use crate::delivery::deliver;
 use numbers::answers::Reason;
 use plan::{CHANNELS, PROCESSES, Plan};
 use state::channel::ENVIRONMENT;
-use state::moved::Answer;
+use state::moved::{Answer, answer_for};
 use state::store::Store;
 use words::index;
 
@@ -18,11 +18,7 @@ pub fn transmit_word(plan: &Plan, store: &mut Store, channel: u32, word: u32) ->
     let k = index::<CHANNELS>(channel);
     let p = index::<PROCESSES>(plan.sender(k));
     store.processes[p].counts();
-    let answer = Answer {
-        reason: Reason::Carried,
-        a: channel,
-        word: word,
-    };
+    let answer = answer_for(Reason::Carried, channel, word);
     if plan.reader(k) == ENVIRONMENT {
         store.totals[k] = std::num::wrapping_sub_u32(store.totals[k], 1);
         return answer;

@@ -24,14 +24,14 @@ use Rattle.state.specs.declared.entry.Entry.{Entry}
 use Rattle.state.specs.declared.moved.Answer.{Answer}
 use Rattle.state.specs.declared.store.Store.{Store}
 use Rattle.state.specs.Store.{Holds}
-use Rattle.state.specs.Moved.{Answered, refusal_of}
+use Rattle.state.specs.Moved.{Answered, refusal_for}
 use Rattle.state.proofs.Refusing.{reason_for, turned_away_lem}
 use Rattle.command.specs.Judges.{beyond_of, absent_of, stray_of, judge_of}
 
 -- ---- a move that is none of the seven
 
 module _ (mv : ℕ) (h1 : mv ≡ 1 → ⊥) (h2 : mv ≡ 2 → ⊥) (h3 : mv ≡ 3 → ⊥) (h4 : mv ≡ 4 → ⊥) (h5 : mv ≡ 5 → ⊥) (h6 : mv ≡ 6 → ⊥) (h7 : mv ≡ 7 → ⊥) where
-  is-unknown : move_of mv ≡ unknown
+  pub is-unknown : move_of mv ≡ unknown
   is-unknown = move_of-unknown mv h1 h2 h3 h4 h5 h6 h7
 
   pub unknown-absent : (counts : Counts) (a : ℕ) → absent_of counts a (move_of mv) ≡ Some NoSuchMove
@@ -166,12 +166,12 @@ module _ {t : Table} {l : Plan} (u : Planned t l) (x : code.Command) (o : Option
       (performed t l.counts u.boards-is u.processes-is u.channels-is c (command_of x) m))
 
   -- A reason is the rules',
-  pub refused : {s : Store} {entries : List Entry} {r : Answer} (reason : Reason) → Holds t s entries c → o ≡ Some reason → r ≡ refusal_of reason a
+  pub refused : {s : Store} {entries : List Entry} {r : Answer} (reason : Reason) → Holds t s entries c → o ≡ Some reason → r ≡ refusal_for reason a
       → Answered t s entries c (command_of x) (judged t c (command_of x)) r
   refused {s} {entries} {r} reason h z e =
       let y = must_stop tested reason z in
       let same : reason ≡ reason_for y.why = cc (y.named) in
-      turned_away_lem (command_of x) a y.why h y.result_is (sym is-a) (e ∙ ap (λ (k : Reason). refusal_of k a) same)
+      turned_away_lem (command_of x) a y.why h y.result_is (sym is-a) (e ∙ ap (λ (k : Reason). refusal_for k a) same)
 
   -- and no word is on the bus.
   pub refused-origin : (reason : Reason) → o ≡ Some reason → origin_of (turn t c (command_of x)).answer ≡ no_origin

@@ -1,7 +1,8 @@
-// 32 and 33, which any record may be answered before its move is made, and why.
+// 32 and 33, which any record may be answered before its move is made, and their causes.
 ghost use Rattle.std.specs.Prelude.{◌≡◌, ◌<◌};
 ghost use Rattle.rules.specs.Moves.{move_of};
-ghost use Rattle.command.specs.Judges.{beyond_of, absent_of, stray_of, judge_of};
+ghost use Rattle.numbers.specs.Answers.{cause_in};
+ghost use Rattle.command.specs.Judges.{beyond_of, absent_of, stray_of, judge_of, fault_of, cause_by};
 
 use numbers::answers::Reason;
 use plan::Counts;
@@ -77,4 +78,38 @@ pub fn judge(counts: Counts, c: Command) -> Option<Reason>
         return Some(stray(c.mv));
     }
     absent(counts, c.mv, c.a)
+}
+
+// A reason's cause.
+fn cause_for(reason: Reason) -> u32
+    ensures { result ≡ cause_in reason }
+{
+    (reason.number() % 4) as u32
+}
+
+// W-206, of a known move: "Code 32: 1 when the move is known and the word is at fault"; of a 33 what it says there.
+fn fault(number: u32, of_33: Reason) -> u32
+    ensures { result ≡ fault_of number (cause_in of_33) }
+{
+    if number == Reason::WordNotZero.code() as u32 {
+        cause_for(Reason::WordNotZero)
+    } else {
+        cause_for(of_33)
+    }
+}
+
+// The cause of a 32 or a 33, by the move: "Code 33: 1 for a board, 2 for a channel."
+pub fn cause(number: u32, mv: u8) -> u32
+    ensures { result ≡ cause_by number (move_of mv) }
+{
+    match mv {
+        1 => fault(number, Reason::NoSuchProcess),
+        2 => fault(number, Reason::NoSuchProcess),
+        3 => fault(number, Reason::NoSuchBoard),
+        4 => fault(number, Reason::NoSuchChannel),
+        5 => fault(number, Reason::NoSuchBoard),
+        6 => fault(number, Reason::NoSuchBoard),
+        7 => fault(number, Reason::NoSuchProcess),
+        _ => cause_for(Reason::NoSuchMove),
+    }
 }

@@ -16,9 +16,9 @@ use Rattle.state.specs.declared.queue.Queue.{Queue}
 use Rattle.state.specs.declared.store.Store.{Store}
 use Rattle.state.specs.Queue.{no_queue, dead_in, reset_in}
 use Rattle.state.specs.Store.{Holds, lists_at}
-use Rattle.state.specs.Moved.{Reachable, alone_of, refusal_of, answer_of}
+use Rattle.state.specs.Moved.{Reachable, alone_of, refusal_for, answer_for}
 use Rattle.state.proofs.Reading.{at_process, at_dead, how_many}
-use Rattle.state.proofs.Making.{its_board, dead_so, answered, makes_alone}
+use Rattle.state.proofs.Making.{its_board, dead_so, answered, makes_alone, for_reason}
 use Rattle.state.proofs.Refusing.{turned_away_lem, makes-refused}
 use Rattle.crash.specs.Crashes.{Crashes}
 use Rattle.crash.specs.Losses.{lost_words, unbacked_in, Zeroed}
@@ -53,7 +53,7 @@ module _ {t : Table} {s : Store} {entries : List Entry} {c : Cabinet} (h : Holds
 -- ---- what the move promises
 
 module _ (plan : Plan) (s : Store) (a b : ℕ) (is_b : a < 16 → b ≡ a) where
-  pub crashes_34 : dead_in s.queues b ≡ true → (r : Answer) → r ≡ refusal_of CrashOfDead a → Crashes plan s a s r
+  pub crashes_34 : dead_in s.queues b ≡ true → (r : Answer) → r ≡ refusal_for CrashOfDead a → Crashes plan s a s r
   crashes_34 y r e table = makes-refused CrashOfDead (ap alone_of e) (λ t entries c command reach planned h f ha.
       turned_away_lem command a crash_dead h (refused_34 h a ha (dead_so s.queues true y reach ha is_b)) f refl)
 
@@ -67,7 +67,7 @@ module _ (plan : Plan) (s : Store) (a b : ℕ) (is_b : a < 16 → b ≡ a) where
         → any_below (unbacked_in s.processes) (length t.processes) ≡ found
     the_test reach planned = ap (any_below (unbacked_in s.processes)) (sym (its_processes reach planned)) ∙ sym is_found
 
-    pub crashes_44 : found ≡ true → (r : Answer) → r ≡ refusal_of SomeUnbacked a → Crashes plan s a s r
+    pub crashes_44 : found ≡ true → (r : Answer) → r ≡ refusal_for SomeUnbacked a → Crashes plan s a s r
     crashes_44 y r e table = makes-refused SomeUnbacked (ap alone_of e) (λ t entries c command reach planned h f ha.
         turned_away_lem command a not_backed h (refused_44 h a ha (dead_so s.queues false live reach ha is_b) (the_test reach planned ∙ y)) f refl)
 
@@ -75,11 +75,11 @@ module _ (plan : Plan) (s : Store) (a b : ℕ) (is_b : a < 16 → b ≡ a) where
         → (processes' : List code.Process) (queued queued' totals' : List ℕ) (queue : Queue)
         → Recounted Out k plan.wires s.processes s.totals queued → Zeroed (lost_words plan.wires s.processes a) k queued queued'
         → AllCrashed p plan.programs s.processes a processes' → Recounted In k plan.wires processes' queued' totals'
-        → queue ≡ reset_in (get_or s.queues b no_queue) true
-        → Crashes plan s a (record { processes = processes'; queues = set s.queues b queue; totals = totals' }) (answer_of BoardCrashed 0 0)
+        → queue ≡ reset_in (get_or s.queues b no_queue) 1
+        → Crashes plan s a (record { processes = processes'; queues = set s.queues b queue; totals = totals' }) (answer_for BoardCrashed 0 0)
     unfolding numbers cause_of
     crashes-done n k is-k processes' queued queued' totals' queue dropped words all added is_queue table =
-        makes_alone (answer_of BoardCrashed 0 0) (omega arith)
+        makes_alone (answer_for BoardCrashed 0 0) (for_reason BoardCrashed 0 0) (omega arith)
         (record {
           processes-same = all.same_length;
           queues-same = length-set s.queues b queue;
@@ -96,6 +96,6 @@ module _ (plan : Plan) (s : Store) (a b : ℕ) (is_b : a < 16 → b ≡ a) where
         (subst (λ (i : ℕ). Zeroed (lost_words plan.wires s.processes a) i queued queued') ks words)
         (subst (λ (i : ℕ). AllCrashed i plan.programs s.processes a processes') ps all)
         (subst (λ (i : ℕ). Recounted In i plan.wires processes' queued' totals') ks added) in
-        let queues-are : set s.queues b queue ≡ set s.queues a (reset_in (get_or s.queues a no_queue) true) =
-        ap (set s.queues b) is_queue ∙ ap (λ (i : ℕ). set s.queues i (reset_in (get_or s.queues i no_queue) true)) its in
+        let queues-are : set s.queues b queue ≡ set s.queues a (reset_in (get_or s.queues a no_queue) 1) =
+        ap (set s.queues b) is_queue ∙ ap (λ (i : ℕ). set s.queues i (reset_in (get_or s.queues i no_queue) 1)) its in
         answered _ crash_done (accepted_so h a ha (dead_so s.queues false live reach ha is_b) none) refl refl (rw queues-are there))

@@ -1,5 +1,5 @@
 -- The store after a crash holds the rules' cabinet after it.
-use Rattle.std.proofs.Common.{◌≡◌, ℕ, zero, suc, ◌+◌, ◌<◌, ◌≤◌, min, Bool, true, false, cond, not, eqb, ltb, ◌≢◌, List, [], ◌∷◌, length, get_or, set, sym, refl, ap, ◌∙◌, arith, get_or-set_other, get_or-set_same, le-ltb, lt-ltb, eq-eqb, ne_eqb}
+use Rattle.std.proofs.Common.{◌≡◌, ℕ, zero, suc, ◌+◌, ◌<◌, ◌≤◌, min, Bool, true, false, cond, not, eqb, ltb, ◌≢◌, List, [], ◌∷◌, length, get_or, set, sym, refl, ap, ◌∙◌, arith, get_or-set_other, get_or-set_same, le-ltb, lt-ltb, eq-eqb, ne_eqb, eqb-true}
 use mathlib.Core.Bool.{not-not}
 use mathlib.Core.Option.{Option, none, some}
 use lib.ListN.{get_or-eq_default}
@@ -10,8 +10,6 @@ use Rattle.facts.specs.Rings.{get_or_listed, listed-length}
 use Rattle.backup.specs.Limits.{log_most}
 use Rattle.plan.specs.Plan.{Plan, Planned, arity_in, sender_in, reader_in}
 use Rattle.process.specs.declared.process.Process as code
-use Rattle.process.specs.declared.process.Protection.{Protection}
-use Rattle.process.specs.declared.process.Protection.TheVariants.{Unprotected, Complete, Coming}
 use Rattle.process.specs.Row.{no_process, backed, recorded, mail_in, packed_at, mails_in, process_of, machine_of}
 use Rattle.process.specs.Promotion.{Routes, promoted_by, BecameAtCrash}
 use Rattle.rules.specs.Table.{Table, environment, inputs, channel_at}
@@ -24,7 +22,7 @@ use Rattle.state.specs.declared.entry.Entry.{Entry}
 use Rattle.state.specs.Queue.{no_queue, reset_in}
 use Rattle.state.specs.declared.queue.Queue.{Queue}
 use Rattle.state.specs.declared.store.Store.{Store}
-use Rattle.state.specs.Store.{Totalled, Holds, lists_at, process_in}
+use Rattle.state.specs.Store.{flag, Totalled, Holds, lists_at, process_in}
 use Rattle.state.specs.Moved.{Reachable}
 use Rattle.state.proofs.Reading.{at_process, how_many, how_many_boards}
 use Rattle.state.proofs.Boards.{Boarded, boards_emptied}
@@ -91,10 +89,8 @@ routes {t} {l} plan p hp i few =
     (λ h. rw (le-ltb i n (rw (plan.arity_at p hp) h)) (sym (get_or-eq_default (inputs t p) 0 {n = i} h))))
 
 -- a backup is a record
-is-record : (q : Protection) → backed q ≡ true → recorded q ≡ true
-is-record Unprotected e = e
-is-record Complete e = refl
-is-record Coming e = refl
+is-record : (q : ℕ) → backed q ≡ true → recorded q ≡ true
+is-record q e = rw (eqb-true q 1 e)
 
 -- ---- unread words
 
@@ -141,7 +137,7 @@ module _ {t : Table} {l : Plan} {s : Store} {entries : List Entry} {c : Cabinet}
     (all : AllCrashed (length t.processes) l.programs s.processes b processes')
     (added : Recounted In (length t.channels) l.wires processes' queued' totals') where
   abbrev queues' : List Queue
-  queues' = set s.queues b (reset_in (get_or s.queues b no_queue) true)
+  queues' = set s.queues b (reset_in (get_or s.queues b no_queue) 1)
 
   abbrev after : Store
   after = record { processes = processes'; queues = queues'; totals = totals' }
@@ -150,7 +146,7 @@ module _ {t : Table} {l : Plan} {s : Store} {entries : List Entry} {c : Cabinet}
 
   became : (p : ℕ) → p < length t.processes
       → BecameAtCrash (lists_at s p) (lists_at after p) (λ x. after_crash t b p x x.standby)
-      (cond (promoted_by b (lists_at s p)) false (lists_at s p).waits)
+      (cond (promoted_by b (lists_at s p)) 0 (lists_at s p).waits)
   became p hp =
       let small = reach.accepted.processes_high in
       let r = h.shape.processes-length in
@@ -168,7 +164,7 @@ module _ {t : Table} {l : Plan} {s : Store} {entries : List Entry} {c : Cabinet}
   -- ---- the boards: "its queue is lost"
 
   boards : Boarded t queues' entries (set c.outboxes b []) (set c.dead b true)
-  boards = boards_emptied h reach.accepted.boards_high b hb true
+  boards = boards_emptied h reach.accepted.boards_high b hb 1
 
   -- ---- the totals
 
@@ -252,10 +248,10 @@ module _ {t : Table} {l : Plan} {s : Store} {entries : List Entry} {c : Cabinet}
   -- and it went on as its backup, since every process has one
   has_backup_lem : (p : ℕ) → p < length t.processes → recorded (lists_at s p).protection ≡ true
   has_backup_lem p hp =
-      let q : Protection = (lists_at s p).protection in
+      let q : ℕ = (lists_at s p).protection in
       is-record q (sym (not-not (backed q)) ∙ ap not (none_below (unbacked_in s.processes) (length t.processes) all-backed p hp))
 
-  waits_then : (p : ℕ) → p < length t.processes → (lists_at after p).waits ≡ waiting p (get_or (set c.outboxes b []) (process_in after p).board [])
+  waits_then : (p : ℕ) → p < length t.processes → (lists_at after p).waits ≡ flag (waiting p (get_or (set c.outboxes b []) (process_in after p).board []))
   waits_then p hp =
       let at = (became p hp).waits-is in
       let runs : promoted_by b (lists_at s p) ≡ eqb (process_at c p).board b = rw (has_backup_lem p hp) (ap (λ (i : ℕ). eqb i b) (sym (board-is p hp))) in
@@ -267,7 +263,7 @@ module _ {t : Table} {l : Plan} {s : Store} {entries : List Entry} {c : Cabinet}
       ∙ stays t b p (process_at c p) (process_at c p).standby n in
       let queue : get_or (set c.outboxes b []) (process_in after p).board [] ≡ outbox_at c (process_at c p).board =
       ap (λ (i : ℕ). get_or (set c.outboxes b []) i []) same ∙ get_or-set_other c.outboxes b (process_at c p).board [] [] n in
-      at ∙ rw (runs, ne_eqb (process_at c p).board b n) (h.waits-is p hp ∙ ap (waiting p) (sym queue)))
+      at ∙ rw (runs, ne_eqb (process_at c p).board b n) (h.waits-is p hp ∙ ap (λ (l : List rules.Item). flag (waiting p l)) (sym queue)))
 
   pub crash-holds : Holds t after entries (crashed_cabinet t c b)
   crash-holds = record {
@@ -276,7 +272,7 @@ module _ {t : Table} {l : Plan} {s : Store} {entries : List Entry} {c : Cabinet}
     dead = boards.dead_are;
     kept = λ p hp. (became p hp).kept_again;
     seated = λ p hp. (became p hp).seated_again _ _ (h.seated p hp);
-    waits-is = λ p hp. waits_then p hp ∙ ap (λ (x : Process). waiting p (get_or (set c.outboxes b []) x.board [])) (sym (process_then p hp));
+    waits-is = λ p hp. waits_then p hp ∙ ap (λ (x : Process). flag (waiting p (get_or (set c.outboxes b []) x.board []))) (sym (process_then p hp));
     first_small = boards.first_small;
     count_small = boards.count_small;
     totalled = totals_then;

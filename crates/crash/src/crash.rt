@@ -8,7 +8,7 @@ use crate::processes::crash_all;
 use crate::recount::{Unread, recount};
 use numbers::answers::Reason;
 use plan::{BOARDS, CHANNELS, PROCESSES, Plan};
-use state::moved::{Answer, refusal};
+use state::moved::{Answer, answer_for, refusal_for};
 use state::store::Store;
 use words::{index, most};
 
@@ -17,12 +17,12 @@ pub fn crash(plan: &Plan, store: &mut Store, a: u32) -> Answer
     ensures backups_stay { BackupsStay store.old store.new }
 {
     let b = index::<BOARDS>(a);
-    if store.queues[b].dead {
-        return refusal(Reason::CrashOfDead, a);
+    if store.queues[b].is_dead() {
+        return refusal_for(Reason::CrashOfDead, a);
     }
     let p = most::<PROCESSES>(plan.counts.processes);
     if some_unbacked(p, &store.processes) {
-        return refusal(Reason::SomeUnbacked, a);
+        return refusal_for(Reason::SomeUnbacked, a);
     }
     let k = most::<CHANNELS>(plan.counts.channels);
     recount(k, plan, Unread::Out, &store.processes, &mut store.totals);
@@ -30,9 +30,5 @@ pub fn crash(plan: &Plan, store: &mut Store, a: u32) -> Answer
     crash_all(p, plan, &mut store.processes, a);
     recount(k, plan, Unread::In, &store.processes, &mut store.totals);
     store.queues[b].die();
-    Answer {
-        reason: Reason::BoardCrashed,
-        a: 0,
-        word: 0,
-    }
+    answer_for(Reason::BoardCrashed, 0, 0)
 }

@@ -82,6 +82,7 @@ computes x code a operand program n k i room =
         events = k.events;
         taken = k.taken;
         instructions = omega arith;
+        flag = k.flag;
         sound = k.sound;
       };
       seated_again = λ a b s. record { runs_on = s.runs_on; other-is = s.other-is };

@@ -115,6 +115,7 @@ suppresses x r e l program n code a operand channel word left k i h =
         events = k.events;
         taken = k.taken;
         instructions = k.instructions;
+        flag = k.flag;
         sound = k.sound;
       };
       seated_again = λ a b s. record { runs_on = s.runs_on; other-is = s.other-is };
@@ -143,6 +144,7 @@ queues x program n code a operand channel word k i h events instructions =
         events = omega arith;
         taken = k.taken;
         instructions = omega arith;
+        flag = k.flag;
         sound = k.sound;
       };
       seated_again = λ a b s. record { runs_on = s.runs_on; other-is = s.other-is };

@@ -86,6 +86,7 @@ module _ (x : Process) (code a at port : ℕ) (inside : at < x.unread) (u : ℕ)
             events = omega arith;
             taken = words;
             instructions = omega arith;
+            flag = k.flag;
             sound = k.sound;
           };
           seated_again = λ a b s. record { runs_on = s.runs_on; other-is = s.other-is };

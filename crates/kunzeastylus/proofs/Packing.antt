@@ -14,7 +14,8 @@ use Rattle.rules.specs.Schedule.{commands_most}
 use Rattle.cabinet.specs.Runs.{ran_by, Runs}
 use Rattle.cabinet.specs.declared.run.Ended.{Ended}
 use Rattle.cabinet.proofs.Running.{run-few}
-use Rattle.kunzeastylus.specs.Packed.{Packed, Verdict, verdict_of, flag_of, packed_of, verdict_in, VerdictPacked}
+use Rattle.kunzeastylus.specs.declared.run.Verdict.{Verdict}
+use Rattle.kunzeastylus.specs.Packed.{Packed, verdict_of, flag_of, packed_of, verdict_in, VerdictPacked}
 
 -- where what is packed comes out of the number again, the number that is packed has what was promised of it
 pub keeps_packed : {R V : Type 0} {values : R → V} {pack : V → ℕ} {unpack : ℕ → V} (promised : R → Type 0) (r : R) → promised r

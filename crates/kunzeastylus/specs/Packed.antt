@@ -6,6 +6,7 @@ use Rattle.numbers.specs.declared.runs.Refusal.{Refusal}
 use Rattle.rules.specs.Run.{Buffers}
 use Rattle.cabinet.specs.Runs.{Runs}
 use Rattle.cabinet.specs.declared.run.Ended.{Ended}
+use Rattle.kunzeastylus.specs.declared.run.Verdict.{Verdict}
 
 -- What a call promises that returns its values in one number, where the call below it promises a result. `values` are those that stand for a
 -- result, 0 first or the number of a refusal; `pack` makes one number of them, and `unpack` takes them out of it again, as a caller does.
@@ -19,13 +20,7 @@ pub record Packed {R V : Type 0} (values : R → V) (pack : V → ℕ) (unpack :
 
 -- ---- the run
 
--- number, records and quiet
-pub record Verdict : Type 0 where
-  pub number : ℕ
-  pub records : ℕ
-  pub quiet : Bool
-
--- of a run that is refused: its number, 0 and false
+-- number, records and quiet: of a run that is refused its number, 0 and false
 abbrev pub verdict_of : Result Ended Refusal → Verdict
 verdict_of (Ok e) = record { number = 0; records = e.records; quiet = e.quiet }
 verdict_of (Err r) = record { number = number_of r; records = 0; quiet = false }

@@ -2,7 +2,7 @@
 ghost use Rattle.rules.specs.Run.{buffers_of};
 ghost use Rattle.kunzeastylus.specs.Label.{MakesInto, RunsLinePacked};
 
-use crate::run::packed;
+use crate::run::packed_run;
 use label_line::{TABLE, make_table, run_line};
 
 // The table of a first serial, into 84 lent bytes: 0, or 46 and they are untouched.
@@ -31,5 +31,5 @@ pub fn ks_label_run(
         (buffers_of answers.old reasons.old report.old origins.old) result
         (buffers_of answers.new reasons.new report.new origins.new) }
 {
-    packed(run_line(first, schedule, answers, reasons, report, origins))
+    packed_run(run_line(first, schedule, answers, reasons, report, origins))
 }

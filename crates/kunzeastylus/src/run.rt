@@ -9,15 +9,47 @@ use cabinet::run::{Ended, run};
 use numbers::runs::Refusal;
 use words::flag;
 
+// "An accepted run returns 0, its number of records, and whether it ended quiet." A refused one its number, 0 and false.
+#[derive(Clone, Copy)]
+pub struct Verdict {
+    pub number: u8,
+    pub records: usize,
+    pub quiet: bool,
+}
+
+// Of what a run returned.
+fn told(r: Result<Ended, Refusal>) -> Verdict
+    ensures { result ≡ verdict_of r }
+{
+    match r {
+        Ok(e) => Verdict {
+            number: 0,
+            records: e.records,
+            quiet: e.quiet,
+        },
+        Err(refusal) => Verdict {
+            number: refusal.number(),
+            records: 0,
+            quiet: false,
+        },
+    }
+}
+
 // number + 256 quiet + 2^32 records
-pub fn packed(r: Result<Ended, Refusal>) -> u64
+pub fn packed(r: Verdict) -> u64
+    requires { r.records ≤ commands_most }
+    ensures { (result ≡ packed_of r) × (r.number < 256) }
+{
+    let records = r.records as u64;
+    (r.number as u64) + 256 * flag(r.quiet) + 4294967296 * records
+}
+
+// What a run returned, in one number.
+pub fn packed_run(r: Result<Ended, Refusal>) -> u64
     requires { IfOk r (λ e. e.records ≤ commands_most) }
     ensures { (result ≡ packed_of (verdict_of r)) × (number_in r < 256) }
 {
-    match r {
-        Ok(e) => 256 * flag(e.quiet) + 4294967296 * (e.records as u64),
-        Err(refusal) => refusal.number() as u64,
-    }
+    packed(told(r))
 }
 
 // The run of a table and a schedule, whatever bytes they are, with four lent buffers.
@@ -33,5 +65,5 @@ pub fn ks_run(
         (buffers_of answers.old reasons.old report.old origins.old) result
         (buffers_of answers.new reasons.new report.new origins.new) }
 {
-    packed(run(table, schedule, answers, reasons, report, origins))
+    packed_run(run(table, schedule, answers, reasons, report, origins))
 }

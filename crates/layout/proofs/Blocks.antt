@@ -13,6 +13,7 @@ use Rattle.rules.specs.Sizes.{outbox_most}
 use Rattle.state.specs.declared.entry.Entry.{Entry}
 use Rattle.state.specs.declared.entry.Item.TheVariants.{Word}
 use Rattle.state.specs.declared.queue.Queue.{Queue}
+use Rattle.state.specs.Queue.{is_dead}
 use Rattle.state.specs.Store.{blank_entry}
 use Rattle.layout.specs.View.{each}
 use Rattle.layout.specs.Lists.{process_for, queue_for, machine_in, inbox_at, backup_in, saved_at, process_numbers_in, entry_place, entry_at, board_numbers_in}
@@ -74,7 +75,7 @@ module _ (queue : Queue) (entries : List Entry) (b : ℕ) where
   unfolding entry_in blank_entry
   entry_is i k e = ap (λ (n : ℕ). entry_at queue (get_or entries n (record { item = Word 0 0 0 })) i) e
 
-  pub board_laid : (out₀ : List ℕ) (at : ℕ) (out₁ out₂ : List ℕ) (d : ℕ) → d ≡ cond queue.dead 1 0
+  pub board_laid : (out₀ : List ℕ) (at : ℕ) (out₁ out₂ : List ℕ) (d : ℕ) → d ≡ cond (is_dead queue) 1 0
       → out₁ ≡ sets out₀ at (d ∷ queue.count ∷ []) → out₂ ≡ sets out₁ (at + 2) (each entry_in outbox_most)
       → out₂ ≡ sets out₀ at (board_numbers_in queue entries b)
   unfolding board_numbers_in entry_in

@@ -10,7 +10,7 @@ use Rattle.rules.specs.Sizes.{outbox_most}
 use Rattle.rules.specs.Cabinet.{Item}
 use Rattle.state.specs.declared.entry.Entry.{Entry}
 use Rattle.state.specs.declared.queue.Queue.{Queue}
-use Rattle.state.specs.Queue.{no_queue}
+use Rattle.state.specs.Queue.{no_queue, is_dead}
 use Rattle.state.specs.Store.{item_of, blank_entry}
 use Rattle.layout.specs.View.{each, item_numbers, no_item, queue_numbers, board_numbers}
 use Rattle.layout.specs.Lists.{entry_place, entry_at, board_numbers_in}
@@ -41,9 +41,9 @@ module _ (queue : Queue) (entries : List Entry) (b : ℕ) where
       get_or_chosen (λ (x : List ℕ). x) (λ i. item_numbers (item_of (get_or entries (entry_place queue b i) blank_entry).item)) queue.count i no_item
       ∙ ap (λ (x : List (List ℕ)). get_or x i no_item) (sym numbers-listed))
 
-  pub board-is : board_numbers_in queue entries b ≡ board_numbers queue.dead queue_of
+  pub board-is : board_numbers_in queue entries b ≡ board_numbers (is_dead queue) queue_of
   unfolding board_numbers_in board_numbers
-  board-is = λ j. cond queue.dead 1 0 ∷ sym queue_long j ∷ entries_are j
+  board-is = λ j. cond (is_dead queue) 1 0 ∷ sym queue_long j ∷ entries_are j
 
 -- the queue of a board that the table doesn't have
 pub no_board-is : (entries : List Entry) (b : ℕ) → queue_of no_queue entries b ≡ []

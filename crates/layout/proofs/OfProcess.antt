@@ -1,6 +1,6 @@
 -- The numbers of a process of the code are those of the process that it stands for.
 use mathlib.Core.Path.{◌≡◌, refl, ap, sym, ◌∙◌}
-use mathlib.Core.Bool.{cond}
+use mathlib.Core.Bool.{Bool, true, false, cond}
 use mathlib.Core.Option.{Option, none, some}
 use mathlib.Core.List.{List, [], ◌∷◌, ◌++◌, map}
 use Prim.Native.Nat.{ℕ}
@@ -15,13 +15,11 @@ use Rattle.backup.specs.Limits.{log_most}
 use Rattle.backup.specs.Replica.{Message}
 use Rattle.backup.specs.Place.{unpack, messages, view_in}
 use Rattle.process.specs.declared.process.Process as code
-use Rattle.process.specs.declared.process.Protection.{Protection}
-use Rattle.process.specs.declared.process.Protection.TheVariants.{Unprotected, Complete, Coming}
 use Rattle.process.specs.Row.{mail_at, backed, recorded, zero_process, machine_of, standby_of, process_of}
 use Rattle.rules.specs.Machine.{booted}
 use Rattle.rules.specs.Cabinet.{Standby, nobody}
 use Rattle.layout.specs.View.{each, four, machine_numbers, mail_numbers, no_mail, inbox_numbers, backup_numbers, saved_word, no_message, log_of, saved_numbers, process_numbers}
-use Rattle.layout.specs.Lists.{machine_in, state_in, behind_state, backup_in, inbox_at, saved_at, process_numbers_in}
+use Rattle.layout.specs.Lists.{machine_in, behind_state, backup_in, inbox_at, saved_at, process_numbers_in}
 use Rattle.layout.proofs.Laying.{each_same}
 
 -- ---- an element of a list given by a function of the place, or what stands for none
@@ -57,9 +55,6 @@ saved-listed n log = ap (map unpack) (prefix-listed n log) ∙ map-listed unpack
 
 -- by what it is
 module _ (x : code.Process) where
-  abbrev standby_by : Protection → Option Standby
-  standby_by y = cond (recorded y) (some (record { board = x.standby; replica = view_in x.log x.head; complete = backed y })) none
-
   -- the numbers of one that is there, n words being saved
   abbrev numbered : ℕ → ℕ → List ℕ
   numbered state n =
@@ -77,11 +72,16 @@ module _ (x : code.Process) where
   behind-is : (state : ℕ) → state ∷ behind_state x ≡ numbered state (length (messages x.head.len x.log))
   behind-is state = ap (numbered state) (sym (saved-long x.head.len x.log))
 
-  backup_by : (y : Protection) → cond (recorded y) (state_in y ∷ behind_state x) (replicate 9 0) ≡ backup_numbers (standby_by y)
+  -- where one is there, and where it is complete
+  abbrev shown : Bool → Bool → Option Standby
+  shown there whole = cond there (some (record { board = x.standby; replica = view_in x.log x.head; complete = whole })) none
+
+  backup_by : (there whole : Bool)
+      → cond there (cond there (cond whole 1 2) 0 ∷ behind_state x) (replicate 9 0) ≡ backup_numbers (shown there whole)
   unfolding view_in
-  backup_by Unprotected = refl
-  backup_by Complete = behind-is 1
-  backup_by Coming = behind-is 2
+  backup_by false whole = refl
+  backup_by true true = behind-is 1
+  backup_by true false = behind-is 2
 
   some_saved : (i : ℕ)
       → cond (ltb i x.head.len) (saved_word (unpack (get_or x.log i 0))) (0 ∷ 0 ∷ []) ≡ saved_word (get_or (messages x.head.len x.log) i no_message)
@@ -89,21 +89,20 @@ module _ (x : code.Process) where
       get_or_chosen saved_word (λ k. unpack (get_or x.log k 0)) x.head.len i no_message
       ∙ ap (λ (l : List Message). saved_word (get_or l i no_message)) (sym (saved-listed x.head.len x.log))
 
-  saved_by : (y : Protection) (i : ℕ)
-      → cond (ltb i (cond (recorded y) x.head.len 0)) (saved_word (unpack (get_or x.log i 0))) (0 ∷ 0 ∷ [])
-      ≡ saved_word (get_or (log_of (standby_by y)) i no_message)
+  saved_by : (there whole : Bool) (i : ℕ)
+      → cond (ltb i (cond there x.head.len 0)) (saved_word (unpack (get_or x.log i 0))) (0 ∷ 0 ∷ [])
+      ≡ saved_word (get_or (log_of (shown there whole)) i no_message)
   unfolding view_in
-  saved_by Unprotected i = rw (le-ltb i 0 (omega arith))
-  saved_by Complete i = some_saved i
-  saved_by Coming i = some_saved i
+  saved_by false whole i = rw (le-ltb i 0 (omega arith))
+  saved_by true whole i = some_saved i
 
   backup-is : backup_in x ≡ backup_numbers (standby_of x)
   unfolding standby_of
-  backup-is = backup_by x.protection
+  backup-is = backup_by (recorded x.protection) (backed x.protection)
 
   saved-is : each (saved_at x) log_most ≡ saved_numbers (log_of (standby_of x))
   unfolding saved_numbers standby_of
-  saved-is = each_same _ _ log_most (λ i l. saved_by x.protection i)
+  saved-is = each_same _ _ log_most (λ i l. saved_by (recorded x.protection) (backed x.protection) i)
 
 -- ---- the whole process
 

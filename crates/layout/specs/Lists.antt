@@ -4,14 +4,12 @@ use Rattle.backup.specs.Limits.{log_most}
 use Rattle.backup.specs.Place.{unpack}
 use Rattle.plan.specs.declared.Counts.{Counts}
 use Rattle.process.specs.declared.process.Process.{Process}
-use Rattle.process.specs.declared.process.Protection.{Protection}
-use Rattle.process.specs.declared.process.Protection.TheVariants.{Unprotected, Complete, Coming}
-use Rattle.process.specs.Row.{recorded, mail_at, no_process, zero_process}
+use Rattle.process.specs.Row.{backed, recorded, mail_at, no_process, zero_process}
 use Rattle.rules.specs.Sizes.{boards_most, processes_most, channels_most, outbox_most}
 use Rattle.state.specs.declared.entry.Entry.{Entry}
 use Rattle.state.specs.declared.queue.Queue.{Queue}
 use Rattle.state.specs.declared.store.Store.{Store}
-use Rattle.state.specs.Queue.{no_queue}
+use Rattle.state.specs.Queue.{no_queue, is_dead}
 use Rattle.state.specs.Store.{item_of, blank_entry}
 use Rattle.layout.specs.View.{each, four, mail_numbers, saved_word, item_numbers, no_item}
 
@@ -42,10 +40,8 @@ machine_in x =
     ∷ []))))
 
 -- what its backup is
-abbrev pub state_in : Protection → ℕ
-state_in Unprotected = 0
-state_in Complete = 1
-state_in Coming = 2
+abbrev pub state_in : ℕ → ℕ
+state_in protection = cond (recorded protection) (cond (backed protection) 1 2) 0
 
 -- its backup, but for what it is and for the saved words
 abbrev pub behind_state : Process → List ℕ
@@ -92,7 +88,7 @@ entry_at queue e i = cond (ltb i queue.count) (item_numbers (item_of e.item)) no
 unfoldable pub board_numbers_in : Queue → List Entry → ℕ → List ℕ
 unfolding each blank_entry
 board_numbers_in queue entries b =
-    cond queue.dead 1 0
+    cond (is_dead queue) 1 0
     ∷ queue.count
     ∷ each (λ i. entry_at queue (get_or entries (entry_place queue b i) blank_entry) i) outbox_most
 

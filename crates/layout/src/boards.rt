@@ -3,6 +3,7 @@ ghost use Rattle.std.specs.Prelude.{◌≡◌, cond, ◌+◌, ◌≤◌, ◌<◌
 ghost use Rattle.std.proofs.lemmas.List.Edits.{sets};
 ghost use Rattle.rules.specs.Sizes.{boards_most};
 ghost use Rattle.state.specs.Store.{item_of};
+ghost use Rattle.state.specs.Queue.{is_dead};
 ghost use Rattle.layout.specs.View.{item_numbers};
 ghost use Rattle.layout.specs.Lists.{entry_place, entry_at, board_numbers_in};
 
@@ -86,9 +87,9 @@ fn entry(queue: &Queue, e: Entry, i: usize) -> [u32; ENTRY]
 
 // 1 for a dead board.
 fn dead(queue: &Queue) -> u32
-    ensures { result ≡ cond queue.now.dead 1 0 }
+    ensures { result ≡ cond (is_dead queue.now) 1 0 }
 {
-    if queue.dead { 1 } else { 0 }
+    if queue.is_dead() { 1 } else { 0 }
 }
 
 // All of them, of board b, whose queue this is.

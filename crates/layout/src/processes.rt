@@ -9,7 +9,7 @@ use crate::lay::lay;
 use backup::limits::LOG;
 use backup::pack::{port_of, word_of};
 use process::mail;
-use process::process::{Process, Protection};
+use process::process::{COMING, COMPLETE, Process, UNPROTECTED};
 use words::wide;
 
 // Where a process's numbers have their parts, and how many they are: first the machine, then the inbox, the backup and the saved words.
@@ -67,14 +67,16 @@ fn put_inbox(x: &Process, out: &mut [u32], at: usize)
 }
 
 // What the backup is: 0 none, 1 complete, 2 being made.
-fn state_of(protection: Protection) -> u32
+fn state_of(protection: u32) -> u32
     ensures { result ≡ state_in protection }
 {
-    match protection {
-        Protection::Unprotected => 0,
-        Protection::Complete => 1,
-        Protection::Coming => 2,
+    if protection == UNPROTECTED {
+        return UNPROTECTED;
     }
+    if protection == COMPLETE {
+        return COMPLETE;
+    }
+    COMING
 }
 
 // What the backup is, its board, place, registers and count, and how many words are saved; zeros where there is none.

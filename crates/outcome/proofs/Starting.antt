@@ -31,7 +31,7 @@ use Rattle.rules.proofs.Counting.{flight_none}
 use Rattle.state.specs.declared.entry.Entry.{Entry}
 use Rattle.state.specs.declared.store.Store.{Store}
 use Rattle.state.specs.Queue.{no_queue, dead_in}
-use Rattle.state.specs.Store.{Totalled, Holds, lists_at, process_in, outbox_in}
+use Rattle.state.specs.Store.{flag, Totalled, Holds, lists_at, process_in, outbox_in}
 use Rattle.outcome.specs.Starts.{boards_of, seated_in, Seats, Starts}
 
 -- ---- a list of one value
@@ -65,6 +65,7 @@ seated-kept x = record {
   events = omega arith;
   taken = λ i. rw (get_or_replicate_any {A = ℕ} 4 i 0) (omega arith);
   instructions = omega arith;
+  flag = omega arith;
   sound = fresh.is-sound;
 }
 
@@ -133,8 +134,8 @@ module _ (t : Table) (ok : Accepted t) (xs : List code.Process) (xs-length : len
   kept_at p h = rw (seated_at p h) (seated-kept (boards_at t p))
 
   -- nothing of any process waits
-  waits_at : (p : ℕ) → p < length t.processes → (lists_at s p).waits ≡ waiting p (outbox_at (started t) (process_at (started t) p).board)
-  waits_at p h = ap (λ (x : code.Process). x.waits) (seated_at p h) ∙ ap (waiting p) (sym (outbox_is (process_at (started t) p).board))
+  waits_at : (p : ℕ) → p < length t.processes → (lists_at s p).waits ≡ flag (waiting p (outbox_at (started t) (process_at (started t) p).board))
+  waits_at p h = ap (λ (x : code.Process). x.waits) (seated_at p h) ∙ ap (λ (l : List rules.Item). flag (waiting p l)) (sym (outbox_is (process_at (started t) p).board))
 
   -- no word is unread or in a queue
   start_totalled : Totalled t s.totals (started t)

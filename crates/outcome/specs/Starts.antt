@@ -7,7 +7,6 @@ use Rattle.rules.specs.Cabinet.{started}
 use Rattle.plan.specs.Plan.{no_placement}
 use Rattle.plan.specs.declared.Placement.{Placement}
 use Rattle.process.specs.declared.process.Process.{Process}
-use Rattle.process.specs.declared.process.Protection.TheVariants.{Complete}
 use Rattle.process.specs.Row.{no_process}
 use Rattle.state.specs.declared.entry.Entry.{Entry}
 use Rattle.state.specs.declared.store.Store.{Store}
@@ -30,7 +29,7 @@ pub record Placed (t : Table) (placements : List Placement) (processes : ℕ) : 
 
 -- a process of zeros becomes one on its primary board, protected by a backup on its other one
 abbrev pub seated_in : Process → Placement → Process
-seated_in x boards = record x { board = boards.primary; standby = boards.standby; protection = Complete }
+seated_in x boards = record x { board = boards.primary; standby = boards.standby; protection = 1 }
 
 -- What seating promises of 16 processes: the table's are seated, the others stay.
 pub record Seats (xs : List Process) (placements : List Placement) (processes : ℕ) (xs' : List Process) : Type 0 where

@@ -3,7 +3,7 @@ ghost use Rattle.std.specs.Prelude.{◌≡◌};
 ghost use Rattle.outcome.specs.Starts.{seated_in, Seats, Starts};
 
 use plan::{BOARDS, CHANNELS, PROCESSES, Placement};
-use process::process::{NO_PROCESS, Process, Protection};
+use process::process::{COMPLETE, NO_PROCESS, Process};
 use state::entry::{Entry, blank};
 use state::queue::{ENTRIES, NO_QUEUE};
 use state::store::Store;
@@ -22,7 +22,7 @@ fn seat_one(x: &mut Process, boards: Placement)
 {
     x.board = boards.primary;
     x.standby = boards.standby;
-    x.protection = Protection::Complete;
+    x.protection = COMPLETE;
 }
 
 // All processes, of which there are 16 at most.

@@ -8,12 +8,11 @@ use bus::inject::inject;
 use bus::oldest::oldest_of;
 use bus::origin::{carried, fed};
 use bus::transmit::transmit;
-use command::due::due_of;
+use command::due::{due_of, turned_away};
 use numbers::answers::Reason;
 use plan::Plan;
 use records::schedule::{UNDO, command_at, command_of, move_at};
 use rejoin::rebackup::transfer_entry;
-use state::moved::refusal;
 use state::store::Store;
 use step::entry::{checkpoint_of, place_of, sync_entry, word_entry};
 use step::issue::issue;
@@ -55,7 +54,7 @@ pub fn play(
         let d = due_of(plan.counts, c);
         let mv = d.mv;
         let a = d.a;
-        let r = if let Some(reason) = d.refused {
+        let r = if d.number != 0 {
             if mv == UNDO {
                 return Stretch {
                     from: k,
@@ -63,7 +62,7 @@ pub fn play(
                     entries: entries,
                 };
             }
-            refusal(reason, a)
+            turned_away(d)
         } else {
             match mv {
                 1 => {
@@ -73,7 +72,7 @@ pub fn play(
                         entries[at] = word_entry(m.answer, place);
                     }
                     // The most frequent answer is written by itself: its bytes are then known beforehand.
-                    if m.answer.reason == Reason::Calculated {
+                    if m.answer.code == Reason::Calculated.code() as u32 {
                         write(answers, reasons, origins, k, m.answer);
                         continue;
                     }
@@ -92,13 +91,13 @@ pub fn play(
                     let at = oldest_of(&store.queues, a);
                     let e = entries[at];
                     let r = transmit(plan, store, a, e);
-                    let o = carried(&plan.wires, r.reason, e);
+                    let o = carried(&plan.wires, r.code, e);
                     write_from(answers, reasons, origins, k, r, o);
                     continue;
                 }
                 4 => {
                     let r = inject(plan, store, a, d.word);
-                    write_from(answers, reasons, origins, k, r, fed(r.reason));
+                    write_from(answers, reasons, origins, k, r, fed(r.code));
                     continue;
                 }
                 _ => {

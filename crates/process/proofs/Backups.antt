@@ -1,12 +1,13 @@
 -- A call of the backup, and a delivery, as changes of one process.
 use mathlib.Core.Path.{◌≡◌, refl, ap, sym, ◌∙◌, subst}
-use mathlib.Core.Bool.{true, false, cond}
+use mathlib.Core.Bool.{Bool, true, false, cond}
 use mathlib.Core.Option.{Option, none, some}
 use mathlib.Core.List.{List, [], ◌∷◌, ◌++◌}
 use Prim.Native.Nat.{ℕ, ◌+◌, ◌%◌, ◌≤◌, ◌<◌, ◌^◌}
 use Rattle.std.proofs.Common.{Result}
 use native.Mathlib.Omega.{arith}
 use native.Mathlib.Numerals.{add-one}
+use borrow.Author.Tests.{eqb-true}
 use Rattle.backup.specs.Limits.{log_most}
 use Rattle.backup.specs.Replica.{Replica, Reply, Checkpoint, arrive, count, sync}
 use Rattle.backup.specs.declared.place.Checkpoint as landing
@@ -22,8 +23,6 @@ use Rattle.rules.specs.Cabinet.{Process, Standby}
 use Rattle.rules.specs.Moves.{with_standby, on_replica, on_backup, receive, counts, keeps, dropped_from}
 use Rattle.process.specs.Row.{backed, recorded, standby_in, machine_of, standby_of, process_of, mails_in}
 use Rattle.process.specs.declared.process.Process as code
-use Rattle.process.specs.declared.process.Protection.{Protection}
-use Rattle.process.specs.declared.process.Protection.TheVariants.{Unprotected, Complete, Coming}
 use Rattle.process.specs.Mailbox.{Appended}
 use Rattle.process.specs.Change.{Changes, Backed, Drops, Received}
 use Rattle.facts.specs.Tests.{no_way}
@@ -48,12 +47,11 @@ module _ (x : code.Process) (call : Replica → Reply) where
   -- the same on a backup: with none, also while one is being made, nothing is called
   pub backed_none : backed x.protection ≡ false → Backed x x on_backup call
   unfolding standby_of
-  backed_none e = record { backup-alone = refl; standby-is = λ s. go x.protection (standby_in x) e e; sound_again = λ s. s }
+  backed_none e = record { backup-alone = refl; standby-is = λ s. go (recorded x.protection) (standby_in x) e; sound_again = λ s. s }
     where
-      go : (q : Protection) (s : Standby) → backed q ≡ false → s.complete ≡ false → cond (recorded q) (some s) none ≡ on_backup call (cond (recorded q) (some s) none)
-      go Unprotected s e h = refl
-      go Complete s e h = absurd (no_way (cc))
-      go Coming s e h = rw h
+      go : (b : Bool) (s : Standby) → s.complete ≡ false → cond b (some s) none ≡ on_backup call (cond b (some s) none)
+      go true s h = rw h
+      go false s h = refl
 
   pub backed_call : (log : List ℕ) (head : Head) (number : ℕ) → backed x.protection ≡ true → Called x.log x.head log head number call
       → Backed x (with_backup x log head) on_backup call
@@ -63,14 +61,12 @@ module _ (x : code.Process) (call : Replica → Reply) where
       replica : Replica
       replica = view_in x.log x.head
 
-      at : Replica → Protection → Standby
+      at : Replica → ℕ → Standby
       at r q = record { board = x.standby; replica = r; complete = backed q }
 
-      go : (q : Protection) → backed q ≡ true
+      go : (q : ℕ) → backed q ≡ true
           → cond (recorded q) (some (at (call replica).replica q)) none ≡ on_backup call (cond (recorded q) (some (at replica q)) none)
-      go Unprotected e = absurd (no_way (cc))
-      go Complete e = refl
-      go Coming e = absurd (no_way (cc))
+      go q e = rw (eqb-true q 1 e)
 
 -- ---- calls that change the backup alone
 
@@ -89,6 +85,7 @@ module _ (x : code.Process) (log : List ℕ) (head : Head) where
       events = k.events;
       taken = k.taken;
       instructions = k.instructions;
+      flag = k.flag;
       sound = b.sound_again k.sound;
     };
     seated_again = λ a b s. record { runs_on = s.runs_on; other-is = s.other-is };
@@ -118,10 +115,8 @@ module _ (x : code.Process) where
       d : Checkpoint
       d = checkpoint_of c
 
-      go : (q : Protection) (s : Standby) → backed q ≡ true → dropped_from d (cond (recorded q) (some s) none) ≡ total_dropped (sync_report s.replica d)
-      go Unprotected s e = absurd (no_way (cc))
-      go Complete s e = refl
-      go Coming s e = absurd (no_way (cc))
+      go : (q : ℕ) (s : Standby) → backed q ≡ true → dropped_from d (cond (recorded q) (some s) none) ≡ total_dropped (sync_report s.replica d)
+      go q s e = rw (eqb-true q 1 e)
 
       r-is : n ≡ total_dropped (sync_report (view_in x.log x.head) d)
       r-is =
@@ -164,6 +159,7 @@ module _ (x : code.Process) (port channel word : ℕ) where
             events = k.events;
             taken = k.taken;
             instructions = k.instructions;
+            flag = k.flag;
             sound = b.sound_again k.sound;
           };
           seated_again = λ a b s. record { runs_on = s.runs_on; other-is = s.other-is };

@@ -1,10 +1,11 @@
 -- A process by its protection: whether it has a backup, whether it is limited; and its checkpoint, the issue of one, and the loss of a backup.
 use mathlib.Core.Path.{◌≡◌, refl, sym}
-use mathlib.Core.Bool.{not, cond}
+use mathlib.Core.Bool.{Bool, true, false, not, cond}
 use mathlib.Core.Option.{none, some}
-use Prim.Native.Nat.{ℕ}
+use Prim.Native.Nat.{ℕ, ◌≤◌}
 use native.Mathlib.Omega.{arith}
-use denote.Enum.Bare.{sameb}
+use lib.Dec.{eqb}
+use borrow.Author.Tests.{eqb-true}
 use Rattle.facts.specs.Lists.{written_out}
 use Rattle.facts.specs.Indexing.{get_or_replicate_any}
 use Rattle.backup.specs.Limits.{ports}
@@ -13,43 +14,27 @@ use Rattle.rules.specs.Cabinet.{Process, Standby, is_some, is_complete, limited,
 use Rattle.rules.specs.Moves.{snapshot, issued, unprotected}
 use Rattle.process.specs.Row.{backed, recorded, standby_in, checkpoint_in, anew_in, machine_of, standby_of, process_of, Kept}
 use Rattle.process.specs.declared.process.Process as code
-use Rattle.process.specs.declared.process.Protection.{Protection}
-use Rattle.process.specs.declared.process.Protection.TheVariants.{Unprotected, Complete, Coming}
-use Rattle.process.specs.contracts.process.Protection.{the_type}
 use Rattle.process.specs.Change.{Changes}
 
 -- ---- the protection
 
--- comparing it tells both
-pub same_complete : (q : Protection) → sameb the_type q Complete ≡ backed q
-same_complete Unprotected = refl
-same_complete Complete = refl
-same_complete Coming = refl
-
-pub same_unprotected : (q : Protection) → not (sameb the_type q Unprotected) ≡ recorded q
-same_unprotected Unprotected = refl
-same_unprotected Complete = refl
-same_unprotected Coming = refl
-
 -- a process is protected where its backup is complete
 pub protected-is : (x : code.Process) → protected (process_of x) ≡ backed x.protection
 unfolding process_of standby_of
-protected-is x = go x.protection (standby_in x) refl
+protected-is x = go (eqb x.protection 0) refl
   where
-    go : (q : Protection) (s : Standby) → s.complete ≡ backed q → is_complete (cond (recorded q) (some s) none) ≡ backed q
-    go Unprotected s h = refl
-    go Complete s h = h
-    go Coming s h = h
+    go : (b : Bool) → eqb x.protection 0 ≡ b → is_complete (cond (not b) (some (standby_in x)) none) ≡ backed x.protection
+    go true e = rw (eqb-true x.protection 0 e)
+    go false e = refl
 
 -- a process is limited where it has a record
 pub limited-is : (x : code.Process) → limited (process_of x) ≡ recorded x.protection
 unfolding process_of standby_of
-limited-is x = go x.protection (standby_in x)
+limited-is x = go (recorded x.protection) (standby_in x)
   where
-    go : (q : Protection) (s : Standby) → is_some (cond (recorded q) (some s) none) ≡ recorded q
-    go Unprotected s = refl
-    go Complete s = refl
-    go Coming s = refl
+    go : (b : Bool) (s : Standby) → is_some (cond b (some s) none) ≡ b
+    go true s = refl
+    go false s = refl
 
 -- ---- a checkpoint
 
@@ -74,6 +59,7 @@ issued-became x k = record {
     events = omega arith;
     taken = λ i. rw (get_or_replicate_any {A = ℕ} ports i 0) (omega arith);
     instructions = omega arith;
+    flag = k.flag;
     sound = k.sound;
   };
   seated_again = λ a b s. record { runs_on = s.runs_on; other-is = s.other-is };
@@ -83,9 +69,9 @@ issued-became x k = record {
 -- ---- the protection changes
 
 -- what becomes of a process with another protection, where the rules' change is the same
-pub protection-became : (x : code.Process) (q : Protection) (change : Process → Process)
+pub protection-became : (x : code.Process) (q : ℕ) → q ≤ 2 → (change : Process → Process)
     → process_of (record x { protection = q }) ≡ change (process_of x) → Changes x (record x { protection = q }) change
-protection-became x q change e k = record {
+protection-became x q few change e k = record {
   process-is = e;
   kept_again = record {
     registers-length = k.registers-length;
@@ -96,12 +82,13 @@ protection-became x q change e k = record {
     events = k.events;
     taken = k.taken;
     instructions = k.instructions;
+    flag = few;
     sound = k.sound;
   };
   seated_again = λ a b s. record { runs_on = s.runs_on; other-is = s.other-is };
   waits_again = refl;
 }
 
-pub unprotected-became : (x : code.Process) → Changes x (record x { protection = Unprotected }) unprotected
+pub unprotected-became : (x : code.Process) → Changes x (record x { protection = 0 }) unprotected
 unfolding process_of machine_of standby_of unprotected
-unprotected-became x = protection-became x Unprotected unprotected refl
+unprotected-became x = protection-became x 0 (omega arith) unprotected refl

@@ -1,6 +1,6 @@
 -- A promotion, and a crash, as changes of one process.
 use mathlib.Core.Path.{◌≡◌, refl, ap, sym, ◌∙◌}
-use mathlib.Core.Bool.{Bool, true, false, cond}
+use mathlib.Core.Bool.{true, false, cond}
 use mathlib.Core.Option.{none}
 use mathlib.Core.List.{List, map}
 use Prim.Native.Nat.{ℕ, ◌%◌, ◌<◌}
@@ -65,6 +65,7 @@ module _ (x : code.Process) (channels : List ℕ) where
           events = omega arith;
           taken = λ i. rw (get_or_replicate_any {A = ℕ} ports i 0) (omega arith);
           instructions = omega arith;
+          flag = omega arith;
           sound = k.sound;
         };
         seated_again = λ a b s. record { runs_on = s.other-is; other-is = s.runs_on };
@@ -75,10 +76,10 @@ module _ (x : code.Process) (channels : List ℕ) where
 
 module _ (x : code.Process) (channels : List ℕ) (b : ℕ) where
   -- where the rules make of the process what a change makes of it, the change is the crash
-  so : (x' : code.Process) (t : Table) (p : ℕ) (change : Process → Process) (waits : Bool)
-      → (let y : Process = process_of x in after_crash t b p y y.standby ≡ change y) → cond (promoted_by b x) false x.waits ≡ waits
+  so : (x' : code.Process) (t : Table) (p : ℕ) (change : Process → Process) (waits : ℕ)
+      → (let y : Process = process_of x in after_crash t b p y y.standby ≡ change y) → cond (promoted_by b x) 0 x.waits ≡ waits
       → BecameAtCrash x x' change waits
-      → BecameAtCrash x x' (λ y. after_crash t b p y y.standby) (cond (promoted_by b x) false x.waits)
+      → BecameAtCrash x x' (λ y. after_crash t b p y y.standby) (cond (promoted_by b x) 0 x.waits)
   so x' t p change waits e f h =
       record { process-is = h.process-is ∙ sym e; kept_again = h.kept_again; seated_again = h.seated_again; waits-is = h.waits-is ∙ sym f }
 
@@ -95,10 +96,10 @@ module _ (x : code.Process) (channels : List ℕ) (b : ℕ) where
     pub crashed_promoted : (x' : code.Process) → x.board ≡ b → Promoted x x' channels → Crashed x x' b channels
     unfolding process_of standby_of after_crash
     crashed_promoted x' e h k t p r =
-        so x' t p (λ y. promoted t p (standby_in x)) false (rw (n, eq-eqb b x.board (sym e))) (rw (n, eq-eqb x.board b e)) (h k t p r)
+        so x' t p (λ y. promoted t p (standby_in x)) 0 (rw (n, eq-eqb b x.board (sym e))) (rw (n, eq-eqb x.board b e)) (h k t p r)
 
     module _ (m : x.board ≡ b → ⊥) where
-      stays : cond (promoted_by b x) false x.waits ≡ x.waits
+      stays : cond (promoted_by b x) 0 x.waits ≡ x.waits
       stays = rw (n, ne_eqb x.board b m)
 
       -- its backup's board crashed

@@ -23,7 +23,6 @@ use Rattle.rules.specs.Machine.{Mail}
 use Rattle.rules.specs.Cabinet.{Process, no_takes, none_since}
 use Rattle.rules.specs.Moves.{issued, copied, begin_transfer, end_transfer}
 use Rattle.process.specs.Row.{recorded, checkpoint_in, anew_in, mail_in, packed_at, mails_in, mail_at, machine_of, standby_of, process_of, Kept}
-use Rattle.process.specs.declared.process.Protection.TheVariants.{Complete, Coming}
 use Rattle.process.specs.Change.{Changes}
 use Rattle.process.specs.Transfer.{port_for, copy_of, with_more, Copied, OnPorts, BeginsTransfer}
 use Rattle.process.proofs.Processes.{checkpoint-is, issued-became, protection-became}
@@ -134,7 +133,7 @@ module _ (x : code.Process) (wires : List Wire) where
           ∙ ap (with_more (map (copy_of wires) (mails_in x.oldest x.unread x.mail))) begun
           ∙ ap (λ (l : List Message). record { log = l; sent = 0; pc = x.pc; registers = x.registers }) (routed_copies t p wires x on)
 
-    pub begins-transfer_so : BeginsTransfer x wires (record (anew_in x) { protection = Coming; log = log₃; head = head₃ })
+    pub begins-transfer_so : BeginsTransfer x wires (record (anew_in x) { protection = 2; log = log₃; head = head₃ })
     unfolding process_of machine_of standby_of issued begin_transfer
     begins-transfer_so k t p on low s =
         let now = (issued-became x k).kept_again in
@@ -157,6 +156,7 @@ module _ (x : code.Process) (wires : List Wire) where
             events = now.events;
             taken = now.taken;
             instructions = now.instructions;
+            flag = omega arith;
             sound = copy.sound_again (called.sound_again (new k t p on low).is-sound);
           };
           seated_again = λ a b s. record { runs_on = s.runs_on; other-is = s.other-is };
@@ -169,6 +169,6 @@ pub ends-transfer-none : (x : code.Process) → recorded x.protection ≡ false 
 unfolding process_of machine_of standby_of end_transfer
 ends-transfer-none x z k = record { process-is = rw z; kept_again = k; seated_again = λ a b s. s; waits_again = refl }
 
-pub ends-transfer_so : (x : code.Process) → recorded x.protection ≡ true → Changes x (record x { protection = Complete }) end_transfer
+pub ends-transfer_so : (x : code.Process) → recorded x.protection ≡ true → Changes x (record x { protection = 1 }) end_transfer
 unfolding process_of machine_of standby_of end_transfer
-ends-transfer_so x n = protection-became x Complete end_transfer (rw n)
+ends-transfer_so x n = protection-became x 1 (omega arith) end_transfer (rw n)

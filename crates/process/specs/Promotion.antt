@@ -1,5 +1,5 @@
 -- What a crash makes of one process: how it goes on as its backup.
-use Rattle.std.specs.Prelude.{◌≡◌, Bool, false, cond, ◌&&◌, List, [], ◌∷◌, map, ℕ, ◌%◌, ◌<◌, eqb, length, get_or}
+use Rattle.std.specs.Prelude.{◌≡◌, Bool, cond, ◌&&◌, List, [], ◌∷◌, map, ℕ, ◌%◌, ◌<◌, eqb, length, get_or}
 use Rattle.backup.specs.Limits.{log_most, ports}
 use Rattle.backup.specs.Replica.{Message}
 use Rattle.backup.specs.Place.{messages}
@@ -10,7 +10,6 @@ use Rattle.rules.specs.Cabinet.{Process, no_takes}
 use Rattle.rules.specs.Moves.{promoted, after_crash}
 use Rattle.process.specs.Row.{recorded, standby_in, mails_in, process_of, Kept, Seated}
 use Rattle.process.specs.declared.process.Process as code
-use Rattle.process.specs.declared.process.Protection.TheVariants.{Unprotected}
 
 -- a message with its port's channel in the port's place
 abbrev pub readdressed : List ℕ → Message → Mail
@@ -32,8 +31,8 @@ restored_in x p = record x {
   events = 0;
   taken = no_takes;
   instructions = 0;
-  protection = Unprotected;
-  waits = false;
+  protection = 0;
+  waits = 0;
   oldest = 0;
   unread = p.len;
 }
@@ -46,8 +45,8 @@ Routes t p channels = (i : ℕ) → i < ports → channel_on t p i ≡ get_or ch
 abbrev pub promoted_by : ℕ → code.Process → Bool
 promoted_by b x = recorded x.protection && eqb x.board b
 
--- As `Became`; and whether something of it waits afterwards.
-pub record BecameAtCrash (x x' : code.Process) (change : Process → Process) (waits : Bool) : Type 0 where
+-- As `Became`; and the number of what waits of it afterwards.
+pub record BecameAtCrash (x x' : code.Process) (change : Process → Process) (waits : ℕ) : Type 0 where
   pub process-is : process_of x' ≡ change (process_of x)
   pub kept_again : Kept x'
   pub seated_again : (a b : ℕ) → Seated a b x → Seated a b x'
@@ -56,10 +55,10 @@ pub record BecameAtCrash (x x' : code.Process) (change : Process → Process) (w
 -- the process goes on as the standby that it shows; what waited of it is lost with its board's queue
 abbrev pub Promoted : code.Process → code.Process → List ℕ → Type 0
 Promoted x x' channels =
-    Kept x → (t : Table) (p : ℕ) → Routes t p channels → BecameAtCrash x x' (λ y. promoted t p (standby_in x)) false
+    Kept x → (t : Table) (p : ℕ) → Routes t p channels → BecameAtCrash x x' (λ y. promoted t p (standby_in x)) 0
 
 -- What the crash of board b makes of it. Document 01: "its queue is lost".
 abbrev pub Crashed : code.Process → code.Process → ℕ → List ℕ → Type 0
 Crashed x x' b channels =
     Kept x → (t : Table) (p : ℕ) → Routes t p channels
-    → BecameAtCrash x x' (λ y. after_crash t b p y y.standby) (cond (promoted_by b x) false x.waits)
+    → BecameAtCrash x x' (λ y. after_crash t b p y y.standby) (cond (promoted_by b x) 0 x.waits)

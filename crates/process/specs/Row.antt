@@ -1,5 +1,5 @@
 -- How the code's process stands for a process of the rules, and what is kept of it.
-use Rattle.std.specs.Prelude.{◌≡◌, Bool, true, false, cond, List, [], ℕ, ◌+◌, ◌%◌, ◌≤◌, ◌<◌, ◌^◌, eqb, length, get_or, replicate}
+use Rattle.std.specs.Prelude.{◌≡◌, Bool, not, cond, List, [], ℕ, ◌+◌, ◌%◌, ◌≤◌, ◌<◌, ◌^◌, eqb, length, get_or, replicate}
 use Rattle.std.proofs.Math.Option.{Option, none, some}
 use Rattle.facts.specs.Lists.{listed}
 use Rattle.words.specs.Words.{pack, high_in, low_in}
@@ -10,8 +10,6 @@ use Rattle.backup.specs.declared.place.Head.{Head}
 use Rattle.rules.specs.Machine.{Mail, Machine}
 use Rattle.rules.specs.Cabinet.{Process, Standby, no_takes}
 use Rattle.process.specs.declared.process.Process as code
-use Rattle.process.specs.declared.process.Protection.{Protection}
-use Rattle.process.specs.declared.process.Protection.TheVariants.{Unprotected, Complete, Coming}
 
 -- ---- a mailbox
 
@@ -38,19 +36,15 @@ mails_in first n mail = listed (λ i. mail_in (packed_at first mail i)) n
 abbrev pub mail_at : code.Process → ℕ → Mail
 mail_at x i = mail_in (packed_at x.oldest x.mail i)
 
--- ---- its backup
+-- ---- its backup, by its protection: 0 for none, 1 for a backup, and otherwise a record that is being made
 
 -- whether there is one (document 01: backed)
-abbrev pub backed : Protection → Bool
-backed Unprotected = false
-backed Complete = true
-backed Coming = false
+abbrev pub backed : ℕ → Bool
+backed protection = eqb protection 1
 
 -- whether there is a record: a backup, or one that is being made (W-210: from a resync's issue until its carry)
-abbrev pub recorded : Protection → Bool
-recorded Unprotected = false
-recorded Complete = true
-recorded Coming = true
+abbrev pub recorded : ℕ → Bool
+recorded protection = not (eqb protection 0)
 
 -- the standby that a process shows, whether or not it has a record
 abbrev pub standby_in : code.Process → Standby
@@ -60,6 +54,10 @@ unfoldable pub standby_of : code.Process → Option Standby
 standby_of x = cond (recorded x.protection) (some (standby_in x)) none
 
 -- ---- the process
+
+-- whether something of it waits in a queue: not where the number is 0
+abbrev pub waiting_in : ℕ → Bool
+waiting_in waits = not (eqb waits 0)
 
 -- past the end of a list of them: no list has an element
 abbrev pub no_head : Head
@@ -75,8 +73,8 @@ no_process = record {
   events = 0;
   taken = [];
   instructions = 0;
-  protection = Unprotected;
-  waits = false;
+  protection = 0;
+  waits = 0;
   oldest = 0;
   unread = 0;
   mail = [];
@@ -95,8 +93,8 @@ zero_process = record {
   events = 0;
   taken = replicate 4 0;
   instructions = 0;
-  protection = Unprotected;
-  waits = false;
+  protection = 0;
+  waits = 0;
   oldest = 0;
   unread = 0;
   mail = replicate log_most 0;
@@ -138,11 +136,12 @@ anew_in x = record x { events = 0; taken = no_takes; instructions = 0 }
 
 -- one whose record is a backup, if it has a record
 abbrev pub completed_in : code.Process → code.Process
-completed_in x = record x { protection = cond (recorded x.protection) Complete x.protection }
+completed_in x = record x { protection = cond (recorded x.protection) 1 x.protection }
 
 -- ---- what is kept
 
--- What is kept of a process: its lists' lengths, that its mailbox is a ring's, that a counter is a word of 32 bits, and the backup's soundness.
+-- What is kept of a process: its lists' lengths, that its mailbox is a ring's, that a counter is a word of 32 bits,
+-- that its protection is one of three, and the backup's soundness.
 pub record Kept (x : code.Process) : Type 0 where
   pub registers-length : length x.registers ≡ 4
   pub taken-length : length x.taken ≡ ports
@@ -152,6 +151,7 @@ pub record Kept (x : code.Process) : Type 0 where
   pub events : x.events < 2 ^ 32
   pub taken : (i : ℕ) → get_or x.taken i 0 < 2 ^ 32
   pub instructions : x.instructions < 2 ^ 32
+  pub flag : x.protection ≤ 2
   pub sound : Sound x.log x.head
 
 -- Of its two boards of the table, a and b, it runs on one, and the other is its backup's: a promotion swaps the two.

@@ -1,7 +1,7 @@
 // A checkpoint, in one process: what is sent, what its issue changes, and what its backup keeps when it lands.
 // Document 01: "a snapshot (registers, place, takes per slot since the last issue) joins the queue; acts become 0"; "A sync replaces the
 // state in the process's backup record, drops the oldest saved words slot by slot as taken, and zeroes the count."
-ghost use Rattle.std.specs.Prelude.{◌≡◌};
+ghost use Rattle.std.specs.Prelude.{◌≡◌, List, ℕ};
 ghost use Rattle.backup.specs.Place.{checkpoint_of};
 ghost use Rattle.rules.specs.Moves.{issued, keeps};
 ghost use Rattle.process.specs.Row.{checkpoint_in, anew_in};
@@ -48,8 +48,9 @@ impl Process {
 
     // A checkpoint lands: the backup keeps it, if there is one. How many messages that dropped.
     pub fn keep(&mut self, c: Checkpoint) -> u32
-        ensures backup_became { Changes self.old self.new (keeps (checkpoint_of c)) }
-        ensures drops { Drops self.old (checkpoint_of c) result }
+        ensures backup_became { (mail : List ℕ) → Changes (record self.old { mail = mail })
+            (record self.new { mail = mail }) (keeps (checkpoint_of c)) }
+        ensures drops { (mail : List ℕ) → Drops (record self.old { mail = mail }) (checkpoint_of c) result }
         ensures rest_stays { BackupAlone self.old self.new }
     {
         if self.is_backed() {

@@ -4,7 +4,7 @@ ghost use Rattle.rules.specs.Moves.{unprotected};
 ghost use Rattle.process.specs.Change.{Changes, BackupStays};
 ghost use Rattle.process.specs.Promotion.{Crashed};
 
-use crate::process::{Process, Protection};
+use crate::process::{Process, UNPROTECTED};
 
 impl Process {
     // The process has no backup from now on.
@@ -12,7 +12,7 @@ impl Process {
         ensures became { Changes self.old self.new unprotected }
         ensures backup_stays { BackupStays self.old self.new }
     {
-        self.protection = Protection::Unprotected;
+        self.protection = UNPROTECTED;
     }
 
     // Board b crashes. The channels are those of the process's ports 0 to 3.

@@ -40,7 +40,8 @@ impl Process {
     // The sender's half: the backup counts the word, if there is one, and stays as it was if it refuses. A record that is being made counts
     // none.
     pub fn counts(&mut self)
-        ensures became { (log : List ℕ) → Changes (record self.old { log = log }) (record self.new { log = log }) counts_of }
+        ensures became { (mail log : List ℕ) → Changes (record self.old { mail = mail; log = log })
+            (record self.new { mail = mail; log = log }) counts_of }
         ensures rest_stays { HeadAlone self.old self.new }
     {
         if !self.is_backed() {

@@ -1,20 +1,20 @@
 // One process: the board that it runs on and its other board of the table, which its backup is or would be on; its place and registers; sends
 // still to suppress; events, receives on each port and instructions since the last checkpoint was issued; whether a backup protects it;
-// whether a checkpoint or a transfer of it waits in its board's queue; where in its mailbox the oldest unread word stands, and how many are
-// unread; the mailbox, a ring of words as `mail` says; and its backup's log and head, which are free while it has no record.
+// whether a checkpoint or a transfer of it waits in its board's queue, 1 or 0; where in its mailbox the oldest unread word stands, and how many
+// are unread; the mailbox, a ring of words as `mail` says; and its backup's log and head, which are free while it has no record.
 ghost use Rattle.std.specs.Prelude.{◌≡◌};
-ghost use Rattle.process.specs.Row.{backed, recorded};
+ghost use Rattle.process.specs.Row.{backed, recorded, waiting_in};
 
 use backup::limits::LOG;
 use backup::place::Head;
 
-// Whether a backup protects a process. W-210: one that is being made, from a resync's issue until its carry, protects it not yet.
-#[derive(Clone, Copy, PartialEq, Eq)]
-pub enum Protection {
-    Unprotected,
-    Complete,
-    Coming,
-}
+// Whether a backup protects a process. W-210: one that is being made, from a resync's issue until its carry, protects it not yet. No process
+// that is kept has another number; of any, all but 0 and 1 stand for a record that is being made.
+pub const UNPROTECTED: u32 = 0;
+
+pub const COMPLETE: u32 = 1;
+
+pub const COMING: u32 = 2;
 
 #[derive(Clone, Copy)]
 pub struct Process {
@@ -26,8 +26,8 @@ pub struct Process {
     pub events: u32,
     pub taken: [u32; 4],
     pub instructions: u32,
-    pub protection: Protection,
-    pub waits: bool,
+    pub protection: u32,
+    pub waits: u32,
     pub oldest: u32,
     pub unread: u32,
     pub mail: [u64; LOG],
@@ -45,8 +45,8 @@ pub const NO_PROCESS: Process = Process {
     events: 0,
     taken: [0; 4],
     instructions: 0,
-    protection: Protection::Unprotected,
-    waits: false,
+    protection: UNPROTECTED,
+    waits: 0,
     oldest: 0,
     unread: 0,
     mail: [0; LOG],
@@ -68,13 +68,20 @@ impl Process {
     pub fn is_backed(&self) -> bool
         ensures { result ≡ backed self.now.protection }
     {
-        self.protection == Protection::Complete
+        self.protection == COMPLETE
     }
 
     // Whether it has a record: a backup, or one that is being made. While it has, its acts and instructions are counted.
     pub fn has_record(&self) -> bool
         ensures { result ≡ recorded self.now.protection }
     {
-        self.protection != Protection::Unprotected
+        self.protection != UNPROTECTED
+    }
+
+    // Whether something of it waits in a queue.
+    pub fn is_waiting(&self) -> bool
+        ensures { result ≡ waiting_in self.now.waits }
+    {
+        self.waits != 0
     }
 }

@@ -6,7 +6,7 @@ ghost use Rattle.process.specs.Change.{BackupStays};
 ghost use Rattle.process.specs.Promotion.{Readdressed, restored_in, Promoted};
 
 use crate::mailbox::append;
-use crate::process::{Process, Protection};
+use crate::process::{Process, UNPROTECTED};
 use backup::limits::LOG;
 use backup::place::{Promotion, fail_over_in, port_in, word_in};
 use words::wide;
@@ -38,8 +38,8 @@ impl Process {
         self.events = 0;
         self.taken = [0; 4];
         self.instructions = 0;
-        self.protection = Protection::Unprotected;
-        self.waits = false;
+        self.protection = UNPROTECTED;
+        self.waits = 0;
         self.oldest = 0;
         self.unread = p.len;
     }

@@ -10,7 +10,7 @@ ghost use Rattle.process.specs.Change.{Changes, MailStays, ListsStay};
 ghost use Rattle.process.specs.Transfer.{Copied, BeginsTransfer};
 
 use crate::mail::{channel_of, place, word_of};
-use crate::process::{Process, Protection};
+use crate::process::{COMING, COMPLETE, Process};
 use backup::limits::LOG;
 use backup::place::{Head, arrive_in, new_in, sync_in};
 use plan::{CHANNELS, Wire};
@@ -53,7 +53,7 @@ impl Process {
         let c = self.snapshot();
         let _ = sync_in(&mut self.log, &mut self.head, c);
         copy(&self.mail, first, len, wires, &mut self.log, &mut self.head);
-        self.protection = Protection::Coming;
+        self.protection = COMING;
     }
 
     // The entry is carried: the record that was being made is a backup.
@@ -63,7 +63,7 @@ impl Process {
         ensures lists_stay { ListsStay self.old self.new }
     {
         if self.has_record() {
-            self.protection = Protection::Complete;
+            self.protection = COMPLETE;
         }
     }
 }

@@ -18,7 +18,7 @@ use Rattle.plan.specs.declared.Counts.{Counts}
 use Rattle.plan.specs.declared.Plan as plans
 use Rattle.plan.specs.Plan.{Plan, Planned, plan_of, arity_in, port_in}
 use Rattle.process.specs.declared.process.Process as code
-use Rattle.process.specs.Row.{no_process, backed, mail_at, machine_of, process_of}
+use Rattle.process.specs.Row.{waiting_in, no_process, backed, mail_at, machine_of, process_of}
 use Rattle.process.specs.Transfer.{OnPorts, BeginsTransfer}
 use Rattle.rules.specs.Table.{Table, channel_at, placement_at, inputs, port_of, channel_on}
 use Rattle.rules.specs.Machine.{Mail}
@@ -34,7 +34,7 @@ use Rattle.state.specs.declared.queue.Queue.{Queue}
 use Rattle.state.specs.declared.store.Store.{Store}
 use Rattle.state.specs.Queue.{no_queue, count_in, dead_in, place_of, pushed_in}
 use Rattle.state.specs.Store.{Totalled, Holds, lists_at}
-use Rattle.state.specs.Moved.{Reachable, Answered, refused_with, answer_of, moved_of}
+use Rattle.state.specs.Moved.{Reachable, Answered, refused_for, answer_for, moved_of}
 use Rattle.state.proofs.Reading.{at_process, at_dead, how_many}
 use Rattle.state.proofs.Reaching.{bounds}
 use Rattle.state.proofs.Ends.{read_inside}
@@ -44,7 +44,7 @@ use Rattle.state.proofs.Changing.{changed}
 use Rattle.state.proofs.Flagging.{with_flag}
 use Rattle.state.proofs.Joining.{is-protected, board-is, board-there, queue_has, waits_so, Waiter, waiter_joins}
 use Rattle.state.proofs.Refusing.{reason_for, turned_away_lem, makes-refused}
-use Rattle.state.proofs.Making.{its_index, its_board, dead_so, answered, makes-joined}
+use Rattle.state.proofs.Making.{its_index, its_board, dead_so, answered, makes-joined, for_reason}
 use Rattle.rejoin.specs.Rebackups.{channel_in, crowded_on, transfer_entry, Rebackups}
 
 -- ---- what a process says
@@ -160,11 +160,11 @@ module _ {t : Table} {l : Plan} {s : Store} {entries : List Entry} {c : Cabinet}
         refused_49_full e = rw (unbacked, alive, released, crowded-is ∙ e)
 
         module _ (few : full ≡ false) where
-          refused_41 : here.waits ≡ true → rebackup t c p ≡ refuse rebackup_waits
+          refused_41 : waiting_in here.waits ≡ true → rebackup t c p ≡ refuse rebackup_waits
           unfolding rebackup guard
           refused_41 e = rw (unbacked, alive, released, crowded-is ∙ few, waits_so reach h p hp true e)
 
-          module _ (none : here.waits ≡ false) where
+          module _ (none : waiting_in here.waits ≡ false) where
             abbrev queue : List rules.Item
             queue = outbox_at c (process_at c p).board
 
@@ -190,7 +190,7 @@ module _ {t : Table} {l : Plan} {s : Store} {entries : List Entry} {c : Cabinet}
     b = here.board
 
     abbrev processes₁ : List code.Process
-    processes₁ = with_flag s.processes p true
+    processes₁ = with_flag s.processes p 1
 
     abbrev queues' : List Queue
     queues' = set s.queues b (pushed_in (get_or s.queues b no_queue))
@@ -240,12 +240,12 @@ module _ (plan : plans.Plan) (s : Store) (p a : ℕ) (is-p : a < 16 → p ≡ a)
       → Planned t (plan_of table (record plan { counts = counts }))
       → Holds t s entries c → p < length t.processes → rebackup t c p ≡ refuse why
 
-  refused_so : (why : Refusal) → r ≡ refused_with (reason_for why) a → Refuses why → Same
+  refused_so : (why : Refusal) → r ≡ refused_for (reason_for why) a → Refuses why → Same
   refused_so why e given table counts =
       makes-refused (reason_for why) e (λ t entries c command reach planned h f ha.
       turned_away_lem command a why h (at_index reach ha (λ i. rebackup t c i ≡ refuse why) (given table counts t entries c reach planned h)) f refl)
 
-  pub rebackups_50 : backed x.protection ≡ true → r ≡ refused_with HasBackup a → Same
+  pub rebackups_50 : backed x.protection ≡ true → r ≡ refused_for HasBackup a → Same
   rebackups_50 y e = refused_so has_backup e (λ table counts t entries c reach planned h hp. refused_50 reach planned h p hp y)
 
   module _ (bare : backed x.protection ≡ false) (o : ℕ) (is-o : x.standby < 16 → o ≡ x.standby) where
@@ -254,46 +254,46 @@ module _ (plan : plans.Plan) (s : Store) (p a : ℕ) (is-p : a < 16 → p ≡ a)
         → p < length t.processes → dead_in s.queues x.standby ≡ b
     other_so b e reach planned h hp = dead_so s.queues b e reach (other-there reach planned h p hp) is-o
 
-    pub rebackups_50_dead : dead_in s.queues o ≡ true → r ≡ refused_with HasBackup a → Same
+    pub rebackups_50_dead : dead_in s.queues o ≡ true → r ≡ refused_for HasBackup a → Same
     rebackups_50_dead y e = refused_so has_backup e (λ table counts t entries c reach planned h hp.
         refused_50_dead reach planned h p hp bare (other_so true y reach planned h hp))
 
     module _ (live : dead_in s.queues o ≡ false) where
-      pub rebackups_49_held : x.suppress ≢ 0 → r ≡ refused_with NotReady a → Same
+      pub rebackups_49_held : x.suppress ≢ 0 → r ≡ refused_for NotReady a → Same
       rebackups_49_held n e = refused_so unready e (λ table counts t entries c reach planned h hp.
           refused_49_held reach planned h p hp bare (other_so false live reach planned h hp) n)
 
       module _ (free : x.suppress ≡ 0) (found : Bool)
           (is_found : found ≡ any_below (crowded_on plan.programs s.totals p) (min (arity_in plan.programs p) ports)) where
-        pub rebackups_49_full : found ≡ true → r ≡ refused_with NotReady a → Same
+        pub rebackups_49_full : found ≡ true → r ≡ refused_for NotReady a → Same
         rebackups_49_full y e = refused_so unready e (λ table counts t entries c reach planned h hp.
             refused_49_full reach planned h p hp bare (other_so false live reach planned h hp) free (sym is_found ∙ y))
 
         module _ (few : found ≡ false) where
-          pub rebackups_41 : x.waits ≡ true → r ≡ refused_with ResyncWaiting a → Same
+          pub rebackups_41 : waiting_in x.waits ≡ true → r ≡ refused_for ResyncWaiting a → Same
           rebackups_41 y e = refused_so rebackup_waits e (λ table counts t entries c reach planned h hp.
               refused_41 reach planned h p hp bare (other_so false live reach planned h hp) free (sym is_found ∙ few) y)
 
-          module _ (none : x.waits ≡ false) (b : ℕ) (is_b : x.board < 16 → b ≡ x.board) where
+          module _ (none : waiting_in x.waits ≡ false) (b : ℕ) (is_b : x.board < 16 → b ≡ x.board) where
             the_board : {t : Table} {entries : List Entry} {c : Cabinet} → Reachable t c → Holds t s entries c → p < length t.processes → b ≡ x.board
             the_board reach h hp = its_board reach (board-there reach h p hp) is_b
 
-            pub rebackups_38 : leb outbox_most (count_in s.queues b) ≡ true → r ≡ refused_with QueueFullForResync a → Same
+            pub rebackups_38 : leb outbox_most (count_in s.queues b) ≡ true → r ≡ refused_for QueueFullForResync a → Same
             rebackups_38 y e = refused_so rebackup_blocked e (λ table counts t entries c reach planned h hp.
                 refused_38 reach planned h p hp bare (other_so false live reach planned h hp) free (sym is_found ∙ few) none (rw (← the_board reach h hp) y))
 
             pub rebackups-done : (x' : code.Process) (queue : Queue) (at : ℕ) → leb outbox_most (count_in s.queues b) ≡ false
-                → BeginsTransfer (get_or (with_flag s.processes p true) p no_process) plan.wires x'
-                → queue ≡ pushed_in (get_or s.queues b no_queue) → at < 512 → at ≡ place_of (get_or s.queues b no_queue) b → r ≡ moved_of (answer_of ReturnedOrResync 0 0) (Some at)
-                → Rebackups plan s a (record { processes = set (with_flag s.processes p true) p x'; queues = set s.queues b queue; totals = s.totals }) r
+                → BeginsTransfer (get_or (with_flag s.processes p 1) p no_process) plan.wires x'
+                → queue ≡ pushed_in (get_or s.queues b no_queue) → at < 512 → at ≡ place_of (get_or s.queues b no_queue) b → r ≡ moved_of (answer_for ReturnedOrResync 0 0) (Some at)
+                → Rebackups plan s a (record { processes = set (with_flag s.processes p 1) p x'; queues = set s.queues b queue; totals = s.totals }) r
             unfolding numbers cause_of
             rebackups-done x' queue at room begins is_queue below is_at e table counts =
-                let after : Store = record { processes = set (with_flag s.processes p true) p x'; queues = set s.queues b queue; totals = s.totals } in
-                makes-joined (answer_of ReturnedOrResync 0 0) (omega arith)
+                let after : Store = record { processes = set (with_flag s.processes p 1) p x'; queues = set s.queues b queue; totals = s.totals } in
+                makes-joined (answer_for ReturnedOrResync 0 0) (for_reason ReturnedOrResync 0 0) (omega arith)
                 (record { processes-same = simp length-set; queues-same = length-set s.queues b queue; totals-same = refl })
                 at below refl e
                 (λ t entries c command reach planned h f ha.
-                at_index reach ha (λ i. Answered t after (set entries at (transfer_entry i)) c command (rebackup t c i) (answer_of ReturnedOrResync 0 0)) (λ hp.
+                at_index reach ha (λ i. Answered t after (set entries at (transfer_entry i)) c command (rebackup t c i) (answer_for ReturnedOrResync 0 0)) (λ hp.
                 let its = the_board reach h hp in
                 let room' : leb outbox_most (count_in s.queues x.board) ≡ false = rw (← its) room in
                 answered _ rebackup_done (accepted_so reach planned h p hp bare (other_so false live reach planned h hp) free (sym is_found ∙ few) none room') refl refl

@@ -19,11 +19,11 @@ use Rattle.state.specs.declared.moved.Answer.{Answer}
 use Rattle.state.specs.declared.queue.Queue.{Queue}
 use Rattle.state.specs.declared.store.Store.{Store}
 use Rattle.state.specs.Queue.{no_queue, dead_in, reset_in}
-use Rattle.state.specs.Store.{Totalled, Holds}
-use Rattle.state.specs.Moved.{Reachable, MakesAlone, ABoard, alone_of, refusal_of, answer_of}
+use Rattle.state.specs.Store.{flag, Totalled, Holds}
+use Rattle.state.specs.Moved.{Reachable, MakesAlone, ABoard, alone_of, refusal_for, answer_for}
 use Rattle.state.proofs.Reading.{at_dead}
 use Rattle.state.proofs.Refusing.{turned_away_lem, makes-refused}
-use Rattle.state.proofs.Making.{its_board, dead_so, answered, makes_alone}
+use Rattle.state.proofs.Making.{its_board, dead_so, answered, makes_alone, for_reason}
 use Rattle.state.proofs.Boards.{Boarded, boards_emptied}
 use Rattle.state.proofs.Owners.{dead-empty}
 use Rattle.rejoin.specs.Rejoins.{Rejoins}
@@ -52,10 +52,10 @@ module _ {t : Table} {s : Store} {entries : List Entry} {c : Cabinet} (reach : R
     }
 
     abbrev queues' : List Queue
-    queues' = set s.queues b (reset_in (get_or s.queues b no_queue) false)
+    queues' = set s.queues b (reset_in (get_or s.queues b no_queue) 0)
 
     boards : Boarded t queues' entries (set c.outboxes b []) (set c.dead b false)
-    boards = boards_emptied h reach.accepted.boards_high b hb false
+    boards = boards_emptied h reach.accepted.boards_high b hb 0
 
     rejoin-holds : Holds t (record { processes = s.processes; queues = queues'; totals = s.totals }) entries (rejoined_by b c)
     rejoin-holds = record {
@@ -64,7 +64,7 @@ module _ {t : Table} {s : Store} {entries : List Entry} {c : Cabinet} (reach : R
       dead = boards.dead_are;
       kept = h.kept;
       seated = h.seated;
-      waits-is = λ p l. h.waits-is p l ∙ ap (λ (qs : List (List rules.Item)). waiting p (get_or qs (process_at c p).board [])) (sym none_waited);
+      waits-is = λ p l. h.waits-is p l ∙ ap (λ (qs : List (List rules.Item)). flag (waiting p (get_or qs (process_at c p).board []))) (sym none_waited);
       first_small = boards.first_small;
       count_small = boards.count_small;
       totalled = totals_then;
@@ -78,20 +78,20 @@ module _ {t : Table} {s : Store} {entries : List Entry} {c : Cabinet} (reach : R
 -- ---- what the move promises
 
 module _ (s : Store) (a b : ℕ) (is_b : a < 16 → b ≡ a) where
-  pub rejoins_48 : (r : Answer) → dead_in s.queues b ≡ false → r ≡ refusal_of BoardLive a → Rejoins s a s r
+  pub rejoins_48 : (r : Answer) → dead_in s.queues b ≡ false → r ≡ refusal_for BoardLive a → Rejoins s a s r
   rejoins_48 r live e l processes totals = makes-refused BoardLive (ap alone_of e) (λ t entries c command reach plan h f ha.
       turned_away_lem command a board_live h (refused_48 reach h a ha (dead_so s.queues false live reach ha is_b)) f refl)
 
-  pub rejoins-done : (queue : Queue) → dead_in s.queues b ≡ true → queue ≡ reset_in (get_or s.queues b no_queue) false
-      → Rejoins s a (record { processes = s.processes; queues = set s.queues b queue; totals = s.totals }) (answer_of ReturnedOrResync 0 0)
+  pub rejoins-done : (queue : Queue) → dead_in s.queues b ≡ true → queue ≡ reset_in (get_or s.queues b no_queue) 0
+      → Rejoins s a (record { processes = s.processes; queues = set s.queues b queue; totals = s.totals }) (answer_for ReturnedOrResync 0 0)
   unfolding numbers cause_of
   rejoins-done queue dead is_queue l processes totals =
-      makes_alone (answer_of ReturnedOrResync 0 0) (omega arith)
+      makes_alone (answer_for ReturnedOrResync 0 0) (for_reason ReturnedOrResync 0 0) (omega arith)
       (record { processes-same = refl; queues-same = length-set s.queues b queue; totals-same = refl }) refl
       (λ t entries c command reach plan h f ha.
       let there = dead_so s.queues true dead reach ha is_b in
-      let queues-are : set s.queues b queue ≡ set s.queues a (reset_in (get_or s.queues a no_queue) false) =
-      ap (set s.queues b) is_queue ∙ ap (λ (i : ℕ). set s.queues i (reset_in (get_or s.queues i no_queue) false)) (its_board reach ha is_b) in
+      let queues-are : set s.queues b queue ≡ set s.queues a (reset_in (get_or s.queues a no_queue) 0) =
+      ap (set s.queues b) is_queue ∙ ap (λ (i : ℕ). set s.queues i (reset_in (get_or s.queues i no_queue) 0)) (its_board reach ha is_b) in
       answered _ rejoin_done (accepted_so reach h a ha there) refl refl (rw queues-are (rejoin-holds reach h a ha there)))
 
 -- and of the lent store itself, whose processes and totals stay

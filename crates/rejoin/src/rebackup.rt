@@ -13,7 +13,7 @@ use numbers::answers::Reason;
 use plan::{BOARDS, CHANNELS, INPUTS, PROCESSES, Plan};
 use state::channel::OCCUPANCY;
 use state::entry::{Entry, Item};
-use state::moved::{Answer, Moved, refused};
+use state::moved::{Moved, answer_for, refused_for};
 use state::store::Store;
 use words::{index, least, wide};
 
@@ -40,35 +40,31 @@ pub fn rebackup(plan: &Plan, store: &mut Store, a: u32) -> Moved
 {
     let p = index::<PROCESSES>(a);
     if store.processes[p].is_backed() {
-        return refused(Reason::HasBackup, a);
+        return refused_for(Reason::HasBackup, a);
     }
     let other = index::<BOARDS>(store.processes[p].standby);
-    if store.queues[other].dead {
-        return refused(Reason::HasBackup, a);
+    if store.queues[other].is_dead() {
+        return refused_for(Reason::HasBackup, a);
     }
     if store.processes[p].suppress != 0 {
-        return refused(Reason::NotReady, a);
+        return refused_for(Reason::NotReady, a);
     }
     if crowded(plan, &store.totals, p) {
-        return refused(Reason::NotReady, a);
+        return refused_for(Reason::NotReady, a);
     }
-    if store.processes[p].waits {
-        return refused(Reason::ResyncWaiting, a);
+    if store.processes[p].is_waiting() {
+        return refused_for(Reason::ResyncWaiting, a);
     }
     let b = index::<BOARDS>(store.processes[p].board);
     if store.queues[b].is_full() {
-        return refused(Reason::QueueFullForResync, a);
+        return refused_for(Reason::QueueFullForResync, a);
     }
     let at = store.queues[b].place(b);
-    store.processes[p].waits = true;
+    store.processes[p].waits = 1;
     store.processes[p].begin_transfer(&plan.wires);
     store.queues[b].push();
     Moved {
-        answer: Answer {
-            reason: Reason::ReturnedOrResync,
-            a: 0,
-            word: 0,
-        },
+        answer: answer_for(Reason::ReturnedOrResync, 0, 0),
         at: Some(at),
     }
 }

@@ -4,7 +4,7 @@ ghost use Rattle.rejoin.specs.Rejoins.{Rejoins};
 
 use numbers::answers::Reason;
 use plan::BOARDS;
-use state::moved::{Answer, refusal};
+use state::moved::{Answer, answer_for, refusal_for};
 use state::store::Store;
 use words::index;
 
@@ -14,14 +14,10 @@ pub fn rejoin(store: &mut Store, a: u32) -> Answer
     ensures totals_stay { store.new.totals ≡ store.old.totals }
 {
     let b = index::<BOARDS>(a);
-    let live = !store.queues[b].dead;
+    let live = !store.queues[b].is_dead();
     if live {
-        return refusal(Reason::BoardLive, a);
+        return refusal_for(Reason::BoardLive, a);
     }
     store.queues[b].revive();
-    Answer {
-        reason: Reason::ReturnedOrResync,
-        a: 0,
-        word: 0,
-    }
+    answer_for(Reason::ReturnedOrResync, 0, 0)
 }

@@ -1,10 +1,9 @@
 -- A store in which each process has a part of another's: what is read there, what a change of one process makes of it, and when it is the store.
-use Rattle.std.proofs.Common.{◌≡◌, refl, ℕ, ◌<◌, ◌≢◌, List, length, get_or, set, sym, ap, ◌∙◌, arith, length-set, get_or-set_same, get_or-set_other}
+use Rattle.std.proofs.Common.{◌≡◌, refl, ℕ, ◌<◌, List, length, get_or, set, sym, ap, ◌∙◌, length-set, get_or-set_same, get_or-set_other}
 use Rattle.facts.specs.Lists.{listed, listed_same, written_out}
 use Rattle.facts.specs.Rings.{listed-length, get_or_listed, listed-set}
 use Rattle.process.specs.declared.process.Process.{Process}
 use Rattle.process.specs.Row.{no_process}
-use Rattle.process.specs.Change.{BackupStays}
 use Rattle.state.specs.declared.store.Store.{Store}
 use Rattle.state.specs.Store.{lists_at}
 use Rattle.state.specs.Moved.{MailsStay, BackupsStay}

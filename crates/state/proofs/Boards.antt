@@ -1,5 +1,5 @@
 -- One board's queue changes: what the queues then say of the rules' queues and of the dead boards.
-use Rattle.std.proofs.Common.{◌≡◌, ℕ, ◌<◌, ◌≤◌, Bool, ◌≢◌, List, [], map, length, get_or, set, sym, refl, ap, ◌∙◌, arith, length-set, get_or-set_other, get_or-set_same}
+use Rattle.std.proofs.Common.{◌≡◌, ℕ, ◌<◌, ◌≤◌, Bool, not, eqb, ◌≢◌, List, [], map, length, get_or, set, sym, refl, ap, ◌∙◌, arith, length-set, get_or-set_other, get_or-set_same}
 use Rattle.facts.specs.Tests.{by_eq}
 use Rattle.facts.specs.Lists.{listed}
 use Rattle.facts.specs.Rings.{ring, listed-set}
@@ -9,7 +9,7 @@ use Rattle.rules.specs.Cabinet.{Cabinet, outbox_most}
 use Rattle.state.specs.declared.entry.Entry.{Entry}
 use Rattle.state.specs.declared.queue.Queue.{Queue}
 use Rattle.state.specs.declared.store.Store.{Store}
-use Rattle.state.specs.Queue.{no_queue, first_in, count_in, dead_in, reset_in}
+use Rattle.state.specs.Queue.{no_queue, first_in, count_in, is_dead, dead_in, reset_in}
 use Rattle.state.specs.Store.{Holds, item_of, blank_entry, outbox_in}
 
 -- what `Holds` says of the queues
@@ -24,7 +24,7 @@ pub record Boarded (t : Table) (queues : List Queue) (entries : List Entry) (out
 pub record RowThen (s : Store) (entries entries' : List Entry) (b : ℕ) (queue : Queue) (dead : Bool) (q : List rules.Item) : Type 0 where
   pub first_fits : queue.first < outbox_most
   pub count_fits : queue.count ≤ outbox_most
-  pub is-dead : queue.dead ≡ dead
+  pub is-dead : is_dead queue ≡ dead
   pub is_queue : map (λ (e : Entry). item_of e.item) (ring blank_entry entries' b queue.first queue.count) ≡ q
   pub others : (i : ℕ) → i ≢ b
       → ring blank_entry entries' i (first_in s.queues i) (count_in s.queues i) ≡ ring blank_entry entries i (first_in s.queues i) (count_in s.queues i)
@@ -65,8 +65,8 @@ module _ {t : Table} {s : Store} {entries : List Entry} {c : Cabinet} (h : Holds
     }
 
   -- its queue is empty then, and the board dead or live
-  pub boards_emptied : (dead : Bool)
-      → Boarded t (set s.queues b (reset_in (get_or s.queues b no_queue) dead)) entries (set c.outboxes b []) (set c.dead b dead)
+  pub boards_emptied : (dead : ℕ)
+      → Boarded t (set s.queues b (reset_in (get_or s.queues b no_queue) dead)) entries (set c.outboxes b []) (set c.dead b (not (eqb dead 0)))
   unfolding ring
   boards_emptied dead = boards_then (record {
     first_fits = h.first_small b hb;

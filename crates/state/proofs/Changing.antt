@@ -11,7 +11,7 @@ use Rattle.rules.specs.Cabinet.{Cabinet, Process, nobody, process_at, outbox_at,
 use Rattle.rules.specs.Moves.{with_process}
 use Rattle.state.specs.declared.entry.Entry.{Entry}
 use Rattle.state.specs.declared.store.Store.{Store}
-use Rattle.state.specs.Store.{Totalled, Holds, lists_at, process_in}
+use Rattle.state.specs.Store.{flag, Totalled, Holds, lists_at, process_in}
 use Rattle.state.proofs.Reading.{at_process, how_many}
 use Rattle.state.proofs.Totals.{occupancy-mailbox, totalled-same}
 
@@ -59,10 +59,10 @@ module _ {t : Table} {s : Store} {entries : List Entry} {c : Cabinet} (h : Holds
       (λ n. ap (λ (y : Process). y.board) (get_or-set_other c.processes p q (process_of x) nobody n))
 
   waits_then : x.waits ≡ (lists_at s p).waits → (q : ℕ) → q < length t.processes
-      → (lists_at after q).waits ≡ waiting q (outbox_at c (process_at c q).board)
+      → (lists_at after q).waits ≡ flag (waiting q (outbox_at c (process_at c q).board))
   waits_then stay q l =
       by_eq q p
-      (λ f. subst (λ (i : ℕ). (lists_at after i).waits ≡ waiting i (outbox_at c (process_at c i).board)) (sym f)
+      (λ f. subst (λ (i : ℕ). (lists_at after i).waits ≡ flag (waiting i (outbox_at c (process_at c i).board))) (sym f)
       (ap (λ (y : code.Process). y.waits) lists_here ∙ stay ∙ h.waits-is p hp))
       (λ n. ap (λ (y : code.Process). y.waits) (lists-there q n) ∙ h.waits-is q l)
 
@@ -78,7 +78,7 @@ module _ {t : Table} {s : Store} {entries : List Entry} {c : Cabinet} (h : Holds
     first_small = h.first_small;
     count_small = h.count_small;
     totalled = u;
-    waits-is = λ q l. waits_then stay q l ∙ ap (λ (b : ℕ). waiting q (outbox_at c b)) (sym (board-stays e q));
+    waits-is = λ q l. waits_then stay q l ∙ ap (λ (b : ℕ). flag (waiting q (outbox_at c b))) (sym (board-stays e q));
     shape = record {
       processes-length = length-set s.processes p x ∙ h.shape.processes-length;
       queues-length = h.shape.queues-length;

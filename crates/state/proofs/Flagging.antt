@@ -1,5 +1,5 @@
 -- Whether a checkpoint or a transfer of a process waits: nothing else of the process is told by it.
-use Rattle.std.proofs.Common.{◌≡◌, ℕ, ◌<◌, ◌≤◌, Bool, ◌≢◌, List, length, get_or, set, sym, refl, ap, ◌∙◌, subst, length-set, get_or-set_other, get_or-set_same}
+use Rattle.std.proofs.Common.{◌≡◌, ℕ, ◌<◌, ◌≤◌, ◌≢◌, List, length, get_or, set, sym, refl, ap, ◌∙◌, subst, length-set, get_or-set_other, get_or-set_same}
 use lib.ListN.{get_or-eq_default}
 use Rattle.facts.specs.Tests.{by_eq, by_lt}
 use Rattle.process.specs.declared.process.Process as code
@@ -15,11 +15,11 @@ pub record Alike (x x' : code.Process) : Type 0 where
 alike_self : (x : code.Process) → Alike x x
 alike_self x = record { process-is = refl; kept_again = λ k. k; seated_again = λ a b s. s }
 
--- something of it waits, or nothing
-abbrev pub flagged : code.Process → Bool → code.Process
+-- something of it waits (1), or nothing (0)
+abbrev pub flagged : code.Process → ℕ → code.Process
 flagged x v = record x { waits = v }
 
-alike_flag : (x : code.Process) (v : Bool) → Alike x (flagged x v)
+alike_flag : (x : code.Process) (v : ℕ) → Alike x (flagged x v)
 unfolding process_of machine_of standby_of
 alike_flag x v = record {
   process-is = refl;
@@ -32,6 +32,7 @@ alike_flag x v = record {
     events = k.events;
     taken = k.taken;
     instructions = k.instructions;
+    flag = k.flag;
     sound = k.sound;
   };
   seated_again = λ a b s. record { runs_on = s.runs_on; other-is = s.other-is };
@@ -46,19 +47,19 @@ pub flagged_none : (t : Table) (processes : List code.Process) → Flagged t pro
 flagged_none t processes = record { alike = λ p l. alike_self (get_or processes p no_process); same_length = refl }
 
 -- something of process p waits, or nothing
-abbrev pub with_flag : List code.Process → ℕ → Bool → List code.Process
+abbrev pub with_flag : List code.Process → ℕ → ℕ → List code.Process
 with_flag processes p v = set processes p (flagged (get_or processes p no_process) v)
 
-pub flag_here : (processes : List code.Process) (p : ℕ) (v : Bool) → p < length processes → (get_or (with_flag processes p v) p no_process).waits ≡ v
+pub flag_here : (processes : List code.Process) (p : ℕ) (v : ℕ) → p < length processes → (get_or (with_flag processes p v) p no_process).waits ≡ v
 flag_here processes p v many =
     ap (λ (x : code.Process). x.waits) (get_or-set_same processes p (flagged (get_or processes p no_process) v) no_process many)
 
-pub flag-there : (processes : List code.Process) (p q : ℕ) (v : Bool) → q ≢ p
+pub flag-there : (processes : List code.Process) (p q : ℕ) (v : ℕ) → q ≢ p
     → (get_or (with_flag processes p v) q no_process).waits ≡ (get_or processes q no_process).waits
 flag-there processes p q v n =
     ap (λ (x : code.Process). x.waits) (get_or-set_other processes p q (flagged (get_or processes p no_process) v) no_process n)
 
-pub flagged_one : (t : Table) (processes : List code.Process) (p : ℕ) (v : Bool) → Flagged t processes (with_flag processes p v)
+pub flagged_one : (t : Table) (processes : List code.Process) (p : ℕ) (v : ℕ) → Flagged t processes (with_flag processes p v)
 flagged_one t processes p v = record {
   alike = λ q h.
       by_eq q p

@@ -1,10 +1,10 @@
 -- A checkpoint or a state transfer of a process joins its board's queue, where none of it waits yet: what the store says of process, board and
 -- queue, and the cabinet that it holds then.
-use Rattle.std.proofs.Common.{◌≡◌, ℕ, suc, ◌<◌, Bool, true, ◌||◌, eqb, ◌≢◌, List, [], ◌∷◌, ◌++◌, length, get_or, set, sym, refl, ap, ◌∙◌, arith, get_or-set_other, get_or-set_same, eq-eqb, ne_eqb}
+use Rattle.std.proofs.Common.{◌≡◌, ℕ, suc, ◌<◌, Bool, true, false, ◌||◌, eqb, ◌≢◌, List, [], ◌∷◌, ◌++◌, length, get_or, set, sym, refl, ap, ◌∙◌, arith, get_or-set_other, get_or-set_same, eq-eqb, ne_eqb}
 use mathlib.Core.Bool.{or-false, or-true, or_assoc}
 use Rattle.facts.specs.Tests.{by_eq}
 use Rattle.process.specs.declared.process.Process as code
-use Rattle.process.specs.Row.{no_process, process_of, backed}
+use Rattle.process.specs.Row.{no_process, process_of, backed, waiting_in}
 use Rattle.process.proofs.Processes.{protected-is}
 use Rattle.rules.specs.Table.{Table}
 use Rattle.rules.specs.Cabinet as rules
@@ -16,13 +16,18 @@ use Rattle.state.specs.declared.queue.Queue.{Queue}
 use Rattle.state.specs.declared.store.Store.{Store}
 use Rattle.state.specs.Queue.{no_queue, place_of, pushed_in}
 use Rattle.state.specs.Queue.{first_in, count_in}
-use Rattle.state.specs.Store.{item_of, Holds, lists_at, process_in, outbox_in}
+use Rattle.state.specs.Store.{item_of, flag, Holds, lists_at, process_in, outbox_in}
 use Rattle.state.specs.Moved.{Reachable}
 use Rattle.state.proofs.Flagging.{with_flag, flag_here, flag-there, flagged_one}
 use Rattle.state.proofs.Reading.{at_process, at_outbox, how_many_boards}
 use Rattle.state.proofs.Queueing.{QueueThen, put_queue, entry_joins}
 use Rattle.state.proofs.Totals.{occupancy_outbox, totalled-same}
 use Rattle.state.proofs.Reaching.{bounds, queue_length_lem}
+
+-- what a Bool's number tells is the Bool
+flag_told : (b : Bool) → waiting_in (flag b) ≡ b
+flag_told true = refl
+flag_told false = refl
 
 module _ {t : Table} {s : Store} {entries : List Entry} {c : Cabinet} (reach : Reachable t c) (h : Holds t s entries c) (p : ℕ) (hp : p < length t.processes) where
   x_is : process_at c p ≡ process_in s p
@@ -44,8 +49,8 @@ module _ {t : Table} {s : Store} {entries : List Entry} {c : Cabinet} (reach : R
   pub queue_has : length (outbox_at c (process_at c p).board) ≡ count_in s.queues (lists_at s p).board
   queue_has = ap (λ (l : List _). length l) queue_is ∙ queue_length_lem s.queues entries (lists_at s p).board
 
-  pub waits_so : (b : Bool) → (lists_at s p).waits ≡ b → waiting p (outbox_at c (process_at c p).board) ≡ b
-  waits_so b e = sym (h.waits-is p hp) ∙ e
+  pub waits_so : (b : Bool) → waiting_in (lists_at s p).waits ≡ b → waiting p (outbox_at c (process_at c p).board) ≡ b
+  waits_so b e = sym (flag_told _) ∙ ap waiting_in (sym (h.waits-is p hp)) ∙ e
 
 -- ---- the entry joins
 
@@ -72,13 +77,13 @@ module _ {t : Table} {s : Store} {entries : List Entry} {c : Cabinet} (reach : R
 
   -- the processes afterwards: something of p waits
   abbrev processes : List code.Process
-  processes = with_flag s.processes p true
+  processes = with_flag s.processes p 1
 
   many : p < length s.processes
   many = let l = h.shape.processes-length in let z = reach.accepted.processes_high in omega arith
 
   waits_then : (q : ℕ) → q < length t.processes
-      → (get_or processes q no_process).waits ≡ waiting q (get_or (set c.outboxes b (outbox_at c b ++ (item_of x.item ∷ []))) (process_at c q).board [])
+      → (get_or processes q no_process).waits ≡ flag (waiting q (get_or (set c.outboxes b (outbox_at c b ++ (item_of x.item ∷ []))) (process_at c q).board []))
   waits_then q hq =
       let joined-q : List rules.Item = outbox_at c b ++ (item_of x.item ∷ []) in
       let there : b < length c.outboxes = rw (how_many_boards h) hb in
@@ -87,11 +92,11 @@ module _ {t : Table} {s : Store} {entries : List Entry} {c : Cabinet} (reach : R
       (λ e. let same : get_or (set c.outboxes b joined-q) (process_at c q).board [] ≡ joined-q = rw e (get_or-set_same c.outboxes b joined-q [] there) in
       let now-waits : waiting q joined-q ≡ (waiting q (outbox_at c b) || eqb q p) = waiting-joined q p (outbox_at c b) (item_of x.item) waiter in
       by_eq q p
-      (λ f. rw (same, now-waits, eq-eqb q p f, or-true) (rw f (flag_here s.processes p true many)))
-      (λ n. rw (same, now-waits, ne_eqb q p n, or-false) (flag-there s.processes p q true n ∙ old ∙ ap (λ (i : ℕ). waiting q (outbox_at c i)) e)))
+      (λ f. rw (same, now-waits, eq-eqb q p f, or-true) (rw f (flag_here s.processes p 1 many)))
+      (λ n. rw (same, now-waits, ne_eqb q p n, or-false) (flag-there s.processes p q 1 n ∙ old ∙ ap (λ (i : ℕ). flag (waiting q (outbox_at c i))) e)))
       (λ n. let same : get_or (set c.outboxes b joined-q) (process_at c q).board [] ≡ outbox_at c (process_at c q).board = get_or-set_other c.outboxes b (process_at c q).board joined-q [] n in
       let other : q ≢ p = λ f. n (ap (λ (i : ℕ). (process_at c i).board) f ∙ board-is reach h p hp) in
-      rw same (flag-there s.processes p q true other ∙ old))
+      rw same (flag-there s.processes p q 1 other ∙ old))
 
   queue_then : QueueThen t s c b processes (pushed_in queue) s.totals (first_in s.queues b) (suc (count_in s.queues b))
       (outbox_at c b ++ (item_of x.item ∷ []))
@@ -104,7 +109,7 @@ module _ {t : Table} {s : Store} {entries : List Entry} {c : Cabinet} (reach : R
         let d = waiter.no_word i in
         let e = occupancy_outbox t c b (outbox_at c b ++ (item_of x.item ∷ [])) i 0 0 (omega arith) in
         omega arith);
-    flagged = flagged_one t s.processes p true;
+    flagged = flagged_one t s.processes p 1;
     waiting-there = waits_then;
   }
 

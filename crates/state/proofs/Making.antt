@@ -1,6 +1,6 @@
 -- A done move: what it promises of any store, and how its promise is told from the rules' answer. No entry joins, or one at a place below 512.
 use Rattle.std.proofs.Common.{◌≡◌, ℕ, ◌<◌, Bool, List, length, set, sym, refl, subst, arith, Some}
-use Rattle.numbers.specs.Answers.{code_in, cause_in}
+use Rattle.numbers.specs.declared.answers.Reason.{Reason}
 use Rattle.plan.specs.Plan.{Plan, Planned}
 use Rattle.rules.specs.Table.{Table}
 use Rattle.rules.specs.Cabinet.{Cabinet}
@@ -14,7 +14,7 @@ use Rattle.state.specs.declared.queue.Queue.{Queue}
 use Rattle.state.specs.declared.store.Store.{Store}
 use Rattle.state.specs.Queue.{dead_in}
 use Rattle.state.specs.Store.{Holds}
-use Rattle.state.specs.Moved.{Reachable, Answered, SameLengths, Makes, moved_of, alone_of}
+use Rattle.state.specs.Moved.{Reachable, Answered, SameLengths, Makes, Reasoned, answer_for, moved_of, alone_of}
 
 -- of a process of the table, the index that its number is clamped to is the number
 pub its_index : {t : Table} {c : Cabinet} {p a : ℕ} → Reachable t c → a < length t.processes → (a < 16 → p ≡ a) → p ≡ a
@@ -31,9 +31,13 @@ dead_so queues x e reach ha is_b = subst (λ (i : ℕ). dead_in queues i ≡ x) 
 
 -- the rules accept
 pub answered : {t : Table} {s : Store} {entries : List Entry} {c : Cabinet} {command : Command} {result : Result} {r : Answer} (d : Cabinet) (x : moves.Answer)
-    → result ≡ accept d x → numbers x ≡ numbered (code_in r.reason) r.a r.word → cause_of x ≡ cause_in r.reason → Holds t s entries d → Answered t s entries c command result r
+    → result ≡ accept d x → numbers x ≡ numbered r.code r.a r.word → cause_of x ≡ r.cause → Holds t s entries d → Answered t s entries c command result r
 answered {t} {s} {entries} {c} {command} {result} {r} d x e g cause h =
     subst (λ (z : Result). Answered t s entries c command z r) (sym e) (record { answer-is = g; cause_is = cause; holds = h })
+
+-- an answer for a reason has that one
+pub for_reason : (reason : Reason) (a word : ℕ) → Reasoned (answer_for reason a word)
+for_reason reason a word = record { reason = reason; reason-is = refl }
 
 -- what a move makes of a store that holds a cabinet, and of its entries
 abbrev Made : (Table → Cabinet → ℕ → Result) → (Table → List Entry → Type 0) → Plan → Store → ℕ → (List Entry → List Entry) → Store → Answer → Type 0
@@ -42,20 +46,21 @@ Made rule asks l s a stored s' answer =
     → asks t entries → Answered t s' (stored entries) c command (rule t c a) answer
 
 module _ {rule : Table → Cabinet → ℕ → Result} {asks : Table → List Entry → Type 0} {joins : ℕ} {l : Plan} {s : Store} {a : ℕ} {entry : Entry} {s' : Store} {r : Moved}
-    (answer : Answer) (done : code_in answer.reason < 32) (same : SameLengths s s') where
+    (answer : Answer) (why : Reasoned answer) (done : answer.code < 32) (same : SameLengths s s') where
   -- no entry joins
   pub makes_alone : r ≡ alone_of answer → Made rule asks l s a (λ entries. entries) s' answer → Makes rule asks joins l s a entry s' r
   makes_alone e made =
       subst (λ (x : Moved). Makes rule asks joins l s a entry s' x) (sym e)
-      (record { made = made; untouched = λ h. absurd (omega arith); none_joins = λ _. refl; at-inside = λ k z. cc; same_lengths = same })
+      (record { made = made; reasoned = why; untouched = λ h. absurd (omega arith); none_joins = λ _. refl; at-inside = λ k z. cc; same_lengths = same })
 
   -- an entry joins, at a place
-  pub makes-joined : (at : ℕ) → at < 512 → code_in answer.reason ≡ joins → r ≡ moved_of answer (Some at) → Made rule asks l s a (λ entries. set entries at entry) s' answer
+  pub makes-joined : (at : ℕ) → at < 512 → answer.code ≡ joins → r ≡ moved_of answer (Some at) → Made rule asks l s a (λ entries. set entries at entry) s' answer
       → Makes rule asks joins l s a entry s' r
   makes-joined at below says e made =
       subst (λ (x : Moved). Makes rule asks joins l s a entry s' x) (sym e)
       (record {
         made = made;
+        reasoned = why;
         untouched = λ h. absurd (omega arith);
         none_joins = λ n. absurd (n says);
         at-inside = λ k z. let e : at ≡ k = cc in omega arith;
@@ -69,6 +74,7 @@ pub makes_under : {rule : Table → Cabinet → ℕ → Result} {asks : Table �
     → Makes rule asks joins l s a entry s' r → Makes rule less joins l s a entry s' r
 makes_under less enough m = record {
   made = λ t entries c command reach planned h f i. m.made t entries c command reach planned h f (enough t entries c reach planned h i);
+  reasoned = m.reasoned;
   untouched = m.untouched;
   none_joins = m.none_joins;
   at-inside = m.at-inside;

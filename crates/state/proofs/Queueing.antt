@@ -1,5 +1,5 @@
 -- An entry joins the queue of a board, or the oldest leaves it: the cabinet then held.
-use Rattle.std.proofs.Common.{◌≡◌, ℕ, suc, ◌+◌, ◌*◌, ◌%◌, ◌<◌, ◌≤◌, false, ◌≢◌, List, [], ◌∷◌, ◌++◌, map, length, get_or, set, sym, refl, ap, ◌∙◌, arith, length-set}
+use Rattle.std.proofs.Common.{◌≡◌, ℕ, suc, ◌+◌, ◌*◌, ◌%◌, ◌<◌, ◌≤◌, false, not, eqb, ◌≢◌, List, [], ◌∷◌, ◌++◌, map, length, get_or, set, sym, refl, ap, ◌∙◌, arith, length-set}
 use mathlib.Core.List.{map-append}
 use lib.Seq.{set-get_or}
 use Rattle.facts.specs.Lists.{listed_same}
@@ -11,8 +11,8 @@ use Rattle.rules.specs.Moves.{with_outbox, enqueue}
 use Rattle.state.specs.declared.entry.Entry.{Entry}
 use Rattle.state.specs.declared.queue.Queue.{Queue}
 use Rattle.state.specs.declared.store.Store.{Store}
-use Rattle.state.specs.Queue.{first_in, count_in, dead_in}
-use Rattle.state.specs.Store.{Totalled, Holds, process_in, item_of, blank_entry, outbox_in}
+use Rattle.state.specs.Queue.{no_queue, first_in, count_in}
+use Rattle.state.specs.Store.{flag, Totalled, Holds, process_in, item_of, blank_entry, outbox_in}
 use Rattle.process.specs.declared.process.Process as code
 use Rattle.process.specs.Row.{no_process}
 use Rattle.state.proofs.Flagging.{Flagged}
@@ -31,11 +31,11 @@ pub record QueueThen (t : Table) (s : Store) (c : Cabinet) (b : ℕ) (processes 
     (q : List rules.Item) : Type 0 where
   pub is-first : queue.first ≡ first
   pub is-count : queue.count ≡ count
-  pub is-dead : queue.dead ≡ dead_in s.queues b
+  pub is-dead : queue.dead ≡ (get_or s.queues b no_queue).dead
   pub totalled_then : Totalled t totals (with_outbox b q c)
   pub flagged : Flagged t s.processes processes
   pub waiting-there : (p : ℕ) → p < length t.processes
-      → (get_or processes p no_process).waits ≡ waiting p (get_or (set c.outboxes b q) (process_at c p).board [])
+      → (get_or processes p no_process).waits ≡ flag (waiting p (get_or (set c.outboxes b q) (process_at c p).board []))
 
 module _ {t : Table} {s : Store} {entries : List Entry} {c : Cabinet} (h : Holds t s entries c) (small : t.boards ≤ 16) (b : ℕ) (hb : b < t.boards)
     (processes : List code.Process) (queue : Queue) (totals : List ℕ) (first count : ℕ) (q : List rules.Item) (entries' : List Entry)
@@ -48,7 +48,7 @@ module _ {t : Table} {s : Store} {entries : List Entry} {c : Cabinet} (h : Holds
   row_then = record {
     first_fits = rw u.is-first first_fits;
     count_fits = rw u.is-count count_fits;
-    is-dead = u.is-dead ∙ sym (at_dead h b hb);
+    is-dead = ap (λ (d : ℕ). not (eqb d 0)) u.is-dead ∙ sym (at_dead h b hb);
     is_queue = rw (u.is-first, u.is-count) is_queue;
     others = others;
   }

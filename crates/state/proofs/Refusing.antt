@@ -21,7 +21,7 @@ use Rattle.state.specs.declared.moved.Answer.{Answer}
 use Rattle.state.specs.declared.moved.Moved.{Moved}
 use Rattle.state.specs.declared.store.Store.{Store}
 use Rattle.state.specs.Store.{Holds}
-use Rattle.state.specs.Moved.{Reachable, Answered, SameLengths, Makes, refusal_of, refused_with}
+use Rattle.state.specs.Moved.{Reachable, Answered, SameLengths, Makes, refusal_for, refused_for}
 
 -- what the code says where the rules refuse so
 abbrev pub reason_for : Refusal → Reason
@@ -114,12 +114,12 @@ its_cause has_backup = refl
 its_cause none_kept = refl
 
 pub turned_away_lem : {t : Table} {s : Store} {entries : List Entry} {c : Cabinet} (command : Command) {result : Result} {r : Answer} (a : ℕ) (why : Refusal)
-    → Holds t s entries c → result ≡ refuse why → command.a ≡ a → r ≡ refusal_of (reason_for why) a → Answered t s entries c command result r
+    → Holds t s entries c → result ≡ refuse why → command.a ≡ a → r ≡ refusal_for (reason_for why) a → Answered t s entries c command result r
 unfolding numbers cause_of
 turned_away_lem {t} {s} {entries} {c} command {result} {r} a why h e f g =
     subst (λ (x : Answer). Answered t s entries c command result x) (sym g)
-    (subst (λ (x : Result). Answered t s entries c command x (refusal_of (reason_for why) a)) (sym e)
-    (subst (λ (x : ℕ). Answered t s entries c command (refuse why) (refusal_of (reason_for why) x)) f
+    (subst (λ (x : Result). Answered t s entries c command x (refusal_for (reason_for why) a)) (sym e)
+    (subst (λ (x : ℕ). Answered t s entries c command (refuse why) (refusal_for (reason_for why) x)) f
     (record { answer-is = ap (λ (n : ℕ). numbered n command.a 0) (its_code why); cause_is = its_cause why; holds = h })))
 
 pub as_long : (s : Store) → SameLengths s s
@@ -127,10 +127,10 @@ as_long s = record { processes-same = refl; queues-same = refl; totals-same = re
 
 -- a move that is refused for one reason, whatever reachable cabinet the store holds
 pub makes-refused : {rule : Table → Cabinet → ℕ → Result} {asks : Table → List Entry → Type 0} {joins : ℕ} {l : Plan} {s : Store} {a : ℕ} {entry : Entry} {r : Moved}
-    (reason : Reason) → r ≡ refused_with reason a
+    (reason : Reason) → r ≡ refused_for reason a
     → ((t : Table) (entries : List Entry) (c : Cabinet) (command : Command) → Reachable t c → Planned t l → Holds t s entries c → command.a ≡ a
-    → asks t entries → Answered t s entries c command (rule t c a) (refusal_of reason a))
+    → asks t entries → Answered t s entries c command (rule t c a) (refusal_for reason a))
     → Makes rule asks joins l s a entry s r
 makes-refused {rule} {asks} {joins} {l} {s} {a} {entry} reason e h =
     subst (λ (x : Moved). Makes rule asks joins l s a entry s x) (sym e)
-    (record { made = h; untouched = λ _. refl; none_joins = λ _. refl; at-inside = λ k z. cc; same_lengths = as_long s })
+    (record { made = h; reasoned = record { reason = reason; reason-is = refl }; untouched = λ _. refl; none_joins = λ _. refl; at-inside = λ k z. cc; same_lengths = as_long s })

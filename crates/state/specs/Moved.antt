@@ -19,12 +19,24 @@ use Rattle.state.specs.Store.{Holds, blank_entry, lists_at}
 
 -- ---- answers
 
--- why, by which its code is told too, and its other two numbers
-abbrev pub answer_of : Reason → ℕ → ℕ → Answer
-answer_of reason a word = record { reason = reason; a = a; word = word }
+-- three numbers and a cause
+abbrev pub answer_of : ℕ → ℕ → ℕ → ℕ → Answer
+answer_of code cause a word = record { code = code; cause = cause; a = a; word = word }
 
-abbrev pub refusal_of : Reason → ℕ → Answer
-refusal_of reason a = answer_of reason a 0
+abbrev pub refusal_of : ℕ → ℕ → ℕ → Answer
+refusal_of code cause a = answer_of code cause a 0
+
+-- for a reason
+abbrev pub answer_for : Reason → ℕ → ℕ → Answer
+answer_for reason a word = answer_of (code_in reason) (cause_in reason) a word
+
+abbrev pub refusal_for : Reason → ℕ → Answer
+refusal_for reason a = refusal_of (code_in reason) (cause_in reason) a
+
+-- whatever its a and word are, its code and cause are those of a reason: no other pair is answered
+pub record Reasoned (answer : Answer) : Type 0 where
+  pub reason : Reason
+  pub reason-is : answer ≡ answer_for reason answer.a answer.word
 
 -- an answer, and where an entry joins
 abbrev pub moved_of : Answer → Option ℕ → Moved
@@ -34,8 +46,11 @@ moved_of answer at = record { answer = answer; at = at }
 abbrev pub alone_of : Answer → Moved
 alone_of answer = moved_of answer None
 
-abbrev pub refused_with : Reason → ℕ → Moved
-refused_with reason a = alone_of (refusal_of reason a)
+abbrev pub refused_with : ℕ → ℕ → ℕ → Moved
+refused_with code cause a = alone_of (refusal_of code cause a)
+
+abbrev pub refused_for : Reason → ℕ → Moved
+refused_for reason a = alone_of (refusal_for reason a)
 
 -- ---- entries
 
@@ -55,8 +70,8 @@ pub record Reachable (t : Table) (c : Cabinet) : Type 0 where
 -- one move of the rules, as the code made it: the answer's numbers and its cause, and the cabinet that the store holds afterwards
 pub record Answered (t : Table) (s : Store) (entries : List Entry) (c : Cabinet) (command : Command) (result : Result)
     (answer : Answer) : Type 0 where
-  pub answer-is : numbers (settle c command result).answer ≡ numbered (code_in answer.reason) answer.a answer.word
-  pub cause_is : cause_of (settle c command result).answer ≡ cause_in answer.reason
+  pub answer-is : numbers (settle c command result).answer ≡ numbered answer.code answer.a answer.word
+  pub cause_is : cause_of (settle c command result).answer ≡ answer.cause
   pub holds : Holds t s entries (settle c command result).cabinet
 
 -- ---- what a move leaves as it is, on every path, whatever the store holds
@@ -83,10 +98,11 @@ pub record Makes (rule : Table → Cabinet → ℕ → Result) (asks : Table →
   -- of a plan that is the table's, and of a store that holds a cabinet which commands reach
   pub made : (t : Table) (entries : List Entry) (c : Cabinet) (command : Command) → Reachable t c → Planned t l → Holds t s entries c
       → command.a ≡ a → asks t entries → Answered t s' (joined entries r.at entry) c command (rule t c a) r.answer
-  -- of any store: what is refused leaves it as it was, an answer with no entry stores none, one with an entry stores it at a place of the queues'
-  -- rings, and the store's arrays stay as long as they were
-  pub untouched : 32 ≤ code_in r.answer.reason → s' ≡ s
-  pub none_joins : (code_in r.answer.reason ≢ joins) → r.at ≡ None
+  -- of any store: the answer is one for a reason, what is refused leaves the store as it was, an answer with no entry stores none, one with an
+  -- entry stores it at a place of the queues' rings, and the store's arrays stay as long as they were
+  pub reasoned : Reasoned r.answer
+  pub untouched : 32 ≤ r.answer.code → s' ≡ s
+  pub none_joins : (r.answer.code ≢ joins) → r.at ≡ None
   pub at-inside : (k : ℕ) → r.at ≡ Some k → k < entries_most
   pub same_lengths : SameLengths s s'
 

@@ -1,5 +1,5 @@
--- A board's queue: its ring's first place, its count, and whether the board is dead; and what is done to it.
-use Rattle.std.specs.Prelude.{◌≡◌, ℕ, suc, ◌+◌, ◌-◌, ◌*◌, ◌%◌, ◌^◌, Bool, false, cond, List, ◌==◌, slice_index_or, Option, Some, None}
+-- A board's queue: its ring's first place, its count, and whether the board is dead (1) or live (0); and what is done to it.
+use Rattle.std.specs.Prelude.{◌≡◌, ℕ, suc, ◌+◌, ◌-◌, ◌*◌, ◌%◌, ◌^◌, Bool, not, cond, eqb, List, ◌==◌, slice_index_or, Option, Some, None}
 use Rattle.rules.specs.Sizes.{outbox_most}
 use Rattle.state.specs.declared.entry.Entry.{Entry}
 use Rattle.state.specs.declared.entry.Item.{Item}
@@ -7,7 +7,7 @@ use Rattle.state.specs.declared.queue.Queue.{Queue}
 
 -- of a live board, with no entry; and what stands past the end of a list of them
 abbrev pub no_queue : Queue
-no_queue = record { first = 0; count = 0; dead = false }
+no_queue = record { first = 0; count = 0; dead = 0 }
 
 -- of board b
 abbrev pub first_in : List Queue → ℕ → ℕ
@@ -16,8 +16,12 @@ first_in queues b = (slice_index_or queues b no_queue).first
 abbrev pub count_in : List Queue → ℕ → ℕ
 count_in queues b = (slice_index_or queues b no_queue).count
 
+-- any number but 0 stands for a dead board
+abbrev pub is_dead : Queue → Bool
+is_dead queue = not (eqb queue.dead 0)
+
 abbrev pub dead_in : List Queue → ℕ → Bool
-dead_in queues b = (slice_index_or queues b no_queue).dead
+dead_in queues b = is_dead (slice_index_or queues b no_queue)
 
 -- where the entry that joins board b's queue next is put
 abbrev pub place_of : Queue → ℕ → ℕ
@@ -49,6 +53,6 @@ pub record Popped (queue queue' : Queue) : Type 0 where
   pub count-is : suc queue'.count ≡ queue.count
   pub dead-is : queue'.dead ≡ queue.dead
 
--- the queue of a board that has no entry left and is dead, or live
-abbrev pub reset_in : Queue → Bool → Queue
+-- the queue of a board that has no entry left and is dead (1), or live (0)
+abbrev pub reset_in : Queue → ℕ → Queue
 reset_in queue dead = record { first = queue.first; count = 0; dead = dead }

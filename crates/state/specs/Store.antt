@@ -1,5 +1,5 @@
 -- How a store and one flat array of entries stand for a cabinet of the rules.
-use Rattle.std.specs.Prelude.{◌≡◌, ℕ, ◌<◌, ◌≤◌, List, map, length, slice_index, slice_index_or}
+use Rattle.std.specs.Prelude.{◌≡◌, ℕ, ◌<◌, ◌≤◌, Bool, cond, List, map, length, slice_index, slice_index_or}
 use Rattle.facts.specs.Lists.{listed}
 use Rattle.facts.specs.Rings.{ring}
 use Rattle.backup.specs.Place.{checkpoint_of}
@@ -44,6 +44,10 @@ outbox_in queues entries b = map (λ (e : Entry). item_of e.item) (ring blank_en
 
 -- ---- the cabinet
 
+-- a Bool as a number
+abbrev pub flag : Bool → ℕ
+flag b = cond b 1 0
+
 -- Each total is the count made afresh: W-208, "its unread words and its words in queues together", "one for each channel"; of a channel that
 -- the outside reads, its words in queues.
 pub record Totalled (t : Table) (totals : List ℕ) (c : Cabinet) : Type 0 where
@@ -66,7 +70,7 @@ pub record Holds (t : Table) (s : Store) (entries : List Entry) (c : Cabinet) : 
   -- each has its two boards of the table,
   pub seated : (p : ℕ) → p < length t.processes → Seated (placement_at t p).primary (placement_at t p).standby (lists_at s p)
   -- and whether a checkpoint or a transfer of it waits in its board's queue
-  pub waits-is : (p : ℕ) → p < length t.processes → (lists_at s p).waits ≡ waiting p (outbox_at c (process_at c p).board)
+  pub waits-is : (p : ℕ) → p < length t.processes → (lists_at s p).waits ≡ flag (waiting p (outbox_at c (process_at c p).board))
   pub first_small : (b : ℕ) → b < t.boards → first_in s.queues b < outbox_most
   pub count_small : (b : ℕ) → b < t.boards → count_in s.queues b ≤ outbox_most
   -- W-208: "After every move of a run, a crash included, each total equals the count made afresh."

@@ -1,8 +1,8 @@
-// A board's queue: where its ring begins among the entries, how many entries it has, and whether the board is dead. Everything that is done to
-// it: an entry joins behind the newest, the oldest is looked at and leaves, the board dies or comes back.
-ghost use Rattle.std.specs.Prelude.{◌≡◌, ◌+◌, ◌*◌, ◌%◌, ◌^◌, ◌<◌, true, false, nat_le};
+// A board's queue: where its ring begins among the entries, how many entries it has, and whether the board is dead (1) or live (0). Everything
+// that is done to it: an entry joins behind the newest, the oldest is looked at and leaves, the board dies or comes back.
+ghost use Rattle.std.specs.Prelude.{◌≡◌, ◌+◌, ◌*◌, ◌%◌, ◌^◌, ◌<◌, nat_le};
 ghost use Rattle.rules.specs.Sizes.{boards_most, entries_most, outbox_most};
-ghost use Rattle.state.specs.Queue.{place_of, oldest_of, pushed_in, front_of, popped_in, reset_in};
+ghost use Rattle.state.specs.Queue.{place_of, oldest_of, pushed_in, front_of, popped_in, reset_in, is_dead};
 
 use crate::entry::{Entry, Item};
 use plan::BOARDS;
@@ -19,14 +19,14 @@ pub const ENTRIES: usize = BOARDS * RING;
 pub struct Queue {
     pub first: u32,
     pub count: u32,
-    pub dead: bool,
+    pub dead: u32,
 }
 
 // Of a live board, with no entry.
 pub const NO_QUEUE: Queue = Queue {
     first: 0,
     count: 0,
-    dead: false,
+    dead: 0,
 };
 
 impl Queue {
@@ -35,6 +35,13 @@ impl Queue {
         ensures { (result < entries_most) × (b < boards_most → result ≡ place_of self.now b) }
     {
         RING * (b % BOARDS) + (wide(self.first) + wide(self.count)) % RING
+    }
+
+    // Whether the board is dead.
+    pub fn is_dead(&self) -> bool
+        ensures { result ≡ is_dead self.now }
+    {
+        self.dead != 0
     }
 
     // Whether no further entry can join.
@@ -78,8 +85,8 @@ impl Queue {
         self.count = std::num::wrapping_sub_u32(self.count, 1);
     }
 
-    // No entry is left, and the board is dead or live.
-    fn reset(&mut self, dead: bool)
+    // No entry is left, and the board is dead (1) or live (0).
+    fn reset(&mut self, dead: u32)
         ensures { self.new ≡ reset_in self.old dead }
     {
         self.count = 0;
@@ -88,15 +95,15 @@ impl Queue {
 
     // The board crashed: "its queue is lost".
     pub fn die(&mut self)
-        ensures { self.new ≡ reset_in self.old true }
+        ensures { self.new ≡ reset_in self.old 1 }
     {
-        self.reset(true);
+        self.reset(1);
     }
 
     // The board is back, "with an empty queue".
     pub fn revive(&mut self)
-        ensures { self.new ≡ reset_in self.old false }
+        ensures { self.new ≡ reset_in self.old 0 }
     {
-        self.reset(false);
+        self.reset(0);
     }
 }

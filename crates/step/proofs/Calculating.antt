@@ -17,12 +17,12 @@ use Rattle.state.specs.declared.entry.Entry.{Entry}
 use Rattle.state.specs.declared.moved.Moved.{Moved}
 use Rattle.state.specs.declared.store.Store.{Store}
 use Rattle.state.specs.Store.{lists_at, Holds}
-use Rattle.state.specs.Moved.{Reachable, answer_of, alone_of, refused_with}
+use Rattle.state.specs.Moved.{Reachable, answer_for, alone_of, refused_for}
 use Rattle.state.specs.Beside.{other_lists, with_lists}
 use Rattle.state.proofs.Changing.{row_changed}
 use Rattle.state.proofs.Refusing.{turned_away_lem, makes-refused}
 use Rattle.step.specs.Parts.{overrun_in, Calculated, Calculates, CalculateTurns}
-use Rattle.state.proofs.Making.{its_index, answered, makes_alone}
+use Rattle.state.proofs.Making.{its_index, answered, makes_alone, for_reason}
 use Rattle.step.proofs.Beside.{same_many, its_part, put_part}
 use Rattle.step.proofs.Stepping.{with_process_in, same_process, machine-is, step_is, overrun-is, instructions-room}
 
@@ -71,7 +71,7 @@ module _ (s : Store) (p a : ℕ) (is-p : a < 16 → p ≡ a) (code register oper
       subst₂ (λ (z z' : lent.Process). Computes z code register operand z') (sym is) (ap (λ (z : lent.Process). other_lists z other) (sym exact))
       (computes (other_lists its other) code register operand)
 
-  calculate_37 : overrun_in its ≡ true → r ≡ refused_with OwesForInstructions a → CalculateTurns s a code register operand s r
+  calculate_37 : overrun_in its ≡ true → r ≡ refused_for OwesForInstructions a → CalculateTurns s a code register operand s r
   calculate_37 e g l others queues totals limit n =
       makes-refused OwesForInstructions g (λ t entries c command reach planned h f i.
       let q = its_index reach i.process-there is-p in
@@ -80,11 +80,11 @@ module _ (s : Store) (p a : ℕ) (is-p : a < 16 → p ≡ a) (code register oper
       let is = its_part other_lists others s.processes reach h refl p hp in
       rw (← q) (turned_away_lem command p instructions_full h (calculate_refused h p hp n code register operand j.intends (ap overrun_in is ∙ e)) (f ∙ sym q) refl))
 
-  calculate_done : (x' : lent.Process) → overrun_in its ≡ false → x' ≡ computed_in code register operand its → r ≡ alone_of (answer_of reasons.Calculated 0 0)
+  calculate_done : (x' : lent.Process) → overrun_in its ≡ false → x' ≡ computed_in code register operand its → r ≡ alone_of (answer_for reasons.Calculated 0 0)
       → CalculateTurns s a code register operand (with_process_in s p x') r
   unfolding numbers cause_of
   calculate_done x' e exact g l others queues totals limit n =
-      makes_alone (answer_of reasons.Calculated 0 0) (omega arith)
+      makes_alone (answer_for reasons.Calculated 0 0) (for_reason reasons.Calculated 0 0) (omega arith)
       (record { processes-same = same_many other_lists others s.processes _ (length-set s.processes p x'); queues-same = refl; totals-same = refl }) g
       (λ t entries c command reach planned h f i.
       let q = its_index reach i.process-there is-p in

@@ -27,8 +27,8 @@ use Rattle.state.specs.declared.moved.Moved.{Moved}
 use Rattle.state.specs.declared.queue.Queue.{Queue}
 use Rattle.state.specs.declared.store.Store.{Store}
 use Rattle.state.specs.Queue.{no_queue, first_in, count_in, place_of, pushed_in}
-use Rattle.state.specs.Store.{item_of, lists_at, Totalled, Holds}
-use Rattle.state.specs.Moved.{Reachable, SameLengths, answer_of, refusal_of, moved_of, alone_of, refused_with}
+use Rattle.state.specs.Store.{flag, item_of, lists_at, Totalled, Holds}
+use Rattle.state.specs.Moved.{Reachable, SameLengths, answer_for, refusal_for, moved_of, alone_of, refused_for}
 use Rattle.state.specs.Beside.{other_lists, with_lists}
 use Rattle.state.proofs.Reading.{at_process, how_many_boards}
 use Rattle.state.proofs.Queueing.{QueueThen, entry_joins}
@@ -42,7 +42,7 @@ use Rattle.step.specs.Parts.{owing_in, blame_in, word_entry, SendTurns}
 use Rattle.state.specs.Channel.{full_in}
 use Rattle.state.proofs.Held.{full_is, occupancy_small}
 use Rattle.state.proofs.Joining.{board-is, board-there, queue_has}
-use Rattle.state.proofs.Making.{its_index, its_board, answered, makes_alone, makes-joined}
+use Rattle.state.proofs.Making.{its_index, its_board, answered, makes_alone, makes-joined, for_reason}
 use Rattle.step.proofs.Beside.{same_many, its_part, put_part, suppresses_exact}
 use Rattle.step.proofs.Stepping.{with_process_in, machine-is, step_is, owing-is, blame_is, instructions-room, events-room}
 
@@ -171,14 +171,14 @@ module _ {t : Table} {s : Store} {entries : List Entry} {c : Cabinet} (reach : R
     totals' = set s.totals channel ((get_or s.totals channel 0 + 1) % 2 ^ 32)
 
     -- what waits still waits
-    waits_then : (q : ℕ) → q < length t.processes → (lists_at s q).waits ≡ waiting q (get_or (set c.outboxes b items) (process_at c q).board [])
+    waits_then : (q : ℕ) → q < length t.processes → (lists_at s q).waits ≡ flag (waiting q (get_or (set c.outboxes b items) (process_at c q).board []))
     waits_then q hq =
         let there : b < length c.outboxes = rw (how_many_boards h) hb in
         by_eq (process_at c q).board b
         (λ f. let now_is : get_or (set c.outboxes b items) (process_at c q).board [] ≡ items = rw f (get_or-set_same c.outboxes b items [] there) in
         let still : waiting q items ≡ waiting q (outbox_at c b) = ap (λ (j : rules.Item). waiting q (outbox_at c b ++ (j ∷ []))) is-item ∙ waiting-joined q (outbox_at c b) x (its.pc) in
-        h.waits-is q hq ∙ ap (λ (j : ℕ). waiting q (outbox_at c j)) f ∙ sym still ∙ ap (waiting q) (sym now_is))
-        (λ f. h.waits-is q hq ∙ ap (waiting q) (sym (get_or-set_other c.outboxes b (process_at c q).board items [] f)))
+        h.waits-is q hq ∙ ap (λ (j : ℕ). flag (waiting q (outbox_at c j))) f ∙ ap flag (sym still) ∙ ap (λ (l : List rules.Item). flag (waiting q l)) (sym now_is))
+        (λ f. h.waits-is q hq ∙ ap (λ (l : List rules.Item). flag (waiting q l)) (sym (get_or-set_other c.outboxes b (process_at c q).board items [] f)))
 
     -- one word more of the channel is in the queues
     totals_then : Totalled t totals' (with_outbox b items c)
@@ -230,10 +230,10 @@ module _ (plan : code.Plan) (s : Store) (limit p a : ℕ) (is-p : a < 16 → p �
   abbrev Turns : Store → Type 0
   Turns s' = SendTurns plan s limit a channel word s' r
 
-  pub send-suppressed : (x' : lent.Process) → 0 < sender.suppress → x' ≡ suppressed_in sender → r ≡ alone_of (answer_of HeldBack channel word) → Turns (with_process_in s p x')
+  pub send-suppressed : (x' : lent.Process) → 0 < sender.suppress → x' ≡ suppressed_in sender → r ≡ alone_of (answer_for HeldBack channel word) → Turns (with_process_in s p x')
   unfolding numbers cause_of
   send-suppressed x' some exact g table counts programs others n code register operand =
-      makes_alone (answer_of HeldBack channel word) (omega arith)
+      makes_alone (answer_for HeldBack channel word) (for_reason HeldBack channel word) (omega arith)
       (record { processes-same = same_many other_lists others s.processes _ (length-set s.processes p x'); queues-same = refl; totals-same = refl }) g
       (λ t entries c command reach planned h f i.
       let q = its_index reach i.process-there is-p in
@@ -252,7 +252,7 @@ module _ (plan : code.Plan) (s : Store) (limit p a : ℕ) (is-p : a < 16 → p �
       refl refl (suppress-holds reach h p hp n code register operand channel word j.intends left (other_lists x' (others p)) e became)))
 
   module _ (none : sender.suppress ≡ 0) where
-    pub send_37 : owing_in limit sender ≡ true → (why : Reason) → why ≡ blame_in limit sender → r ≡ refused_with why a → Turns s
+    pub send_37 : owing_in limit sender ≡ true → (why : Reason) → why ≡ blame_in limit sender → r ≡ refused_for why a → Turns s
     send_37 e why b g table counts programs others n code register operand =
         makes-refused why g (λ t entries c command reach planned h f i.
         let q = its_index reach i.process-there is-p in
@@ -264,7 +264,7 @@ module _ (plan : code.Plan) (s : Store) (limit p a : ℕ) (is-p : a < 16 → p �
         rw (← q) (turned_away_lem command p (owed_for (limit_of t p) (process_at c p)) h
         (refused_37 reach h p hp n code register operand channel word j.intends (ap (λ (y : lent.Process). y.suppress) is ∙ none) _ refl
         (ap (λ (n : ℕ). owing_in n (lists_at (with_lists others s) p)) j.limit_is ∙ ap (owing_in limit) is ∙ e)) (f ∙ sym q)
-        (ap (λ (z : Reason). refusal_of z p) (sym blamed))))
+        (ap (λ (z : Reason). refusal_for z p) (sym blamed))))
 
     module _ (fresh : owing_in limit sender ≡ false) (b : ℕ) (is_b : sender.board < 16 → b ≡ sender.board) where
       -- the same is so of it with another mailbox and another backup
@@ -274,7 +274,7 @@ module _ (plan : code.Plan) (s : Store) (limit p a : ℕ) (is-p : a < 16 → p �
       fresh_beside : (other : lent.Process) {y : lent.Process} {most : ℕ} → most ≡ limit → y ≡ other_lists sender other → owing_in most y ≡ false
       fresh_beside other {y} e is = ap (λ (m : ℕ). owing_in m y) e ∙ ap (owing_in limit) is ∙ fresh
 
-      pub send_38 : leb outbox_most (count_in s.queues b) ≡ true → r ≡ refused_with QueueFullForSend a → Turns s
+      pub send_38 : leb outbox_most (count_in s.queues b) ≡ true → r ≡ refused_for QueueFullForSend a → Turns s
       send_38 many g table counts programs others n code register operand =
           makes-refused QueueFullForSend g (λ t entries c command reach planned h f i.
           let q = its_index reach i.process-there is-p in
@@ -287,7 +287,7 @@ module _ (plan : code.Plan) (s : Store) (limit p a : ℕ) (is-p : a < 16 → p �
           (fresh_beside (others p) j.limit_is is) all) (f ∙ sym q) refl))
 
       module _ (few : leb outbox_most (count_in s.queues b) ≡ false) (k reader : ℕ) (is-k : channel < 32 → k ≡ channel) (is-reader : reader ≡ reader_in plan.wires k) where
-        pub send_39 : full_in reader (get_or s.totals k 0) ≡ true → r ≡ refused_with HeldForSend a → Turns s
+        pub send_39 : full_in reader (get_or s.totals k 0) ≡ true → r ≡ refused_for HeldForSend a → Turns s
         send_39 e g table counts programs others n code register operand =
             makes-refused HeldForSend g (λ t entries c command reach planned h f i.
             let q = its_index reach i.process-there is-p in
@@ -318,10 +318,10 @@ module _ (plan : code.Plan) (s : Store) (limit p a : ℕ) (is-p : a < 16 → p �
         }
 
         pub send-queued : (x' : lent.Process) → full_in reader (get_or s.totals k 0) ≡ false → x' ≡ event_in sender → place_of (get_or s.queues b no_queue) b < 512
-            → r ≡ moved_of (answer_of Queued channel word) (Some (place_of (get_or s.queues b no_queue) b)) → Turns (queued_from x')
+            → r ≡ moved_of (answer_for Queued channel word) (Some (place_of (get_or s.queues b no_queue) b)) → Turns (queued_from x')
         unfolding numbers cause_of
         send-queued x' e exact below g table counts programs others n code register operand =
-            makes-joined (answer_of Queued channel word) (omega arith) (longs x' others) (place_of (get_or s.queues b no_queue) b) below refl g
+            makes-joined (answer_for Queued channel word) (for_reason Queued channel word) (omega arith) (longs x' others) (place_of (get_or s.queues b no_queue) b) below refl g
             (λ t entries c command reach planned h f i.
             let q = its_index reach i.process-there is-p in
             let j = rw (← q) at i in

@@ -27,7 +27,7 @@ use Rattle.state.specs.declared.entry.Entry.{Entry}
 use Rattle.state.specs.declared.moved.Moved.{Moved}
 use Rattle.state.specs.declared.store.Store.{Store}
 use Rattle.state.specs.Store.{lists_at, Holds}
-use Rattle.state.specs.Moved.{Reachable, SameLengths, Makes, MailsStay, refusal_of, refused_with, AProcess}
+use Rattle.state.specs.Moved.{Reachable, SameLengths, Makes, MailsStay, refusal_for, refused_for, AProcess}
 use Rattle.state.specs.Beside.{other_backup, with_backups}
 use Rattle.state.proofs.Changing.{put_process}
 use Rattle.state.proofs.Reading.{at_process}
@@ -191,17 +191,17 @@ module _ (table : List ℕ) (plan : code.Plan) (s : Store) (p a : ℕ) (is-p : a
   abbrev Promises : Store → Type 0
   Promises s' = specs.Steps table plan s a s' r
 
-  pub steps_35 : Means Halted → r ≡ refused_with reasons.Halted a → Promises s
+  pub steps_35 : Means Halted → r ≡ refused_for reasons.Halted a → Promises s
   steps_35 m g counts others =
       makes-refused reasons.Halted g (λ t entries c command reach planned h f ha.
       turned_away_lem command a is_halted h (refused_35 h a ha _ _ _ _ (intending Halted m _ refl counts others reach planned h ha).intends) f refl)
 
-  pub steps_36 : Means NoMail → r ≡ refused_with (missing_of j.code) a → Promises s
+  pub steps_36 : Means NoMail → r ≡ refused_for (missing_of j.code) a → Promises s
   steps_36 m g counts others =
       makes-refused (missing_of j.code) g (λ t entries c command reach planned h f ha.
       let i = (intending NoMail m _ refl counts others reach planned h ha).intends in
       turned_away_lem command a (missing (instruction_at (code_of t a) (process_at c a).machine)) h (refused_36 h a ha _ _ _ _ i) f
-      (ap (λ (why : Reason). refusal_of why a) (sym (missing-is h a ha _ _ _ _ i))))
+      (ap (λ (why : Reason). refusal_for why a) (sym (missing-is h a ha _ _ _ _ i))))
 
   -- what a part makes of the store with other backups
   abbrev Part : Counts → (ℕ → lent.Process) → Intent → ℕ → ℕ → ℕ → ℕ → ℕ → Store → Type 0

@@ -24,7 +24,7 @@ use Rattle.state.specs.declared.entry.Entry.{Entry}
 use Rattle.state.specs.declared.moved.Moved.{Moved}
 use Rattle.state.specs.declared.store.Store.{Store}
 use Rattle.state.specs.Store.{lists_at, Totalled, Holds}
-use Rattle.state.specs.Moved.{Reachable, Answered, answer_of, refusal_of, alone_of, refused_with}
+use Rattle.state.specs.Moved.{Reachable, Answered, answer_for, refusal_for, alone_of, refused_for}
 use Rattle.state.specs.Beside.{other_backup, with_backups}
 use Rattle.state.proofs.Reading.{at_process, how_many}
 use Rattle.state.proofs.Totals.{occupancy_less, totalled_less}
@@ -34,7 +34,7 @@ use Rattle.state.proofs.Owners.{unread_own}
 use Rattle.state.proofs.Counters.{takes-few}
 use Rattle.state.proofs.Refusing.{reason_for, turned_away_lem, makes-refused}
 use Rattle.step.specs.Parts.{owing_in, blame_in, TakeTurns}
-use Rattle.state.proofs.Making.{its_index, answered, makes_alone}
+use Rattle.state.proofs.Making.{its_index, answered, makes_alone, for_reason}
 use Rattle.step.proofs.Beside.{same_many, its_part, put_part, takes_beside}
 use Rattle.step.proofs.Stepping.{machine-is, step_is, owing-is, blame_is, limited_here, instructions-room, events-room}
 
@@ -130,7 +130,7 @@ module _ (plan : code.Plan) (s : Store) (limit p a : ℕ) (is-p : a < 16 → p �
   abbrev taker : lent.Process
   taker = lists_at s p
 
-  pub take_37 : owing_in limit taker ≡ true → (why : Reason) → why ≡ blame_in limit taker → r ≡ refused_with why a
+  pub take_37 : owing_in limit taker ≡ true → (why : Reason) → why ≡ blame_in limit taker → r ≡ refused_for why a
       → TakeTurns plan s limit a code register at s r
   take_37 e why b g table counts programs others queues n operand =
       makes-refused why g (λ t entries c command reach planned h f i.
@@ -143,7 +143,7 @@ module _ (plan : code.Plan) (s : Store) (limit p a : ℕ) (is-p : a < 16 → p �
       rw (← q) (turned_away_lem command p (owed_for (limit_of t p) (process_at c p)) h
       (take-refused reach h p hp n code register operand at j.intends
       (ap (λ (n : ℕ). owing_in n (lists_at (with_backups others s) p)) j.limit_is ∙ ap (owing_in limit) is ∙ e)) (f ∙ sym q)
-      (ap (λ (z : Reason). refusal_of z p) (sym blamed))))
+      (ap (λ (z : Reason). refusal_for z p) (sym blamed))))
 
   -- the word at the position
   abbrev its_word : Mail
@@ -155,10 +155,10 @@ module _ (plan : code.Plan) (s : Store) (limit p a : ℕ) (is-p : a < 16 → p �
 
   pub take_done : (k port left : ℕ) (x' : lent.Process) → owing_in limit taker ≡ false → (its_word.channel < 32 → k ≡ its_word.channel)
       → port ≡ port_in plan.wires k → Takes taker code register at port x' → (left + 1) % 2 ^ 32 ≡ get_or s.totals k 0 → left < 2 ^ 32
-      → r ≡ alone_of (answer_of Took its_word.channel its_word.word) → TakeTurns plan s limit a code register at (taken_from k left x') r
+      → r ≡ alone_of (answer_for Took its_word.channel its_word.word) → TakeTurns plan s limit a code register at (taken_from k left x') r
   unfolding numbers cause_of
   take_done k port left x' e is-k is-port takes is-left fits g table counts programs others queues n operand =
-      makes_alone (answer_of Took its_word.channel its_word.word) (omega arith)
+      makes_alone (answer_for Took its_word.channel its_word.word) (for_reason Took its_word.channel its_word.word) (omega arith)
       (record {
         processes-same = same_many other_backup others s.processes _ (length-set s.processes p x');
         queues-same = refl;
@@ -188,5 +188,5 @@ module _ (plan : code.Plan) (s : Store) (limit p a : ℕ) (is-p : a < 16 → p �
       (ap (λ (n : ℕ). owing_in n (lists_at (with_backups others s) p)) j.limit_is ∙ ap (owing_in limit) is ∙ e) in
       let then : Mail → Type 0 =
       λ w. Answered t (put_process (record (with_backups others s) { queues = queues }) p (other_backup x' (others p)) (set s.totals w.channel left))
-      entries c command (step t c p) (answer_of Took w.channel w.word) in
+      entries c command (step t c p) (answer_for Took w.channel w.word) in
       rw (put, ← q, kk) (subst then word_is (answered _ (received (mail_at (lists_at (with_backups others s) p) at)) so refl refl there)))

@@ -20,7 +20,7 @@ use Rattle.state.specs.declared.queue.Queue.{Queue}
 use Rattle.state.specs.declared.store.Store.{Store}
 use Rattle.state.specs.Store.{lists_at}
 use Rattle.state.specs.Beside.{with_backups, with_lists}
-use Rattle.state.specs.Moved.{Makes, answer_of, alone_of, refused_with}
+use Rattle.state.specs.Moved.{Makes, answer_for, alone_of, refused_for}
 use Rattle.numbers.specs.declared.answers.Reason.{Reason}
 use Rattle.numbers.specs.declared.answers.Reason.TheVariants as reasons
 use Rattle.numbers.specs.declared.answers.Reason.TheVariants.{NoWordForTake, NoWordForFirst, OwesForActs, OwesForInstructions}
@@ -69,9 +69,9 @@ Turns l s limit a n code register operand intent entry s' r =
 -- Process a computes, and what exactly becomes of it, whatever its mailbox and its backup are; where its instructions are used up it is refused,
 -- and stays as it is.
 abbrev pub Calculated : Bool → Process → ℕ → ℕ → ℕ → ℕ → Process → Moved → Type 0
-Calculated true x a code register operand x' r = (x' ≡ x) × (r ≡ refused_with OwesForInstructions a)
+Calculated true x a code register operand x' r = (x' ≡ x) × (r ≡ refused_for OwesForInstructions a)
 Calculated false x a code register operand x' r =
-    (x' ≡ computed_in code register operand x) × (Computes x code register operand x' × (r ≡ alone_of (answer_of reasons.Calculated 0 0)))
+    (x' ≡ computed_in code register operand x) × (Computes x code register operand x' × (r ≡ alone_of (answer_for reasons.Calculated 0 0)))
 
 abbrev pub Calculates : Process → ℕ → ℕ → ℕ → ℕ → Process → Moved → Type 0
 Calculates x = Calculated (overrun_in x) x

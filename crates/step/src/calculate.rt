@@ -8,7 +8,7 @@ use instruction::instruction::compute;
 use numbers::answers::Reason;
 use process::process::Process;
 use records::fetch::Instruction;
-use state::moved::{Answer, Moved, alone, refused};
+use state::moved::{Moved, alone, answer_for, refused_for};
 
 // Process a does the instruction.
 pub fn calculate(x: &mut Process, a: u32, i: Instruction) -> Moved
@@ -16,12 +16,8 @@ pub fn calculate(x: &mut Process, a: u32, i: Instruction) -> Moved
     ensures lists_stay { ListsStay x.old x.new }
 {
     if overrun(x) {
-        return refused(Reason::OwesForInstructions, a);
+        return refused_for(Reason::OwesForInstructions, a);
     }
     compute(x, i);
-    alone(Answer {
-        reason: Reason::Calculated,
-        a: 0,
-        word: 0,
-    })
+    alone(answer_for(Reason::Calculated, 0, 0))
 }

@@ -6,7 +6,7 @@ ghost use Rattle.step.specs.Issues.{Issues};
 
 use numbers::answers::Reason;
 use plan::{BOARDS, PROCESSES};
-use state::moved::{Answer, Moved, refused};
+use state::moved::{Moved, answer_for, refused_for};
 use state::store::Store;
 use words::index;
 
@@ -18,25 +18,21 @@ pub fn issue(store: &mut Store, a: u32) -> Moved
 {
     let p = index::<PROCESSES>(a);
     if !store.processes[p].is_backed() {
-        return refused(Reason::NoBackup, a);
+        return refused_for(Reason::NoBackup, a);
     }
-    if store.processes[p].waits {
-        return refused(Reason::SyncWaiting, a);
+    if store.processes[p].is_waiting() {
+        return refused_for(Reason::SyncWaiting, a);
     }
     let b = index::<BOARDS>(store.processes[p].board);
     if store.queues[b].is_full() {
-        return refused(Reason::QueueFullForSync, a);
+        return refused_for(Reason::QueueFullForSync, a);
     }
     let at = store.queues[b].place(b);
-    store.processes[p].waits = true;
+    store.processes[p].waits = 1;
     store.processes[p].issue();
     store.queues[b].push();
     Moved {
-        answer: Answer {
-            reason: Reason::SyncIssued,
-            a: 0,
-            word: 0,
-        },
+        answer: answer_for(Reason::SyncIssued, 0, 0),
         at: Some(at),
     }
 }

@@ -8,7 +8,7 @@ use instruction::instruction::{queue_send, suppress_send};
 use numbers::answers::Reason;
 use plan::{BOARDS, CHANNELS, PROCESSES, Plan};
 use state::channel::full;
-use state::moved::{Answer, Moved, alone, refused};
+use state::moved::{Moved, alone, answer_for, refused_for};
 use state::store::Store;
 use words::index;
 
@@ -21,33 +21,25 @@ pub fn send(plan: &Plan, store: &mut Store, limit: u32, a: u32, channel: u32, wo
     let p = index::<PROCESSES>(a);
     if store.processes[p].suppress > 0 {
         suppress_send(&mut store.processes[p]);
-        return alone(Answer {
-            reason: Reason::HeldBack,
-            a: channel,
-            word: word,
-        });
+        return alone(answer_for(Reason::HeldBack, channel, word));
     }
     if owing(&store.processes[p], limit) {
-        return refused(blame(&store.processes[p], limit), a);
+        return refused_for(blame(&store.processes[p], limit), a);
     }
     let b = index::<BOARDS>(store.processes[p].board);
     if store.queues[b].is_full() {
-        return refused(Reason::QueueFullForSend, a);
+        return refused_for(Reason::QueueFullForSend, a);
     }
     let k = index::<CHANNELS>(channel);
     if full(plan.reader(k), store.totals[k]) {
-        return refused(Reason::HeldForSend, a);
+        return refused_for(Reason::HeldForSend, a);
     }
     let at = store.queues[b].place(b);
     queue_send(&mut store.processes[p]);
     store.queues[b].push();
     store.totals[k] = std::num::wrapping_add_u32(store.totals[k], 1);
     Moved {
-        answer: Answer {
-            reason: Reason::Queued,
-            a: channel,
-            word: word,
-        },
+        answer: answer_for(Reason::Queued, channel, word),
         at: Some(at),
     }
 }

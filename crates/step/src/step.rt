@@ -11,7 +11,7 @@ use instruction::instruction::{Intent, examine};
 use numbers::answers::Reason;
 use plan::{PROCESSES, Plan};
 use records::fetch::fetch_at;
-use state::moved::{Moved, refused};
+use state::moved::{Moved, refused_for};
 use state::store::Store;
 use words::index;
 
@@ -35,8 +35,8 @@ pub fn step(table: &[u8], plan: &Plan, store: &mut Store, a: u32) -> Moved
     let x = &store.processes[p];
     let i = fetch_at(table, plan.start(p), x.pc);
     match examine(x, plan.length(p), i) {
-        Intent::Halted => refused(Reason::Halted, a),
-        Intent::NoMail => refused(missing(i.code), a),
+        Intent::Halted => refused_for(Reason::Halted, a),
+        Intent::NoMail => refused_for(missing(i.code), a),
         Intent::Internal => calculate(&mut store.processes[p], a, i),
         Intent::Take { at } => take(plan, store, limit, a, i, at),
         Intent::Send { channel, word } => send(plan, store, limit, a, channel, word),

@@ -10,7 +10,7 @@ use numbers::answers::Reason;
 use plan::{CHANNELS, PROCESSES, Plan};
 use process::mail::{channel_of, word_of};
 use records::fetch::Instruction;
-use state::moved::{Answer, Moved, alone, refused};
+use state::moved::{Moved, alone, answer_for, refused_for};
 use state::store::Store;
 use words::index;
 
@@ -22,16 +22,12 @@ pub fn take(plan: &Plan, store: &mut Store, limit: u32, a: u32, i: Instruction, 
 {
     let p = index::<PROCESSES>(a);
     if owing(&store.processes[p], limit) {
-        return refused(blame(&store.processes[p], limit), a);
+        return refused_for(blame(&store.processes[p], limit), a);
     }
     let x = store.processes[p].word_at(at);
     let channel = channel_of(x);
     let k = index::<CHANNELS>(channel);
     take_word(&mut store.processes[p], i, at, plan.port(k));
     store.totals[k] = std::num::wrapping_sub_u32(store.totals[k], 1);
-    alone(Answer {
-        reason: Reason::Took,
-        a: channel,
-        word: word_of(x),
-    })
+    alone(answer_for(Reason::Took, channel, word_of(x)))
 }

@@ -21,7 +21,7 @@ pub any_entry : {rule : Table → Cabinet → ℕ → Result} {asks : Table → 
     → m ≡ alone_of r → MakesAlone rule asks l s a s' r → Makes rule asks 0 l s a entry s' m
 any_entry {rule} {asks} {l} {s} {s'} {a} {entry = entry} e h =
     subst (λ (x : Moved). Makes rule asks 0 l s a entry s' x) (sym e)
-    (record { made = h.made; untouched = h.untouched; none_joins = h.none_joins; at-inside = h.at-inside; same_lengths = h.same_lengths })
+    (record { made = h.made; reasoned = h.reasoned; untouched = h.untouched; none_joins = h.none_joins; at-inside = h.at-inside; same_lengths = h.same_lengths })
 
 pub mended_inside : {plan : code.Plan} {mv a : ℕ} {s s' : Store} {r : Moved} → Mends plan mv a s s' r → (k : ℕ) → r.at ≡ Some k → k < entries_most
 mended_inside {mv = mv} h k e =

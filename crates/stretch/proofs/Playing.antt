@@ -27,14 +27,14 @@ use Rattle.state.specs.declared.moved.Answer.{Answer}
 use Rattle.state.specs.declared.moved.Moved.{Moved}
 use Rattle.state.specs.declared.store.Store.{Store}
 use Rattle.state.specs.Store.{Holds}
-use Rattle.state.specs.Moved.{Reachable, Answered, Makes, joined, refusal_of}
+use Rattle.state.specs.Moved.{Reachable, Answered, Makes, joined, refusal_for}
 use Rattle.std.proofs.Common.{Option, Some, None}
 use Rattle.numbers.specs.declared.answers.Reason.{Reason}
 use Rattle.numbers.specs.declared.answers.Reason.TheVariants.{NoSuchMove}
-use Rattle.numbers.specs.Answers.{code_in}
 use Rattle.command.specs.declared.due.Due.{Due}
-use Rattle.command.specs.Judges.{absent_of, stray_of, worded_of, judge_of}
+use Rattle.command.specs.Judges.{turned_away, absent_of, stray_of, worded_of, judge_of}
 use Rattle.command.specs.Dues.{command_in, DueAt}
+use Rattle.command.proofs.Answering.{let_by, because}
 use Rattle.command.proofs.Judging.{rule_of, most_of, passes, made, refused, refused-origin, known}
 use Rattle.facts.specs.Tests.{by_eq}
 use Rattle.plan.specs.declared.Counts.{Counts}
@@ -192,8 +192,8 @@ pub record Turned (l : Plan) (s : Store) (entries : List Entry) (d : Due) (s' : 
 
 -- a record that is no step, no sync and no carry: one that passes, or one that is turned away and is no move 8
 pub data Other (d : Due) : Type 0 where
-  let_through : d.refused ≡ None → (d.mv ≡ 1 → ⊥) → (d.mv ≡ 2 → ⊥) → (d.mv ≡ 3 → ⊥) → Other d
-  turned_off : (reason : Reason) → d.refused ≡ Some reason → (d.mv ≡ 8 → ⊥) → Other d
+  let_through : d.number ≡ 0 → (d.mv ≡ 1 → ⊥) → (d.mv ≡ 2 → ⊥) → (d.mv ≡ 3 → ⊥) → Other d
+  turned_off : (d.number ≡ 0 → ⊥) → (d.mv ≡ 8 → ⊥) → Other d
 
 -- on a store that is the same
 pub turned_same : {l : Plan} {s : Store} {entries : List Entry} {d : Due} {o : Origin} {s₁ s₂ : Store} {entries₁ entries₂ : List Entry} {r₁ r₂ : Answer}
@@ -241,32 +241,42 @@ module _ {l : Plan} {schedule : List ℕ} {from end : ℕ} {s₀ : Store} {entri
             subst (λ (l : List Command). Played t start l s' entries' sheets₀ from sheets') (sym with_it) (played-parts done one (omega arith));
       }
 
+  -- what the judging says of it, and that it lets through one that is not refused
+  abbrev said : Option Reason
+  said = judge_of l.counts it
+
+  let_go : d.number ≡ 0 → said ≡ None
+  let_go z = let_by l.counts it (sym p.due.number_is ∙ z)
+
   -- a record that is refused before its move is looked at
-  pub comes_refused : (reason : Reason) → d.refused ≡ Some reason → (d.mv ≡ 8 → ⊥) → {r : Answer} → r ≡ refusal_of reason d.a → Comes s entries r no_origin
-  comes_refused reason z other e = record {
-    no_undo = ne_eqb d.mv 8 other;
-    answered = λ t now u. refused u.planned it d.refused p.due.refused-is now d.a refl reason u.holds z e;
-    comes = λ t now u. refused-origin u.planned it d.refused p.due.refused-is now d.a refl reason z;
-  }
+  pub comes_refused : (d.number ≡ 0 → ⊥) → (d.mv ≡ 8 → ⊥) → {r : Answer} → r ≡ turned_away d.number d.mv d.a → Comes s entries r no_origin
+  comes_refused n other {r} e =
+      let why = because l.counts it d.a (λ z. n (p.due.number_is ∙ z)) in
+      let its : r ≡ refusal_for why.reason d.a = e ∙ ap (λ (k : ℕ). turned_away k d.mv d.a) p.due.number_is ∙ why.answer-is in
+      record {
+        no_undo = ne_eqb d.mv 8 other;
+        answered = λ t now u. refused u.planned it said refl now d.a refl why.reason u.holds why.is-reason its;
+        comes = λ t now u. refused-origin u.planned it said refl now d.a refl why.reason why.is-reason;
+      }
 
   -- What tells the origin of the word that move k puts on the bus is o, where the move has what it asks. A word that is carried was waiting.
   abbrev Told : (Table → List Entry → Type 0) → ℕ → Moved → Origin → Type 0
   Told asks k m o =
       (t : Table) (now : Cabinet) → Suited t l now s entries → d.a < most_of (move_of k) t → asks t entries
-      → (move_of k ≡ transmit_move → code_in m.answer.reason ≡ 4 → outbox_at now d.a ≡ [] → ⊥) → told_by t (outbox_at now d.a) (code_in m.answer.reason) (move_of k) ≡ o
+      → (move_of k ≡ transmit_move → m.answer.code ≡ 4 → outbox_at now d.a ≡ [] → ⊥) → told_by t (outbox_at now d.a) m.answer.code (move_of k) ≡ o
 
   told_by_lem : (asks : Table → List Entry → Type 0) (k : ℕ) → d.mv ≡ k → (m : Moved) (o : Origin) → Told asks k m o
       → (t : Table) (now : Cabinet) → Suited t l now s entries → d.a < most_of (move_of k) t → asks t entries
-      → (numbers (turn t now (command_of it)).answer).code ≡ code_in m.answer.reason → origin_of (turn t now (command_of it)).answer ≡ o
+      → (numbers (turn t now (command_of it)).answer).code ≡ m.answer.code → origin_of (turn t now (command_of it)).answer ≡ o
   told_by_lem asks k is-k m o tells t now u inside asked code_is =
       let x : Command = command_of it in
       origin-told t now x
       ∙ ap (λ (j : ℕ). told_by t (outbox_at now d.a) j (move_of d.mv)) code_is
-      ∙ ap (λ (j : ℕ). told_by t (outbox_at now d.a) (code_in m.answer.reason) (move_of j)) is-k
+      ∙ ap (λ (j : ℕ). told_by t (outbox_at now d.a) m.answer.code (move_of j)) is-k
       ∙ tells t now u inside asked (λ e f g. carried_waited t now x (ap move_of is-k ∙ e) (code_is ∙ f) g)
 
   -- one that is its move: what the rules call the move of number k
-  pub comes_made : d.refused ≡ None → (k : ℕ) → eqb k 8 ≡ false → d.mv ≡ k → {asks : Table → List Entry → Type 0} {joins : ℕ} {entry : Entry} {s' : Store}
+  pub comes_made : d.number ≡ 0 → (k : ℕ) → eqb k 8 ≡ false → d.mv ≡ k → {asks : Table → List Entry → Type 0} {joins : ℕ} {entry : Entry} {s' : Store}
       {entries' : List Entry} {m : Moved} {o : Origin} → Makes (rule_of (move_of k) d.word) asks joins l s d.a entry s' m
       → ((t : Table) (now : Cabinet) → Accepted t → Holds t s entries now → d.a < most_of (move_of k) t → asks t entries × (entries' ≡ joined entries m.at entry))
       → Told asks k m o → Comes s' entries' m.answer o
@@ -274,13 +284,13 @@ module _ {l : Plan} {schedule : List ℕ} {from end : ℕ} {s₀ : Store} {entri
   comes_made z k other is-k {asks = asks} {entry = entry} {s' = s'} {entries' = entries'} {m = m} {o = o} h given tells =
       let x : Command = command_of it in
       let inside : (t : Table) (now : Cabinet) → Suited t l now s entries → d.a < most_of (move_of k) t =
-      λ t now u. (passes u.planned it d.refused p.due.refused-is now d.a refl k is-k z).a-inside in
+      λ t now u. (passes u.planned it said refl now d.a refl k is-k (let_go z)).a-inside in
       let there : (t : Table) (now : Cabinet) → Suited t l now s entries → asks t entries × (entries' ≡ joined entries m.at entry) =
       λ t now u. given t now u.reached.accepted u.holds (inside t now u) in
       let answers : (t : Table) (now : Cabinet) → Suited t l now s entries → Answered t s' entries' now x (judged t now x) m.answer =
       λ t now u.
       subst (λ (l : List Entry). Answered t s' l now x (judged t now x) m.answer) (sym (there t now u).1)
-      (made u.planned it d.refused p.due.refused-is now d.a refl k is-k z
+      (made u.planned it said refl now d.a refl k is-k (let_go z)
       (h.made t entries now x u.reached u.planned u.holds refl (there t now u).0)) in
       record {
         no_undo = ap (λ (m : ℕ). eqb m 8) is-k ∙ other;
@@ -289,7 +299,7 @@ module _ {l : Plan} {schedule : List ℕ} {from end : ℕ} {s₀ : Store} {entri
       }
 
   -- one of moves 5 to 7: no other passes but those that the loop makes itself
-  pub comes_mended : d.refused ≡ None → (d.mv ≡ 1 → ⊥) → (d.mv ≡ 2 → ⊥) → (d.mv ≡ 3 → ⊥) → (d.mv ≡ 4 → ⊥) → {s' : Store} {entries' : List Entry} {m : Moved}
+  pub comes_mended : d.number ≡ 0 → (d.mv ≡ 1 → ⊥) → (d.mv ≡ 2 → ⊥) → (d.mv ≡ 3 → ⊥) → (d.mv ≡ 4 → ⊥) → {s' : Store} {entries' : List Entry} {m : Moved}
       → Mends (lent l) d.mv d.a s s' m → entries' ≡ joined entries m.at (transfer_entry d.a)
       → Comes s' entries' m.answer no_origin
   comes_mended z h1 h2 h3 h4 {s'} {entries'} {m} h e =
@@ -301,25 +311,25 @@ module _ {l : Plan} {schedule : List ℕ} {from end : ℕ} {s₀ : Store} {entri
       (λ is. comes_made z 7 refl is (h.rebackups is l.table) (λ t now ok holds b. (b, e)) (λ t now u b asked w. refl))
       (λ h7.
       let none : (t : Table) (now : Cabinet) → Suited t l now s entries → ⊥ =
-      λ t now u. known u.planned it d.refused p.due.refused-is now d.a refl z h1 h2 h3 h4 h5 h6 h7 in
+      λ t now u. known u.planned it said refl now d.a refl (let_go z) h1 h2 h3 h4 h5 h6 h7 in
       record {
-        no_undo = ne_eqb d.mv 8 (λ e. let a = judge_of-undo l.counts it e in let b = p.due.refused-is in cc);
+        no_undo = ne_eqb d.mv 8 (λ e. let a = judge_of-undo l.counts it e in let b = let_go z in cc);
         answered = λ t now u. absurd (none t now u);
         comes = λ t now u. absurd (none t now u);
       })))
 
   -- What one call does of the records that are no step, no sync and no carry. One that is refused before its move is looked at,
-  comes_away : (reason : Reason) → d.refused ≡ Some reason → (d.mv ≡ 8 → ⊥) → {s' : Store} {entries' : List Entry} {before after : Sheets} {j : ℕ} {at : Option ℕ}
+  comes_away : (d.number ≡ 0 → ⊥) → (d.mv ≡ 8 → ⊥) → {s' : Store} {entries' : List Entry} {before after : Sheets} {j : ℕ} {at : Option ℕ}
       (h : Others (lent l) j d s before s' after at) → entries' ≡ joined entries at (transfer_entry d.a)
       → Comes s' entries' h.moved.answer h.origin
-  comes_away reason n other {s'} {entries'} {at = at} h e =
-      let told = h.refused reason n in
+  comes_away n other {s'} {entries'} {at = at} h e =
+      let told = h.refused n in
       let none : at ≡ None = h.at_is ∙ ap (λ (m : Moved). m.at) told.1 in
       subst (Comes s' entries' h.moved.answer) (sym told.0.1)
-      (turned_same told.0.0 (e ∙ sym (none-joined entries at _ none)) refl (comes_refused reason n other (ap (λ (m : Moved). m.answer) told.1)))
+      (turned_same told.0.0 (e ∙ sym (none-joined entries at _ none)) refl (comes_refused n other (ap (λ (m : Moved). m.answer) told.1)))
 
   -- one that is its move,
-  comes_other : d.refused ≡ None → (d.mv ≡ 1 → ⊥) → (d.mv ≡ 2 → ⊥) → (d.mv ≡ 3 → ⊥)
+  comes_other : d.number ≡ 0 → (d.mv ≡ 1 → ⊥) → (d.mv ≡ 2 → ⊥) → (d.mv ≡ 3 → ⊥)
       → {s' : Store} {entries' : List Entry} {before after : Sheets} {j : ℕ} {at : Option ℕ}
       (h : Others (lent l) j d s before s' after at) → entries' ≡ joined entries at (transfer_entry d.a)
       → Comes s' entries' h.moved.answer h.origin
@@ -334,7 +344,7 @@ module _ {l : Plan} {schedule : List ℕ} {from end : ℕ} {s₀ : Store} {entri
       → Others (lent l) i d s sheets s' sheets' at → entries' ≡ joined entries at (transfer_entry d.a)
       → Playing l schedule from end s₀ entries₀ sheets₀ (i + 1) s' entries' sheets'
   on_others (let_through z h1 h2 h3) h e = on (comes_other z h1 h2 h3 h e) h.writes
-  on_others (turned_off reason n other) h e = on (comes_away reason n other h e) h.writes
+  on_others (turned_off n other) h e = on (comes_away n other h e) h.writes
 
 -- ---- where the stretch ends
 

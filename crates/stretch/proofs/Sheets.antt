@@ -6,17 +6,16 @@ use native.Mathlib.Omega.{arith}
 use lib.ListN.{length, set, drop, length-map, length-set}
 use lib.Seq.{sets, length-sets, drop-drop}
 use Rattle.facts.specs.Laying.{sets_more, sets-front}
-use Rattle.numbers.specs.declared.answers.Reason.{Reason}
-use Rattle.numbers.specs.Answers.{reason_number, code_in, cause_in}
 use Rattle.rules.specs.Bytes.{word_bytes, all_bytes, written}
 use Rattle.rules.specs.Moves as rules
 use Rattle.rules.specs.Machine.{Origin}
 use Rattle.rules.specs.Moves.{Numbers, numbered, numbers, origin_of}
 use Rattle.rules.specs.Reasons.{cause_of, reason_of}
 use Rattle.rules.specs.Run.{answer_bytes, origin_bytes}
+use Rattle.rules.proofs.OneCause.{answer_small}
 use Rattle.rules.proofs.Buffers.{length_bytes}
 use Rattle.state.specs.declared.moved.Answer.{Answer}
-use Rattle.stretch.specs.Written.{six_bytes}
+use Rattle.stretch.specs.Written.{six_bytes, reason_byte}
 use Rattle.stretch.specs.Plays.{Sheets, Roomy, RoomAt, AsLong, Writes, Wrote}
 use Rattle.stretch.proofs.Answers.{Fits}
 
@@ -40,18 +39,22 @@ origins-length : (answers : List rules.Answer) → length (origins_of answers) �
 origins-length answers = length_bytes origin_bytes 2 (map origin_of answers) (λ _. refl) ∙ ap (λ (n : ℕ). 2 * n) (length-map answers origin_of)
 
 -- the bytes that the code writes are the answer's
-same_bytes : (x : Answer) (n : Numbers) → n ≡ numbered (code_in x.reason) x.a x.word → n.a < 256 → six_bytes x ≡ answer_bytes n
-same_bytes x n e ha =
-    let c : n.code ≡ code_in x.reason = ap (λ (m : Numbers). m.code) e in
+same_bytes : (x : Answer) (n : Numbers) → n ≡ numbered x.code x.a x.word → n.code < 256 → n.a < 256 → six_bytes x ≡ answer_bytes n
+same_bytes x n e hc ha =
+    let c : n.code ≡ x.code = ap (λ (m : Numbers). m.code) e in
     let a : n.a ≡ x.a = ap (λ (m : Numbers). m.a) e in
     let w : n.word ≡ x.word = ap (λ (m : Numbers). m.word) e in
+    let c' : x.code % 256 ≡ n.code = omega arith in
     let a' : x.a % 256 ≡ n.a = omega arith in
-    λ i. sym c i ∷ a' i ∷ word_bytes (sym w i)
+    λ i. c' i ∷ a' i ∷ word_bytes (sym w i)
 
--- and so is the byte of its reason
-same_reason : (x : rules.Answer) (reason : Reason) → (numbers x).code ≡ code_in reason → cause_of x ≡ cause_in reason → reason_number reason ≡ reason_of x
+-- and so is the byte of its code and its cause
+same_reason : (x : rules.Answer) (code cause : ℕ) → (numbers x).code ≡ code → cause_of x ≡ cause → reason_byte code cause ≡ reason_of x
 unfolding reason_of
-same_reason x reason e f = omega arith
+same_reason x code cause e f =
+    let a = (answer_small x).code_small in
+    let b = (answer_small x).cause_small in
+    omega arith
 
 -- ---- the buffers
 
@@ -60,12 +63,12 @@ wrote_none sheets i = record { answers_are = refl; reasons_are = refl; origins_a
 
 -- one answer of the code is the rules' answer
 pub wrote_one : {before after : Sheets} {i : ℕ} {r : Answer} {o : Origin} → Writes before i r o after → (x : rules.Answer)
-    → numbers x ≡ numbered (code_in r.reason) r.a r.word → cause_of x ≡ cause_in r.reason → origin_of x ≡ o → Fits x → Wrote before i (x ∷ []) after
+    → numbers x ≡ numbered r.code r.a r.word → cause_of x ≡ r.cause → origin_of x ≡ o → Fits x → Wrote before i (x ∷ []) after
 wrote_one {before} {i = i} {r = r} w x e f g size = record {
   answers_are =
       w.answers_are
-      ∙ ap (sets before.answers (6 * i)) (same_bytes r (numbers x) e size.a_small ∙ sym (append-nil (answer_bytes (numbers x))));
-  reasons_are = w.reasons_are ∙ ap (set before.reasons i) (same_reason x r.reason (ap (λ (m : Numbers). m.code) e) f);
+      ∙ ap (sets before.answers (6 * i)) (same_bytes r (numbers x) e (let s = (answer_small x).code_small in omega arith) size.a_small ∙ sym (append-nil (answer_bytes (numbers x))));
+  reasons_are = w.reasons_are ∙ ap (set before.reasons i) (same_reason x r.code r.cause (ap (λ (m : Numbers). m.code) e) f);
   origins_are = w.origins_are ∙ ap (λ (y : Origin). sets before.origins (2 * i) (origin_bytes y)) (sym g);
 }
 

@@ -1,7 +1,6 @@
 -- A stretch of a schedule's records, one after the other. "Each schedule record, refused or not, gets the cabinet that the last one left".
 use Rattle.std.specs.Prelude.{◌≡◌, true, false, List, map, ℕ, ◌+◌, ◌-◌, ◌*◌, ◌≤◌, ◌<◌, length, get_or, set, take, drop}
 use Rattle.std.proofs.lemmas.List.Edits.{sets}
-use Rattle.numbers.specs.Answers.{reason_number}
 use Rattle.rules.specs.Table.{Table}
 use Rattle.rules.specs.Bytes.{all_bytes}
 use Rattle.rules.specs.Machine.{Origin}
@@ -19,7 +18,7 @@ use Rattle.state.specs.declared.store.Store.{Store}
 use Rattle.state.specs.Store.{Holds}
 use Rattle.state.specs.Moved.{Reachable}
 use Rattle.stretch.specs.declared.stretch.Stretch.{Stretch}
-use Rattle.stretch.specs.Written.{six_bytes}
+use Rattle.stretch.specs.Written.{six_bytes, reason_byte}
 
 -- ---- the buffers
 
@@ -53,7 +52,7 @@ pub record AsLong (before after : Sheets) : Type 0 where
 -- the i-th answer, its reason and where its word comes from were written
 pub record Writes (before : Sheets) (i : ℕ) (r : Answer) (o : Origin) (after : Sheets) : Type 0 where
   pub answers_are : after.answers ≡ sets before.answers (6 * i) (six_bytes r)
-  pub reasons_are : after.reasons ≡ set before.reasons i (reason_number r.reason)
+  pub reasons_are : after.reasons ≡ set before.reasons i (reason_byte r.code r.cause)
   pub origins_are : after.origins ≡ sets before.origins (2 * i) (origin_bytes o)
 
 -- the rules' answers to the records from number i on, with their reasons and origins, were written at those records' places

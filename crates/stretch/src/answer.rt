@@ -6,6 +6,7 @@ ghost use Rattle.std.proofs.lemmas.List.Edits.{sets};
 ghost use Rattle.rules.specs.Run.{origin_bytes};
 ghost use Rattle.rules.specs.Moves.{no_origin};
 ghost use Rattle.bus.specs.Origins.{origin_in};
+ghost use Rattle.stretch.specs.Written.{reason_byte};
 ghost use Rattle.stretch.specs.Plays.{sheets_of, RoomAt, Writes};
 
 use bus::origin::{Origin, nowhere};
@@ -13,6 +14,13 @@ use numbers::answers::Reason;
 use records::store::put_six;
 use state::moved::Answer;
 use words::low_byte;
+
+// A code is below 64, and a cause below 4.
+fn reason(code: u32, cause: u32) -> u8
+    ensures { result ≡ reason_byte code cause }
+{
+    ((code % 64) * 4 + cause % 4) as u8
+}
 
 // The i-th origin of a buffer.
 fn put_origin(origins: &mut [u8], i: usize, o: Origin)
@@ -37,10 +45,8 @@ pub fn write_from(
     ensures { Writes (sheets_of answers.old reasons.old origins.old) i r (origin_in o)
         (sheets_of answers.new reasons.new origins.new) }
 {
-    // Looked up once: the code is made of it.
-    let number = r.reason.number();
-    put_six(answers, 6 * i, number / 4, low_byte(r.a), r.word);
-    reasons[i] = number;
+    put_six(answers, 6 * i, low_byte(r.code), low_byte(r.a), r.word);
+    reasons[i] = reason(r.code, r.cause);
     put_origin(origins, i, o);
 }
 
@@ -59,7 +65,7 @@ pub fn write_step(answers: &mut [u8], reasons: &mut [u8], origins: &mut [u8], i:
     ensures { Writes (sheets_of answers.old reasons.old origins.old) i r no_origin
         (sheets_of answers.new reasons.new origins.new) }
 {
-    if r.reason == Reason::Calculated {
+    if r.code == Reason::Calculated.code() as u32 {
         write(answers, reasons, origins, i, r);
         return;
     }

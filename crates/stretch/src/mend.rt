@@ -6,7 +6,7 @@ use numbers::answers::Reason;
 use plan::Plan;
 use rejoin::rebackup::rebackup;
 use rejoin::rejoin::rejoin;
-use state::moved::{Moved, alone, refused};
+use state::moved::{Moved, alone, refused_for};
 use state::store::Store;
 
 // The move of this number, of the process or board a.
@@ -18,6 +18,6 @@ pub fn mend(plan: &Plan, store: &mut Store, mv: u8, a: u32) -> Moved
         6 => alone(rejoin(store, a)),
         7 => rebackup(plan, store, a),
         // Never reached: the loop keeps moves 1 to 4 for itself, and `judge` passes none but the seven; a match over numbers wants the rest.
-        _ => refused(Reason::NoSuchMove, a),
+        _ => refused_for(Reason::NoSuchMove, a),
     }
 }

@@ -7,9 +7,8 @@ use crate::answer::{write, write_from};
 use crate::mend::mend;
 use bus::inject::inject;
 use bus::origin::fed;
-use command::due::Due;
+use command::due::{Due, turned_away};
 use plan::Plan;
-use state::moved::refusal;
 use state::store::Store;
 
 // Record i, which is d. What is returned is where an entry joins a queue by it, if one does: a transfer, which the loop makes.
@@ -26,15 +25,15 @@ pub fn others(
     ensures { Others plan.now i d store.old (sheets_of answers.old reasons.old origins.old)
         store.new (sheets_of answers.new reasons.new origins.new) result }
 {
-    if let Some(reason) = d.refused {
-        write(answers, reasons, origins, i, refusal(reason, d.a));
+    if d.number != 0 {
+        write(answers, reasons, origins, i, turned_away(d));
         return None;
     }
     let mv = d.mv;
     match mv {
         4 => {
             let r = inject(plan, store, d.a, d.word);
-            write_from(answers, reasons, origins, i, r, fed(r.reason));
+            write_from(answers, reasons, origins, i, r, fed(r.code));
             None
         }
         _ => {

@@ -8,7 +8,6 @@ use lib.ListN.{length, get_or, take, replicate, length-replicate}
 use lib.Seq.{take-suc, length-take-le}
 use borrow.Author.Tests.{ne_eqb, lt-ltb, le-ltb}
 use Rattle.facts.specs.Tests.{no_way, by_lt, or_left, or_right}
-use Rattle.numbers.specs.declared.answers.Reason.TheVariants.{TakenBack}
 use Rattle.records.specs.Commands.{command_of}
 use Rattle.records.specs.declared.schedule.Command as code
 use Rattle.rules.specs.Sizes.{kept_most}
@@ -116,7 +115,7 @@ module _ {l : Plan} {schedule : List ℕ} {s₀ : Store} {entries₀ : List Entr
 
     module _ (is-undo : c.mv ≡ 8) (small : c.a < 256) {x : Answer} (is_x : x ≡ undo_answer_of c kept) {sheets' : Sheets} (w : Writes sheets i x no_origin sheets') where
       -- a move 8 that is refused
-      pub going_refused : (x.reason ≡ TakenBack → ⊥) → Going l schedule s₀ entries₀ before s entries b at_base history held kept (i + 1) sheets'
+      pub going_refused : (x.code ≡ 7 → ⊥) → Going l schedule s₀ entries₀ before s entries b at_base history held kept (i + 1) sheets'
       going_refused other = record {
         there = omega arith;
         room = g.room;
@@ -131,10 +130,10 @@ module _ {l : Plan} {schedule : List ℕ} {s₀ : Store} {entries₀ : List Entr
       }
 
       -- one that takes a record back
-      pub some-kept : x.reason ≡ TakenBack → 0 < kept
+      pub some-kept : x.code ≡ 7 → 0 < kept
       some-kept seven = let a = (seven_kept c kept is_x seven).1 in omega arith
 
-      pub going_undone : {s' : Store} {entries' : List Entry} → x.reason ≡ TakenBack → Replays l history (held - 1) b at_base s' entries'
+      pub going_undone : {s' : Store} {entries' : List Entry} → x.code ≡ 7 → Replays l history (held - 1) b at_base s' entries'
           → Going l schedule s₀ entries₀ before s' entries' b at_base history (held - 1) (kept - 1) (i + 1) sheets'
       going_undone {s'} {entries'} seven p =
           let some = some-kept seven in

@@ -9,7 +9,6 @@ use lib.Dec.{eqb}
 use lib.ListN.{length}
 use borrow.Author.Tests.{eqb-true, eqb-false, eq-eqb, ne_eqb}
 use Rattle.numbers.specs.declared.answers.Reason.TheVariants.{TakenBack, WordNotZero, NoneKept}
-use Rattle.numbers.specs.Answers.{code_in, cause_in}
 use Rattle.records.specs.Commands.{command_of}
 use Rattle.records.specs.declared.schedule.Command as code
 use Rattle.rules.specs.Table.{Table}
@@ -26,7 +25,7 @@ use Rattle.state.specs.declared.entry.Entry.{Entry}
 use Rattle.state.specs.declared.moved.Answer.{Answer}
 use Rattle.state.specs.declared.store.Store.{Store}
 use Rattle.state.specs.Store.{Holds}
-use Rattle.state.specs.Moved.{Reachable, answer_of, refusal_of}
+use Rattle.state.specs.Moved.{Reachable, answer_for, refusal_for}
 use Rattle.stretch.specs.Plays.{Sheets, Writes, Wrote, Suited, Played}
 use Rattle.stretch.proofs.Answers.{Fits}
 use Rattle.stretch.proofs.Sheets.{wrote_none, wrote_one, wrote-more}
@@ -54,28 +53,28 @@ hand_first {t} sheets u = record {
 -- ---- what a move 8 is answered
 
 module _ (c : code.Command) (k : ℕ) {a : ℕ} (is-a : a ≡ c.a) {x : Answer} where
-  pub answered-a : (c.a ≡ 0 → ⊥) → x ≡ refusal_of WordNotZero a → x ≡ undo_answer_of c k
+  pub answered-a : (c.a ≡ 0 → ⊥) → x ≡ refusal_for WordNotZero a → x ≡ undo_answer_of c k
   answered-a z e = e ∙ rw (ne_eqb c.a 0 z, is-a)
 
-  pub answered-word : c.a ≡ 0 → (c.word ≡ 0 → ⊥) → x ≡ refusal_of WordNotZero a → x ≡ undo_answer_of c k
+  pub answered-word : c.a ≡ 0 → (c.word ≡ 0 → ⊥) → x ≡ refusal_for WordNotZero a → x ≡ undo_answer_of c k
   answered-word z w e = e ∙ rw (eq-eqb c.a 0 z, ne_eqb c.word 0 w, is-a)
 
-  pub answered-none : c.a ≡ 0 → c.word ≡ 0 → k ≡ 0 → x ≡ refusal_of NoneKept a → x ≡ undo_answer_of c k
+  pub answered-none : c.a ≡ 0 → c.word ≡ 0 → k ≡ 0 → x ≡ refusal_for NoneKept a → x ≡ undo_answer_of c k
   answered-none z w n e = e ∙ rw (eq-eqb c.a 0 z, eq-eqb c.word 0 w, eq-eqb k 0 n, is-a)
 
-  pub answered_seven : c.a ≡ 0 → c.word ≡ 0 → (k ≡ 0 → ⊥) → x ≡ refusal_of TakenBack 0 → x ≡ undo_answer_of c k
+  pub answered_seven : c.a ≡ 0 → c.word ≡ 0 → (k ≡ 0 → ⊥) → x ≡ answer_for TakenBack 0 0 → x ≡ undo_answer_of c k
   answered_seven z w n e = e ∙ rw (eq-eqb c.a 0 z, eq-eqb c.word 0 w, ne_eqb k 0 n)
 
 -- a 7 where its a and word are 0 and something is kept, and nowhere else
-seven_only : (bare none : Bool) (a : ℕ) → (cond bare (cond none (refusal_of NoneKept a) (answer_of TakenBack 0 0)) (refusal_of WordNotZero a)).reason ≡ TakenBack
+seven_only : (bare none : Bool) (a : ℕ) → (cond bare (cond none (refusal_for NoneKept a) (answer_for TakenBack 0 0)) (refusal_for WordNotZero a)).code ≡ 7
     → (bare ≡ true) × (none ≡ false)
 seven_only true true a h = absurd (cc)
 seven_only true false a h = (refl, refl)
 seven_only false none a h = absurd (cc)
 
-pub seven_kept : (c : code.Command) (k : ℕ) {x : Answer} → x ≡ undo_answer_of c k → x.reason ≡ TakenBack → (is_bare (command_of c) ≡ true) × (k ≡ 0 → ⊥)
+pub seven_kept : (c : code.Command) (k : ℕ) {x : Answer} → x ≡ undo_answer_of c k → x.code ≡ 7 → (is_bare (command_of c) ≡ true) × (k ≡ 0 → ⊥)
 seven_kept c k e h =
-    let s = seven_only (is_bare (command_of c)) (eqb k 0) c.a (ap (λ (y : Answer). y.reason) (sym e) ∙ h) in
+    let s = seven_only (is_bare (command_of c)) (eqb k 0) c.a (ap (λ (y : Answer). y.code) (sym e) ∙ h) in
     (s.0, eqb-false k 0 s.1)
 
 -- the answer of the rules
@@ -101,15 +100,15 @@ told_wrote c k {x} e small {i} {sheets} {sheets'} w =
     (same-origin (is_bare (command_of c)) (eqb k 0)) (told-fits (command_of c) k small)
   where
     same_numbers : (bare none : Bool)
-        → (let y = cond bare (cond none (refusal_of NoneKept c.a) (answer_of TakenBack 0 0)) (refusal_of WordNotZero c.a) in
-        numbers (cond bare (cond none (refused none_kept c.a) undo_done) (refused stray_word c.a)) ≡ numbered (code_in y.reason) y.a y.word)
+        → (let y = cond bare (cond none (refusal_for NoneKept c.a) (answer_for TakenBack 0 0)) (refusal_for WordNotZero c.a) in
+        numbers (cond bare (cond none (refused none_kept c.a) undo_done) (refused stray_word c.a)) ≡ numbered y.code y.a y.word)
     same_numbers true true = refl
     same_numbers true false = refl
     same_numbers false none = refl
 
     same_cause : (bare none : Bool)
         → cause_of (cond bare (cond none (refused none_kept c.a) undo_done) (refused stray_word c.a))
-        ≡ cause_in (cond bare (cond none (refusal_of NoneKept c.a) (answer_of TakenBack 0 0)) (refusal_of WordNotZero c.a)).reason
+        ≡ (cond bare (cond none (refusal_for NoneKept c.a) (answer_for TakenBack 0 0)) (refusal_for WordNotZero c.a)).cause
     same_cause true true = refl
     same_cause true false = refl
     same_cause false none = refl
@@ -172,7 +171,7 @@ module _ {t : Table} {l : Plan} {done : List Command} {s : Store} {entries : Lis
     eight = eq-eqb c.mv 8 is-undo
 
     -- that is refused: nothing else is new
-    pub hand_refused : (x.reason ≡ TakenBack → ⊥) → InHand t l (done ++ (command_of c ∷ [])) s entries b at_base held k before sheets'
+    pub hand_refused : (x.code ≡ 7 → ⊥) → InHand t l (done ++ (command_of c ∷ [])) s entries b at_base held k before sheets'
     unfolding play_from
     hand_refused other = go (is_bare r) refl (eqb k 0) refl
       where
@@ -187,10 +186,10 @@ module _ {t : Table} {l : Plan} {done : List Command} {s : Store} {entries : Lis
         go true e true f =
             let empty : Keeps t h.base held 0 session = subst (λ (n : ℕ). Keeps t h.base held n session) (eqb-true k 0 f) h.keeps in
             stays (refused none_kept r.a) (undo_refuses t h.base session held empty r eight e) (rw (e, f))
-        go true e false f = absurd (other (ap (λ (y : Answer). y.reason) is_x ∙ rw (e, f)))
+        go true e false f = absurd (other (ap (λ (y : Answer). y.code) is_x ∙ rw (e, f)))
 
     -- that takes back the last record that is held: the store holds what those before it make of the base
-    pub hand_undone : {s' : Store} {entries' : List Entry} (front : List Command) (last : Command) → x.reason ≡ TakenBack → held ≡ front ++ (last ∷ [])
+    pub hand_undone : {s' : Store} {entries' : List Entry} (front : List Command) (last : Command) → x.code ≡ 7 → held ≡ front ++ (last ∷ [])
         → Holds t s' entries' (run_from t h.base front).cabinet
         → InHand t l (done ++ (command_of c ∷ [])) s' entries' b at_base front (k - 1) before sheets'
     unfolding play_from

@@ -15,13 +15,13 @@ use Rattle.state.specs.declared.entry.Entry.{Entry}
 use Rattle.state.specs.declared.moved.Answer.{Answer}
 use Rattle.state.specs.declared.store.Store.{Store}
 use Rattle.state.specs.Store.{Holds}
-use Rattle.state.specs.Moved.{answer_of, refusal_of}
+use Rattle.state.specs.Moved.{answer_for, refusal_for}
 use Rattle.stretch.specs.Plays.{Sheets, Wrote, Suited}
 
 -- What a move 8 is answered where k records are kept: "with a and word 0 (else 32, cause 1)", "53, no record is kept to go back to, move 8's
 -- last refusal", else 7 "with 0 and 0".
 abbrev pub undo_answer_of : code.Command → ℕ → Answer
-undo_answer_of c k = cond (eqb c.a 0 && eqb c.word 0) (cond (eqb k 0) (refusal_of NoneKept c.a) (answer_of TakenBack 0 0)) (refusal_of WordNotZero c.a)
+undo_answer_of c k = cond (eqb c.a 0 && eqb c.word 0) (cond (eqb k 0) (refusal_for NoneKept c.a) (answer_for TakenBack 0 0)) (refusal_for WordNotZero c.a)
 
 -- These commands were done from the start on: the store holds the session's cabinet, and what they answer is written at the buffers' front.
 pub record Shown (t : Table) (commands : List Command) (s : Store) (entries : List Entry) (before after : Sheets) : Type 0 where

@@ -12,7 +12,7 @@ use plan::Plan;
 use play::play::play;
 use records::schedule::{Command, UNDO, command_at};
 use state::entry::Entry;
-use state::moved::{Answer, refusal};
+use state::moved::{Answer, answer_for, refusal_for};
 use state::queue::ENTRIES;
 use state::store::Store;
 use stretch::answer::write;
@@ -26,15 +26,15 @@ fn undo_answer(c: Command, kept: usize) -> Answer
 {
     let a = byte_word(c.a);
     if c.a != 0 {
-        return refusal(Reason::WordNotZero, a);
+        return refusal_for(Reason::WordNotZero, a);
     }
     if c.word != 0 {
-        return refusal(Reason::WordNotZero, a);
+        return refusal_for(Reason::WordNotZero, a);
     }
     if kept == 0 {
-        return refusal(Reason::NoneKept, a);
+        return refusal_for(Reason::NoneKept, a);
     }
-    refusal(Reason::TakenBack, 0)
+    answer_for(Reason::TakenBack, 0, 0)
 }
 
 // All records of a schedule, on a store that holds the start. The base is a copy of it, `held` records behind; the last `kept` of these may be
@@ -70,7 +70,7 @@ pub fn session(
             let r = undo_answer(c, kept);
             write(answers, reasons, origins, k, r);
             i += 1;
-            if r.reason == Reason::TakenBack {
+            if r.code == Reason::TakenBack.code() as u32 {
                 held -= 1;
                 kept -= 1;
                 *store = base;

@@ -7,14 +7,14 @@ returns-then-sender-ne-ENVIRONMENT-clause-injects c =
     let s = c.args in
     let k = c.index-k in
     injects_43 s.plan.now s.store.now s.a s.word k.result _ k.ensures.1 c.sender.result (c.sender.ensures k.ensures.0)
-    c.if-sender-ne-ENVIRONMENT.true c.refusal.ensures
+    c.if-sender-ne-ENVIRONMENT.true c.refusal_for.ensures
 
 pub returns-then-full-clause-injects : goal.returns-then-full-clause-injects
 returns-then-full-clause-injects c =
     let s = c.args in
     let k = c.index-k in
     injects_39 s.plan.now s.store.now s.a s.word k.result _ k.ensures.1 c.sender.result (c.sender.ensures k.ensures.0)
-    c.if-sender-ne-ENVIRONMENT.false c.reader.result (c.reader.ensures k.ensures.0) (sym c.full.ensures ∙ c.if-full.true) c.refusal-then-full.ensures
+    c.if-sender-ne-ENVIRONMENT.false c.reader.result (c.reader.ensures k.ensures.0) (sym c.full.ensures ∙ c.if-full.true) c.refusal_for-then-full.ensures
 
 pub returns-clause-injects : goal.returns-clause-injects
 returns-clause-injects c =
@@ -22,6 +22,7 @@ returns-clause-injects c =
     let k = c.index-k in
     let d = c.deliver in
     let more = c.wrapping_add_u32 in
-    injects_done s.plan.now s.store.now s.a s.word k.result _ k.ensures.1 c.sender.result (c.sender.ensures k.ensures.0)
+    rw c.answer_for.ensures
+    (injects_done s.plan.now s.store.now s.a s.word k.result _ k.ensures.1 c.sender.result (c.sender.ensures k.ensures.0)
     c.if-sender-ne-ENVIRONMENT.false c.reader.result (c.reader.ensures k.ensures.0)
-    d.new.store more.result (sym c.full.ensures ∙ c.if-full.false) more.ensures.value refl d.ensures
+    d.new.store more.result (sym c.full.ensures ∙ c.if-full.false) more.ensures.value refl d.ensures)

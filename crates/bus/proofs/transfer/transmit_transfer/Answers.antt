@@ -5,4 +5,4 @@ pub returns : goal.returns
 returns c =
     let s = c.args in
     let p = c.index-p in
-    transfers_so s.store.now s.process p.result p.ensures.1 c.end_transfer.new.self c.end_transfer.ensures.exact
+    rw c.answer_for.ensures (transfers_so s.store.now s.process p.result p.ensures.1 c.end_transfer.new.self c.end_transfer.ensures.exact)

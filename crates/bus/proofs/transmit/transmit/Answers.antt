@@ -2,18 +2,18 @@ use Rattle.std.proofs.Common.{sym, ◌∙◌}
 use Rattle.bus.proofs.Transmitting.{transmits_34, transmits_42, transmits-word, transmits-sync, no_fourth, transmits-transfer}
 use Rattle.bus.proofs.transmit.transmit.Goals as goal
 
-pub returns-then-store-b : goal.returns-then-store-b
-returns-then-store-b c =
+pub returns-then-is_dead : goal.returns-then-is_dead
+returns-then-is_dead c =
     let s = c.args in
     let b = c.index-b in
-    transmits_34 s.plan.now s.store.now s.a b.result s.oldest _ b.ensures.1 c.if-store-b.true c.refusal.ensures
+    transmits_34 s.plan.now s.store.now s.a b.result s.oldest _ b.ensures.1 (sym c.is_dead.ensures ∙ c.if-is_dead.true) c.refusal_for.ensures
 
 pub returns-in_default : goal.returns-in_default
 returns-in_default c =
     let s = c.args in
     let b = c.index-b in
-    transmits_42 s.plan.now s.store.now s.a b.result s.oldest _ b.ensures.1 c.if-store-b.false
-    (sym c.peek.ensures ∙ c.in_default.is) c.refusal-in_default.ensures
+    transmits_42 s.plan.now s.store.now s.a b.result s.oldest _ b.ensures.1 (sym c.is_dead.ensures ∙ c.if-is_dead.false)
+    (sym c.peek.ensures ∙ c.in_default.is) c.refusal_for-in_default.ensures
 
 pub returns-in-Word : goal.returns-in-Word
 returns-in-Word c =
@@ -22,7 +22,7 @@ returns-in-Word c =
     let i = c.in-Some in
     let x = c.in-Word in
     let y = c.transmit_word in
-    transmits-word s.plan.now s.store.now s.a b.result s.oldest _ b.ensures.1 c.if-store-b.false i.item (sym c.peek.ensures ∙ i.is)
+    transmits-word s.plan.now s.store.now s.a b.result s.oldest _ b.ensures.1 (sym c.is_dead.ensures ∙ c.if-is_dead.false) i.item (sym c.peek.ensures ∙ i.is)
     c.pop.new.self c.pop.ensures x.channel x.word x.place x.is y.new.store y.ensures
 
 pub returns-in-Sync : goal.returns-in-Sync
@@ -32,7 +32,7 @@ returns-in-Sync c =
     let i = c.in-Some in
     let x = c.in-Sync in
     let y = c.transmit_sync in
-    transmits-sync s.plan.now s.store.now s.a b.result s.oldest _ b.ensures.1 c.if-store-b.false i.item (sym c.peek.ensures ∙ i.is)
+    transmits-sync s.plan.now s.store.now s.a b.result s.oldest _ b.ensures.1 (sym c.is_dead.ensures ∙ c.if-is_dead.false) i.item (sym c.peek.ensures ∙ i.is)
     c.pop.new.self c.pop.ensures x.process x.checkpoint x.is y.new.store y.ensures
 
 pub returns-in_default-item-3 : goal.returns-in_default-item-3
@@ -45,5 +45,5 @@ returns c =
     let i = c.in-Some in
     let x = c.in-Transfer in
     let y = c.transmit_transfer in
-    transmits-transfer s.plan.now s.store.now s.a b.result s.oldest _ b.ensures.1 c.if-store-b.false i.item (sym c.peek.ensures ∙ i.is)
+    transmits-transfer s.plan.now s.store.now s.a b.result s.oldest _ b.ensures.1 (sym c.is_dead.ensures ∙ c.if-is_dead.false) i.item (sym c.peek.ensures ∙ i.is)
     c.pop.new.self c.pop.ensures x.process x.is y.new.store y.ensures

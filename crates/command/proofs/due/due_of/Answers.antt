@@ -2,7 +2,7 @@
 use mathlib.Core.Path.{ap, sym, ◌∙◌}
 use Prim.Native.Nat.{ℕ}
 use Rattle.rules.specs.Schedule.{command}
-use Rattle.command.specs.Judges.{judge_of}
+use Rattle.command.specs.Judges.{judge_of, number_said}
 use Rattle.command.proofs.due.due_of.Goals as goal
 
 pub returns : goal.returns
@@ -13,5 +13,7 @@ returns c =
     record {
       command-is = ap (λ (a : ℕ). command x.mv a x.word) e;
       a_small = c.byte_word.ensures.1;
-      refused-is = c.judge.ensures ∙ ap (λ (a : ℕ). judge_of s.counts (record { mv = x.mv; a = a; word = x.word })) (sym e);
+      number_is =
+          c.number_said.ensures
+          ∙ ap number_said (c.judge.ensures ∙ ap (λ (a : ℕ). judge_of s.counts (record { mv = x.mv; a = a; word = x.word })) (sym e));
     }

@@ -19,7 +19,7 @@ use Rattle.stretch.proofs.Sheets.{has_room}
 use Rattle.stretch.proofs.Playing.{at_first, Turned, turned_same, on, comes_refused, comes_made, comes_mended, Round, at_last, at_undo, none-joined, one_joined, default_free}
 use Rattle.stretch.proofs.Mending.{mended_inside}
 use Rattle.play.proofs.play.play.Goals as goal
-use Rattle.play.proofs.play.play.Goals.{After-due_of-d, in-Some-at, in_default-at, in-Some+else-mv-eq-UNDO, in_default+in-2, in-Some-at-2, in_default-at-2, in_default+in_default-mv, in-Some-at-3, in_default-at-3}
+use Rattle.play.proofs.play.play.Goals.{After-due_of-d, in-Some, in_default-at, then-d-ne0+else-mv-eq-UNDO, else-d-ne0+in-2, in-Some-at, in_default-at-2, else-d-ne0+in_default, in-Some-at-2, in_default-at-3}
 
 -- ---- once a record is judged
 
@@ -34,7 +34,7 @@ round c = record {
   due = record {
     command-is = c.due_of-d.ensures.command-is ∙ c.command_of-c.ensures;
     a_small = c.due_of-d.ensures.a_small;
-    refused-is = c.due_of-d.ensures.refused-is;
+    number_is = c.due_of-d.ensures.number_is;
   };
 }
 
@@ -57,20 +57,20 @@ returns-then-mv-eq-UNDO c = at_undo c.last-end.ensures (round (goal.at.returns-t
 pub write-requires : goal.write-requires
 write-requires c = room (goal.at.write-requires c).After-due_of-d
 
-pub loop-i-preserved-then-eq : goal.loop-i-preserved-then-eq
-loop-i-preserved-then-eq c =
-    let g = (goal.at.loop-i-preserved-then-eq c).After-due_of-d in
+pub loop-i-preserved-then-m-code : goal.loop-i-preserved-then-m-code
+loop-i-preserved-then-m-code c =
+    let g = (goal.at.loop-i-preserved-then-m-code c).After-due_of-d in
     let q = c.loop-i in
     let m = c.step-m in (
       on (round g)
-          (comes_made (round g) c.in_default.is 1 refl c.in-1.is (steps_own c.args.table.now c.args.plan.now q.store _ _ _ m.ensures.steps m.ensures.backups_stay)
+          (comes_made (round g) c.if-d-ne0.false 1 refl c.in-1.is (steps_own c.args.table.now c.args.plan.now q.store _ _ _ m.ensures.steps m.ensures.backups_stay)
           (λ t now ok holds b. (
             b,
             elim c.match-m.branch [
-              | in-Some-at v ↦ v.entries-is
-                  ∙ ap (set q.entries v.in-Some-at.at)
+              | in-Some v ↦ v.entries-is
+                  ∙ ap (set q.entries v.in-Some.at)
                   (v.word_entry.ensures ∙ ap (sent_as m.result.answer) (c.place_of-place.ensures (let y = ok.processes_high in omega arith)))
-                  ∙ one_joined q.entries m.result.at v.in-Some-at.at _ v.in-Some-at.is
+                  ∙ one_joined q.entries m.result.at v.in-Some.at _ v.in-Some.is
               | in_default-at v ↦ v.entries-is ∙ none-joined q.entries m.result.at _ v.in_default-at.is
             ],
           ))
@@ -88,14 +88,14 @@ loop-i-preserved-in-1 c =
     let q = c.loop-i in
     let m = c.step-m in (
       on (round g)
-          (comes_made (round g) c.in_default.is 1 refl c.in-1.is (steps_own c.args.table.now c.args.plan.now q.store _ _ _ m.ensures.steps m.ensures.backups_stay)
+          (comes_made (round g) c.if-d-ne0.false 1 refl c.in-1.is (steps_own c.args.table.now c.args.plan.now q.store _ _ _ m.ensures.steps m.ensures.backups_stay)
           (λ t now ok holds b. (
             b,
             elim c.match-m.branch [
-              | in-Some-at v ↦ v.entries-is
-                  ∙ ap (set q.entries v.in-Some-at.at)
+              | in-Some v ↦ v.entries-is
+                  ∙ ap (set q.entries v.in-Some.at)
                   (v.word_entry.ensures ∙ ap (sent_as m.result.answer) (c.place_of-place.ensures (let y = ok.processes_high in omega arith)))
-                  ∙ one_joined q.entries m.result.at v.in-Some-at.at _ v.in-Some-at.is
+                  ∙ one_joined q.entries m.result.at v.in-Some.at _ v.in-Some.is
               | in_default-at v ↦ v.entries-is ∙ none-joined q.entries m.result.at _ v.in_default-at.is
             ],
           ))
@@ -106,24 +106,24 @@ loop-i-preserved-in-1 c =
 
 -- where an entry joins there is a place for it
 pub bounds-entries-at : goal.bounds-entries-at
-bounds-entries-at c = (c.step-m.ensures.steps c.args.plan.now.counts (lists_at c.loop-i.store)).at-inside c.in-Some-at.at c.in-Some-at.is
+bounds-entries-at c = (c.step-m.ensures.steps c.args.plan.now.counts (lists_at c.loop-i.store)).at-inside c.in-Some.at c.in-Some.is
 
 pub offset_bounds-entries-at : goal.offset_bounds-entries-at
 offset_bounds-entries-at c =
-    let h = (c.step-m.ensures.steps c.args.plan.now.counts (lists_at c.loop-i.store)).at-inside c.in-Some-at.at c.in-Some-at.is in omega arith
+    let h = (c.step-m.ensures.steps c.args.plan.now.counts (lists_at c.loop-i.store)).at-inside c.in-Some.at c.in-Some.is in omega arith
+
+pub bounds-entries-at-in-Some-at : goal.bounds-entries-at-in-Some-at
+bounds-entries-at-in-Some-at c = (c.issue-m.ensures.issues (plan_of c.args.table.now c.args.plan.now) (lists_at c.loop-i.store) c.loop-i.store.totals).at-inside c.in-Some-at.at c.in-Some-at.is
+
+pub offset_bounds-entries-at-in-Some-at : goal.offset_bounds-entries-at-in-Some-at
+offset_bounds-entries-at-in-Some-at c =
+    let h = (c.issue-m.ensures.issues (plan_of c.args.table.now c.args.plan.now) (lists_at c.loop-i.store) c.loop-i.store.totals).at-inside c.in-Some-at.at c.in-Some-at.is in omega arith
 
 pub bounds-entries-at-in-Some-at-2 : goal.bounds-entries-at-in-Some-at-2
-bounds-entries-at-in-Some-at-2 c = (c.issue-m.ensures.issues (plan_of c.args.table.now c.args.plan.now) (lists_at c.loop-i.store) c.loop-i.store.totals).at-inside c.in-Some-at-2.at c.in-Some-at-2.is
+bounds-entries-at-in-Some-at-2 c = mended_inside c.mend-m.ensures c.in-Some-at-2.at c.in-Some-at-2.is
 
 pub offset_bounds-entries-at-in-Some-at-2 : goal.offset_bounds-entries-at-in-Some-at-2
-offset_bounds-entries-at-in-Some-at-2 c =
-    let h = (c.issue-m.ensures.issues (plan_of c.args.table.now c.args.plan.now) (lists_at c.loop-i.store) c.loop-i.store.totals).at-inside c.in-Some-at-2.at c.in-Some-at-2.is in omega arith
-
-pub bounds-entries-at-in-Some-at-3 : goal.bounds-entries-at-in-Some-at-3
-bounds-entries-at-in-Some-at-3 c = mended_inside c.mend-m.ensures c.in-Some-at-3.at c.in-Some-at-3.is
-
-pub offset_bounds-entries-at-in-Some-at-3 : goal.offset_bounds-entries-at-in-Some-at-3
-offset_bounds-entries-at-in-Some-at-3 c = let h = mended_inside c.mend-m.ensures c.in-Some-at-3.at c.in-Some-at-3.is in omega arith
+offset_bounds-entries-at-in-Some-at-2 c = let h = mended_inside c.mend-m.ensures c.in-Some-at-2.at c.in-Some-at-2.is in omega arith
 
 pub write_from-requires : goal.write_from-requires
 write_from-requires c = room (goal.at.write_from-requires c).After-due_of-d
@@ -133,7 +133,7 @@ loop-i-preserved-in-3 c =
     let g = (goal.at.loop-i-preserved-in-3 c).After-due_of-d in
     let q = c.loop-i in (
       on (round g)
-          (comes_made (round g) c.in_default.is 3 refl c.in-3.is (transmits_own c.transmit-r.ensures c.args.table.now)
+          (comes_made (round g) c.if-d-ne0.false 3 refl c.in-3.is (transmits_own c.transmit-r.ensures c.args.table.now)
           (λ t now ok holds b. (
             record {
               board-there = b;
@@ -155,7 +155,7 @@ loop-i-preserved-in-4 c =
     let g = (goal.at.loop-i-preserved-in-4 c).After-due_of-d in
     let q = c.loop-i in (
       on (round g)
-          (comes_made (round g) c.in_default.is 4 refl c.in-4.is (injects_own _ c.inject-r.ensures.injects c.inject-r.ensures.queues_stay c.args.table.now)
+          (comes_made (round g) c.if-d-ne0.false 4 refl c.in-4.is (injects_own _ c.inject-r.ensures.injects c.inject-r.ensures.queues_stay c.args.table.now)
           (λ t now ok holds b. (b, refl))
           (λ t now u b asked w. sym c.fed.ensures))
           c.write_from-in-4.ensures,
@@ -171,29 +171,29 @@ loop-i-preserved c =
     let q = c.loop-i in
     let d = c.due_of-d.result in
     let meets : Turned
-    (plan_of c.args.table.now c.args.plan.now) q.store q.entries d c.match-d.store c.match-d.entries c.match-d.r no_origin =
-    elim c.match-d.branch [
-      | in-Some+else-mv-eq-UNDO w ↦ turned_same w.store-is w.entries-is w.r-is
-          (comes_refused (round g) w.in-Some.reason w.in-Some.is w.if-mv-eq-UNDO.false w.refusal-r.ensures)
-      | in_default+in-2 w ↦ turned_same w.store-is w.entries-is w.r-is
-          (comes_made (round g) w.in_default.is 2 refl w.in-2.is (issues_own q.store _ _ _ w.issue-m.ensures.issues w.issue-m.ensures.mails_stay w.issue-m.ensures.backups_stay w.issue-m.ensures.totals_stay _)
+    (plan_of c.args.table.now c.args.plan.now) q.store q.entries d c.if-d-ne0.store c.if-d-ne0.entries c.if-d-ne0.r no_origin =
+    elim c.if-d-ne0.branch [
+      | then-d-ne0+else-mv-eq-UNDO w ↦ turned_same w.store-is w.entries-is w.r-is
+          (comes_refused (round g) w.if-d-ne0.true w.if-mv-eq-UNDO.false w.turned_away-r.ensures)
+      | else-d-ne0+in-2 w ↦ turned_same w.store-is w.entries-is w.r-is
+          (comes_made (round g) w.if-d-ne0.false 2 refl w.in-2.is (issues_own q.store _ _ _ w.issue-m.ensures.issues w.issue-m.ensures.mails_stay w.issue-m.ensures.backups_stay w.issue-m.ensures.totals_stay _)
           (λ t now ok holds b. (
             b,
             elim w.match-m-2.branch [
-              | in-Some-at-2 v ↦ v.entries-is
-                  ∙ ap (set q.entries v.in-Some-at-2.at)
+              | in-Some-at v ↦ v.entries-is
+                  ∙ ap (set q.entries v.in-Some-at.at)
                   (v.sync_entry.ensures ∙ ap (synced_as d.a) (w.checkpoint_of-checkpoint.ensures (let y = ok.processes_high in omega arith)))
-                  ∙ one_joined q.entries w.issue-m.result.at v.in-Some-at-2.at _ v.in-Some-at-2.is
+                  ∙ one_joined q.entries w.issue-m.result.at v.in-Some-at.at _ v.in-Some-at.is
               | in_default-at-2 v ↦ v.entries-is ∙ none-joined q.entries w.issue-m.result.at _ v.in_default-at-2.is
             ],
           ))
           (λ t now u b asked v. refl))
-      | in_default+in_default-mv w ↦ turned_same w.store-is w.entries-is w.r-is
-          (comes_mended (round g) w.in_default.is (λ e. absurd (omega arith)) (λ e. absurd (omega arith)) (λ e. absurd (omega arith))
+      | else-d-ne0+in_default w ↦ turned_same w.store-is w.entries-is w.r-is
+          (comes_mended (round g) w.if-d-ne0.false (λ e. absurd (omega arith)) (λ e. absurd (omega arith)) (λ e. absurd (omega arith))
           (λ e. absurd (omega arith)) w.mend-m.ensures
           (elim w.match-m-3.branch [
-            | in-Some-at-3 v ↦ v.entries-is ∙ ap (set q.entries v.in-Some-at-3.at) v.transfer_entry.ensures
-                ∙ one_joined q.entries w.mend-m.result.at v.in-Some-at-3.at _ v.in-Some-at-3.is
+            | in-Some-at-2 v ↦ v.entries-is ∙ ap (set q.entries v.in-Some-at-2.at) v.transfer_entry.ensures
+                ∙ one_joined q.entries w.mend-m.result.at v.in-Some-at-2.at _ v.in-Some-at-2.is
             | in_default-at-3 v ↦ v.entries-is ∙ none-joined q.entries w.mend-m.result.at _ v.in_default-at-3.is
           ]))
     ] in

@@ -14,7 +14,7 @@ returns-in-Halted-clause-steps c =
     let is-start = c.start.ensures small in
     steps_35 s.table.now s.plan.now s.store.now p.result s.a p.ensures.1 _
     j.result (rw (← is-start) j.ensures)
-    (record { seen = x.result; examined = rw (← c.length.ensures small) x.ensures; is = c.in-Halted.is }) c.refused.ensures
+    (record { seen = x.result; examined = rw (← c.length.ensures small) x.ensures; is = c.in-Halted.is }) c.refused_for.ensures
 
 pub returns-in-NoMail-clause-steps : goal.returns-in-NoMail-clause-steps
 returns-in-NoMail-clause-steps c =
@@ -26,7 +26,7 @@ returns-in-NoMail-clause-steps c =
     let is-start = c.start.ensures small in
     steps_36 s.table.now s.plan.now s.store.now p.result s.a p.ensures.1 _
     j.result (rw (← is-start) j.ensures)
-    (record { seen = x.result; examined = rw (← c.length.ensures small) x.ensures; is = c.in-NoMail.is }) (rw (← c.missing.ensures) c.refused-in-NoMail.ensures)
+    (record { seen = x.result; examined = rw (← c.length.ensures small) x.ensures; is = c.in-NoMail.is }) (rw (← c.missing.ensures) c.refused_for-in-NoMail.ensures)
 
 pub returns-in-Internal-clause-steps : goal.returns-in-Internal-clause-steps
 returns-in-Internal-clause-steps c =

@@ -1,4 +1,5 @@
-use Rattle.std.proofs.Common.{sym, ◌∙◌}
+use Rattle.std.proofs.Common.{sym, ap, ◌∙◌}
+use Rattle.state.specs.Moved.{alone_of}
 use Rattle.step.proofs.Taking.{take_37, take_done}
 use Rattle.step.proofs.take.take.Goals as goal
 
@@ -7,7 +8,7 @@ returns-then-owing-clause-takes c =
     let s = c.args in
     let p = c.index-p in
     take_37 s.plan.now s.store.now s.limit p.result s.a p.ensures.1 s.i.code s.i.a s.at _
-    (sym c.owing.ensures ∙ c.if-owing.true) _ c.blame.ensures c.refused.ensures
+    (sym c.owing.ensures ∙ c.if-owing.true) _ c.blame.ensures c.refused_for.ensures
 
 pub returns-clause-takes : goal.returns-clause-takes
 returns-clause-takes c =
@@ -22,4 +23,4 @@ returns-clause-takes c =
     take_done s.plan.now s.store.now s.limit p.result s.a p.ensures.1 s.i.code s.i.a s.at _
     k.result port.result u.result t.new.x (sym c.owing.ensures ∙ c.if-owing.false)
     (rw (w.ensures, x.ensures) at k.ensures.1) (port.ensures k.ensures.0) t.ensures.became u.ensures.value u.type_inv
-    (rw (← x.ensures, ← w.ensures, ← c.word_of.ensures) c.alone.ensures)
+    (rw (← x.ensures, ← w.ensures, ← c.word_of.ensures) (c.alone.ensures ∙ ap alone_of c.answer_for.ensures))

@@ -41,5 +41,5 @@ returns-in_default c =
       crashes = λ e. absurd (omega arith);
       rejoins = λ e. absurd (omega arith);
       rebackups = λ e. absurd (omega arith);
-      others = λ _ _ _. (refl, c.refused.ensures);
+      others = λ _ _ _. (refl, c.refused_for.ensures);
     }

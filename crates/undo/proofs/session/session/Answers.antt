@@ -2,16 +2,12 @@
 use mathlib.Core.Path.{◌≡◌, ap, ◌∙◌}
 use Prim.Native.Nat.{◌+◌, ◌-◌, ◌<◌, min}
 use native.Mathlib.Omega.{arith}
-use Rattle.numbers.specs.declared.answers.Reason.TheVariants.{TakenBack}
 use Rattle.rules.specs.Schedule.{commands_in}
 use Rattle.stretch.specs.Plays.{sheets_of, AsLong}
 use Rattle.stretch.proofs.Sheets.{has_room}
 use Rattle.undo.specs.History.{held_most, Fitting}
 use Rattle.undo.proofs.Going.{room_less, going_first, going_last, going_refused, some-kept, going_undone, one_done_lem, stretch_fits, going_forward, going_followed}
-use denote.Enum.Bare.{sameb, same_true, same_false}
-use Rattle.std.proofs.Common.{rules, Bool, true, false, sym}
-use Rattle.numbers.specs.declared.answers.Reason.{Reason}
-use Rattle.numbers.specs.contracts.answers.Reason.{the_type}
+use Rattle.std.proofs.Common.{sym}
 use Rattle.undo.proofs.session.session.Goals as goal
 use Rattle.undo.proofs.session.session.Goals.{After-command_at-c, After-write, After-play-left}
 
@@ -22,14 +18,7 @@ below c = let a = c.count-records.ensures in let b = c.loop-i-test.true in omega
 
 -- ---- once a move 8 is answered
 
--- whether that took a record back
-is_taken : {x : Reason} {b : Bool} → b ≡ sameb the_type x TakenBack → b ≡ true → x ≡ TakenBack
-is_taken e f = same_true the_type (search rules) _ _ (sym e ∙ f)
-
-none_taken : {x : Reason} {b : Bool} → b ≡ sameb the_type x TakenBack → b ≡ false → x ≡ TakenBack → ⊥
-none_taken e f = same_false the_type _ _ (sym e ∙ f)
-
-some : (c : After-write) → c.undo_answer-r.result.reason ≡ TakenBack → 0 < c.loop-i.kept
+some : (c : After-write) → c.undo_answer-r.result.code ≡ 7 → 0 < c.loop-i.kept
 some c seven =
     some-kept c.loop-i.invariant.1 c.command_at-c.result c.command_at-c.ensures (let a = c.count-records.ensures in let b = c.loop-i-test.true in omega arith)
     c.if-c-eq-UNDO.true c.undo_answer-r.ensures.1 c.undo_answer-r.ensures.0 c.write.ensures seven
@@ -60,23 +49,23 @@ pub write-requires : goal.write-requires
 write-requires c = has_room c.requires c.loop-i.invariant.1.long (below (goal.at.write-requires c).After-command_at-c)
 
 pub overflow_sub-held : goal.overflow_sub-held
-overflow_sub-held c = let a = some (goal.at.overflow_sub-held c).After-write (is_taken c.eq.ensures c.if-eq.true) in let b = c.loop-i.invariant.1.enough in omega arith
+overflow_sub-held c = let a = some (goal.at.overflow_sub-held c).After-write (c.if-r-code.true ∙ c.code.ensures) in let b = c.loop-i.invariant.1.enough in omega arith
 
 pub overflow_sub-kept : goal.overflow_sub-kept
-overflow_sub-kept c = let a = some (goal.at.overflow_sub-kept c).After-write (is_taken c.eq.ensures c.if-eq.true) in omega arith
+overflow_sub-kept c = let a = some (goal.at.overflow_sub-kept c).After-write (c.if-r-code.true ∙ c.code.ensures) in omega arith
 
-pub loop-i-preserved-then-eq : goal.loop-i-preserved-then-eq
-loop-i-preserved-then-eq c = (
+pub loop-i-preserved-then-r-code : goal.loop-i-preserved-then-r-code
+loop-i-preserved-then-r-code c = (
   (let a = c.loop-i.invariant.0 in omega arith),
-  going_undone c.loop-i.invariant.1 c.command_at-c.result c.command_at-c.ensures (below (goal.at.loop-i-preserved-then-eq c).After-command_at-c) c.if-c-eq-UNDO.true
-      c.undo_answer-r.ensures.1 c.undo_answer-r.ensures.0 c.write.ensures (is_taken c.eq.ensures c.if-eq.true) c.replay-before.ensures,
+  going_undone c.loop-i.invariant.1 c.command_at-c.result c.command_at-c.ensures (below (goal.at.loop-i-preserved-then-r-code c).After-command_at-c) c.if-c-eq-UNDO.true
+      c.undo_answer-r.ensures.1 c.undo_answer-r.ensures.0 c.write.ensures (c.if-r-code.true ∙ c.code.ensures) c.replay-before.ensures,
 )
 
-pub loop-i-preserved-else-eq : goal.loop-i-preserved-else-eq
-loop-i-preserved-else-eq c = (
+pub loop-i-preserved-else-r-code : goal.loop-i-preserved-else-r-code
+loop-i-preserved-else-r-code c = (
   c.loop-i.invariant.0,
-  going_refused c.loop-i.invariant.1 c.command_at-c.result c.command_at-c.ensures (below (goal.at.loop-i-preserved-else-eq c).After-command_at-c) c.if-c-eq-UNDO.true
-      c.undo_answer-r.ensures.1 c.undo_answer-r.ensures.0 c.write.ensures (none_taken c.eq.ensures c.if-eq.false),
+  going_refused c.loop-i.invariant.1 c.command_at-c.result c.command_at-c.ensures (below (goal.at.loop-i-preserved-else-r-code c).After-command_at-c) c.if-c-eq-UNDO.true
+      c.undo_answer-r.ensures.1 c.undo_answer-r.ensures.0 c.write.ensures (λ e. c.if-r-code.false (e ∙ sym c.code.ensures)),
 )
 
 pub overflow_add-k : goal.overflow_add-k
