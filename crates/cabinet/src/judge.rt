@@ -1,7 +1,7 @@
 // Whether a run is refused, and by which number, before any of it is made.
 ghost use Rattle.std.specs.Prelude.{◌≡◌};
 ghost use Rattle.numbers.specs.Runs.{number_in};
-ghost use Rattle.cabinet.specs.Judged.{judged_buffers, RunJudged};
+ghost use Rattle.cabinet.specs.Judged.{judged_buffers, judged_run, RunJudged};
 
 use numbers::runs::Refusal;
 use records::schedule::judge_schedule;
@@ -14,6 +14,13 @@ pub struct Lengths {
     pub reasons: usize,
     pub report: usize,
     pub origins: usize,
+}
+
+// A schedule that was judged: 0 and how many records it has, or the number that refuses it.
+#[derive(Clone, Copy)]
+pub struct Judged {
+    pub number: u8,
+    pub records: usize,
 }
 
 // A run that is not refused: what its table says, and how many records its schedule has.
@@ -48,6 +55,23 @@ pub fn judge_buffers(records: usize, processes: usize, lengths: Lengths) -> Resu
         return Err(Refusal::OriginsShort);
     }
     Ok(())
+}
+
+// 0, or the number that refuses a run, lowest first: the table's that is given, the schedule's, and those of the buffers. Public for a caller that
+// has judged a table and a schedule itself; any numbers will do.
+pub fn judge_numbers(table_number: u8, processes: usize, schedule: Judged, lengths: Lengths) -> u8
+    ensures { result ≡ judged_run table_number processes schedule lengths }
+{
+    if table_number != 0 {
+        return table_number;
+    }
+    if schedule.number != 0 {
+        return schedule.number;
+    }
+    match judge_buffers(schedule.records, processes, lengths) {
+        Ok(()) => 0,
+        Err(refusal) => refusal.number(),
+    }
 }
 
 // The run of a table and a schedule with buffers of these lengths, lowest number first: those of the table, those of the schedule, those of the
