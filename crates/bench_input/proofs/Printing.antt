@@ -15,7 +15,7 @@ use Rattle.numbers.specs.declared.runs.Refusal.{Refusal}
 use Rattle.rules.specs.Bytes.{byte_at}
 use Rattle.rules.specs.Format.{length_field, processes_in}
 use Rattle.rules.specs.Run.{Buffers, Ran, ran_of, run}
-use Rattle.rules.specs.Page.{accepted_page, page_of, table_in, schedule_in, bench_buffers, bench_page}
+use Rattle.rules.specs.Page.{accepted_page, refused_line, page_of, table_in, schedule_in, bench_buffers, bench_page}
 use Rattle.cabinet.specs.Runs.{ran_by, Runs}
 use Rattle.cabinet.specs.declared.run.Ended.{Ended}
 use Rattle.cabinet.proofs.Running.{run-few}
@@ -38,18 +38,30 @@ printed ran hn processes sa sr out r out' w = record {
 
 module _ (processes : ℕ) (answers report : List ℕ) (sa : (i : ℕ) → byte_at answers i < 256) (sr : (i : ℕ) → byte_at report i < 256)
     {out : List ℕ} {r : ℕ} {out' : List ℕ} where
-  pub printed-accepted : (number : ℕ) (e : Ended) → number ≡ 0 → Written (page_of processes (ran_of number e.records e.quiet (shown_of answers report))) out r out'
+  -- what was written are the lines of an accepted run,
+  pub printed-accepted : (e : Ended) → Written (accepted_page processes (ran_by (Ok e) (shown_of answers report))) out r out'
       → Printed processes (ran_by (Ok e) (shown_of answers report)) out r out'
-  printed-accepted number e h w =
-      printed (ran_by (Ok e) (shown_of answers report)) (omega arith) processes sa sr out r out'
-      (subst (λ (k : ℕ). Written (page_of processes (ran_of k e.records e.quiet (shown_of answers report))) out r out') h w)
+  unfolding page_of
+  printed-accepted e w = printed (ran_by (Ok e) (shown_of answers report)) (omega arith) processes sa sr out r out' w
 
-  pub printed-refused : (number records : ℕ) (quiet : Bool) (n : Refusal) → number ≡ number_of n → Written (page_of processes (ran_of number records quiet (shown_of answers report))) out r out'
+  -- the line of a refused one,
+  pub printed-refused : (n : Refusal) → Written (refused_line (number_of n)) out r out' → Printed processes (ran_by (Err n) (shown_of answers report)) out r out'
+  unfolding page_of
+  printed-refused n w =
+      printed (ran_by (Err n) (shown_of answers report)) (number_small n) processes sa sr out r out' (rw (ne_eqb (number_of n) 0 (refuses n)) w)
+
+  -- or the page of the numbers that a run returned
+  pub paged_accepted : (number : ℕ) (e : Ended) → number ≡ 0 → Written (page_of processes (ran_of number e.records e.quiet (shown_of answers report))) out r out'
+      → Printed processes (ran_by (Ok e) (shown_of answers report)) out r out'
+  unfolding page_of
+  paged_accepted number e h w =
+      printed-accepted e (subst (λ (k : ℕ). Written (page_of processes (ran_of k e.records e.quiet (shown_of answers report))) out r out') h w)
+
+  pub paged_refused : (number records : ℕ) (quiet : Bool) (n : Refusal) → number ≡ number_of n
+      → Written (page_of processes (ran_of number records quiet (shown_of answers report))) out r out'
       → Printed processes (ran_by (Err n) (shown_of answers report)) out r out'
   unfolding page_of
-  printed-refused number records quiet n h w =
-      printed (ran_by (Err n) (shown_of answers report)) (number_small n) processes sa sr out r out'
-      (rw (ne_eqb (number_of n) 0 (refuses n)) (rw (h, ne_eqb (number_of n) 0 (refuses n)) at w))
+  paged_refused number records quiet n h w = printed-refused n (rw (h, ne_eqb (number_of n) 0 (refuses n)) at w)
 
 -- the page of a run is that of what it shows
 shown-whole : (processes : ℕ) (ended : Result Ended Refusal) (b : Buffers)

@@ -24,6 +24,7 @@ use Rattle.state.proofs.Ends.{reader-inside}
 use Rattle.bus.specs.Delivers.{mail_of, Delivers}
 use Rattle.bus.specs.Transmitted.{transmitted_of}
 use Rattle.bus.specs.Carries.{counted_at, Carries}
+use Rattle.bus.proofs.Own.{DeliversOwn, delivers_own, CarriesOwn}
 use Rattle.bus.proofs.Delivering.{deliver-outside, deliver-more, lengths_only}
 
 -- the sender's backup counts: no mailbox changes
@@ -72,12 +73,12 @@ module _ (l : plan.Plan) (s : Store) (channel word k sender p : ℕ) (x : code.P
     its_reader : (reader : ℕ) → reader ≡ reader_in l.wires k → reader ≡ (channel_at t channel).reader
     its_reader reader is-reader = is-reader ∙ ap (reader_in l.wires) its_channel ∙ planned.reader_at channel there
 
-  -- to a process: the totals are true again
+  -- to a process: the totals are true again, on the lent plan and store themselves
   pub carries-inside : (reader : ℕ) → reader ≡ reader_in l.wires k → reader ≢ environment → (s' : Store)
-      → Delivers l counted_store channel word s' → Carries l s channel word s' r
+      → DeliversOwn l counted_store channel word s' → CarriesOwn l s channel word s' r
   carries-inside reader is-reader within s' delivered = record {
     answer-is = is-answer;
-    holds = λ t table counts' programs queues between entries c ok planned h bus there inside room.
+    holds = λ t table between entries c ok planned h bus there inside room.
         let named = sender-counts ok planned h there inside in
         let to : (channel_at t channel).reader < length t.processes =
         reader-inside ok channel there (λ f. within (its_reader ok planned h there inside reader is-reader ∙ f)) in
@@ -89,7 +90,7 @@ module _ (l : plan.Plan) (s : Store) (channel word k sender p : ℕ) (x : code.P
               omega arith;
           totals-length = bus.totals-length;
         } in
-        delivered.holds t table counts' programs queues between s'.totals entries (counted_at t channel c) ok planned named to
+        delivered.holds t table between s'.totals entries (counted_at t channel c) ok planned named to
         (λ i. let a = room i in
         let b = ap (λ (y : List Mail). length y)
         (mailbox-stays c.processes (channel_at t channel).sender (channel_at t channel).reader (there-is ok planned h there inside)) in
@@ -130,3 +131,23 @@ module _ (l : plan.Plan) (s : Store) (channel word k sender p : ℕ) (x : code.P
       totals-same = length-set s.totals k less;
     };
   }
+
+-- to a process, on every plan and store that are the lent ones but for counts, programs and queues
+pub carries_inside_beside : (l : plan.Plan) (s : Store) (channel word k sender p : ℕ) (x : code.Process) (r : Answer)
+    → (channel < 32 → k ≡ channel) → sender ≡ sender_in l.wires k → (sender < 16 → p ≡ sender)
+    → Changes (lists_at s p) x counts → r ≡ transmitted_of channel word → (reader : ℕ) → reader ≡ reader_in l.wires k → reader ≢ environment → (s' : Store)
+    → Delivers l (put_process s p x s.totals) channel word s' → Carries l s channel word s' r
+carries_inside_beside l s channel word k sender p x r is-k is-sender is-p counted is-answer reader is-reader within s' delivered = record {
+  answer-is = is-answer;
+  holds = λ t table counts' programs queues.
+      (carries-inside (record l { counts = counts'; programs = programs }) (record s { queues = queues }) channel word k sender p x r is-k is-sender is-p counted
+      is-answer reader is-reader within (record s' { queues = queues }) (delivers_own delivered counts' programs queues)).holds t table;
+  queues-is = delivered.only.queues-is;
+  same_lengths =
+      let long = lengths_only delivered.only in
+      record {
+        processes-same = long.processes-same ∙ length-set s.processes p x;
+        queues-same = long.queues-same;
+        totals-same = long.totals-same;
+      };
+}

@@ -26,6 +26,7 @@ use Rattle.bus.specs.Parts.{with_totals}
 use Rattle.bus.specs.Delivers.{mail_of, Delivers}
 use Rattle.bus.specs.Transmitted.{injected_of}
 use Rattle.bus.specs.Injects.{Injects}
+use Rattle.bus.proofs.Own.{InjectsOwn, DeliversOwn, delivers_own}
 use Rattle.bus.proofs.Delivering.{deliver-more, lengths_only}
 
 module _ {t : Table} {s : Store} {entries : List Entry} {c : Cabinet} {l : Plan} (planned : Planned t l) (h : Holds t s entries c)
@@ -76,16 +77,16 @@ module _ (l : plan.Plan) (s : Store) (a word k : ℕ) (r : Answer) (is-k : a < 3
         let same : k ≡ a = its_channel reach.accepted there in
         turned_away_lem command a inject_held h (refused_39 planned h a word there (its_sender same) (its_test true b same)) f refl)
 
-    -- delivered, and one more of its channel
+    -- delivered, and one more of its channel, on the lent plan and store themselves
     pub injects_done : (s' : Store) (more : ℕ) → full_in reader (get_or s.totals k 0) ≡ false → more ≡ (get_or s'.totals k 0 + 1) % 2 ^ 32
-        → r ≡ injected_of a word → Delivers l s a word s' → Injects l s a word (with_totals s' (set s'.totals k more)) r
+        → r ≡ injected_of a word → DeliversOwn l s a word s' → InjectsOwn l s a word (with_totals s' (set s'.totals k more)) r
     unfolding numbers cause_of
-    injects_done s' more b is-more e d table counts programs queues =
+    injects_done s' more b is-more e d table =
         let long = lengths_only d.only in
         makes_alone (injected_of a word) (for_reason Fed a word) (omega arith)
         (record {
           processes-same = long.processes-same;
-          queues-same = refl;
+          queues-same = long.queues-same;
           totals-same = length-set s'.totals k more ∙ long.totals-same;
         })
         (ap alone_of e)
@@ -104,13 +105,21 @@ module _ (l : plan.Plan) (s : Store) (a word k : ℕ) (r : Answer) (is-k : a < 3
         let true-there : Totalled t (set s'.totals k more) (deliver t (mail_of a word) c) =
         subst (λ (x : List ℕ). Totalled t (set x k more) (deliver t (mail_of a word) c)) (sym same-totals)
         (subst (λ (i : ℕ). Totalled t (set s.totals i more) (deliver t (mail_of a word) c)) (sym same-k) true-again) in
-        let done = d.holds t table counts programs queues s.totals (set s'.totals k more) entries c reach.accepted planned h to
+        let done = d.holds t table s.totals (set s'.totals k more) entries c reach.accepted planned h to
         (room_for_feed reach a (its_full planned h a word there ∙ free)) true-there in
         answered _ (injected (mail_of a word)) so refl refl done)
 
+-- and on every plan and store that are the lent ones but for counts, programs and queues
+pub injects_done_beside : (l : plan.Plan) (s : Store) (a word k : ℕ) (r : Answer) → (a < 32 → k ≡ a) → (sender : ℕ) → sender ≡ sender_in l.wires k
+    → sender ≡ environment → (reader : ℕ) → reader ≡ reader_in l.wires k → (s' : Store) (more : ℕ) → full_in reader (get_or s.totals k 0) ≡ false
+    → more ≡ (get_or s'.totals k 0 + 1) % 2 ^ 32 → r ≡ injected_of a word → Delivers l s a word s' → Injects l s a word (with_totals s' (set s'.totals k more)) r
+injects_done_beside l s a word k r is-k sender is-sender fed reader is-reader s' more b is-more e d table counts programs queues =
+    injects_done (record l { counts = counts; programs = programs }) (record s { queues = queues }) a word k r is-k sender is-sender fed reader is-reader
+    (record s' { queues = queues }) more b is-more e (delivers_own d counts programs queues) table
+
 -- of the plan and the store that it is lent, whose queues stay
-pub injects_own : {l : plan.Plan} {s : Store} {a : ℕ} (word : ℕ) {s' : Store} {r : Answer} → Injects l s a word s' r → s'.queues ≡ s.queues → (table : List ℕ)
-    → MakesAlone (λ t c k. inject t c (mail_of k word)) (AChannel a) (plan_of table l) s a s' r
+pub injects_own : {l : plan.Plan} {s : Store} {a : ℕ} (word : ℕ) {s' : Store} {r : Answer} → Injects l s a word s' r → s'.queues ≡ s.queues
+    → InjectsOwn l s a word s' r
 injects_own {l} {s} {a} word {s'} {r} m stay table =
     subst (λ (q : List Queue). MakesAlone (λ t c k. inject t c (mail_of k word)) (AChannel a) (plan_of table l) s a (record s' { queues = q }) r) (sym stay)
     (m table l.counts l.programs s.queues)

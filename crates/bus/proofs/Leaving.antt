@@ -21,6 +21,7 @@ use Rattle.state.proofs.Queueing.{put_queue, QueueThen, entry_leaves}
 use Rattle.state.proofs.Totals.{occupancy_outbox, totalled-same}
 use Rattle.state.proofs.Joining.{Waiter}
 use Rattle.state.proofs.Waits.{one_waits}
+use Rattle.bus.specs.Parts.{OnlyProcesses}
 
 -- the oldest entry, if the rules' queue has one, is the one at the ring's first place
 pub oldest-is : {t : Table} {s : Store} {entries : List Entry} {c : Cabinet} (h : Holds t s entries c) (b : ℕ) → b < t.boards
@@ -38,6 +39,9 @@ oldest-is {s = s} {entries = entries} h b hb count item rest e o =
 -- process p is x, and nothing of it waits
 abbrev pub at_rest : Store → ℕ → code.Process → Store
 at_rest s p x = record { processes = with_flag (set s.processes p x) p 0; queues = s.queues; totals = s.totals }
+
+pub only_rests : (s : Store) (p : ℕ) (x : code.Process) → OnlyProcesses s (at_rest s p x)
+only_rests s p x = record { processes-same = length-set (set s.processes p x) p _ ∙ length-set s.processes p x; queues-is = refl; totals-is = refl }
 
 -- of a cabinet that was reached, process p is x by now
 module _ {t : Table} {s : Store} {entries : List Entry} {c : Cabinet} (reach : Reachable t c) (p : ℕ) (x : Process)

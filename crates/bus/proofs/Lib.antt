@@ -1,4 +1,5 @@
 -- Why moves 3 and 4 are the rules'.
+pub mod Own
 pub mod Delivering
 pub mod Leaving
 pub mod Besides

@@ -1,5 +1,5 @@
 -- The carry of a checkpoint: its entry left the queue, its process's backup keeps it, and none of that process waits any more.
-use Rattle.std.proofs.Common.{◌≡◌, ℕ, ◌<◌, Bool, true, false, cond, List, ◌∷◌, length, get_or, set, sym, refl, ap, ◌∙◌, subst, arith, length-set, get_or-set_same}
+use Rattle.std.proofs.Common.{◌≡◌, ℕ, ◌<◌, Bool, true, false, cond, List, ◌∷◌, length, get_or, set, sym, refl, ap, ◌∙◌, subst, arith, get_or-set_same}
 use Rattle.std.proofs.Math.Option.{Option, none, some}
 use lib.Seq.{set_out}
 use Rattle.facts.specs.Tests.{by_lt}
@@ -23,7 +23,6 @@ use Rattle.state.specs.declared.store.Store.{Store}
 use Rattle.state.specs.Store.{Holds, lists_at, process_in}
 use Rattle.rules.specs.Reasons.{cause_of}
 use Rattle.state.specs.Moved.{Reachable, Answered, answer_for}
-use Rattle.state.specs.Beside.{each_with}
 use Rattle.state.proofs.Beside.{each_length, each_at}
 use Rattle.state.proofs.Reading.{at_process}
 use Rattle.state.proofs.Changing.{row_changed}
@@ -32,7 +31,8 @@ use Rattle.state.proofs.Owners.{checkpoint_owner}
 use Rattle.state.proofs.Joining.{Waiter}
 use Rattle.bus.specs.Parts.{other_mail, with_mails, Left}
 use Rattle.bus.specs.Syncs.{Syncs}
-use Rattle.bus.proofs.Leaving.{at_rest, waiter_leaves}
+use Rattle.bus.proofs.Own.{SyncsOwn}
+use Rattle.bus.proofs.Leaving.{at_rest, only_rests, waiter_leaves}
 use Rattle.bus.proofs.Besides.{stays_rest, each_rest, own_mails, as_left, as_then}
 
 -- the answer's reason where the process has a backup, or none
@@ -107,46 +107,74 @@ protected_still processes p =
     (λ l. ap (λ (z : code.Process). z.protection) (get_or-set_same processes p y no_process l))
     (λ l. ap (λ (z : List code.Process). (get_or z p no_process).protection) (set_out processes p y l))
 
+-- whether the process has a backup afterwards
+abbrev shown : Store → ℕ → code.Process → Bool
+shown s p x = backed (lists_at (at_rest s p x) p).protection
+
+shown-is : (s : Store) (p : ℕ) (x : code.Process) → p < length s.processes → shown s p x ≡ backed x.protection
+shown-is s p x there =
+    ap backed (protected_still (set s.processes p x) p ∙ ap (λ (y : code.Process). y.protection) (get_or-set_same s.processes p x no_process there))
+
+sync_done : (z : Bool) → code_in (sync_reason z) < 32
+sync_done true = omega arith
+sync_done false = omega arith
+
+-- on the lent store itself, of any process that is as the rules' change makes it
 module _ (s : Store) (process : ℕ) (checkpoint : checkpoints.Checkpoint) (p : ℕ) (is-p : process < 16 → p ≡ process) (x : code.Process)
-    (became : (mail : List ℕ) → Changes (record (lists_at s p) { mail = mail }) (record x { mail = mail }) (keeps (checkpoint_of checkpoint))) (dropped : ℕ)
-    (drops : (mail : List ℕ) → Drops (record (lists_at s p) { mail = mail }) (checkpoint_of checkpoint) dropped) (alone : BackupAlone (lists_at s p) x) where
-  -- whether it has a backup afterwards
-  abbrev shown : Bool
-  shown = backed (lists_at (at_rest s p x) p).protection
-
-  sync_done : (z : Bool) → code_in (sync_reason z) < 32
-  sync_done true = omega arith
-  sync_done false = omega arith
-
-  pub syncs_so : (z : Bool) → shown ≡ z → Syncs s process checkpoint (at_rest s p x) (answer_for (sync_reason z) process (cond z dropped 0))
+    (became : Changes (lists_at s p) x (keeps (checkpoint_of checkpoint))) (dropped : ℕ)
+    (drops : Drops (lists_at s p) (checkpoint_of checkpoint) dropped) where
+  pub syncs_so : (z : Bool) → shown s p x ≡ z → SyncsOwn s process checkpoint (at_rest s p x) (answer_for (sync_reason z) process (cond z dropped 0))
   syncs_so z e = record {
-    answered = λ t mails queues totals entries c command b queue' rest reach h hb popped oldest.
+    answered = λ t before entries c command b rest reach h hb left oldest.
         let k : Checkpoint = checkpoint_of checkpoint in
-        let before : Store = record (with_mails mails s) { queues = queues; totals = totals } in
-        let left : Left before b (record before { queues = set queues b queue' }) = record { queue = queue'; popped = popped; left-is = refl } in
         let hp : process < length t.processes = its_process reach h b hb left process k rest oldest in
         let same : p ≡ process = is-p (let y = reach.accepted.processes_high in omega arith) in
         let there : p < length s.processes =
-        (let y = each_length other_mail mails s.processes in
+        (let y = ap (λ (y : Store). length y.processes) left.left-is in
         let l = h.shape.processes-length in
         let m = reach.accepted.processes_high in
         omega arith) in
-        let is-shown : shown ≡ backed x.protection =
-        ap backed (protected_still (set s.processes p x) p ∙ ap (λ (y : code.Process). y.protection) (get_or-set_same s.processes p x no_process there)) in
-        let x' : code.Process = other_mail x (mails p) in
-        let was : other_mail (lists_at s p) (mails p) ≡ lists_at before process =
-        sym (each_at other_mail mails s.processes p there) ∙ ap (lists_at before) same in
-        let changes = became (mails p).mail in
-        let its = drops (mails p).mail in
-        let done = sync-answered reach h b hb left process k rest oldest x' (subst (λ (y : code.Process). Changes y x' (keeps k)) was changes (h.kept process hp))
-        dropped (subst (λ (y : code.Process). Drops y k dropped) was its) command z (sym is-shown ∙ e) in
-        let processes-is : with_flag (set before.processes process x') process 0 ≡ each_with other_mail mails (at_rest s p x).processes =
-        ap (λ (i : ℕ). with_flag (set before.processes i x') i 0) (sym same) ∙ sym (each_rest other_mail mails 0 (λ y i. refl) s.processes p x there) in
-        subst (λ (y : List code.Process). Answered t (record { processes = y; queues = set queues b queue'; totals = totals }) entries c command
-        (transmit_item t (with_outbox b rest c) (rules.checkpoint process k)) (answer_for (sync_reason z) process (cond z dropped 0))) processes-is done;
+        let was : lists_at s p ≡ lists_at before process = λ i. lists_at (left.left-is i) (same i) in
+        subst (λ (i : ℕ). Answered t (at_rest s i x) entries c command (transmit_item t (with_outbox b rest c) (rules.checkpoint process k))
+        (answer_for (sync_reason z) process (cond z dropped 0))) (sym same)
+        (sync-answered reach h b hb left process k rest oldest x (subst (λ (y : code.Process). Changes y x (keeps k)) was became (h.kept process hp))
+        dropped (subst (λ (y : code.Process). Drops y k dropped) was drops) command z (sym (shown-is s p x there) ∙ e));
     reasoned = record { reason = sync_reason z; reason-is = refl };
     done = sync_done z;
-    only = record { processes-same = length-set (set s.processes p x) p _ ∙ length-set s.processes p x; queues-is = refl; totals-is = refl };
+    only = only_rests s p x;
+  }
+
+-- and on every store that is the lent one but for mailboxes, queues and totals, of a process whose backup alone changes, and so whatever its
+-- mailbox is
+module _ (s : Store) (process : ℕ) (checkpoint : checkpoints.Checkpoint) (p : ℕ) (is-p : process < 16 → p ≡ process) (x : code.Process)
+    (became : (mail : List ℕ) → Changes (record (lists_at s p) { mail = mail }) (record x { mail = mail }) (keeps (checkpoint_of checkpoint))) (dropped : ℕ)
+    (drops : (mail : List ℕ) → Drops (record (lists_at s p) { mail = mail }) (checkpoint_of checkpoint) dropped) (alone : BackupAlone (lists_at s p) x) where
+  pub syncs_so_beside : (z : Bool) → shown s p x ≡ z → Syncs s process checkpoint (at_rest s p x) (answer_for (sync_reason z) process (cond z dropped 0))
+  syncs_so_beside z e = record {
+    answered = λ t mails queues totals entries c command b queue' rest reach h hb popped oldest.
+        let k : Checkpoint = checkpoint_of checkpoint in
+        let before : Store = record (with_mails mails s) { queues = queues; totals = totals } in
+        let gone : Store = record before { queues = set queues b queue' } in
+        let left : Left before b gone = record { queue = queue'; popped = popped; left-is = refl } in
+        let hp : process < length t.processes = its_process reach h b hb left process k rest oldest in
+        let same : p ≡ process = is-p (let y = reach.accepted.processes_high in omega arith) in
+        let many : length gone.processes ≡ length s.processes = each_length other_mail mails s.processes in
+        let there : p < length s.processes =
+        (let l = h.shape.processes-length in
+        let m = reach.accepted.processes_high in
+        omega arith) in
+        let x' : code.Process = other_mail x (mails p) in
+        let was : other_mail (lists_at s p) (mails p) ≡ lists_at gone p = sym (each_at other_mail mails s.processes p there) in
+        let changes : Changes (lists_at gone p) x' (keeps k) = subst (λ (y : code.Process). Changes y x' (keeps k)) was (became (mails p).mail) in
+        let its : Drops (lists_at gone p) k dropped = subst (λ (y : code.Process). Drops y k dropped) was (drops (mails p).mail) in
+        let as-shown : shown gone p x' ≡ z = shown-is gone p x' (rw many there) ∙ sym (shown-is s p x there) ∙ e in
+        subst (λ (y : List code.Process). Answered t (record { processes = y; queues = set queues b queue'; totals = totals }) entries c command
+        (transmit_item t (with_outbox b rest c) (rules.checkpoint process k)) (answer_for (sync_reason z) process (cond z dropped 0)))
+        (sym (each_rest other_mail mails 0 (λ y i. refl) s.processes p x there))
+        ((syncs_so gone process checkpoint p is-p x' changes dropped its z as-shown).answered t before entries c command b rest reach h hb left oldest);
+    reasoned = record { reason = sync_reason z; reason-is = refl };
+    done = sync_done z;
+    only = only_rests s p x;
     mails-stay = stays_rest (λ (y : code.Process). y.mail) 0 (λ y. refl) s.processes p x (ap (λ (y : code.Process). y.mail) alone);
   }
 

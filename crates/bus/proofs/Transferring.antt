@@ -1,5 +1,5 @@
 -- The carry of a state transfer: its entry left the queue, and the record that was being made is complete.
-use Rattle.std.proofs.Common.{◌≡◌, ℕ, ◌<◌, List, ◌∷◌, length, set, sym, refl, ap, ◌∙◌, subst, arith, length-set}
+use Rattle.std.proofs.Common.{◌≡◌, ℕ, ◌<◌, List, ◌∷◌, length, set, sym, refl, ap, subst, subst₂, arith}
 use Rattle.numbers.specs.declared.answers.Reason.TheVariants.{ResyncCarried}
 use Rattle.process.specs.declared.process.Process as code
 use Rattle.process.specs.Row.{completed_in}
@@ -14,15 +14,15 @@ use Rattle.state.specs.declared.moved.Answer.{Answer}
 use Rattle.state.specs.declared.store.Store.{Store}
 use Rattle.state.specs.Store.{Holds, lists_at}
 use Rattle.state.specs.Moved.{Reachable, Answered, answer_for}
-use Rattle.state.specs.Beside.{other_lists, each_with, with_lists}
+use Rattle.state.specs.Beside.{other_lists, with_lists}
 use Rattle.state.proofs.Beside.{each_length, each_at, own_lists}
 use Rattle.state.proofs.Changing.{row_changed}
-use Rattle.state.proofs.Flagging.{with_flag}
 use Rattle.state.proofs.Joining.{Waiter}
 use Rattle.state.proofs.Owners.{transfer_owner}
 use Rattle.bus.specs.Parts.{Left}
 use Rattle.bus.specs.Transfers.{Transfers}
-use Rattle.bus.proofs.Leaving.{at_rest, waiter_leaves}
+use Rattle.bus.proofs.Own.{TransfersOwn}
+use Rattle.bus.proofs.Leaving.{at_rest, only_rests, waiter_leaves}
 use Rattle.bus.proofs.Besides.{stays_rest, each_rest, completed_so, as_left, as_then}
 
 transfer-waits : (p : ℕ) → Waiter p (rules.transfer p)
@@ -42,13 +42,36 @@ module _ {t : Table} {s s₁ : Store} {entries : List Entry} {c : Cabinet} (reac
       (waiter_leaves reach p (end_transfer (process_at c p)) first b hb (rules.transfer p) (transfer-waits p) rest oldest its_process
       (transfer_owner reach b p rest oldest).1 gone.queue gone.popped)
 
-pub transfers_so : (s : Store) (process p : ℕ) → (process < 16 → p ≡ process) → (x : code.Process) → x ≡ completed_in (lists_at s p)
-    → Transfers s process (at_rest s p x) (answer_for ResyncCarried process 0)
+-- on the lent store itself, of any process that is as the rules' change makes it
+pub transfers_so : (s : Store) (process p : ℕ) → (process < 16 → p ≡ process) → (x : code.Process) → Changes (lists_at s p) x end_transfer
+    → TransfersOwn s process (at_rest s p x) (answer_for ResyncCarried process 0)
 unfolding transmit_item numbers cause_of
-transfers_so s process p is-p x exact = record {
+transfers_so s process p is-p x became = record {
+  answered = λ t before entries c command b rest reach h hb left oldest.
+      let hp : process < length t.processes = its_process reach h b hb left process rest oldest in
+      let same : p ≡ process = is-p (let z = reach.accepted.processes_high in omega arith) in
+      let was : lists_at s p ≡ lists_at before process = λ i. lists_at (left.left-is i) (same i) in
+      subst (λ (i : ℕ). Answered t (at_rest s i x) entries c command (transmit_item t (with_outbox b rest c) (rules.transfer process))
+      (answer_for ResyncCarried process 0)) (sym same)
+      (record {
+        answer-is = refl;
+        cause_is = refl;
+        holds = transfer-holds reach h b hb left process rest oldest x
+            (subst (λ (y : code.Process). Changes y x end_transfer) was became (h.kept process hp));
+      });
+  reasoned = record { reason = ResyncCarried; reason-is = refl };
+  done = omega arith;
+  only = only_rests s p x;
+}
+
+-- and on every store that is the lent one but for mailboxes, backups, queues and totals, of the process that the code makes
+pub transfers_so_beside : (s : Store) (process p : ℕ) → (process < 16 → p ≡ process) → (x : code.Process) → x ≡ completed_in (lists_at s p)
+    → Transfers s process (at_rest s p x) (answer_for ResyncCarried process 0)
+transfers_so_beside s process p is-p x exact = record {
   answered = λ t others queues totals entries c command b queue' rest reach h hb popped oldest.
       let before : Store = record (with_lists others s) { queues = queues; totals = totals } in
-      let left : Left before b (record before { queues = set queues b queue' }) = record { queue = queue'; popped = popped; left-is = refl } in
+      let gone : Store = record before { queues = set queues b queue' } in
+      let left : Left before b gone = record { queue = queue'; popped = popped; left-is = refl } in
       let hp : process < length t.processes = its_process reach h b hb left process rest oldest in
       let same : p ≡ process = is-p (let z = reach.accepted.processes_high in omega arith) in
       let there : p < length s.processes =
@@ -57,24 +80,16 @@ transfers_so s process p is-p x exact = record {
       let m = reach.accepted.processes_high in
       omega arith) in
       let x' : code.Process = other_lists x (others p) in
-      let was : other_lists (lists_at s p) (others p) ≡ lists_at before process =
-      sym (each_at other_lists others s.processes p there) ∙ ap (lists_at before) same in
-      let changes : Changes (other_lists (lists_at s p) (others p)) x' end_transfer =
-      subst (λ (y : code.Process). Changes (other_lists (lists_at s p) (others p)) (other_lists y (others p)) end_transfer) (sym exact)
-      (completed_so (other_lists (lists_at s p) (others p))) in
-      let processes-is : with_flag (set before.processes process x') process 0 ≡ each_with other_lists others (at_rest s p x).processes =
-      ap (λ (i : ℕ). with_flag (set before.processes i x') i 0) (sym same) ∙ sym (each_rest other_lists others 0 (λ y i. refl) s.processes p x there) in
+      let changes : Changes (lists_at gone p) x' end_transfer =
+      subst₂ (λ (y y' : code.Process). Changes y y' end_transfer) (sym (each_at other_lists others s.processes p there))
+      (ap (λ (y : code.Process). other_lists y (others p)) (sym exact)) (completed_so (other_lists (lists_at s p) (others p))) in
       subst (λ (y : List code.Process). Answered t (record { processes = y; queues = set queues b queue'; totals = totals }) entries c command
-      (transmit_item t (with_outbox b rest c) (rules.transfer process)) (answer_for ResyncCarried process 0)) processes-is
-      (record {
-        answer-is = refl;
-        cause_is = refl;
-        holds = transfer-holds reach h b hb left process rest oldest x'
-            (subst (λ (y : code.Process). Changes y x' end_transfer) was changes (h.kept process hp));
-      });
+      (transmit_item t (with_outbox b rest c) (rules.transfer process)) (answer_for ResyncCarried process 0))
+      (sym (each_rest other_lists others 0 (λ y i. refl) s.processes p x there))
+      ((transfers_so gone process p is-p x' changes).answered t before entries c command b rest reach h hb left oldest);
   reasoned = record { reason = ResyncCarried; reason-is = refl };
   done = omega arith;
-  only = record { processes-same = length-set (set s.processes p x) p _ ∙ length-set s.processes p x; queues-is = refl; totals-is = refl };
+  only = only_rests s p x;
   mails-stay = stays_rest (λ (y : code.Process). y.mail) 0 (λ y. refl) s.processes p x (ap (λ (y : code.Process). y.mail) exact);
   backups-stay = λ q. record {
     log-stays = stays_rest (λ (y : code.Process). y.log) 0 (λ y. refl) s.processes p x (ap (λ (y : code.Process). y.log) exact) q;

@@ -15,7 +15,7 @@ use Rattle.plan.specs.Plan.{plan_of, Planned}
 use Rattle.rules.specs.Table.{Table, channel_at}
 use Rattle.rules.specs.Cabinet as rules
 use Rattle.rules.specs.Cabinet.{Cabinet, outbox_at, process_at, occupancy, waiting}
-use Rattle.rules.specs.Moves.{Command, Result, refuse, guard, transmit_dead, outbox_empty, transmit, transmit_oldest, transmit_item, with_outbox, numbers, deliver}
+use Rattle.rules.specs.Moves.{Command, Result, refuse, guard, transmit_dead, outbox_empty, transmit, transmit_oldest, transmit_item, with_outbox, numbers}
 use Rattle.rules.specs.Reasons.{cause_of}
 use Rattle.rules.proofs.Counting.{flight_leave}
 use Rattle.state.specs.declared.entry.Entry.{Entry}
@@ -26,7 +26,7 @@ use Rattle.state.specs.declared.queue.Queue.{Queue}
 use Rattle.state.specs.declared.store.Store.{Store}
 use Rattle.state.specs.Queue.{no_queue, first_in, count_in, dead_in, oldest_of, front_of, popped_in}
 use Rattle.state.specs.Store.{flag, Holds, lists_at, item_of, blank_entry, outbox_in}
-use Rattle.state.specs.Moved.{Reachable, Answered, Reasoned, SameLengths, MakesAlone, refusal_for, alone_of}
+use Rattle.state.specs.Moved.{Reachable, Answered, Reasoned, SameLengths, refusal_for, alone_of}
 use Rattle.state.proofs.Reading.{at_outbox, at_dead, how_many_boards}
 use Rattle.state.proofs.Totals.{occupancy_outbox, totalled-afresh}
 use Rattle.state.proofs.Flagging.{flagged_none}
@@ -39,10 +39,11 @@ use Rattle.state.proofs.Owners.{word_owner}
 use Rattle.state.proofs.Arrivals.{room_for_oldest}
 use Rattle.bus.specs.Parts.{with_totals, Left}
 use Rattle.bus.specs.Delivers.{mail_of}
-use Rattle.bus.specs.Carries.{counted_at, OnBus, Carries}
+use Rattle.bus.specs.Carries.{OnBus, Carries}
 use Rattle.bus.specs.Syncs.{Syncs}
 use Rattle.bus.specs.Transfers.{Transfers}
-use Rattle.bus.specs.Transmits.{Oldest, Transmits}
+use Rattle.bus.specs.Transmits.{Transmits}
+use Rattle.bus.proofs.Own.{TransmitsOwn, CarriesOwn, carries_own, SyncsOwn, TransfersOwn}
 use Rattle.bus.proofs.Delivering.{lengths_only}
 use Rattle.bus.proofs.Leaving.{oldest-is}
 use Rattle.bus.proofs.Syncing.{syncs_own}
@@ -152,24 +153,23 @@ module _ {t : Table} {s : Store} {entries : List Entry} {c : Cabinet} (reach : R
         }))
 
     -- and what the rules make of it
-    word-answered : {table : List ℕ} {counts : Counts} {programs : List Program} {l : plan.Plan} (s' : Store) (r : Answer) (command : Command)
-        → Planned t (plan_of table (record l { counts = counts; programs = programs })) → Carries l s₁ channel word s' r
+    word-answered : {table : List ℕ} {l : plan.Plan} (s' : Store) (r : Answer) (command : Command) → Planned t (plan_of table l)
+        → CarriesOwn l s₁ channel word s' r
         → Answered t s' entries c command (transmit_item t left_cabinet (rules.message (mail_of channel word) pc)) r
     unfolding transmit_item numbers cause_of
-    word-answered {table} {counts} {programs} s' r command planned carried =
+    word-answered {table} s' r command planned carried =
         let counted : OnBus t s₁.totals channel left_cabinet =
         subst (λ (y : Store). OnBus t y.totals channel left_cabinet) (sym gone.left-is) on_bus_lem in
-        let after = carried.holds t table counts programs s₁.queues between entries left_cabinet reach.accepted planned word_left counted
+        let after = carried.holds t table between entries left_cabinet reach.accepted planned word_left counted
         (sent-inside reach.accepted channel its_end) its_end (room_for_oldest reach b (mail_of channel word) pc q.rest q.is_queue) in
         subst (λ (z : Answer). Answered t s' entries c command (transmit_item t left_cabinet (rules.message (mail_of channel word) pc)) z)
-        (sym carried.answer-is) (record {
-          answer-is = refl;
-          cause_is = refl;
-          holds = subst (λ (y : List Queue). Holds t (record s' { queues = y }) entries (deliver t (mail_of channel word) (counted_at t channel left_cabinet)))
-              (sym carried.queues-is) after;
-        })
+        (sym carried.answer-is) (record { answer-is = refl; cause_is = refl; holds = after })
 
 -- ---- what the move promises
+
+-- the store without the entry
+abbrev left : Store → ℕ → Queue → Store
+left s b queue' = record { processes = s.processes; queues = set s.queues b queue'; totals = s.totals }
 
 module _ (l : plan.Plan) (s : Store) (a b : ℕ) (x : Entry) (r : Answer) (is_b : a < 16 → b ≡ a) where
   pub transmits_34 : dead_in s.queues b ≡ true → r ≡ refusal_for CarryOfDead a → Transmits l s a x s r
@@ -187,21 +187,16 @@ module _ (l : plan.Plan) (s : Store) (a b : ℕ) (x : Entry) (r : Answer) (is_b 
 
     module _ (i : Item) (some : front_of (get_or s.queues b no_queue) x ≡ Some i) (queue' : Queue)
         (leaves : queue' ≡ popped_in (get_or s.queues b no_queue)) where
-      -- the store without the entry
-      abbrev left : Store
-      left = record { processes = s.processes; queues = set s.queues b queue'; totals = s.totals }
-
       -- what was made of it where the oldest entry is this one
       abbrev Carried : rules.Item → Store → Type 0
       Carried item s' =
-          (t : Table) (table : List ℕ) (counts : Counts) (programs : List Program) (entries : List Entry) (c : Cabinet) (command : Command)
-          → Reachable t c → Planned t (plan_of table (record l { counts = counts; programs = programs }))
-          → Holds t s entries c → a < t.boards → Left s a left → (q : Begins c a (count_in s.queues a) item)
+          (t : Table) (table : List ℕ) (entries : List Entry) (c : Cabinet) (command : Command) → Reachable t c → Planned t (plan_of table l)
+          → Holds t s entries c → a < t.boards → Left s a (left s b queue') → (q : Begins c a (count_in s.queues a) item)
           → Answered t s' entries c command (transmit_item t (with_outbox a q.rest c) item) r
 
-      transmits_so : (item : rules.Item) → item_of i ≡ item → (s' : Store) → Reasoned r → r.code < 32 → SameLengths left s' → Carried item s' → Transmits l s a x s' r
+      transmits_so : (item : rules.Item) → item_of i ≡ item → (s' : Store) → Reasoned r → r.code < 32 → SameLengths (left s b queue') s' → Carried item s' → TransmitsOwn l s a x s' r
       unfolding transmit_oldest
-      transmits_so item m s' why done long carried table counts programs =
+      transmits_so item m s' why done long carried table =
           makes_alone r why done
           (record {
             processes-same = long.processes-same;
@@ -218,36 +213,58 @@ module _ (l : plan.Plan) (s : Store) (a b : ℕ) (x : Entry) (r : Answer) (is_b 
           let q = subst (Begins c a (count_in s.queues a)) first (begins h a hb (λ e. front.0 (ap (count_in s.queues) same ∙ e))) in
           let then_is : set s.queues b queue' ≡ set s.queues a (popped_in (get_or s.queues a no_queue)) =
           ap (set s.queues b) leaves ∙ ap (λ (k : ℕ). set s.queues k (popped_in (get_or s.queues k no_queue))) same in
-          let gone : Left s a left = record {
+          let gone : Left s a (left s b queue') = record {
             queue = popped_in (get_or s.queues a no_queue);
             popped = row_then h a hb q.fewer q.is-count;
             left-is = ap (λ (y : List Queue). record { processes = s.processes; queues = y; totals = s.totals }) then_is;
           } in
           let rule : transmit t c a ≡ transmit_item t (with_outbox a q.rest c) item =
           live h a hb (dead_so s.queues false alive reach hb is_b) ∙ ap (transmit_oldest t c a) q.is_queue in
-          subst (λ (y : Result). Answered t s' entries c command y r) (sym rule) (carried t table counts programs entries c command reach planned h hb gone q))
+          subst (λ (y : Result). Answered t s' entries c command y r) (sym rule) (carried t table entries c command reach planned h hb gone q))
 
-      pub transmits-word : (channel word pc : ℕ) → i ≡ Word channel word pc → (s' : Store) → Carries l left channel word s' r → Transmits l s a x s' r
+      -- on the lent plan and store themselves
+      pub transmits-word : (channel word pc : ℕ) → i ≡ Word channel word pc → (s' : Store) → CarriesOwn l (left s b queue') channel word s' r → TransmitsOwn l s a x s' r
       transmits-word channel word pc is_IsWord s' carried =
           transmits_so (rules.message (mail_of channel word) pc) (ap item_of is_IsWord) s'
           (subst Reasoned (sym carried.answer-is) (record { reason = reasons.Carried; reason-is = refl }))
           (let z = ap (λ (y : Answer). y.code) carried.answer-is in omega arith) carried.same_lengths
-          (λ t table counts programs entries c command reach planned h hb gone q. word-answered reach h a hb channel word pc q gone s' r command planned carried)
+          (λ t table entries c command reach planned h hb gone q. word-answered reach h a hb channel word pc q gone s' r command planned carried)
 
       pub transmits-sync : (process : ℕ) (checkpoint : code.Checkpoint) → i ≡ Sync process checkpoint → (s' : Store)
-          → Syncs left process checkpoint s' r → Transmits l s a x s' r
+          → SyncsOwn (left s b queue') process checkpoint s' r → TransmitsOwn l s a x s' r
       transmits-sync process checkpoint is-sync s' carried =
           transmits_so (rules.checkpoint process (checkpoint_of checkpoint)) (ap item_of is-sync) s' carried.reasoned carried.done (lengths_only carried.only)
-          (λ t table counts programs entries c command reach planned h hb gone q.
-          syncs_own carried t s entries c command a q.rest reach h hb gone q.is_queue)
+          (λ t table entries c command reach planned h hb gone q.
+          carried.answered t s entries c command a q.rest reach h hb gone q.is_queue)
 
-      pub transmits-transfer : (process : ℕ) → i ≡ Transfer process → (s' : Store) → Transfers left process s' r → Transmits l s a x s' r
+      pub transmits-transfer : (process : ℕ) → i ≡ Transfer process → (s' : Store) → TransfersOwn (left s b queue') process s' r → TransmitsOwn l s a x s' r
       transmits-transfer process is-transfer s' carried =
           transmits_so (rules.transfer process) (ap item_of is-transfer) s' carried.reasoned carried.done (lengths_only carried.only)
-          (λ t table counts programs entries c command reach planned h hb gone q.
-          transfers_own carried t s entries c command a q.rest reach h hb gone q.is_queue)
+          (λ t table entries c command reach planned h hb gone q.
+          carried.answered t s entries c command a q.rest reach h hb gone q.is_queue)
+
+-- and on every plan that is the lent one but for counts and programs
+module _ (l : plan.Plan) (s : Store) (a b : ℕ) (x : Entry) (r : Answer) (is_b : a < 16 → b ≡ a) (alive : dead_in s.queues b ≡ false)
+    (i : Item) (some : front_of (get_or s.queues b no_queue) x ≡ Some i) (queue' : Queue) (leaves : queue' ≡ popped_in (get_or s.queues b no_queue)) where
+  abbrev with_plan : Counts → List Program → plan.Plan
+  with_plan counts programs = record l { counts = counts; programs = programs }
+
+  pub transmits_word_beside : (channel word pc : ℕ) → i ≡ Word channel word pc → (s' : Store) → Carries l (left s b queue') channel word s' r → Transmits l s a x s' r
+  transmits_word_beside channel word pc is s' carried table counts programs =
+      transmits-word (with_plan counts programs) s a b x r is_b alive i some queue' leaves channel word pc is s' (carries_own carried counts programs) table
+
+  pub transmits_sync_beside : (process : ℕ) (checkpoint : code.Checkpoint) → i ≡ Sync process checkpoint → (s' : Store)
+      → Syncs (left s b queue') process checkpoint s' r → Transmits l s a x s' r
+  transmits_sync_beside process checkpoint is s' carried table counts programs =
+      transmits-sync (with_plan counts programs) s a b x r is_b alive i some queue' leaves process checkpoint is s'
+      (record { answered = syncs_own carried; reasoned = carried.reasoned; done = carried.done; only = carried.only }) table
+
+  pub transmits_transfer_beside : (process : ℕ) → i ≡ Transfer process → (s' : Store) → Transfers (left s b queue') process s' r → Transmits l s a x s' r
+  transmits_transfer_beside process is s' carried table counts programs =
+      transmits-transfer (with_plan counts programs) s a b x r is_b alive i some queue' leaves process is s'
+      (record { answered = transfers_own carried; reasoned = carried.reasoned; done = carried.done; only = carried.only }) table
 
 -- of the plan that it is lent
-pub transmits_own : {l : plan.Plan} {s : Store} {a : ℕ} {oldest : Entry} {s' : Store} {r : Answer} → Transmits l s a oldest s' r → (table : List ℕ)
-    → MakesAlone transmit (Oldest s.queues a oldest) (plan_of table l) s a s' r
+pub transmits_own : {l : plan.Plan} {s : Store} {a : ℕ} {oldest : Entry} {s' : Store} {r : Answer} → Transmits l s a oldest s' r
+    → TransmitsOwn l s a oldest s' r
 transmits_own {l} m table = m table l.counts l.programs

@@ -37,6 +37,7 @@ use Rattle.outcome.specs.Starts.{Placed}
 use Rattle.outcome.specs.Reports.{Reports}
 use Rattle.outcome.specs.Quiets.{Quiets}
 use Rattle.outcome.proofs.Reporting.{reports_own}
+use Rattle.outcome.proofs.Own.{ReportsOwn, QuietsOwn}
 use Rattle.outcome.proofs.Quieting.{quiets_own}
 use Rattle.cabinet.specs.Conducts.{Conducts}
 use Rattle.cabinet.specs.Runs.{Runs}
@@ -56,10 +57,11 @@ has_room table schedule buffers acc = record {
   origins-room = origins-fit table schedule buffers acc;
 }
 
+-- of a report and an answer to "quiet" that are those of the lent plan and store
 module _ (table schedule : List ℕ) (d : Decoded) (answers reasons report origins answers' reasons' report' origins' : List ℕ) (s : Store)
     (entries : List Entry) (quiet : Bool)
     (plays : PlaysAll (plan_of table d.plan) schedule d.placements (sheets_of answers reasons origins) s entries (sheets_of answers' reasons' origins'))
-    (reports : Reports s d.plan.counts.processes report report') (quiets : Quiets table d.plan s quiet) where
+    (reports : ReportsOwn s d.plan.counts.processes report report') (quiets : QuietsOwn table d.plan s quiet) where
   abbrev t : Table
   t = decode_table table
 
@@ -86,13 +88,23 @@ module _ (table schedule : List ℕ) (d : Decoded) (answers reasons report origi
         rw (one_shown-each t (opened t) commands, commands-counted schedule) (has_room table schedule before acc) in
         let room : 20 * d.plan.counts.processes ≤ length report = rw (planned.processes-is, processes-counted table) (report-fits table schedule before acc) in
         let end = ended t commands in
-        let w = reports_own reports t entries end (reach at) shown.holds planned.processes-is room in
-        let q = quiets_own quiets t entries end (reach at) planned shown.holds in
+        let w = reports.reported t entries end (reach at) shown.holds planned.processes-is room in
+        let q = quiets.answers t entries end (reach at) planned shown.holds in
         let a = answers-front shown.wrote roomy in
         let b = reasons-front shown.wrote roomy in
         let o = origins-front shown.wrote roomy in
         λ i. record { number = 0; records = many i; quiet = q i; buffers = record { answers = a i; reasons = b i; report = w i; origins = o i } };
   }
+
+-- and of what `write_report` and `quiescent` promise
+pub conducts_beside : (table schedule : List ℕ) (d : Decoded) (answers reasons report origins answers' reasons' report' origins' : List ℕ) (s : Store)
+    (entries : List Entry) (quiet : Bool)
+    → PlaysAll (plan_of table d.plan) schedule d.placements (sheets_of answers reasons origins) s entries (sheets_of answers' reasons' origins')
+    → Reports s d.plan.counts.processes report report' → Quiets table d.plan s quiet
+    → Conducts table schedule d (buffers_of answers reasons report origins) quiet (buffers_of answers' reasons' report' origins')
+conducts_beside table schedule d answers reasons report origins answers' reasons' report' origins' s entries quiet plays reports quiets =
+    conducts table schedule d answers reasons report origins answers' reasons' report' origins' s entries quiet plays
+    (record { reported = reports_own reports; same_length = reports.same_length }) (record { answers = quiets_own quiets })
 
 -- ---- the call
 

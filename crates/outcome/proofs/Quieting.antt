@@ -35,6 +35,7 @@ use Rattle.state.proofs.Reading.{at_process, at_outbox, how_many, how_many_board
 use Rattle.state.proofs.Reaching.{queue_length_lem}
 use Rattle.outcome.specs.Quiets.{rests_of, Rests, rests_in, Hosts, AllRest, empty_in, AllEmpty, Quiets}
 use Rattle.outcome.proofs.Beside.{seen_beside, its_backups}
+use Rattle.outcome.proofs.Own.{hosts_own, RestingOwn, AllRestOwn, QuietsOwn}
 
 -- ---- one process
 
@@ -79,12 +80,33 @@ module _ (table : List ℕ) (plan : Plan) (s : Store) where
   pub record Resting (p : ℕ) : Type 0 where
     pub walked : (t : Table) (c : Cabinet) → Hosts table plan s t c → Walked (rests_in t c) (length t.processes) p
 
+  -- so they do of the lent plan and store themselves
+  pub resting_own : {p : ℕ} → Resting p → RestingOwn table plan s p
+  resting_own w = record { walked = λ t entries c x. w.walked t c (hosts_own x) }
+
   module _ {n : ℕ} (clamp : plan.counts.processes ≤ 16 → n ≡ plan.counts.processes) where
     n_is : {t : Table} {c : Cabinet} → Hosts table plan s t c → n ≡ length t.processes
     n_is x = let e = x.processes-is in let high = x.reach.accepted.processes_high in clamp (omega arith) ∙ e
 
-    pub resting_on : {p : ℕ} {r : Bool} → Resting p → p < n → RestsAt p r → not r ≡ false → Resting (p + 1)
+    -- of the lent plan and store themselves,
+    pub resting_on : {p : ℕ} {r : Bool} → RestingOwn table plan s p → p < n → RestsAt p r → not r ≡ false → RestingOwn table plan s (p + 1)
     resting_on {p} {r} w l rests z = record {
+      walked = λ t entries c x.
+          let e = n_is (hosts_own x) in
+          let k : p < length t.processes = omega arith in
+          walk_on (rests_in t c) (length t.processes) p r (w.walked t entries c x) k (rests_in_lem p r rests (hosts_own x) k) z;
+    }
+
+    pub resting_end : {p : ℕ} → RestingOwn table plan s p → n ≤ p → AllRestOwn table plan s true
+    resting_end {p} w h = record {
+      answers = λ t entries c x.
+          let e = n_is (hosts_own x) in
+          walk_end (rests_in t c) (length t.processes) p (w.walked t entries c x) (omega arith);
+    }
+
+    -- and of all that `Hosts` names
+    pub resting_on_beside : {p : ℕ} {r : Bool} → Resting p → p < n → RestsAt p r → not r ≡ false → Resting (p + 1)
+    resting_on_beside {p} {r} w l rests z = record {
       walked = λ t c x.
           let e = n_is x in
           let k : p < length t.processes = omega arith in
@@ -99,8 +121,8 @@ module _ (table : List ℕ) (plan : Plan) (s : Store) where
           walk_fails (rests_in t c) (length t.processes) p r k (rests_in_lem p r rests x k) z;
     }
 
-    pub resting_end : {p : ℕ} → Resting p → n ≤ p → AllRest table plan s true
-    resting_end {p} w h = record {
+    pub resting_end_beside : {p : ℕ} → Resting p → n ≤ p → AllRest table plan s true
+    resting_end_beside {p} w h = record {
       answers = λ t c x. let e = n_is x in walk_end (rests_in t c) (length t.processes) p (w.walked t c x) (omega arith);
     }
 
@@ -136,38 +158,52 @@ module _ {t : Table} {s : Store} {entries : List Entry} {c : Cabinet} (h : Holds
   quiet_is rest empty e f =
       λ j. (e ∙ ap (all_below (rests_in t c)) (sym (how_many h))) j && (f ∙ sym queues-empty) j
 
-module _ (table : List ℕ) (plan : Plan) (s : Store) (r : Bool) (rest : AllRest table plan s r) where
-  resting : {t : Table} {wires : List Wire} (others : ℕ → code.Process) {totals : List ℕ} {entries : List Entry} {c : Cabinet} → Reachable t c
-      → Planned t (plan_of table (record plan { wires = wires })) → Holds t (record (with_backups others s) { totals = totals }) entries c
+-- quiet, of the lent plan and store themselves,
+module _ (table : List ℕ) (plan : Plan) (s : Store) (r : Bool) (rest : AllRestOwn table plan s r) where
+  resting : {t : Table} {entries : List Entry} {c : Cabinet} → Reachable t c → Planned t (plan_of table plan) → Holds t s entries c
       → r ≡ all_below (rests_in t c) (length t.processes)
-  resting {t} {wires} others {totals} {entries} {c} reach planned holds =
-      rest.answers t c
-      (record {
-        counts = plan.counts;
-        wires = wires;
-        others = others;
-        queues = s.queues;
-        totals = totals;
-        entries = entries;
-        reach = reach;
-        planned = planned;
-        processes-is = planned.processes-is;
-        holds = holds;
-      })
+  resting {t} {entries} {c} reach planned holds = rest.answers t entries c (record { reach = reach; planned = planned; holds = holds })
 
-  pub quiets_not : not r ≡ true → Quiets table plan s false
+  pub quiets_not : not r ≡ true → QuietsOwn table plan s false
   quiets_not z = record {
-    answers = λ t wires others totals entries c reach planned holds.
-        quiet_is holds false (all_below (empty_in s.queues) t.boards) (sym (not-true r z) ∙ resting others reach planned holds) refl;
+    answers = λ t entries c reach planned holds.
+        quiet_is holds false (all_below (empty_in s.queues) t.boards) (sym (not-true r z) ∙ resting reach planned holds) refl;
   }
 
-  pub quiets_so : (q : Bool) → not r ≡ false → AllEmpty plan.counts.boards s.queues q → Quiets table plan s q
+  pub quiets_so : (q : Bool) → not r ≡ false → AllEmpty plan.counts.boards s.queues q → QuietsOwn table plan s q
   quiets_so q z empty = record {
-    answers = λ t wires others totals entries c reach planned holds.
+    answers = λ t entries c reach planned holds.
         let e = planned.boards-is in
         let high = reach.accepted.boards_high in
-        quiet_is holds true q (sym (not-false r z) ∙ resting others reach planned holds) (empty (omega arith) ∙ ap (all_below (empty_in s.queues)) e);
+        quiet_is holds true q (sym (not-false r z) ∙ resting reach planned holds) (empty (omega arith) ∙ ap (all_below (empty_in s.queues)) e);
   }
+
+-- and of every plan and store that are the lent ones but for wires, backups and totals
+module _ (table : List ℕ) (plan : Plan) (s : Store) (r : Bool) (rest : AllRest table plan s r) where
+  all_rest_at : (wires : List Wire) (others : ℕ → code.Process) (totals : List ℕ)
+      → AllRestOwn table (record plan { wires = wires }) (record (with_backups others s) { totals = totals }) r
+  all_rest_at wires others totals = record {
+    answers = λ t entries c x.
+        rest.answers t c
+        (record {
+          counts = plan.counts;
+          wires = wires;
+          others = others;
+          queues = s.queues;
+          totals = totals;
+          entries = entries;
+          reach = x.reach;
+          planned = x.planned;
+          processes-is = x.planned.processes-is;
+          holds = x.holds;
+        });
+  }
+
+  pub quiets_not_beside : not r ≡ true → Quiets table plan s false
+  quiets_not_beside z = record { answers = λ t wires others totals. (quiets_not table _ _ r (all_rest_at wires others totals) z).answers t }
+
+  pub quiets_so_beside : (q : Bool) → not r ≡ false → AllEmpty plan.counts.boards s.queues q → Quiets table plan s q
+  quiets_so_beside q z empty = record { answers = λ t wires others totals. (quiets_so table _ _ r (all_rest_at wires others totals) q z empty).answers t }
 
 -- and of the lent plan and store themselves
 pub quiets_own : {table : List ℕ} {plan : Plan} {s : Store} {r : Bool} → Quiets table plan s r → (t : Table) (entries : List Entry) (c : Cabinet)

@@ -12,7 +12,7 @@ use Rattle.instruction.specs.declared.instruction.Intent.{Intent}
 use Rattle.instruction.specs.declared.instruction.Intent.TheVariants.{Halted, NoMail, Internal, Take, Send}
 use Rattle.instruction.proofs.Counting.{suppresses}
 use Rattle.plan.specs.declared.Plan as code
-use Rattle.plan.specs.Plan.{Plan, plan_of}
+use Rattle.plan.specs.Plan.{plan_of}
 use Rattle.rules.specs.Table as rules
 use Rattle.rules.specs.Table.{Table}
 use Rattle.rules.specs.Cabinet.{Cabinet}
@@ -28,6 +28,7 @@ use Rattle.state.proofs.Changing.{put_process}
 use Rattle.step.specs.Issues.{Issues, sync_entry}
 use Rattle.step.specs.Parts.{word_entry, Turns, CalculateTurns, TakeTurns, SendTurns}
 use Rattle.step.specs.Steps.{Steps}
+use Rattle.step.proofs.Own.{StepsOwn, IssuesOwn, CalculateTurnsOwn, TakeTurnsOwn, SendTurnsOwn}
 
 -- ---- a store whose processes have a part of others
 
@@ -104,7 +105,7 @@ suppresses_exact x fits = suppresses x _ (omega arith) (omega arith)
 -- ---- on the lent store itself
 
 -- with its own backups, and with its own mailboxes and backups, it is as it was
-backups-own : (s : Store) → with_backups (lists_at s) s ≡ s
+pub backups-own : (s : Store) → with_backups (lists_at s) s ≡ s
 backups-own s = own_backups s s (λ p. record { log-stays = refl; head-stays = refl })
 
 lists-own : (s : Store) → with_lists (lists_at s) s ≡ s
@@ -112,38 +113,38 @@ lists-own s = own_lists s s (λ p. refl) (λ p. record { log-stays = refl; head-
 
 -- what a step makes of it,
 pub steps_own : (table : List ℕ) (plan : code.Plan) (s : Store) (a : ℕ) (s' : Store) (r : Moved) → Steps table plan s a s' r → BackupsStay s s'
-    → Makes step (AProcess a) 2 (plan_of table plan) s a (word_entry s a r.answer) s' r
+    → StepsOwn table plan s a s' r
 steps_own table plan s a s' r steps backups =
     subst₂ (λ (z z' : Store). Makes step (AProcess a) 2 (plan_of table plan) z a (word_entry s a r.answer) z' r) (backups-own s)
     (own_backups s s' backups) (steps plan.counts (lists_at s))
 
 -- a sync,
-pub issues_own : (s : Store) (a : ℕ) (s' : Store) (r : Moved) → Issues s a s' r → MailsStay s s' → BackupsStay s s' → s'.totals ≡ s.totals → (l : Plan)
-    → Makes issue (AProcess a) 0 l s a (sync_entry s a) s' r
+pub issues_own : (s : Store) (a : ℕ) (s' : Store) (r : Moved) → Issues s a s' r → MailsStay s s' → BackupsStay s s' → s'.totals ≡ s.totals
+    → IssuesOwn s a s' r
 issues_own s a s' r issues mails backups totals l =
     subst₂ (λ (z z' : Store). Makes issue (AProcess a) 0 l z a (sync_entry s a) z' r) (lists-own s)
     (λ k. record (own_lists s s' mails backups k) { totals = sym totals k }) (issues l (lists_at s) s.totals)
 
 -- and the parts of a step: a SET, an ADD or a JUMP,
 pub calculates_own : (s : Store) (a code register operand : ℕ) (s' : Store) (r : Moved) → CalculateTurns s a code register operand s' r → MailsStay s s'
-    → BackupsStay s s' → s'.queues ≡ s.queues → s'.totals ≡ s.totals → (l : Plan) (limit n : ℕ)
-    → Turns l s limit a n code register operand Internal (word_entry s a r.answer) s' r
+    → BackupsStay s s' → s'.queues ≡ s.queues → s'.totals ≡ s.totals
+    → CalculateTurnsOwn s a code register operand s' r
 calculates_own s a code register operand s' r turns mails backups queues totals l limit n =
     subst₂ (λ (z z' : Store). Turns l z limit a n code register operand Internal (word_entry s a r.answer) z' r) (lists-own s)
     (λ k. record (own_lists s s' mails backups k) { queues = sym queues k; totals = sym totals k }) (turns l (lists_at s) s.queues s.totals limit n)
 
 -- a TAKE or a FIRST,
 pub takes_own : (plan : code.Plan) (s : Store) (limit a code register at : ℕ) (s' : Store) (r : Moved) → TakeTurns plan s limit a code register at s' r
-    → BackupsStay s s' → s'.queues ≡ s.queues → (table : List ℕ) (n operand : ℕ)
-    → Turns (plan_of table plan) s limit a n code register operand (Take at) (word_entry s a r.answer) s' r
+    → BackupsStay s s' → s'.queues ≡ s.queues
+    → TakeTurnsOwn plan s limit a code register at s' r
 takes_own plan s limit a code register at s' r turns backups queues table n operand =
     subst₂ (λ (z z' : Store). Turns (plan_of table plan) z limit a n code register operand (Take at) (word_entry s a r.answer) z' r) (backups-own s)
     (λ k. record (own_backups s s' backups k) { queues = sym queues k }) (turns table plan.counts plan.programs (lists_at s) s.queues n operand)
 
 -- and a SEND
 pub sends_own : (plan : code.Plan) (s : Store) (limit a channel word : ℕ) (s' : Store) (r : Moved) → SendTurns plan s limit a channel word s' r
-    → MailsStay s s' → BackupsStay s s' → (table : List ℕ) (n code register operand : ℕ)
-    → Turns (plan_of table plan) s limit a n code register operand (Send channel word) (word_entry s a r.answer) s' r
+    → MailsStay s s' → BackupsStay s s'
+    → SendTurnsOwn plan s limit a channel word s' r
 sends_own plan s limit a channel word s' r turns mails backups table n code register operand =
     subst₂ (λ (z z' : Store). Turns (plan_of table plan) z limit a n code register operand (Send channel word) (word_entry s a r.answer) z' r) (lists-own s)
     (own_lists s s' mails backups) (turns table plan.counts plan.programs (lists_at s) n code register operand)

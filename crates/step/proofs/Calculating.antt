@@ -21,10 +21,11 @@ use Rattle.state.specs.Moved.{Reachable, answer_for, alone_of, refused_for}
 use Rattle.state.specs.Beside.{other_lists, with_lists}
 use Rattle.state.proofs.Changing.{row_changed}
 use Rattle.state.proofs.Refusing.{turned_away_lem, makes-refused}
-use Rattle.step.specs.Parts.{overrun_in, Calculated, Calculates, CalculateTurns}
+use Rattle.step.specs.Parts.{overrun_in, word_entry, Turns, Calculated, Calculates, CalculateTurns}
 use Rattle.state.proofs.Making.{its_index, answered, makes_alone, for_reason}
+use Rattle.step.proofs.Own.{CalculatedOwn, CalculateTurnsOwn}
 use Rattle.step.proofs.Beside.{same_many, its_part, put_part}
-use Rattle.step.proofs.Stepping.{with_process_in, same_process, machine-is, step_is, overrun-is, instructions-room}
+use Rattle.step.proofs.Stepping.{with_process_in, same_process, same_lengths, machine-is, step_is, overrun-is, instructions-room}
 
 module _ {t : Table} {s : Store} {entries : List Entry} {c : Cabinet} (h : Holds t s entries c) (p : ℕ) (hp : p < length t.processes)
     (n code a operand : ℕ) (i : Intends (code_of t p) (lists_at s p) n code a operand Internal) where
@@ -64,6 +65,30 @@ module _ (s : Store) (p a : ℕ) (is-p : a < 16 → p ≡ a) (code register oper
   abbrev its : lent.Process
   its = lists_at s p
 
+  -- on the lent store itself, of any process that is as the rules' change makes it
+  calculate_own : (x' : lent.Process) (b : Bool) → overrun_in its ≡ b → CalculatedOwn b its a code register operand x' r
+      → CalculateTurnsOwn s a code register operand (with_process_in s p x') r
+  unfolding numbers cause_of
+  calculate_own x' true e k l limit n =
+      subst (λ (s' : Store). Turns l s limit a n code register operand Internal (word_entry s a r.answer) s' r) (sym (ap (with_process_in s p) k.0 ∙ same_process s p))
+      (makes-refused OwesForInstructions k.1 (λ t entries c command reach planned h f i.
+      let ha = i.process-there in
+      turned_away_lem command a instructions_full h (calculate_refused h a ha n code register operand i.intends (rw (← its_index reach ha is-p) e)) f refl))
+  calculate_own x' false e k l limit n =
+      makes_alone (answer_for reasons.Calculated 0 0) (for_reason reasons.Calculated 0 0) (omega arith) (same_lengths s p _ s.totals refl) k.1
+      (λ t entries c command reach planned h f i.
+      let q = its_index reach i.process-there is-p in
+      let j = rw (← q) at i in
+      let hp = j.process-there in
+      rw (← q) (answered _ step_done (calculate_accepted h p hp n code register operand j.intends e) refl refl
+      (calculate_holds h p hp n code register operand j.intends reach x' k.0)))
+
+  pub calculate_turns : (x' : lent.Process) → CalculatedOwn (overrun_in its) its a code register operand x' r
+      → CalculateTurnsOwn s a code register operand (with_process_in s p x') r
+  calculate_turns x' k = calculate_own x' _ refl k
+
+  -- and on every store that is the lent one but for mailboxes, backups, queues and totals, of the process that the code makes
+
   -- what becomes of the process with another mailbox and another backup
   computes_beside : (y other x' : lent.Process) → y ≡ other_lists its other → x' ≡ computed_in code register operand its
       → Computes y code register operand (other_lists x' other)
@@ -102,6 +127,6 @@ module _ (s : Store) (p a : ℕ) (is-p : a < 16 → p ≡ a) (code register oper
       subst (λ (s' : Store). CalculateTurns s a code register operand s' r) (sym (ap (with_process_in s p) k.0 ∙ same_process s p)) (calculate_37 e k.1)
   calculate_so x' false e k = calculate_done x' e k.0 k.1.1
 
-  pub calculate_turns : (x' : lent.Process) → Calculates its a code register operand x' r
+  pub calculate_turns_beside : (x' : lent.Process) → Calculates its a code register operand x' r
       → CalculateTurns s a code register operand (with_process_in s p x') r
-  calculate_turns x' k = calculate_so x' _ refl k
+  calculate_turns_beside x' k = calculate_so x' _ refl k

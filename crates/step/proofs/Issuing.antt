@@ -26,6 +26,7 @@ use Rattle.state.proofs.Joining.{is-protected, board-is, board-there, queue_has,
 use Rattle.state.proofs.Reading.{at_process}
 use Rattle.state.proofs.Refusing.{turned_away_lem, makes-refused}
 use Rattle.step.specs.Issues.{Issues, synced_as, sync_entry}
+use Rattle.step.proofs.Own.{IssuesOwn}
 use Rattle.step.proofs.Beside.{same_many, within, its_part}
 use Rattle.state.proofs.Making.{its_index, its_board, answered, makes-joined, for_reason}
 
@@ -151,11 +152,28 @@ module _ (s : Store) (p a : ℕ) (is-p : a < 16 → p ≡ a) (r : Moved) where
           each_set other_lists others s.processes p (flagged its 1) hp
           ∙ ap (λ (y : lent.Process). set (each_with other_lists others s.processes) p (flagged y 1)) (sym (each_at other_lists others s.processes p hp))
 
-      pub issues-done : (x' : lent.Process) → leb outbox_most (count_in s.queues b) ≡ false → x' ≡ anew_in (get_or (with_flag s.processes p 1) p no_process)
+      -- on the lent store itself, of any process that is as the rules' change makes it
+      pub issues-done : (x' : lent.Process) → leb outbox_most (count_in s.queues b) ≡ false → Changes (get_or (with_flag s.processes p 1) p no_process) x' issued
+          → place_of (get_or s.queues b no_queue) b < 512 → r ≡ moved_of (answer_for SyncIssued 0 0) (Some (place_of (get_or s.queues b no_queue) b))
+          → IssuesOwn s a (issued_from s p b x') r
+      unfolding numbers cause_of
+      issues-done x' few became below e l =
+          makes-joined (answer_for SyncIssued 0 0) (for_reason SyncIssued 0 0) (omega arith)
+          (record { processes-same = simp length-set; queues-same = length-set s.queues b _; totals-same = refl })
+          (place_of (get_or s.queues b no_queue) b) below refl e
+          (λ t entries c command reach planned h f ha.
+          let q = its_index reach ha is-p in
+          let hp : p < length t.processes = rw q ha in
+          let bb = its_board reach (board-there reach h p hp) is_b in
+          let few0 : leb outbox_most (count_in s.queues its.board) ≡ false = rw (← bb) few in
+          rw (← q, bb) (answered _ issue_done (accepted_so reach h p hp n w few0) refl refl (issue-holds reach h p hp x' (leb-false outbox_most _ few0) became)))
+
+      -- and on every store that is the lent one but for mailboxes, backups and totals, of the process that the code makes
+      pub issues_done_beside : (x' : lent.Process) → leb outbox_most (count_in s.queues b) ≡ false → x' ≡ anew_in (get_or (with_flag s.processes p 1) p no_process)
           → place_of (get_or s.queues b no_queue) b < 512 → r ≡ moved_of (answer_for SyncIssued 0 0) (Some (place_of (get_or s.queues b no_queue) b))
           → Issues s a (issued_from s p b x') r
       unfolding numbers cause_of
-      issues-done x' few exact below e l others totals =
+      issues_done_beside x' few exact below e l others totals =
           makes-joined (answer_for SyncIssued 0 0) (for_reason SyncIssued 0 0) (omega arith)
           (record {
             processes-same = same_many other_lists others s.processes _

@@ -43,8 +43,9 @@ use Rattle.state.specs.Channel.{full_in}
 use Rattle.state.proofs.Held.{full_is, occupancy_small}
 use Rattle.state.proofs.Joining.{board-is, board-there, queue_has}
 use Rattle.state.proofs.Making.{its_index, its_board, answered, makes_alone, makes-joined, for_reason}
+use Rattle.step.proofs.Own.{SendTurnsOwn}
 use Rattle.step.proofs.Beside.{same_many, its_part, put_part, suppresses_exact}
-use Rattle.step.proofs.Stepping.{with_process_in, machine-is, step_is, owing-is, blame_is, instructions-room, events-room}
+use Rattle.step.proofs.Stepping.{with_process_in, same_lengths, machine-is, step_is, owing-is, blame_is, instructions-room, events-room}
 
 -- a word that joins a queue is no checkpoint
 waiting-joined : (q : ℕ) (l : List rules.Item) (x : Mail) (pc : ℕ) → waiting q (l ++ (rules.message x pc ∷ [])) ≡ waiting q l
@@ -230,9 +231,25 @@ module _ (plan : code.Plan) (s : Store) (limit p a : ℕ) (is-p : a < 16 → p �
   abbrev Turns : Store → Type 0
   Turns s' = SendTurns plan s limit a channel word s' r
 
-  pub send-suppressed : (x' : lent.Process) → 0 < sender.suppress → x' ≡ suppressed_in sender → r ≡ alone_of (answer_for HeldBack channel word) → Turns (with_process_in s p x')
+  -- on the lent plan and store themselves, of any process that is as the rules' change makes it
+  pub send-suppressed : (x' : lent.Process) → 0 < sender.suppress → Suppresses sender x' → r ≡ alone_of (answer_for HeldBack channel word)
+      → SendTurnsOwn plan s limit a channel word (with_process_in s p x') r
   unfolding numbers cause_of
-  send-suppressed x' some exact g table counts programs others n code register operand =
+  send-suppressed x' some became g table n code register operand =
+      makes_alone (answer_for HeldBack channel word) (for_reason HeldBack channel word) (omega arith) (same_lengths s p _ s.totals refl) g
+      (λ t entries c command reach planned h f i.
+      let q = its_index reach i.process-there is-p in
+      let j = rw (← q) at i in
+      let hp = j.process-there in
+      let left : ℕ = sender.suppress - 1 in
+      let e : sender.suppress ≡ suc left = omega arith in
+      rw (← q) (answered _ (suppressed (record { channel = channel; word = word })) (suppressed_so reach h p hp n code register operand channel word j.intends left e)
+      refl refl (suppress-holds reach h p hp n code register operand channel word j.intends left x' e became)))
+
+  -- and on every plan and store that are the lent ones but for counts, programs, mailboxes and backups, of the process that the code makes
+  pub send_suppressed_beside : (x' : lent.Process) → 0 < sender.suppress → x' ≡ suppressed_in sender → r ≡ alone_of (answer_for HeldBack channel word) → Turns (with_process_in s p x')
+  unfolding numbers cause_of
+  send_suppressed_beside x' some exact g table counts programs others n code register operand =
       makes_alone (answer_for HeldBack channel word) (for_reason HeldBack channel word) (omega arith)
       (record { processes-same = same_many other_lists others s.processes _ (length-set s.processes p x'); queues-same = refl; totals-same = refl }) g
       (λ t entries c command reach planned h f i.
@@ -317,10 +334,36 @@ module _ (plan : code.Plan) (s : Store) (limit p a : ℕ) (is-p : a < 16 → p �
           totals-same = length-set s.totals k _;
         }
 
-        pub send-queued : (x' : lent.Process) → full_in reader (get_or s.totals k 0) ≡ false → x' ≡ event_in sender → place_of (get_or s.queues b no_queue) b < 512
+        -- on the lent plan and store themselves
+        pub send-queued : (x' : lent.Process) → full_in reader (get_or s.totals k 0) ≡ false → Queues sender x' → place_of (get_or s.queues b no_queue) b < 512
+            → r ≡ moved_of (answer_for Queued channel word) (Some (place_of (get_or s.queues b no_queue) b))
+            → SendTurnsOwn plan s limit a channel word (queued_from x') r
+        unfolding numbers cause_of
+        send-queued x' e became below g table n code register operand =
+            makes-joined (answer_for Queued channel word) (for_reason Queued channel word) (omega arith)
+            (record { processes-same = length-set s.processes p _; queues-same = length-set s.queues b _; totals-same = length-set s.totals k _ })
+            (place_of (get_or s.queues b no_queue) b) below refl g
+            (λ t entries c command reach planned h f i.
+            let q = its_index reach i.process-there is-p in
+            let j = rw (← q) at i in
+            let hp = j.process-there in
+            let l = channel-inside reach h p hp n code register operand channel word j.intends in
+            let kk : k ≡ channel = is-k (let z = reach.accepted.channels_high in omega arith) in
+            let bb = its_board reach (board-there reach h p hp) is_b in
+            let few0 : leb outbox_most (count_in s.queues sender.board) ≡ false = rw (← bb) few in
+            let so = queued_so reach h p hp n code register operand channel word j.intends none reader
+            (is-reader ∙ ap (reader_in plan.wires) kk ∙ planned.reader_at channel l) (rw j.limit_is fresh) few0 (rw (← kk) e) in
+            let there = send-holds_so reach h p hp n code register operand channel word j.intends (leb-false outbox_most _ few0) (word_entry s p r.answer)
+            (ap (λ (z : Moved). item_of (word_entry s p z.answer).item) g
+            ∙ ap (rules.message (record { channel = channel; word = word })) (place_fits reach h p hp n code register operand channel word j.intends))
+            x' none became in
+            rw (← q, bb, kk) (answered _ (moves.queued (record { channel = channel; word = word })) so refl refl there))
+
+        -- and on every plan and store that are the lent ones but for counts, programs, mailboxes and backups
+        pub send_queued_beside : (x' : lent.Process) → full_in reader (get_or s.totals k 0) ≡ false → x' ≡ event_in sender → place_of (get_or s.queues b no_queue) b < 512
             → r ≡ moved_of (answer_for Queued channel word) (Some (place_of (get_or s.queues b no_queue) b)) → Turns (queued_from x')
         unfolding numbers cause_of
-        send-queued x' e exact below g table counts programs others n code register operand =
+        send_queued_beside x' e exact below g table counts programs others n code register operand =
             makes-joined (answer_for Queued channel word) (for_reason Queued channel word) (omega arith) (longs x' others) (place_of (get_or s.queues b no_queue) b) below refl g
             (λ t entries c command reach planned h f i.
             let q = its_index reach i.process-there is-p in

@@ -35,8 +35,9 @@ use Rattle.state.proofs.Counters.{instructions-few, events-few}
 use Rattle.state.proofs.Refusing.{reason_for, turned_away_lem, makes-refused}
 use Rattle.step.specs.Parts.{exhausted_in, overrun_in, owing_in, blame_in, missing_of, word_entry, Intending, Turns, CalculateTurns, TakeTurns, SendTurns}
 use Rattle.step.specs.Steps as specs
+use Rattle.step.proofs.Own.{StepsOwn, CalculateTurnsOwn, TakeTurnsOwn, SendTurnsOwn}
 use Rattle.state.proofs.Making.{its_index, makes_under}
-use Rattle.step.proofs.Beside.{its_part, backups_alone, intends_beside}
+use Rattle.step.proofs.Beside.{its_part, backups_alone, intends_beside, backups-own}
 
 -- ---- a store with one process changed
 
@@ -188,6 +189,13 @@ module _ (table : List ℕ) (plan : code.Plan) (s : Store) (p a : ℕ) (is-p : a
           let q = its_index reach ha is-p in
           subst (λ (i : ℕ). Intending t limit i (with_backups others s) (length_in plan.programs p) j.code j.a j.operand intent) q (intending_at (rw q ha))
 
+    -- and so it is on the lent store itself
+    intending_own : {t : Table} {entries : List Entry} {c : Cabinet} → Reachable t c → Planned t (plan_of table plan) → Holds t s entries c
+        → a < length t.processes → Intending t limit a s (length_in plan.programs p) j.code j.a j.operand intent
+    intending_own {t} {entries} {c} reach planned h ha =
+        subst (λ (y : Store). Intending t limit a y (length_in plan.programs p) j.code j.a j.operand intent) (backups-own s)
+        (intending plan.counts (lists_at s) reach planned (subst (λ (y : Store). Holds t y entries c) (sym (backups-own s)) h) ha)
+
   abbrev Promises : Store → Type 0
   Promises s' = specs.Steps table plan s a s' r
 
@@ -203,6 +211,25 @@ module _ (table : List ℕ) (plan : code.Plan) (s : Store) (p a : ℕ) (is-p : a
       turned_away_lem command a (missing (instruction_at (code_of t a) (process_at c a).machine)) h (refused_36 h a ha _ _ _ _ i) f
       (ap (λ (why : Reason). refusal_for why a) (sym (missing-is h a ha _ _ _ _ i))))
 
+  -- ---- the parts, on the lent plan and store themselves
+
+  module _ {s' : Store} where
+    pub steps_calculated : Means Internal → CalculateTurnsOwn s a j.code j.a j.operand s' r → StepsOwn table plan s a s' r
+    steps_calculated m part =
+        makes_under (AProcess a) (λ t entries c reach planned h ha. intending_own Internal m _ refl reach planned h ha) (part (plan_of table plan) _ _)
+
+    module _ (limit : ℕ) (is-limit : limit ≡ limit_in plan.programs p) where
+      pub steps-taken : (at : ℕ) → Means (Take at) → TakeTurnsOwn plan s limit a j.code j.a at s' r → StepsOwn table plan s a s' r
+      steps-taken at m part =
+          makes_under (AProcess a) (λ t entries c reach planned h ha. intending_own (Take at) m limit is-limit reach planned h ha) (part table _ _)
+
+      pub steps-sent : (channel word : ℕ) → Means (Send channel word) → SendTurnsOwn plan s limit a channel word s' r → StepsOwn table plan s a s' r
+      steps-sent channel word m part =
+          makes_under (AProcess a) (λ t entries c reach planned h ha. intending_own (Send channel word) m limit is-limit reach planned h ha)
+          (part table _ _ _ _)
+
+  -- ---- and on every plan and store that are the lent ones but for counts and backups
+
   -- what a part makes of the store with other backups
   abbrev Part : Counts → (ℕ → lent.Process) → Intent → ℕ → ℕ → ℕ → ℕ → ℕ → Store → Type 0
   Part counts others intent limit n code register operand then =
@@ -216,19 +243,19 @@ module _ (table : List ℕ) (plan : code.Plan) (s : Store) (p a : ℕ) (is-p : a
         makes_under (AProcess a) (λ t entries c reach planned h ha. intending intent m limit is-limit counts others reach planned h ha)
         (subst (Part counts others intent limit (length_in plan.programs p) j.code j.a j.operand) is part)
 
-    pub steps_calculated : MailsStay s s' → s'.queues ≡ s.queues → s'.totals ≡ s.totals → Means Internal → CalculateTurns s a j.code j.a j.operand s' r → Promises s'
-    steps_calculated mails queues totals m part counts others =
+    pub steps_calculated_beside : MailsStay s s' → s'.queues ≡ s.queues → s'.totals ≡ s.totals → Means Internal → CalculateTurns s a j.code j.a j.operand s' r → Promises s'
+    steps_calculated_beside mails queues totals m part counts others =
         under Internal m _ refl counts others _
         (λ k. record (backups_alone others s s' mails k) { queues = sym queues k; totals = sym totals k })
         (part (plan_of table (record plan { counts = counts })) (λ p. other_backup (lists_at s p) (others p)) s.queues s.totals _ _)
 
     module _ (limit : ℕ) (is-limit : limit ≡ limit_in plan.programs p) where
-      pub steps-taken : s'.queues ≡ s.queues → (at : ℕ) → Means (Take at) → TakeTurns plan s limit a j.code j.a at s' r → Promises s'
-      steps-taken queues at m part counts others =
+      pub steps_taken_beside : s'.queues ≡ s.queues → (at : ℕ) → Means (Take at) → TakeTurns plan s limit a j.code j.a at s' r → Promises s'
+      steps_taken_beside queues at m part counts others =
           under (Take at) m limit is-limit counts others _ (λ k. record (with_backups others s') { queues = sym queues k })
           (part table counts plan.programs others s.queues _ _)
 
-      pub steps-sent : MailsStay s s' → (channel word : ℕ) → Means (Send channel word) → SendTurns plan s limit a channel word s' r → Promises s'
-      steps-sent mails channel word m part counts others =
+      pub steps_sent_beside : MailsStay s s' → (channel word : ℕ) → Means (Send channel word) → SendTurns plan s limit a channel word s' r → Promises s'
+      steps_sent_beside mails channel word m part counts others =
           under (Send channel word) m limit is-limit counts others _ (backups_alone others s s' mails)
           (part table counts plan.programs (λ p. other_backup (lists_at s p) (others p)) _ _ _ _)

@@ -35,8 +35,9 @@ use Rattle.state.proofs.Counters.{takes-few}
 use Rattle.state.proofs.Refusing.{reason_for, turned_away_lem, makes-refused}
 use Rattle.step.specs.Parts.{owing_in, blame_in, TakeTurns}
 use Rattle.state.proofs.Making.{its_index, answered, makes_alone, for_reason}
+use Rattle.step.proofs.Own.{TakeTurnsOwn}
 use Rattle.step.proofs.Beside.{same_many, its_part, put_part, takes_beside}
-use Rattle.step.proofs.Stepping.{machine-is, step_is, owing-is, blame_is, limited_here, instructions-room, events-room}
+use Rattle.step.proofs.Stepping.{same_lengths, machine-is, step_is, owing-is, blame_is, limited_here, instructions-room, events-room}
 
 module _ {t : Table} {s : Store} {entries : List Entry} {c : Cabinet} (reach : Reachable t c) (h : Holds t s entries c) (p : ℕ) (hp : p < length t.processes)
     (n code a operand at : ℕ) (i : Intends (code_of t p) (lists_at s p) n code a operand (Take at)) where
@@ -153,11 +154,34 @@ module _ (plan : code.Plan) (s : Store) (limit p a : ℕ) (is-p : a < 16 → p �
   abbrev taken_from : ℕ → ℕ → lent.Process → Store
   taken_from k left x' = put_process s p x' (set s.totals k left)
 
+  -- on the lent plan and store themselves, where the backup stays as it was
   pub take_done : (k port left : ℕ) (x' : lent.Process) → owing_in limit taker ≡ false → (its_word.channel < 32 → k ≡ its_word.channel)
+      → port ≡ port_in plan.wires k → Takes taker code register at port x' → BackupStays taker x' → (left + 1) % 2 ^ 32 ≡ get_or s.totals k 0 → left < 2 ^ 32
+      → r ≡ alone_of (answer_for Took its_word.channel its_word.word) → TakeTurnsOwn plan s limit a code register at (taken_from k left x') r
+  unfolding numbers cause_of
+  take_done k port left x' e is-k is-port takes stays is-left fits g table n operand =
+      makes_alone (answer_for Took its_word.channel its_word.word) (for_reason Took its_word.channel its_word.word) (omega arith)
+      (same_lengths s p _ (set s.totals k left) (length-set s.totals k left)) g
+      (λ t entries c command reach planned h f i.
+      let q = its_index reach i.process-there is-p in
+      let j = rw (← q) at i in
+      let hp = j.process-there in
+      let x : Mail = its_word in
+      let inside = channel-inside reach h p hp n code register operand at j.intends in
+      let its = reads_it reach h p hp n code register operand at j.intends in
+      let kk : k ≡ x.channel = is-k (let z = reach.accepted.channels_high in omega arith) in
+      let its-port : port ≡ port_of t p x.channel =
+      is-port ∙ ap (port_in plan.wires) kk ∙ planned.port_at x.channel inside (rw its hp) ∙ ap (λ (i : ℕ). port_of t i x.channel) its in
+      let there = take-holds reach h p hp n code register operand at j.intends x' left
+      (subst (λ (i : ℕ). Takes taker code register at i x') its-port takes) stays (is-left ∙ ap (λ (i : ℕ). get_or s.totals i 0) kk) fits in
+      rw (← q, kk) (answered _ (received x) (take-accepted reach h p hp n code register operand at j.intends (rw j.limit_is e)) refl refl there))
+
+  -- and on every plan and store that are the lent ones but for counts, programs, backups and queues
+  pub take_done_beside : (k port left : ℕ) (x' : lent.Process) → owing_in limit taker ≡ false → (its_word.channel < 32 → k ≡ its_word.channel)
       → port ≡ port_in plan.wires k → Takes taker code register at port x' → (left + 1) % 2 ^ 32 ≡ get_or s.totals k 0 → left < 2 ^ 32
       → r ≡ alone_of (answer_for Took its_word.channel its_word.word) → TakeTurns plan s limit a code register at (taken_from k left x') r
   unfolding numbers cause_of
-  take_done k port left x' e is-k is-port takes is-left fits g table counts programs others queues n operand =
+  take_done_beside k port left x' e is-k is-port takes is-left fits g table counts programs others queues n operand =
       makes_alone (answer_for Took its_word.channel its_word.word) (for_reason Took its_word.channel its_word.word) (omega arith)
       (record {
         processes-same = same_many other_backup others s.processes _ (length-set s.processes p x');

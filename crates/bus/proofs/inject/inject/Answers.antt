@@ -1,5 +1,5 @@
 use Rattle.std.proofs.Common.{sym, refl, ◌∙◌}
-use Rattle.bus.proofs.Injecting.{injects_43, injects_39, injects_done}
+use Rattle.bus.proofs.Injecting.{injects_43, injects_39, injects_done_beside}
 use Rattle.bus.proofs.inject.inject.Goals as goal
 
 pub returns-then-sender-ne-ENVIRONMENT-clause-injects : goal.returns-then-sender-ne-ENVIRONMENT-clause-injects
@@ -23,6 +23,6 @@ returns-clause-injects c =
     let d = c.deliver in
     let more = c.wrapping_add_u32 in
     rw c.answer_for.ensures
-    (injects_done s.plan.now s.store.now s.a s.word k.result _ k.ensures.1 c.sender.result (c.sender.ensures k.ensures.0)
+    (injects_done_beside s.plan.now s.store.now s.a s.word k.result _ k.ensures.1 c.sender.result (c.sender.ensures k.ensures.0)
     c.if-sender-ne-ENVIRONMENT.false c.reader.result (c.reader.ensures k.ensures.0)
     d.new.store more.result (sym c.full.ensures ∙ c.if-full.false) more.ensures.value refl d.ensures)

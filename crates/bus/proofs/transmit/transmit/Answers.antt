@@ -1,5 +1,5 @@
 use Rattle.std.proofs.Common.{sym, ◌∙◌}
-use Rattle.bus.proofs.Transmitting.{transmits_34, transmits_42, transmits-word, transmits-sync, no_fourth, transmits-transfer}
+use Rattle.bus.proofs.Transmitting.{transmits_34, transmits_42, transmits_word_beside, transmits_sync_beside, no_fourth, transmits_transfer_beside}
 use Rattle.bus.proofs.transmit.transmit.Goals as goal
 
 pub returns-then-is_dead : goal.returns-then-is_dead
@@ -22,7 +22,7 @@ returns-in-Word c =
     let i = c.in-Some in
     let x = c.in-Word in
     let y = c.transmit_word in
-    transmits-word s.plan.now s.store.now s.a b.result s.oldest _ b.ensures.1 (sym c.is_dead.ensures ∙ c.if-is_dead.false) i.item (sym c.peek.ensures ∙ i.is)
+    transmits_word_beside s.plan.now s.store.now s.a b.result s.oldest _ b.ensures.1 (sym c.is_dead.ensures ∙ c.if-is_dead.false) i.item (sym c.peek.ensures ∙ i.is)
     c.pop.new.self c.pop.ensures x.channel x.word x.place x.is y.new.store y.ensures
 
 pub returns-in-Sync : goal.returns-in-Sync
@@ -32,7 +32,7 @@ returns-in-Sync c =
     let i = c.in-Some in
     let x = c.in-Sync in
     let y = c.transmit_sync in
-    transmits-sync s.plan.now s.store.now s.a b.result s.oldest _ b.ensures.1 (sym c.is_dead.ensures ∙ c.if-is_dead.false) i.item (sym c.peek.ensures ∙ i.is)
+    transmits_sync_beside s.plan.now s.store.now s.a b.result s.oldest _ b.ensures.1 (sym c.is_dead.ensures ∙ c.if-is_dead.false) i.item (sym c.peek.ensures ∙ i.is)
     c.pop.new.self c.pop.ensures x.process x.checkpoint x.is y.new.store y.ensures
 
 pub returns-in_default-item-3 : goal.returns-in_default-item-3
@@ -45,5 +45,5 @@ returns c =
     let i = c.in-Some in
     let x = c.in-Transfer in
     let y = c.transmit_transfer in
-    transmits-transfer s.plan.now s.store.now s.a b.result s.oldest _ b.ensures.1 (sym c.is_dead.ensures ∙ c.if-is_dead.false) i.item (sym c.peek.ensures ∙ i.is)
+    transmits_transfer_beside s.plan.now s.store.now s.a b.result s.oldest _ b.ensures.1 (sym c.is_dead.ensures ∙ c.if-is_dead.false) i.item (sym c.peek.ensures ∙ i.is)
     c.pop.new.self c.pop.ensures x.process x.is y.new.store y.ensures

@@ -4,7 +4,7 @@ use Rattle.plan.specs.Plan.{sender_in}
 use Rattle.process.specs.declared.process.Process.{Process}
 use Rattle.process.specs.Change.{Changes, HeadAlone}
 use Rattle.rules.specs.Moves.{counts}
-use Rattle.bus.proofs.Carrying.{carries-inside, carries-outside}
+use Rattle.bus.proofs.Carrying.{carries_inside_beside, carries-outside}
 use Rattle.bus.proofs.word.transmit_word.Goals as goal
 
 -- a number that is the channel's sender, and the index that was made of it; which call found the number is not named
@@ -39,5 +39,5 @@ returns c =
     let n = c.counts in
     let d = c.deliver in
     rw c.answer_for-answer.ensures
-    (carries-inside s.plan.now s.store.now s.channel s.word k.result _ p.result n.new.self _ k.ensures.1 its.0 its.1 (counted_so _ _ n.ensures.became n.ensures.rest_stays) refl
+    (carries_inside_beside s.plan.now s.store.now s.channel s.word k.result _ p.result n.new.self _ k.ensures.1 its.0 its.1 (counted_so _ _ n.ensures.became n.ensures.rest_stays) refl
     c.reader.result (c.reader.ensures k.ensures.0) c.if-reader-eq-ENVIRONMENT.false d.new.store d.ensures)

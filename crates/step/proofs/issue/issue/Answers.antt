@@ -1,5 +1,5 @@
 use Rattle.std.proofs.Common.{sym, ◌∙◌, Some}
-use Rattle.step.proofs.Issuing.{issues_40, issues_41, issues_38, issues-done}
+use Rattle.step.proofs.Issuing.{issues_40, issues_41, issues_38, issues_done_beside}
 use Rattle.step.proofs.issue.issue.Goals as goal
 
 pub returns-then-not-is_backed-clause-issues : goal.returns-then-not-is_backed-clause-issues
@@ -25,6 +25,6 @@ returns-clause-issues c =
     let b = c.index-b in
     let at = c.place-at in
     rw c.push.ensures
-    (issues-done c.args.store.now p.result c.args.a p.ensures.1 _ (sym c.is_backed.ensures ∙ c.if-not-is_backed.false) (sym c.is_waiting.ensures ∙ c.if-is_waiting.false) b.result b.ensures.1 c.issue.new.self
+    (issues_done_beside c.args.store.now p.result c.args.a p.ensures.1 _ (sym c.is_backed.ensures ∙ c.if-not-is_backed.false) (sym c.is_waiting.ensures ∙ c.if-is_waiting.false) b.result b.ensures.1 c.issue.new.self
     (sym c.is_full.ensures ∙ c.if-is_full.false) c.issue.ensures.exact (rw (← at.ensures.1 b.ensures.0) at.ensures.0)
     (λ i. record { answer = c.answer_for.ensures i; at = Some (at.ensures.1 b.ensures.0 i) }))
